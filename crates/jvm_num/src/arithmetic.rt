@@ -1,0 +1,63 @@
+//! Sums, differences, products and quotients of ints.
+
+ghost use Rattle.std.specs.Prelude.{◌≡◌};
+ghost use Rattle.jvms.specs.Numbers.{wrap as wrapped, sum, difference, product, negation, quotient, remainder};
+
+/// The one int that is congruent to `n` modulo 2^32 (JVMS 2.11.3).
+pub fn wrap(n: i64) -> i32
+    ensures { result ≡ wrapped n }
+{
+    (n.rem_euclid(1 << 32) as u32).cast_signed()
+}
+
+/// JVMS 6.5 iadd.
+pub fn add(a: i32, b: i32) -> i32
+    ensures { result ≡ sum a b }
+{
+    a.wrapping_add(b)
+}
+
+/// JVMS 6.5 isub.
+pub fn sub(a: i32, b: i32) -> i32
+    ensures { result ≡ difference a b }
+{
+    a.wrapping_sub(b)
+}
+
+/// JVMS 6.5 imul.
+pub fn mul(a: i32, b: i32) -> i32
+    ensures { result ≡ product a b }
+{
+    a.wrapping_mul(b)
+}
+
+/// JVMS 6.5 ineg.
+pub fn neg(a: i32) -> i32
+    ensures { result ≡ negation a }
+{
+    a.wrapping_neg()
+}
+
+/// JVMS 6.5 idiv: the quotient, rounded to zero; `None` where the divisor is 0. The least int by -1 is
+/// itself.
+pub fn div(a: i32, b: i32) -> Option<i32>
+    ensures { result ≡ quotient a b }
+{
+    if b == 0 {
+        None
+    } else {
+        Some(a.wrapping_div(b))
+    }
+}
+
+/// JVMS 6.5 irem: the remainder, with the dividend's sign; `None` where the divisor is 0. The least int
+/// by -1 leaves 0.
+pub fn rem(a: i32, b: i32) -> Option<i32>
+    ensures { result ≡ remainder a b }
+{
+    if b == 0 {
+        None
+    } else {
+        Some(a.wrapping_rem(b))
+    }
+}

@@ -1,0 +1,18 @@
+//! Ints taken into the range of a smaller type.
+
+ghost use Rattle.std.specs.Prelude.{◌≡◌};
+ghost use Rattle.jvms.specs.Numbers.{narrowed};
+
+use jvms::insn;
+
+/// JVMS 2.11.4 and 6.5 i2b, i2c, i2s; a boolean keeps the lowest bit.
+pub fn narrow(to: insn::Narrow, n: i32) -> i32
+    ensures { result ≡ narrowed to n }
+{
+    match to {
+        insn::Narrow::Byte => i32::from((n.rem_euclid(1 << 8) as u8).cast_signed()),
+        insn::Narrow::Char => n.rem_euclid(1 << 16),
+        insn::Narrow::Short => i32::from((n.rem_euclid(1 << 16) as u16).cast_signed()),
+        insn::Narrow::Boolean => n.rem_euclid(2),
+    }
+}

@@ -1,0 +1,27 @@
+-- Steps that may fail, one after another: the first fault is the answer.
+use Rattle.std.specs.Prelude.{Bool, true, false, Option, Some, None, Result, Ok, Err, List, [], ◌∷◌, ⊤}
+
+infixl 10 ◌>>=◌
+abbrev pub ◌>>=◌ : {A B E : Type 0} → Result A E → (A → Result B E) → Result B E
+(Ok x) >>= f = f x
+(Err e) >>= f = Err e
+
+-- A test whose failing is the fault.
+abbrev pub want : {E : Type 0} → Bool → E → Result (Unit {0}) E
+want true e = Ok tt
+want false e = Err e
+
+-- A value whose absence is the fault.
+abbrev pub present : {A E : Type 0} → Option A → E → Result A E
+present (Some x) e = Ok x
+present None e = Err e
+
+-- Each of a list passes a test that may fail.
+abbrev pub each : {A E : Type 0} → (A → Result (Unit {0}) E) → List A → Result (Unit {0}) E
+each test [] = Ok tt
+each test (x ∷ xs) = test x >>= λ _. each test xs
+
+-- What each of a list gives, in order.
+abbrev pub collected : {A B E : Type 0} → (A → Result B E) → List A → Result (List B) E
+collected f [] = Ok []
+collected f (x ∷ xs) = f x >>= λ y. (collected f xs >>= λ ys. Ok (y ∷ ys))

@@ -1,0 +1,95 @@
+//! A list inside shared data.
+
+ghost use Rattle.std.specs.Prelude.{◌≡◌, ◌+◌, ◌<◌, ◌++◌, ◌∷◌, [], length, IfOk, OnOk, OnErr, slice_get, if◌then◌else◌, is_ok};
+ghost use Rattle.std.specs.Option.{option_copied};
+
+use std::alloc::{AllocError, Global};
+use std::marker::Model;
+
+/// A list that contracts see as the list of its items.
+#[derive(Debug, Drop)]
+pub struct Items<T> {
+    items: Vec<T>,
+}
+
+impl<T> Model for Items<T> {
+    ghost use Rattle.std.specs.Prelude.{List};
+
+    ghost Value = { List T };
+
+    ghost view = { λ a. a.items.items };
+}
+
+impl<T> Items<T> {
+    /// A list with no items.
+    pub fn new(alloc: Global) -> Self
+        ensures { result ≡ [] }
+    {
+        Items {
+            items: Vec::new(alloc),
+        }
+    }
+
+    /// The list of a vector's items.
+    pub fn from_vec(items: Vec<T>) -> Self
+        ensures { result ≡ items.items }
+    {
+        Items { items }
+    }
+
+    /// How many items there are.
+    pub fn len(&self) -> usize
+        ensures { result ≡ length self.now }
+    {
+        self.items.len()
+    }
+
+    /// The items in order.
+    pub fn as_slice(&self) -> &[T]
+        ensures { result.now ≡ self.now }
+    {
+        self.items.as_slice()
+    }
+
+    /// Puts an item behind the others. Without memory for it nothing changes.
+    pub fn push(&mut self, item: T) -> Result<(), AllocError>
+    where
+        T: Drop,
+        ensures ok { OnOk result (self.new ≡ self.old ++ item ∷ []) }
+        ensures err { OnErr result (self.new ≡ self.old) }
+    {
+        self.items.push(item)?;
+        Ok(())
+    }
+}
+
+impl<T: PartialEq> PartialEq for Items<T> {
+    ghost use Rattle.std.specs.Cmp.Lexicographic.{pointwise, lists_per};
+
+    ghost eq = { λ x y. pointwise T.eq x y };
+
+    ghost laws = { lists_per T.laws };
+
+    fn eq(&self, other: &Self) -> bool {
+        self.items == other.items
+    }
+}
+
+impl<T: Eq> Eq for Items<T> {
+    ghost use Rattle.std.specs.Cmp.Lexicographic.{lists_equiv};
+
+    ghost laws = { lists_equiv T.Eq.laws };
+}
+
+impl<T: Clone> Clone for Items<T> {
+    ghost use Rattle.std.specs.List.{AllZip};
+    ghost use Rattle.std.specs.Prelude.{length};
+
+    ghost is_clone = { λ v w. AllZip T.is_clone v w × (length w ≡ length v) };
+
+    fn clone(&self) -> Result<Self, AllocError> {
+        Ok(Items {
+            items: self.items.clone()?,
+        })
+    }
+}
