@@ -1,1 +1,10 @@
+pub mod FrameSoundness
+pub mod FrontLaws
+pub mod InitialisationOrder
+pub mod LimitLaws
+pub mod ListLaws
 pub mod NumberLaws
+pub mod OpeningSoundness
+pub mod StartLaws
+pub mod TextLaws
+pub mod TurnSoundness

@@ -87,7 +87,7 @@ abbrev pub call_run : Instruction
 call_run =
     instruction.Invoke invoke.Interface (record { is_interface = true; class = codes "java/lang/Runnable"; name = codes "run"; descriptor = codes "()V"; method_type = method_type (codes "()V") })
 
--- run calls the target's run, if there is a target.
+-- run calls the target's run, if there is a target: else it goes on at its last instruction, number 6.
 abbrev pub thread_class : Class
 thread_class =
     class_with object (codes "java/lang/Runnable" ∷ []) (field false (codes "target") (codes "Ljava/lang/Runnable;") ∷ [])

@@ -19,7 +19,7 @@ pub record Placed : Type 0 where
   pub insn : Insn
 
 -- The instructions of bytes from byte pc of a method on. Each takes a byte at least, so `most` of the
--- number of bytes is enough.
+-- number of bytes is enough, and the second case is never met.
 unfoldable pub placed_from : ℕ → List Constant → ℕ → ℕ → List ℕ → Result (List Placed) ClassFault
 placed_from most pool major pc [] = Ok []
 placed_from zero pool major pc (b ∷ bytes) = Ok []

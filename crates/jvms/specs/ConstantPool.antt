@@ -151,7 +151,8 @@ is_member name descriptor =
     then is_method_name name && is_some (method_type_of descriptor)
     else is_name name && is_some (field_type_of descriptor)
 
--- Of what sort a member is that an entry names; none where its numbers name no texts.
+-- Whether the member that an entry names is a method's, or a field's, as asked. Where its numbers name no
+-- texts, the fault is that entry's own, and nothing is asked here.
 abbrev pub names_sort : Bool → List Constant → ℕ → Bool
 names_sort method pool n = right (name_and_type_at pool n)
   where

@@ -11,6 +11,7 @@ pub mod Members
 pub mod Names
 pub mod Numbers
 pub mod Program
+pub mod Reading
 pub mod Resolution
 pub mod Results
 pub mod Rows

@@ -122,7 +122,8 @@ throws_of pool (method_attribute.Exceptions name classes ∷ others) = map (clas
 throws_of pool (method_attribute.Code name c ∷ others) = throws_of pool others
 throws_of pool (method_attribute.Kept a ∷ others) = throws_of pool others
 
--- Of <clinit> no flag is kept (JVMS 2.9).
+-- Of <clinit> no flag is kept: whatever they are, it is called as a static method that is neither native,
+-- abstract nor synchronized.
 abbrev pub flags_of : Bool → ℕ → MethodFlags
 flags_of initializer access =
     record {

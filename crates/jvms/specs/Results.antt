@@ -16,11 +16,6 @@ abbrev pub present : {A E : Type 0} → Option A → E → Result A E
 present (Some x) e = Ok x
 present None e = Err e
 
--- Each of a list passes a test that may fail.
-abbrev pub each : {A E : Type 0} → (A → Result (Unit {0}) E) → List A → Result (Unit {0}) E
-each test [] = Ok tt
-each test (x ∷ xs) = test x >>= λ _. each test xs
-
 -- What each of a list gives, in order.
 abbrev pub collected : {A B E : Type 0} → (A → Result B E) → List A → Result (List B) E
 collected f [] = Ok []

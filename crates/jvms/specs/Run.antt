@@ -100,6 +100,22 @@ are_limits l =
     is_between 4 16777216 l.objects && is_between 0 268435456 l.elements && is_between 1 1024 l.threads
     && is_between 1 65536 l.frames
 
+-- Why a machine isn't made: the entry is looked at first, then the limits.
+pub data NotMade : Type 0 where
+  no_entry : NotMade
+  no_limits : NotMade
+
+abbrev pub within : Limits → Start → Result Start NotMade
+within limits start = if are_limits limits then Ok start else Err no_limits
+
+abbrev pub start_within : Limits → Option Start → Result Start NotMade
+start_within limits None = Err no_entry
+start_within limits (Some start) = within limits start
+
+-- Where a machine of a program starts, with these limits and this entry.
+abbrev pub made : List Class → Limits → Entry → Result Start NotMade
+made program limits e = start_within limits (start_of program e)
+
 -- ---- The opening state
 
 abbrev pub opening_object : List Class → List ℕ → Cell

@@ -11,5 +11,6 @@ pub mod items;
 pub mod laws;
 pub mod machine;
 pub mod program;
+pub mod soundness;
 pub mod trace;
 pub mod value;

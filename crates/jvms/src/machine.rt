@@ -8,8 +8,8 @@ pub type ThreadId = u32;
 /// A method of a program: its class's place in the program's list, and its place in the class's.
 #[derive(Clone, Copy, Debug, PartialEq, Eq)]
 pub struct MethodNumber {
-    pub class: u32,
-    pub method: u32,
+    pub class: usize,
+    pub method: usize,
 }
 
 /// Where a run begins.
@@ -47,7 +47,7 @@ pub struct Limits {
 pub enum BlockedOn {
     Monitor { reference: u32, owner: ThreadId },
     /// The initialisation of the class at this place of the program's list.
-    Initialisation { class: u32, owner: ThreadId },
+    Initialisation { class: usize, owner: ThreadId },
     Join { thread: ThreadId },
 }
 
@@ -62,7 +62,7 @@ pub enum BadCause {
     Depth,
     /// An operand or a local of another kind.
     Kind,
-    /// A local number that isn't below max_locals.
+    /// A local number that isn't below max_locals, or parameters above it.
     Local,
 }
 

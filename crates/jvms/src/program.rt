@@ -89,7 +89,8 @@ pub struct Field {
     pub constant: Option<Loadable>,
 }
 
-/// The flags that calls ask of a method. A `<clinit>` keeps none.
+/// The flags that calls ask of a method. A `<clinit>` keeps none, and is called as a static method all the
+/// same.
 #[derive(Clone, Copy, Debug, PartialEq, Eq)]
 pub struct MethodFlags {
     pub is_static: bool,

@@ -7,7 +7,7 @@ pub enum Value {
     Int(i32),
     Null,
     Reference(u32),
-    ReturnAddress(u32),
+    ReturnAddress(usize),
     /// Nothing was stored yet.
     Unset,
 }

@@ -1,0 +1,71 @@
+-- What holds of every element of a list, and what stands at a place of it.
+use Rattle.std.proofs.Common.{◌≡◌, ℕ, zero, suc, ◌+◌, cond, Bool, List, [], ◌∷◌, ◌++◌, replicate, map, Some, slice_get, slice_set, unwrap_or, count_by, flat_map, refl, ap, subst}
+use Rattle.std.specs.List.{AllByRecursion}
+use Rattle.std.proofs.lemmas.Option.{none-some, same_Some}
+use Rattle.std.proofs.lemmas.List.Sums.{sum_by-cons}
+
+-- What follows from a fact at each element holds of all elements, where the fact does.
+pub all_weaker : {X : Type 0} (P Q : X → Type 0) → ((x : X) → P x → Q x) → (xs : List X) → AllByRecursion P xs → AllByRecursion Q xs
+all_weaker P Q step [] all = tt
+all_weaker P Q step (x ∷ xs) all = (step x all.0, all_weaker P Q step xs all.1)
+
+-- What holds of all elements and of one more holds after that one is written into the list.
+pub all_set : {X : Type 0} (P : X → Type 0) (xs : List X) (i : ℕ) (x : X) → P x → AllByRecursion P xs → AllByRecursion P (slice_set xs i x)
+all_set P [] i x holds all = tt
+all_set P (y ∷ ys) zero x holds all = (holds, all.1)
+all_set P (y ∷ ys) (suc i) x holds all = (all.0, all_set P ys i x holds all.1)
+
+-- What holds of all elements holds of the one at a place.
+pub all_at : {X : Type 0} (P : X → Type 0) (xs : List X) (i : ℕ) (x : X) → slice_get xs i ≡ Some x → AllByRecursion P xs → P x
+all_at P [] i x is all = absurd (none-some x is)
+all_at P (y ∷ ys) zero x is all = subst P (same_Some y x is) all.0
+all_at P (y ∷ ys) (suc i) x is all = all_at P ys i x is all.1
+
+-- What holds of all elements and of a default holds of what is read at a place.
+pub all_read : {X : Type 0} (P : X → Type 0) (xs : List X) (i : ℕ) (default : X) → P default → AllByRecursion P xs → P (unwrap_or (slice_get xs i) default)
+all_read P [] i default holds all = holds
+all_read P (y ∷ ys) zero default holds all = all.0
+all_read P (y ∷ ys) (suc i) default holds all = all_read P ys i default holds all.1
+
+-- What holds of all elements of two lists holds of those of the joined list.
+pub all_append : {X : Type 0} (P : X → Type 0) (xs ys : List X) → AllByRecursion P xs → AllByRecursion P ys → AllByRecursion P (xs ++ ys)
+all_append P [] ys first second = second
+all_append P (x ∷ xs) ys first second = (first.0, all_append P xs ys first.1 second)
+
+-- What holds of an element holds of all elements of the list that repeats it.
+pub all_replicate : {X : Type 0} (P : X → Type 0) (n : ℕ) (x : X) → P x → AllByRecursion P (replicate n x)
+all_replicate P zero x holds = tt
+all_replicate P (suc n) x holds = (holds, all_replicate P n x holds)
+
+-- What holds of every image holds of all elements of a mapped list.
+pub all_map : {X Y : Type 0} (P : Y → Type 0) (f : X → Y) → ((x : X) → P (f x)) → (xs : List X) → AllByRecursion P (map f xs)
+all_map P f each [] = tt
+all_map P f each (x ∷ xs) = (each x, all_map P f each xs)
+
+-- What follows at each image from a fact about its element holds of a mapped list.
+pub all_map_weaker : {X Y : Type 0} (P : X → Type 0) (Q : Y → Type 0) (f : X → Y) → ((x : X) → P x → Q (f x)) → (xs : List X) → AllByRecursion P xs → AllByRecursion Q (map f xs)
+all_map_weaker P Q f step [] all = tt
+all_map_weaker P Q f step (x ∷ xs) all = (step x all.0, all_map_weaker P Q f step xs all.1)
+
+-- What holds of the elements of each part holds of those of all the parts.
+pub all_flat_map : {X Y : Type 0} (P : Y → Type 0) (f : X → List Y) → ((x : X) → AllByRecursion P (f x)) → (xs : List X) → AllByRecursion P (flat_map f xs)
+all_flat_map P f each [] = tt
+all_flat_map P f each (x ∷ xs) = all_append P (f x) (flat_map f xs) (each x) (all_flat_map P f each xs)
+
+-- A place that was written holds what was written, if it is a place of the list.
+pub get_set_same : {X : Type 0} (xs : List X) (i : ℕ) (was x : X) → slice_get xs i ≡ Some was → slice_get (slice_set xs i x) i ≡ Some x
+get_set_same [] i was x is = absurd (none-some was is)
+get_set_same (y ∷ ys) zero was x is = refl
+get_set_same (y ∷ ys) (suc i) was x is = get_set_same ys i was x is
+
+-- Another place than the one that was written is as it was.
+pub get_set_other : {X : Type 0} (xs : List X) (i j : ℕ) (x : X) → (j ≡ i → ⊥) → slice_get (slice_set xs i x) j ≡ slice_get xs j
+get_set_other [] i j x other = refl
+get_set_other (y ∷ ys) zero zero x other = absurd (other refl)
+get_set_other (y ∷ ys) zero (suc j) x other = refl
+get_set_other (y ∷ ys) (suc i) zero x other = refl
+get_set_other (y ∷ ys) (suc i) (suc j) x other = get_set_other ys i j x (λ same. other (ap suc same))
+
+-- An element that passes counts as one, any other as none.
+pub count_by_cons : {X : Type 0} (test : X → Bool) (x : X) (xs : List X) → count_by test (x ∷ xs) ≡ cond (test x) 1 0 + count_by test xs
+count_by_cons test x xs = sum_by-cons (λ y. cond (test y) 1 0) x xs

@@ -1,0 +1,25 @@
+//! Laws about turns, owed to the gate: a sound state has one row for each thread, and the state after it
+//! is sound.
+
+ghost use Rattle.std.specs.Prelude.{◌≡◌, ℕ, List, IsTrue, Some};
+ghost use Rattle.jvms.specs.declared.machine.Entry.{Entry};
+ghost use Rattle.jvms.specs.declared.machine.Limits.{Limits};
+ghost use Rattle.jvms.specs.declared.program.Class.{Class};
+ghost use Rattle.jvms.specs.State.{State, Sound};
+ghost use Rattle.jvms.specs.Turn.{Start, IsStart, turn};
+ghost use Rattle.jvms.specs.Run.{are_limits, opening, start_of};
+
+/// The state after a turn of any thread is sound, if the state before it is.
+pub fn a_turn_keeps_a_state_sound()
+    ensures { (program : List Class) (limits : Limits) (start : Start) (s : State) (t : ℕ) → IsTrue (are_limits limits) → IsStart start → Sound program limits s → Sound program limits (turn program limits start s t).state }
+{}
+
+/// The opening state is sound.
+pub fn the_opening_state_is_sound()
+    ensures { (program : List Class) (limits : Limits) → IsTrue (are_limits limits) → Sound program limits (opening program) }
+{}
+
+/// What an entry starts with are arguments: ints, or references that are there from the opening on.
+pub fn an_entry_gives_a_start()
+    ensures { (program : List Class) (entry : Entry) (start : Start) → start_of program entry ≡ Some start → IsStart start }
+{}

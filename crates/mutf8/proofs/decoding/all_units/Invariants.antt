@@ -1,0 +1,14 @@
+-- What is still to be decoded completes what was read, and no byte gives two units.
+use Rattle.std.proofs.Common.{◌≡◌, ◌+◌, ◌≤◌, length}
+use Rattle.jvms.specs.Texts.{decoded}
+use Rattle.mutf8.proofs.Loop.{still}
+use Rattle.mutf8.proofs.decoding.all_units.Given as goal
+
+abbrev pub invariant-loop-rest : goal.invariant-loop-rest
+invariant-loop-rest l = record {
+  completes : still (length l.bytes) l.units l.rest ≡ decoded l.bytes;
+  fits : length l.units + length l.rest ≤ length l.bytes;
+}
+
+abbrev pub decreases-loop-rest : goal.decreases-loop-rest
+decreases-loop-rest l = length l.rest

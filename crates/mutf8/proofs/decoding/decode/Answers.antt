@@ -1,0 +1,16 @@
+-- What the exact clause says, in the words of the spelling.
+use Rattle.std.proofs.Common.{ap, subst, ◌∙◌}
+use Rattle.jvms.specs.Texts.{decoded}
+use Rattle.jvms.proofs.TextLaws.{encoded_is_decoded}
+use Rattle.mutf8.specs.Reading.{Gives}
+use Rattle.mutf8.proofs.Readings.{found_from, bad_from}
+use Rattle.mutf8.proofs.decoding.decode.Goals as goal
+
+pub returns-clause-found : goal.returns-clause-found
+returns-clause-found c = found_from c.args.bytes.now c.all_units.result c.all_units.ensures
+
+pub returns-clause-only : goal.returns-clause-only
+returns-clause-only c = λ us codes. subst (Gives c.all_units.result) (ap decoded codes.1 ∙ encoded_is_decoded us codes.0) c.all_units.ensures
+
+pub returns-clause-bad : goal.returns-clause-bad
+returns-clause-bad c = bad_from c.args.bytes.now c.all_units.result c.all_units.ensures

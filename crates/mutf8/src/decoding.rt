@@ -1,0 +1,105 @@
+//! Reading a text from its bytes.
+
+ghost use Rattle.std.specs.Prelude.{◌≡◌, ◌≤◌, ◌<◌, ℕ, List, Ok, option_map, IfOk, IfErr};
+ghost use Rattle.jvms.specs.Texts.{Codes, is_continuation, after_lead_of_two, after_lead_of_three, unit_at, decoded};
+ghost use Rattle.mutf8.specs.Reading.{Gives, Places};
+
+use crate::Units;
+use crate::fault::Fault;
+use std::alloc::Global;
+
+/// Whether a byte may stand behind the first of a unit.
+fn is_behind_lead(byte: u8) -> bool
+    ensures { result ≡ is_continuation byte }
+{
+    0x80 <= byte && byte < 0xc0
+}
+
+/// The unit that this first byte of two and what follows it spell, and the bytes behind the unit.
+fn unit_of_two(lead: u8, rest: &[u8]) -> Option<(u16, &[u8])>
+    requires from { 0xc0 ≤ lead }
+    requires below { lead < 0xe0 }
+    ensures { option_map (λ x. (x.0, x.1.now)) result ≡ after_lead_of_two lead rest.now }
+{
+    let [second, behind @ ..] = rest else {
+        return None;
+    };
+    if !is_behind_lead(*second) {
+        return None;
+    }
+    let unit = u16::from(lead - 0xc0) * 0x40 + u16::from(*second - 0x80);
+    if unit == 0 || unit >= 0x80 {
+        Some((unit, behind))
+    } else {
+        None
+    }
+}
+
+/// The unit that this first byte of three and what follows it spell, and the bytes behind the unit.
+fn unit_of_three(lead: u8, rest: &[u8]) -> Option<(u16, &[u8])>
+    requires from { 0xe0 ≤ lead }
+    requires below { lead < 0xf0 }
+    ensures { option_map (λ x. (x.0, x.1.now)) result ≡ after_lead_of_three lead rest.now }
+{
+    let [second, third, behind @ ..] = rest else {
+        return None;
+    };
+    if !is_behind_lead(*second) || !is_behind_lead(*third) {
+        return None;
+    }
+    let high = u16::from(lead - 0xe0) * 0x40 + u16::from(*second - 0x80);
+    let unit = high * 0x40 + u16::from(*third - 0x80);
+    if unit >= 0x800 {
+        Some((unit, behind))
+    } else {
+        None
+    }
+}
+
+/// The unit that the bytes begin with, and the bytes behind it.
+#[tactic(auto, unfolding(jvms::specs::Texts::unit_at))]
+fn front_unit(bytes: &[u8]) -> Option<(u16, &[u8])>
+    ensures { option_map (λ x. (x.0, x.1.now)) result ≡ unit_at bytes.now }
+{
+    let [lead, rest @ ..] = bytes else {
+        return None;
+    };
+    match *lead {
+        0x01..=0x7f => Some((u16::from(*lead), rest)),
+        0xc0..=0xdf => unit_of_two(*lead, rest),
+        0xe0..=0xef => unit_of_three(*lead, rest),
+        _ => None,
+    }
+}
+
+/// Reads unit after unit, up to the end or the first place where none begins.
+fn all_units(alloc: Global, bytes: &[u8]) -> Result<Units, Fault>
+    ensures { Gives result (decoded bytes.now) }
+{
+    let mut units = Units::new(alloc);
+    let mut rest = bytes;
+    while !rest.is_empty() {
+        let Some((unit, behind)) = front_unit(rest) else {
+            return Err(Fault::BadUtf8 {
+                at: bytes.len() - rest.len(),
+            });
+        };
+        units.push(unit)?;
+        rest = behind;
+    }
+    Ok(units)
+}
+
+/// The text that the bytes code.
+pub fn decode(alloc: Global, bytes: &[u8]) -> Result<Units, Fault>
+    // The text, or the first place where the bytes are wrong.
+    ensures exact { Gives result (decoded bytes.now) }
+    // What is read is spelled so.
+    ensures found { IfOk result (λ us. Codes bytes.now us) }
+    // What is spelled so is read, unless memory runs out.
+    ensures only { (us : List ℕ) → Codes bytes.now us → Gives result (Ok us) }
+    // Where a fault lies, a text ends and no unit begins.
+    ensures bad { IfErr result (λ fault. Places bytes.now fault) }
+{
+    all_units(alloc, bytes)
+}

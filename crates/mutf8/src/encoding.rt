@@ -1,0 +1,36 @@
+//! Writing the bytes of a text.
+
+ghost use Rattle.std.specs.Prelude.{◌≡◌, ◌++◌, OnOk, IfOk};
+ghost use Rattle.jvms.specs.Texts.{unit_bytes, encoded};
+
+use std::alloc::{AllocError, Global};
+
+/// Puts the bytes of a unit behind the others.
+fn push_unit(bytes: &mut Vec<u8>, unit: u16) -> Result<(), AllocError>
+    ensures { OnOk result (bytes.new.items ≡ bytes.old.items ++ unit_bytes unit) }
+{
+    match unit {
+        0x0001..=0x007f => bytes.push(unit as u8)?,
+        0x0000 | 0x0080..=0x07ff => {
+            bytes.extend_from_slice(&[0xc0 + (unit / 0x40) as u8, 0x80 + (unit % 0x40) as u8])?;
+        }
+        _ => bytes.extend_from_slice(&[
+            0xe0 + (unit / 0x1000) as u8,
+            0x80 + (unit / 0x40 % 0x40) as u8,
+            0x80 + (unit % 0x40) as u8,
+        ])?,
+    }
+    Ok(())
+}
+
+/// The bytes of a text. Any units have some, so only memory can be wanting.
+#[tactic(auto, unfolding(jvms::specs::Texts::encoded))]
+pub fn encode(alloc: Global, units: &[u16]) -> Result<Vec<u8>, AllocError>
+    ensures { IfOk result (λ v. v.items ≡ encoded units.now) }
+{
+    let mut bytes = Vec::new(alloc);
+    for unit in units {
+        push_unit(&mut bytes, *unit)?;
+    }
+    Ok(bytes)
+}

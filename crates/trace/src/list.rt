@@ -1,0 +1,63 @@
+//! The list of items.
+
+ghost use Rattle.std.specs.Prelude.{◌≡◌, ◌++◌, ◌∷◌, [], length, IsTrue, ◌↔◌, OnOk, OnErr};
+
+use jvms::trace::Item;
+use std::alloc::{AllocError, Global};
+use std::marker::Model;
+
+/// The items of a run so far. Contracts see the list of them.
+#[derive(Debug, Drop)]
+pub struct Trace {
+    items: Vec<Item>,
+}
+
+impl Model for Trace {
+    ghost use Rattle.std.specs.Prelude.{List};
+    ghost use Rattle.jvms.specs.declared.trace.Item.{Item};
+
+    ghost Value = { List Item };
+
+    ghost view = { λ t. t.items.items };
+}
+
+impl Trace {
+    /// A trace with no items.
+    pub fn new(alloc: Global) -> Self
+        ensures { result ≡ [] }
+    {
+        Trace {
+            items: Vec::new(alloc),
+        }
+    }
+
+    /// Puts an item behind the others. Without memory for it nothing changes.
+    pub fn push(&mut self, item: Item) -> Result<(), AllocError>
+        ensures ok { OnOk result (self.new ≡ self.old ++ item ∷ []) }
+        ensures err { OnErr result (self.new ≡ self.old) }
+    {
+        self.items.push(item)?;
+        Ok(())
+    }
+
+    /// The items in order.
+    pub fn items(&self) -> &[Item]
+        ensures { result.now ≡ self.now }
+    {
+        self.items.as_slice()
+    }
+
+    /// How many items there are.
+    pub fn len(&self) -> usize
+        ensures { result ≡ length self.now }
+    {
+        self.items.len()
+    }
+
+    /// Whether there are none.
+    pub fn is_empty(&self) -> bool
+        ensures { IsTrue result ↔ (self.now ≡ []) }
+    {
+        self.items.is_empty()
+    }
+}
