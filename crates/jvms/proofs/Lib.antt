@@ -1,3 +1,4 @@
+pub mod CountedLaws
 pub mod FrameSoundness
 pub mod FrontLaws
 pub mod InitialisationOrder

@@ -4,11 +4,11 @@ use Rattle.jvms.specs.declared.class_file.Constant.{Constant}
 use Rattle.jvms.specs.declared.class_file.ClassFile.{ClassFile}
 use Rattle.jvms.specs.declared.fault.ClassFault.{ClassFault}
 use Rattle.jvms.specs.declared.fault.ClassFault.TheVariants as fault
-use Rattle.jvms.specs.Results.{◌>>=◌, want}
+use Rattle.jvms.specs.Results.{◌>>=◌, want, counted}
 use Rattle.jvms.specs.Bytes.{u2_at, u4_at}
 use Rattle.jvms.specs.Descriptors.{is_array_name}
 use Rattle.jvms.specs.ConstantPool.{pool_at, entries_fault, class_name_at}
-use Rattle.jvms.specs.Members.{fields_from, methods_from, kept_attributes_at}
+use Rattle.jvms.specs.Members.{fields_at, methods_at, kept_attributes_at}
 
 -- A Class entry that is no array's: what this_class, super_class and an interface have to name.
 abbrev pub is_proper_class : List Constant → ℕ → Bool
@@ -22,13 +22,18 @@ is_proper_class pool n = is_proper (class_name_at pool n)
 abbrev pub is_version : ℕ → Bool
 is_version major = nat_le 45 major && nat_le major 50
 
-unfoldable pub interfaces_from : List Constant → ClassFault → ℕ → List ℕ → Result (List ℕ × List ℕ) ClassFault
-interfaces_from pool cut zero bytes = Ok ([], bytes)
-interfaces_from pool cut (suc left) bytes = do
+-- A number of an interface's entry.
+abbrev pub interface_at : List Constant → ClassFault → List ℕ → Result (ℕ × List ℕ) ClassFault
+interface_at pool cut bytes = do
   n ← u2_at cut bytes
   _ ← want (is_proper_class pool n.0) fault.Index
-  others ← interfaces_from pool cut left n.1
-  Ok (n.0 ∷ others.0, others.1)
+  Ok (n.0, n.1)
+
+-- interfaces_count and the interfaces.
+abbrev pub interfaces_at : List Constant → ClassFault → List ℕ → Result (List ℕ × List ℕ) ClassFault
+interfaces_at pool cut bytes = do
+  count ← u2_at cut bytes
+  counted (interface_at pool cut) count.0 count.1
 
 abbrev pub is_empty : List ℕ → Bool
 is_empty [] = true
@@ -49,12 +54,9 @@ class_at cut bytes = do
   _ ← want (is_proper_class pool.0 this_class.0) fault.Index
   super_class ← u2_at cut this_class.1
   _ ← want (super_class.0 == 0 || is_proper_class pool.0 super_class.0) fault.Index
-  interface_count ← u2_at cut super_class.1
-  interfaces ← interfaces_from pool.0 cut interface_count.0 interface_count.1
-  field_count ← u2_at cut interfaces.1
-  fields ← fields_from pool.0 cut [] field_count.0 field_count.1
-  method_count ← u2_at cut fields.1
-  methods ← methods_from pool.0 major.0 cut access.0 [] method_count.0 method_count.1
+  interfaces ← interfaces_at pool.0 cut super_class.1
+  fields ← fields_at pool.0 cut interfaces.1
+  methods ← methods_at pool.0 major.0 cut access.0 fields.1
   attributes ← kept_attributes_at pool.0 cut methods.1
   _ ← want (is_empty attributes.1) fault.Trailing
   Ok (record { minor = minor.0; major = major.0; pool = pool.0; access = access.0; this_class = this_class.0; super_class = super_class.0; interfaces = interfaces.0; fields = fields.0; methods = methods.0; attributes = attributes.0 })

@@ -17,7 +17,7 @@ use Rattle.jvms.specs.declared.class_file.MethodInfo.{MethodInfo}
 use Rattle.jvms.specs.declared.fault.ClassFault.{ClassFault}
 use Rattle.jvms.specs.declared.fault.ClassFault.TheVariants as fault
 use Rattle.jvms.specs.declared.descriptor.MethodType.{MethodType}
-use Rattle.jvms.specs.Results.{◌>>=◌, want, present}
+use Rattle.jvms.specs.Results.{◌>>=◌, want, present, counted, counted_onto}
 use Rattle.jvms.specs.Bytes.{u1_at, u2_at, u4_at, bytes_at}
 use Rattle.jvms.specs.Names.{same_text, is_name, is_method_name, is_initializer_name}
 use Rattle.jvms.specs.Descriptors.{field_type_of, method_type_of, parameter_units, is_array_name}
@@ -89,17 +89,10 @@ kept_at pool cut bytes = do
   _ ← want (is_utf8 pool name.0) fault.Index
   kept_content_at cut name.0 name.1
 
-unfoldable pub kept_attributes_from : List Constant → ClassFault → ℕ → List ℕ → Result (List KeptAttribute × List ℕ) ClassFault
-kept_attributes_from pool cut zero bytes = Ok ([], bytes)
-kept_attributes_from pool cut (suc left) bytes = do
-  a ← kept_at pool cut bytes
-  others ← kept_attributes_from pool cut left a.1
-  Ok (a.0 ∷ others.0, others.1)
-
 abbrev pub kept_attributes_at : List Constant → ClassFault → List ℕ → Result (List KeptAttribute × List ℕ) ClassFault
 kept_attributes_at pool cut bytes = do
   count ← u2_at cut bytes
-  kept_attributes_from pool cut count.0 count.1
+  counted (kept_at pool cut) count.0 count.1
 
 -- Whether an entry is the text of an attribute's name.
 abbrev pub is_named : List Constant → ℕ → List ℕ → Bool
@@ -152,12 +145,6 @@ field_attribute_at pool cut descriptor seen bytes = do
         constant_value_at pool descriptor name.0 frame)
       else (kept_content_at cut name.0 name.1 >>= λ k. Ok (field_attribute.Kept k.0, k.1)))
 
-unfoldable pub field_attributes_from : List Constant → ClassFault → ℕ → List FieldAttribute → ℕ → List ℕ → Result (List FieldAttribute × List ℕ) ClassFault
-field_attributes_from pool cut descriptor seen zero bytes = Ok (seen, bytes)
-field_attributes_from pool cut descriptor seen (suc left) bytes = do
-  a ← field_attribute_at pool cut descriptor seen bytes
-  field_attributes_from pool cut descriptor (seen ++ a.0 ∷ []) left a.1
-
 -- The entries of a member's name and descriptor are texts, each in its form.
 abbrev pub is_text_with : (List ℕ → Bool) → Option (List ℕ) → Bool
 is_text_with test None = false
@@ -185,14 +172,14 @@ field_at pool cut seen bytes = do
   _ ← want (is_text_with (λ text. is_some (field_type_of text)) (utf8_at pool descriptor.0)) fault.Descriptor
   _ ← want (not (list_any (is_same_field pool name.0 descriptor.0) seen)) fault.RepeatedMember
   count ← u2_at cut descriptor.1
-  attributes ← field_attributes_from pool cut descriptor.0 [] count.0 count.1
+  attributes ← counted_onto (field_attribute_at pool cut descriptor.0) [] count.0 count.1
   Ok (record { access = access.0; name = name.0; descriptor = descriptor.0; attributes = attributes.0 }, attributes.1)
 
-unfoldable pub fields_from : List Constant → ClassFault → List FieldInfo → ℕ → List ℕ → Result (List FieldInfo × List ℕ) ClassFault
-fields_from pool cut seen zero bytes = Ok (seen, bytes)
-fields_from pool cut seen (suc left) bytes = do
-  f ← field_at pool cut seen bytes
-  fields_from pool cut (seen ++ f.0 ∷ []) left f.1
+-- fields_count and the fields.
+abbrev pub fields_at : List Constant → ClassFault → List ℕ → Result (List FieldInfo × List ℕ) ClassFault
+fields_at pool cut bytes = do
+  count ← u2_at cut bytes
+  counted_onto (field_at pool cut) [] count.0 count.1
 
 -- ---- Methods (JVMS 4.6)
 
@@ -206,13 +193,6 @@ handler_at pool cut bytes = do
   _ ← want (catch_type.0 == 0 || is_class pool catch_type.0) fault.Index
   Ok (record { start = start.0; end = end.0; target = target.0; catch_type = catch_type.0 }, catch_type.1)
 
-unfoldable pub handlers_from : List Constant → ClassFault → ℕ → List ℕ → Result (List Handler × List ℕ) ClassFault
-handlers_from pool cut zero bytes = Ok ([], bytes)
-handlers_from pool cut (suc left) bytes = do
-  h ← handler_at pool cut bytes
-  others ← handlers_from pool cut left h.1
-  Ok (h.0 ∷ others.0, others.1)
-
 abbrev pub is_code_length : ℕ → Bool
 is_code_length n = nat_lt 0 n && nat_le n 65535
 
@@ -225,26 +205,25 @@ code_at pool major frame = do
   _ ← want (is_code_length code_length.0) fault.CodeLength
   bytes ← bytes_at frame.cut code_length.0 code_length.1
   count ← u2_at frame.cut bytes.1
-  table ← handlers_from pool frame.cut count.0 count.1
+  table ← counted (handler_at pool frame.cut) count.0 count.1
   attributes ← kept_attributes_at pool frame.cut table.1
   _ ← want_all frame attributes.1
   insns ← insns_of pool major bytes.0
   handlers ← handlers_of insns.0 code_length.0 table.0
   Ok (record { max_stack = max_stack.0; max_locals = max_locals.0; insns = insns.1; handlers = handlers; attributes = attributes.0 }, frame.behind)
 
-unfoldable pub classes_from : List Constant → ClassFault → ℕ → List ℕ → Result (List ℕ × List ℕ) ClassFault
-classes_from pool cut zero bytes = Ok ([], bytes)
-classes_from pool cut (suc left) bytes = do
+-- A number of a Class entry.
+abbrev pub class_number_at : List Constant → ClassFault → List ℕ → Result (ℕ × List ℕ) ClassFault
+class_number_at pool cut bytes = do
   n ← u2_at cut bytes
   _ ← want (is_class pool n.0) fault.Index
-  others ← classes_from pool cut left n.1
-  Ok (n.0 ∷ others.0, others.1)
+  Ok (n.0, n.1)
 
 -- The content of Exceptions: class entries (JVMS 4.7.5).
 abbrev pub exceptions_at : List Constant → Framed → Result (List ℕ × List ℕ) ClassFault
 exceptions_at pool frame = do
   count ← u2_at frame.cut frame.content
-  classes ← classes_from pool frame.cut count.0 count.1
+  classes ← counted (class_number_at pool frame.cut) count.0 count.1
   _ ← want_all frame classes.1
   Ok (classes.0, frame.behind)
 
@@ -281,12 +260,6 @@ method_attribute_at pool major cut code seen bytes = do
         Ok (method_attribute.Exceptions name.0 classes.0, classes.1))
       else (kept_content_at cut name.0 name.1 >>= λ k. Ok (method_attribute.Kept k.0, k.1))))
 
-unfoldable pub method_attributes_from : List Constant → ℕ → ClassFault → Bool → List MethodAttribute → ℕ → List ℕ → Result (List MethodAttribute × List ℕ) ClassFault
-method_attributes_from pool major cut code seen zero bytes = Ok (seen, bytes)
-method_attributes_from pool major cut code seen (suc left) bytes = do
-  a ← method_attribute_at pool major cut code seen bytes
-  method_attributes_from pool major cut code (seen ++ a.0 ∷ []) left a.1
-
 abbrev pub is_initializer : List Constant → ℕ → Bool
 is_initializer pool name = is_text_with is_initializer_name (utf8_at pool name)
 
@@ -315,12 +288,12 @@ method_at pool major cut class_access seen bytes = do
   _ ← want (is_text_with (is_method_descriptor_for (is_static access.0 || is_initializer pool name.0)) (utf8_at pool descriptor.0)) fault.Descriptor
   _ ← want (not (list_any (is_same_method pool name.0 descriptor.0) seen)) fault.RepeatedMember
   count ← u2_at cut descriptor.1
-  attributes ← method_attributes_from pool major cut (asks_code (is_initializer pool name.0) access.0) [] count.0 count.1
+  attributes ← counted_onto (method_attribute_at pool major cut (asks_code (is_initializer pool name.0) access.0)) [] count.0 count.1
   _ ← want (not (asks_code (is_initializer pool name.0) access.0) || list_any is_code attributes.0) fault.CodePresence
   Ok (record { access = access.0; name = name.0; descriptor = descriptor.0; attributes = attributes.0 }, attributes.1)
 
-unfoldable pub methods_from : List Constant → ℕ → ClassFault → ℕ → List MethodInfo → ℕ → List ℕ → Result (List MethodInfo × List ℕ) ClassFault
-methods_from pool major cut class_access seen zero bytes = Ok (seen, bytes)
-methods_from pool major cut class_access seen (suc left) bytes = do
-  m ← method_at pool major cut class_access seen bytes
-  methods_from pool major cut class_access (seen ++ m.0 ∷ []) left m.1
+-- methods_count and the methods of a class with these access flags.
+abbrev pub methods_at : List Constant → ℕ → ClassFault → ℕ → List ℕ → Result (List MethodInfo × List ℕ) ClassFault
+methods_at pool major cut class_access bytes = do
+  count ← u2_at cut bytes
+  counted_onto (method_at pool major cut class_access) [] count.0 count.1

@@ -1,5 +1,5 @@
 -- Steps that may fail, one after another: the first fault is the answer.
-use Rattle.std.specs.Prelude.{Bool, true, false, Option, Some, None, Result, Ok, Err, List, [], ◌∷◌, ⊤}
+use Rattle.std.specs.Prelude.{ℕ, zero, suc, ◌++◌, Bool, true, false, Option, Some, None, Result, Ok, Err, List, [], ◌∷◌, ⊤}
 
 infixl 10 ◌>>=◌
 abbrev pub ◌>>=◌ : {A B E : Type 0} → Result A E → (A → Result B E) → Result B E
@@ -20,3 +20,12 @@ present None e = Err e
 abbrev pub collected : {A B E : Type 0} → (A → Result B E) → List A → Result (List B) E
 collected f [] = Ok []
 collected f (x ∷ xs) = f x >>= λ y. (collected f xs >>= λ ys. Ok (y ∷ ys))
+
+-- So many things, one behind another, each read in view of those that were seen before it.
+unfoldable pub counted_onto : {A E : Type 0} → (List A → List ℕ → Result (A × List ℕ) E) → List A → ℕ → List ℕ → Result (List A × List ℕ) E
+counted_onto thing seen zero bytes = Ok (seen, bytes)
+counted_onto thing seen (suc left) bytes = thing seen bytes >>= λ x. counted_onto thing (seen ++ x.0 ∷ []) left x.1
+
+-- So many things, one behind another.
+abbrev pub counted : {A E : Type 0} → (List ℕ → Result (A × List ℕ) E) → ℕ → List ℕ → Result (List A × List ℕ) E
+counted thing count bytes = counted_onto (λ seen. thing) [] count bytes
