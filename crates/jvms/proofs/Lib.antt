@@ -1,4 +1,5 @@
 pub mod CountedLaws
+pub mod DescriptorLaws
 pub mod FrameSoundness
 pub mod FrontLaws
 pub mod InitialisationOrder

@@ -1,0 +1,72 @@
+//! The entries of a pool, as they are read one behind the other.
+
+ghost use Rattle.std.specs.Prelude.{◌≡◌, ◌<◌, ◌-◌, ◌++◌, length, IfOk, OnErr};
+ghost use Rattle.jvms.specs.ConstantPool.{takes_two, entries_at, pool_at};
+ghost use Rattle.jvms.specs.Reading.{Gives};
+ghost use Rattle.const_pool.specs.Numbered.{numbered};
+
+use crate::bytes::u2_at;
+use crate::constant::constant_at;
+use jvms::class_file::Constant;
+use jvms::fault::{ClassFault, ReadError};
+use jvms::items::Items;
+use std::alloc::{AllocError, Global};
+
+/// Whether an entry takes two numbers (JVMS 4.4.5).
+fn takes_two_numbers(constant: &Constant) -> bool
+    ensures { result ≡ takes_two constant.now }
+{
+    matches!(constant, Constant::Long(_) | Constant::Double(_))
+}
+
+/// Puts an entry behind the others, and with a number that is left the unusable one behind a long or a
+/// double. The result is how many numbers are left then.
+fn put(entries: &mut Items<Constant>, constant: Constant, left: usize) -> Result<usize, AllocError>
+    requires { 0 < left }
+    ensures left { IfOk result (λ after. after ≡ left - length (numbered constant left)) }
+    ensures entries { IfOk result (λ after. entries.new ≡ entries.old ++ numbered constant left) }
+{
+    let two = takes_two_numbers(&constant) && left > 1;
+    entries.push(constant)?;
+    if two {
+        entries.push(Constant::Unusable)?;
+        Ok(left - 2)
+    } else {
+        Ok(left - 1)
+    }
+}
+
+/// The entries of so many numbers, and the bytes behind them.
+fn entries_of(
+    alloc: Global,
+    cut: ClassFault,
+    count: usize,
+    bytes: &[u8],
+) -> Result<(Items<Constant>, &[u8]), ReadError>
+    ensures { Gives (λ x. (x.0, x.1.now)) result (entries_at cut count bytes.now) }
+{
+    let mut entries = Items::new(alloc);
+    let mut rest = bytes;
+    let mut left = count;
+    while left > 0 {
+        let (constant, behind) = match constant_at(alloc, cut, rest) {
+            Ok(read) => read,
+            Err(error) => return Err(error),
+        };
+        left = put(&mut entries, constant, left)?;
+        rest = behind;
+    }
+    Ok((entries, rest))
+}
+
+/// constant_pool_count and its entries, whatever they name, and the bytes behind them.
+pub fn entries_at_front(
+    alloc: Global,
+    cut: ClassFault,
+    bytes: &[u8],
+) -> Result<(Items<Constant>, &[u8]), ReadError>
+    ensures { Gives (λ x. (x.0, x.1.now)) result (pool_at cut bytes.now) }
+{
+    let (count, rest) = u2_at(cut, bytes)?;
+    entries_of(alloc, cut, usize::from(count).saturating_sub(1), rest)
+}

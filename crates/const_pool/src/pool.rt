@@ -1,0 +1,126 @@
+//! The entries of a class file by number.
+
+ghost use Rattle.std.specs.Prelude.{◌≡◌, None, Some};
+ghost use Rattle.std.specs.Option.{option_copied, option_map};
+ghost use Rattle.jvms.specs.ConstantPool.{entry, utf8_at, class_name_at, name_and_type_at, is_utf8, is_class, is_name_and_type, both};
+
+use jvms::class_file::Constant;
+use jvms::items::Items;
+use std::marker::Model;
+
+/// The constant pool. Contracts see the list of its entries, in which entry number n stands at place n - 1.
+#[derive(Debug, Drop)]
+pub struct Pool {
+    entries: Items<Constant>,
+}
+
+impl Model for Pool {
+    ghost use Rattle.std.specs.Prelude.{List};
+    ghost use Rattle.jvms.specs.declared.class_file.Constant.{Constant};
+
+    ghost Value = { List Constant };
+
+    ghost view = { λ p. p.entries };
+}
+
+impl Pool {
+    /// The pool of these entries.
+    pub fn of(entries: Items<Constant>) -> Self
+        ensures { result ≡ entries }
+    {
+        Pool { entries }
+    }
+
+    /// The entries in order.
+    pub fn entries(&self) -> &Items<Constant>
+        ensures { result.now ≡ self.now }
+    {
+        &self.entries
+    }
+
+    /// The entries, by value.
+    pub fn into_entries(self) -> Items<Constant>
+        ensures { result ≡ self }
+    {
+        self.entries
+    }
+
+    /// The entry of a number, if there is one.
+    pub fn entry(&self, number: u16) -> Option<&Constant>
+        ensures { option_copied result ≡ entry self.now number }
+    {
+        if number == 0 {
+            return None;
+        }
+        self.entries.as_slice().get(usize::from(number) - 1)
+    }
+
+    /// The text of a Utf8 entry (JVMS 4.4.7).
+    pub fn utf8(&self, number: u16) -> Option<&[u16]>
+        ensures { option_map (λ t. t.now) result ≡ utf8_at self.now number }
+    {
+        match self.entry(number) {
+            Some(Constant::Utf8(text)) => Some(text.as_slice()),
+            _ => None,
+        }
+    }
+
+    /// Whether a number is a Utf8 entry's.
+    pub fn is_utf8(&self, number: u16) -> bool
+        ensures { result ≡ is_utf8 self.now number }
+    {
+        self.utf8(number).is_some()
+    }
+
+    /// Whether a number is a Class entry's.
+    pub fn is_class(&self, number: u16) -> bool
+        ensures { result ≡ is_class self.now number }
+    {
+        matches!(self.entry(number), Some(Constant::Class { name: _ }))
+    }
+
+    /// Whether a number is a NameAndType entry's.
+    pub fn is_name_and_type(&self, number: u16) -> bool
+        ensures { result ≡ is_name_and_type self.now number }
+    {
+        matches!(
+            self.entry(number),
+            Some(Constant::NameAndType {
+                name: _,
+                descriptor: _
+            })
+        )
+    }
+
+    /// The name of a Class entry (JVMS 4.4.1).
+    pub fn class_name(&self, number: u16) -> Option<&[u16]>
+        ensures { option_map (λ t. t.now) result ≡ class_name_at self.now number }
+    {
+        match self.entry(number) {
+            Some(Constant::Class { name }) => self.utf8(*name),
+            _ => None,
+        }
+    }
+
+    /// The name and the descriptor of a NameAndType entry (JVMS 4.4.6).
+    pub fn name_and_type(&self, number: u16) -> Option<(&[u16], &[u16])>
+        ensures { option_map (λ x. (x.0.now, x.1.now)) result ≡ name_and_type_at self.now number }
+    {
+        match self.entry(number) {
+            Some(Constant::NameAndType { name, descriptor }) => {
+                self.two_texts(*name, *descriptor)
+            }
+            _ => None,
+        }
+    }
+
+    /// The texts of two Utf8 entries, if both are.
+    pub fn two_texts(&self, first: u16, second: u16) -> Option<(&[u16], &[u16])>
+        ensures { option_map (λ x. (x.0.now, x.1.now)) result ≡ both (utf8_at self.now first) (utf8_at self.now second) }
+    {
+        match (self.utf8(first), self.utf8(second)) {
+            (Some(a), Some(b)) => Some((a, b)),
+            _ => None,
+        }
+    }
+}

@@ -1,0 +1,4 @@
+pub mod Scanning
+pub mod Parameters
+pub mod Answered
+pub mod Methods

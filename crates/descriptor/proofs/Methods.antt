@@ -1,0 +1,128 @@
+-- A method's type, put together from its parameters and its result.
+use Rattle.std.proofs.Common.{◌≡◌, ℕ, ◌+◌, ◌<◌, ◌≤◌, Bool, true, false, cond, ◌&&◌, ◌==◌, nat_le, List, [], ◌∷◌, length, Option, Some, None, Err, refl, sym, ap, subst, ◌∙◌, arith}
+use Rattle.std.specs.Prelude.{is_some, sum_by}
+use Rattle.std.specs.Option.{option_and_then, option_map}
+use Rattle.std.proofs.lemmas.Bool.{le-leb, lt-leb}
+use Rattle.std.proofs.lemmas.Option.{same_Some, some_pair_parts}
+use Rattle.jvms.specs.declared.descriptor.FieldType.{FieldType}
+use Rattle.jvms.specs.declared.descriptor.ResultType.{ResultType}
+use Rattle.jvms.specs.declared.descriptor.MethodType.{MethodType}
+use Rattle.jvms.specs.Descriptors.{parameters_from, result_type_of, within_255_units, method_type_of, units_of}
+use Rattle.descriptor.specs.declared.fault.DescriptorFault.{DescriptorFault}
+use Rattle.descriptor.specs.declared.fault.DescriptorFault.TheVariants as faults
+use Rattle.descriptor.specs.Reading.{IsRead}
+use Rattle.descriptor.specs.Scanning.{behind_parenthesis, parameters_behind, units_behind, method_behind}
+use Rattle.descriptor.proofs.Parameters.{Read, counted, parameters_start}
+
+-- a method's type, of its parts
+abbrev pub method_of : List FieldType → ResultType → Option MethodType
+method_of ts r = within_255_units (record { parameters = ts; result = r })
+
+-- parameters, with the result behind them
+abbrev pub with_result : Read → Option MethodType
+with_result ts = option_and_then (method_of ts.0) (result_type_of ts.1)
+
+-- The same, with no parameters read yet.
+pub method_behind_is : (us : List ℕ) → method_behind us ≡ option_and_then with_result (parameters_from (length us) us)
+unfolding method_behind
+method_behind_is us = ap (option_and_then with_result) (parameters_start us)
+
+-- no opening parenthesis, by the test
+unopened_if : (opens : Bool) (us : List ℕ) (o : Option MethodType) → None ≡ cond opens (Some us) None → cond opens o None ≡ None
+unopened_if true us o e = absurd cc
+unopened_if false us o e = refl
+
+-- an opening parenthesis, by the test
+opened_if : (opens : Bool) (us behind : List ℕ) (f : List ℕ → Option MethodType) → Some behind ≡ cond opens (Some us) None → f behind ≡ cond opens (f us) None
+opened_if true us behind f e = ap f (same_Some behind us e)
+opened_if false us behind f e = absurd cc
+
+-- A text with no opening parenthesis spells no method's type.
+pub method_unopened : (text : List ℕ) → None ≡ behind_parenthesis text → method_type_of text ≡ None
+unfolding method_type_of
+method_unopened [] e = refl
+method_unopened (u ∷ us) e = unopened_if (u == 40) us (option_and_then with_result (parameters_from (length us) us)) e
+
+-- A text with one spells what stands behind it.
+pub method_opened : (text behind : List ℕ) → Some behind ≡ behind_parenthesis text → method_behind behind ≡ method_type_of text
+unfolding method_type_of
+method_opened [] behind e = absurd cc
+method_opened (u ∷ us) behind e = method_behind_is behind ∙ opened_if (u == 40) us behind (λ x. option_and_then with_result (parameters_from (length x) x)) e
+
+-- a fault in a part is a fault in the whole
+fault_passes : {Y Z : Type 0} (e : DescriptorFault) (f : Y → Option Z) (o : Option Y) → IsRead {X = Y} (Err e) o → IsRead {X = Z} (Err e) (option_and_then f o)
+fault_passes faults.Malformed f o none = rw none refl
+fault_passes faults.Memory f o none = tt
+
+-- the parameters are read
+pub then_result : (us : List ℕ) (ts : List FieldType) (rest : List ℕ) → parameters_behind [] us ≡ Some (ts, rest) → method_behind us ≡ option_and_then (method_of ts) (result_type_of rest)
+unfolding method_behind
+then_result us ts rest e = rw e refl
+
+-- the result is read too
+pub then_method : (us : List ℕ) (ts : List FieldType) (rest : List ℕ) (r : ResultType) → parameters_behind [] us ≡ Some (ts, rest) → result_type_of rest ≡ Some r → method_behind us ≡ method_of ts r
+then_method us ts rest r e result = then_result us ts rest e ∙ rw result refl
+
+-- a fault in the parameters
+pub parameters_fault : (e : DescriptorFault) (us : List ℕ) → IsRead {X = Read} (Err e) (parameters_behind [] us) → IsRead {X = MethodType} (Err e) (method_behind us)
+unfolding method_behind
+parameters_fault e us fault = fault_passes e with_result (parameters_behind [] us) fault
+
+-- a fault in the result
+pub result_fault : (e : DescriptorFault) (us : List ℕ) (ts : List FieldType) (rest : List ℕ) → parameters_behind [] us ≡ Some (ts, rest)
+    → IsRead {X = ResultType} (Err e) (result_type_of rest) → IsRead {X = MethodType} (Err e) (method_behind us)
+result_fault e us ts rest read fault =
+    subst (λ (o : Option MethodType). IsRead {X = MethodType} (Err e) o) (sym (then_result us ts rest read)) (fault_passes e (method_of ts) (result_type_of rest) fault)
+
+-- ---- Without memory
+
+-- no parameters have no units
+none_of : (o : Option Read) → None ≡ option_map (counted 0) o → false ≡ is_some (option_and_then with_result o)
+none_of None e = refl
+none_of (Some x) e = absurd cc
+
+-- no parameters
+pub no_parameters : (us : List ℕ) → None ≡ units_behind 0 us → false ≡ is_some (method_behind us)
+unfolding units_behind
+no_parameters us e = none_of (parameters_from (length us) us) e ∙ ap is_some (sym (method_behind_is us))
+
+-- a type that counts few enough
+some_if : (few : Bool) (m : MethodType) → few ≡ is_some (cond few (Some m) None)
+some_if true m = refl
+some_if false m = refl
+
+-- false on the right
+and_false : (b : Bool) → (b && false) ≡ false
+and_false true = refl
+and_false false = refl
+
+-- true on the right
+and_true : (b : Bool) → (b && true) ≡ b
+and_true true = refl
+and_true false = refl
+
+-- few enough units, and a result
+with_result_of : (ts : List FieldType) (o : Option ResultType) → (nat_le (sum_by units_of ts) 255 && is_some o) ≡ is_some (option_and_then (method_of ts) o)
+with_result_of ts None = and_false (nat_le (sum_by units_of ts) 255)
+with_result_of ts (Some r) = and_true (nat_le (sum_by units_of ts) 255) ∙ some_if (nat_le (sum_by units_of ts) 255) (record { parameters = ts; result = r })
+
+-- parameters have their units
+some_of : (units : ℕ) (rest : List ℕ) (o : Option Read) → Some (units, rest) ≡ option_map (counted 0) o → (nat_le units 255 && is_some (result_type_of rest)) ≡ is_some (option_and_then with_result o)
+some_of units rest None e = absurd cc
+some_of units rest (Some x) e =
+    let both : (units ≡ 0 + sum_by units_of x.0) × (rest ≡ x.1) = some_pair_parts units (0 + sum_by units_of x.0) rest x.1 e in
+    let n : units ≡ sum_by units_of x.0 = both.0 ∙ omega arith in
+    rw (n, both.1) (with_result_of x.0 (result_type_of x.1))
+
+-- parameters of so many units
+pub some_parameters : (us : List ℕ) (units : ℕ) (rest : List ℕ) → Some (units, rest) ≡ units_behind 0 us → (nat_le units 255 && is_some (result_type_of rest)) ≡ is_some (method_behind us)
+unfolding units_behind
+some_parameters us units rest e = some_of units rest (parameters_from (length us) us) e ∙ ap is_some (sym (method_behind_is us))
+
+-- Few enough units.
+pub few_units : (us : List ℕ) (units : ℕ) (rest : List ℕ) → Some (units, rest) ≡ units_behind 0 us → units ≤ 255 → is_some (result_type_of rest) ≡ is_some (method_behind us)
+few_units us units rest e few = ap (λ (b : Bool). b && is_some (result_type_of rest)) (sym (le-leb units 255 few)) ∙ some_parameters us units rest e
+
+-- Too many units.
+pub many_units : (us : List ℕ) (units : ℕ) (rest : List ℕ) → Some (units, rest) ≡ units_behind 0 us → 255 < units → false ≡ is_some (method_behind us)
+many_units us units rest e many = ap (λ (b : Bool). b && is_some (result_type_of rest)) (sym (lt-leb units 255 many)) ∙ some_parameters us units rest e

@@ -1,0 +1,56 @@
+//! Field descriptors (JVMS 4.3.2).
+
+ghost use Rattle.std.specs.Prelude.{◌≡◌, IfOk, is_some, Some};
+ghost use Rattle.jvms.specs.declared.descriptor.FieldType.{FieldType};
+ghost use Rattle.jvms.specs.Descriptors.{field_type_of, SpellsFieldType};
+ghost use Rattle.descriptor.specs.Reading.{IsRead};
+ghost use Rattle.descriptor.specs.Scanning.{element_of, type_of};
+
+use crate::fault::DescriptorFault;
+use crate::scan::{Innermost, Spelled, field_at};
+use jvms::descriptor::{Element, FieldType};
+use jvms::items::Items;
+use std::alloc::{AllocError, Global};
+
+/// The type with a name of its own.
+pub(crate) fn owned(alloc: Global, spelled: Spelled<'_>) -> Result<FieldType, AllocError>
+    ensures { IfOk result (λ t. t ≡ type_of spelled.entry) }
+{
+    let element = match spelled.innermost {
+        Innermost::Primitive(primitive) => Element::Primitive(primitive),
+        Innermost::Object(name) => Element::Object(Items::from_vec(Vec::from_slice(alloc, name)?)),
+    };
+    Ok(FieldType {
+        dimensions: spelled.dimensions,
+        element,
+    })
+}
+
+/// The type that a text spells.
+pub(crate) fn read_field(alloc: Global, text: &[u16]) -> Result<FieldType, DescriptorFault>
+    ensures { IsRead result (field_type_of text.now) }
+{
+    match field_at(text) {
+        Some((spelled, [])) => Ok(owned(alloc, spelled)?),
+        _ => Err(DescriptorFault::Malformed),
+    }
+}
+
+/// The type of a field, by its descriptor.
+pub fn parse_field(alloc: Global, text: &[u16]) -> Result<FieldType, DescriptorFault>
+    // The one type that the text spells, or `Malformed` where it spells none.
+    ensures exact { IsRead result (field_type_of text.now) }
+    // What is read is spelled so.
+    ensures found { IfOk result (λ t. SpellsFieldType text.now t) }
+    // What is spelled so is read, unless memory runs out.
+    ensures only { (t : FieldType) → SpellsFieldType text.now t → IsRead result (Some t) }
+{
+    read_field(alloc, text)
+}
+
+/// Whether a text is a field's descriptor.
+pub fn is_field_descriptor(text: &[u16]) -> bool
+    ensures { result ≡ is_some (field_type_of text.now) }
+{
+    matches!(field_at(text), Some((_, [])))
+}

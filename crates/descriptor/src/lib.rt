@@ -1,0 +1,24 @@
+//! Descriptors, names and access flags, as the Java Virtual Machine Specification, Java SE 8 edition
+//! (JVMS) spells them: 4.2 names, 4.3 descriptors, 4.4.1 the names of class entries, and the flags of
+//! tables 4.1-A, 4.5-A and 4.6-A.
+#![tactic(auto)]
+
+mod entry;
+mod fault;
+mod field;
+mod flags;
+mod letters;
+mod method;
+mod names;
+mod scan;
+#[cfg(test)]
+mod tests;
+mod units;
+
+pub use entry::{dimensions_of, is_array_name, is_class_entry_name};
+pub use fault::DescriptorFault;
+pub use field::{is_field_descriptor, parse_field};
+pub use flags::Flags;
+pub use method::{is_method_descriptor, parse_method};
+pub use names::{is_class_name, is_constructor_name, is_initializer_name, is_method_name, is_name};
+pub use units::parameter_units;

@@ -1,0 +1,149 @@
+//! Method descriptors (JVMS 4.3.3).
+
+ghost use Rattle.std.specs.Prelude.{◌≡◌, ◌++◌, ◌∷◌, [], IfOk, is_some, Some, length};
+ghost use Rattle.std.specs.Option.{option_map};
+ghost use Rattle.jvms.specs.declared.descriptor.MethodType.{MethodType};
+ghost use Rattle.jvms.specs.Names.{same_text};
+ghost use Rattle.jvms.specs.Descriptors.{method_type_of, result_type_of, within_255_units, SpellsMethodType};
+ghost use Rattle.descriptor.specs.Reading.{IsRead, IsReadBy};
+ghost use Rattle.descriptor.specs.Scanning.{parameters_behind, units_behind, behind_parenthesis, method_behind};
+
+use crate::fault::DescriptorFault;
+use crate::field::{is_field_descriptor, owned, read_field};
+use crate::letters::{CLOSE, OPEN, VOID};
+use crate::names::is_text;
+use crate::scan::field_at;
+use crate::units::{parameter_units, spelled_units};
+use jvms::descriptor::{FieldType, MethodType, ResultType};
+use jvms::items::Items;
+use std::alloc::Global;
+
+/// The most units that a method's parameters count.
+const MOST_UNITS: usize = 255;
+
+/// The descriptor of no result.
+const NO_RESULT: [u16; 1] = [VOID];
+
+/// The parameters up to the closing parenthesis, and the text behind it.
+fn parameters_at(alloc: Global, text: &[u16]) -> Result<(Items<FieldType>, &[u16]), DescriptorFault>
+    ensures { IsReadBy (λ x. (x.0, x.1.now)) result (parameters_behind [] text.now) }
+{
+    let mut found = Items::new(alloc);
+    let mut rest = text;
+    while let Some((first, behind)) = rest.split_first() {
+        if *first == CLOSE {
+            return Ok((found, behind));
+        }
+        let Some((spelled, after)) = field_at(rest) else {
+            return Err(DescriptorFault::Malformed);
+        };
+        found.push(owned(alloc, spelled)?)?;
+        rest = after;
+    }
+    Err(DescriptorFault::Malformed)
+}
+
+/// The units of the parameters up to the closing parenthesis, and the text behind it.
+fn units_at(text: &[u16]) -> Option<(usize, &[u16])>
+    ensures { option_map (λ x. (x.0, x.1.now)) result ≡ units_behind 0 text.now }
+{
+    let mut units = 0;
+    let mut rest = text;
+    while let Some((first, behind)) = rest.split_first() {
+        if *first == CLOSE {
+            return Some((units, behind));
+        }
+        let (spelled, after) = field_at(rest)?;
+        units += spelled_units(spelled);
+        rest = after;
+    }
+    None
+}
+
+/// What a method returns, by the text behind its parameters.
+fn read_result(alloc: Global, text: &[u16]) -> Result<ResultType, DescriptorFault>
+    ensures { IsRead result (result_type_of text.now) }
+{
+    if is_text(text, &NO_RESULT) {
+        return Ok(ResultType::Void);
+    }
+    Ok(ResultType::Value(read_field(alloc, text)?))
+}
+
+/// Whether a text is that of what a method returns.
+fn is_result(text: &[u16]) -> bool
+    ensures { result ≡ is_some (result_type_of text.now) }
+{
+    is_text(text, &NO_RESULT) || is_field_descriptor(text)
+}
+
+/// The text behind the opening parenthesis, where a text begins with one.
+fn behind_parenthesis(text: &[u16]) -> Option<&[u16]>
+    ensures { option_map (λ x. x.now) result ≡ behind_parenthesis text.now }
+{
+    let (first, behind) = text.split_first()?;
+    if *first == OPEN { Some(behind) } else { None }
+}
+
+/// The method's type, if its parameters count few enough units.
+fn within_255_units(method: MethodType) -> Result<MethodType, DescriptorFault>
+    ensures { IsRead result (within_255_units method) }
+{
+    if parameter_units(&method) > MOST_UNITS {
+        return Err(DescriptorFault::Malformed);
+    }
+    Ok(method)
+}
+
+/// The type that a text behind its opening parenthesis spells.
+fn read_behind(alloc: Global, behind: &[u16]) -> Result<MethodType, DescriptorFault>
+    ensures { IsRead result (method_behind behind.now) }
+{
+    let (parameters, rest) = parameters_at(alloc, behind)?;
+    let result = read_result(alloc, rest)?;
+    within_255_units(MethodType { parameters, result })
+}
+
+/// The type that a text spells.
+#[tactic(auto, using(crate::proofs::Methods::method_opened, crate::proofs::Methods::method_unopened))]
+fn read_method(alloc: Global, text: &[u16]) -> Result<MethodType, DescriptorFault>
+    ensures { IsRead result (method_type_of text.now) }
+{
+    match behind_parenthesis(text) {
+        None => Err(DescriptorFault::Malformed),
+        Some(behind) => read_behind(alloc, behind),
+    }
+}
+
+/// The type of a method, by its descriptor.
+pub fn parse_method(alloc: Global, text: &[u16]) -> Result<MethodType, DescriptorFault>
+    // The one type that the text spells, or `Malformed` where it spells none.
+    ensures exact { IsRead result (method_type_of text.now) }
+    // What is read is spelled so.
+    ensures found { IfOk result (λ t. SpellsMethodType text.now t) }
+    // What is spelled so is read, unless memory runs out.
+    ensures only { (t : MethodType) → SpellsMethodType text.now t → IsRead result (Some t) }
+{
+    read_method(alloc, text)
+}
+
+/// Whether a text behind its opening parenthesis is that of a method's descriptor.
+fn is_behind(behind: &[u16]) -> bool
+    ensures { result ≡ is_some (method_behind behind.now) }
+{
+    match units_at(behind) {
+        None => false,
+        Some((units, rest)) => units <= MOST_UNITS && is_result(rest),
+    }
+}
+
+/// Whether a text is a method's descriptor.
+#[tactic(auto, using(crate::proofs::Methods::method_opened, crate::proofs::Methods::method_unopened))]
+pub fn is_method_descriptor(text: &[u16]) -> bool
+    ensures { result ≡ is_some (method_type_of text.now) }
+{
+    match behind_parenthesis(text) {
+        None => false,
+        Some(behind) => is_behind(behind),
+    }
+}

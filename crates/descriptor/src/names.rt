@@ -1,0 +1,103 @@
+//! Names of classes and members (JVMS 4.2).
+
+ghost use Rattle.std.specs.Prelude.{◌≡◌};
+ghost use Rattle.jvms.specs.Names.{is_name, is_class_name, is_reserved, is_angle, is_constructor_name, is_initializer_name, is_method_name, same_text};
+ghost use Rattle.descriptor.specs.Scanning.{without_angles, unreserved};
+
+use crate::letters::{BRACKET, DOT, GREATER, LESS, SEMICOLON, SLASH};
+
+/// The name of a constructor, `<init>` (JVMS 2.9).
+const CONSTRUCTOR: [u16; 6] = [
+    LESS,
+    b'i' as u16,
+    b'n' as u16,
+    b'i' as u16,
+    b't' as u16,
+    GREATER,
+];
+
+/// The name of a class's or interface's initializer, `<clinit>` (JVMS 2.9).
+const INITIALIZER: [u16; 8] = [
+    LESS,
+    b'c' as u16,
+    b'l' as u16,
+    b'i' as u16,
+    b'n' as u16,
+    b'i' as u16,
+    b't' as u16,
+    GREATER,
+];
+
+/// Whether two texts are the same.
+pub(crate) fn is_text(text: &[u16], wanted: &[u16]) -> bool
+    ensures { result ≡ same_text text.now wanted.now }
+{
+    text == wanted
+}
+
+/// Whether a unit is one that no name holds: one of `.` `;` `[` `/`.
+fn is_reserved(unit: u16) -> bool
+    ensures { result ≡ is_reserved unit }
+{
+    matches!(unit, DOT | SEMICOLON | BRACKET | SLASH)
+}
+
+/// Whether a unit is `<` or `>`.
+fn is_angle(unit: u16) -> bool
+    ensures { result ≡ is_angle unit }
+{
+    unit == LESS || unit == GREATER
+}
+
+/// Whether no unit of a text is reserved.
+fn is_unreserved(text: &[u16]) -> bool
+    ensures { result ≡ unreserved text.now }
+{
+    text.iter().all(|unit| !is_reserved(*unit))
+}
+
+/// Whether a text is the name of a field, or one part of a class's name (JVMS 4.2.2).
+#[tactic(auto, using(crate::proofs::Scanning::name_is))]
+pub fn is_name(text: &[u16]) -> bool
+    ensures { result ≡ is_name text.now }
+{
+    !text.is_empty() && is_unreserved(text)
+}
+
+/// Whether a text is the name of a class or an interface: names joined by slashes (JVMS 4.2.1).
+pub fn is_class_name(text: &[u16]) -> bool
+    ensures { result ≡ is_class_name text.now }
+{
+    text.split(|unit| *unit == SLASH).all(|part| is_name(part))
+}
+
+/// Whether a text is the name of a constructor (JVMS 2.9).
+pub fn is_constructor_name(text: &[u16]) -> bool
+    ensures { result ≡ is_constructor_name text.now }
+{
+    is_text(text, &CONSTRUCTOR)
+}
+
+/// Whether a text is the name of the initializer of a class or an interface (JVMS 2.9).
+pub fn is_initializer_name(text: &[u16]) -> bool
+    ensures { result ≡ is_initializer_name text.now }
+{
+    is_text(text, &INITIALIZER)
+}
+
+/// Whether a text has neither `<` nor `>`.
+fn is_without_angles(text: &[u16]) -> bool
+    ensures { result ≡ without_angles text.now }
+{
+    text.iter().all(|unit| !is_angle(*unit))
+}
+
+/// Whether a text is the name of a method: one with no `<` or `>`, or that of a constructor or an
+/// initializer (JVMS 4.2.2).
+pub fn is_method_name(text: &[u16]) -> bool
+    ensures { result ≡ is_method_name text.now }
+{
+    is_constructor_name(text)
+        || is_initializer_name(text)
+        || (is_name(text) && is_without_angles(text))
+}

@@ -1,0 +1,98 @@
+//! The type at the front of a text, without memory: its class's name is still a part of the text.
+
+ghost use Rattle.std.specs.Prelude.{◌≡◌, ◌<◌, ◌==◌, length, IfSome, position};
+ghost use Rattle.std.specs.Option.{option_map};
+ghost use Rattle.jvms.specs.Descriptors.{field_type_from, primitive_of};
+ghost use Rattle.descriptor.specs.Scanning.{element_of, type_of, object_at, element_at};
+
+use crate::entry::dimensions_of;
+use crate::letters::{BOOLEAN, BYTE, CHAR, DOUBLE, FLOAT, INT, LONG, OBJECT, SEMICOLON, SHORT};
+use crate::names::is_class_name;
+use jvms::descriptor::Primitive;
+
+/// The most dimensions of an array's type.
+const MOST_DIMENSIONS: usize = 255;
+
+/// What stands behind the brackets.
+#[derive(Clone, Copy)]
+pub(crate) enum Innermost<'a> {
+    Primitive(Primitive),
+    /// The class of this name.
+    Object(&'a [u16]),
+}
+
+/// A type as it stands in a text.
+#[derive(Clone, Copy)]
+pub(crate) struct Spelled<'a> {
+    pub(crate) dimensions: u8,
+    pub(crate) innermost: Innermost<'a>,
+}
+
+/// The primitive type of a letter (JVMS table 4.3-A).
+fn primitive_of(letter: u16) -> Option<Primitive>
+    ensures { result ≡ primitive_of letter }
+{
+    match letter {
+        BYTE => Some(Primitive::Byte),
+        CHAR => Some(Primitive::Char),
+        DOUBLE => Some(Primitive::Double),
+        FLOAT => Some(Primitive::Float),
+        INT => Some(Primitive::Int),
+        LONG => Some(Primitive::Long),
+        SHORT => Some(Primitive::Short),
+        BOOLEAN => Some(Primitive::Boolean),
+        _ => None,
+    }
+}
+
+/// Where the first semicolon stands.
+fn semicolon_in(text: &[u16]) -> Option<usize>
+    ensures { result ≡ position (λ u. u == 59) text.now }
+{
+    text.iter().position(|unit| *unit == SEMICOLON)
+}
+
+/// Behind an `L`: the class's name up to the semicolon, and the text behind that.
+#[tactic(auto, using(crate::proofs::Scanning::no_object, crate::proofs::Scanning::object_ends, crate::proofs::Scanning::named_object))]
+fn object_at(text: &[u16]) -> Option<(Innermost<'_>, &[u16])>
+    ensures { option_map (λ x. (element_of x.0, x.1.now)) result ≡ object_at text.now }
+{
+    let end = semicolon_in(text)?;
+    let name = &text[..end];
+    if is_class_name(name) {
+        Some((Innermost::Object(name), &text[end + 1..]))
+    } else {
+        None
+    }
+}
+
+/// The type at the front of a text that does not begin with a bracket, and the text behind it.
+fn innermost_at(text: &[u16]) -> Option<(Innermost<'_>, &[u16])>
+    ensures { option_map (λ x. (element_of x.0, x.1.now)) result ≡ element_at text.now }
+{
+    match text {
+        [] => None,
+        [OBJECT, rest @ ..] => object_at(rest),
+        [letter, rest @ ..] => {
+            let primitive = primitive_of(*letter)?;
+            Some((Innermost::Primitive(primitive), rest))
+        }
+    }
+}
+
+/// The type at the front of a text, and the text behind it (JVMS 4.3.2).
+pub(crate) fn field_at(text: &[u16]) -> Option<(Spelled<'_>, &[u16])>
+    ensures exact { option_map (λ x. (type_of x.0, x.1.now)) result ≡ field_type_from 0 text.now }
+    ensures shorter { IfSome result (λ x. length x.1.now < length text.now) }
+{
+    let brackets = dimensions_of(text);
+    if brackets > MOST_DIMENSIONS {
+        return None;
+    }
+    let (innermost, rest) = innermost_at(&text[brackets..])?;
+    let spelled = Spelled {
+        dimensions: brackets as u8,
+        innermost,
+    };
+    Some((spelled, rest))
+}
