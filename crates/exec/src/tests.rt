@@ -91,7 +91,7 @@ fn assert_operands(rt: &impl Abort, frame: &Frame, want: &[Value]) {
     }
 }
 
-static LOCALS: [(Simple, &[Value], &[Value], u32); 6] = [
+static LOCALS: [(Simple, &[Value], &[Value], usize); 6] = [
     (
         Simple::Increment(0, 1),
         &[Value::Int(MOST), NULL],
@@ -204,7 +204,7 @@ fn assert_switch(
     Ok(())
 }
 
-static TABLE: [(i32, u32); 6] = [(-2, 10), (1, 13), (-3, 9), (2, 9), (LEAST, 9), (MOST, 9)];
+static TABLE: [(i32, usize); 6] = [(-2, 10), (1, 13), (-3, 9), (2, 9), (LEAST, 9), (MOST, 9)];
 
 #[test]
 fn tables_switch(rt: HostRuntime) -> Result<(), Fail> {
@@ -251,7 +251,7 @@ static CASES: [SwitchCase; 4] = [
     },
 ];
 
-static LOOKUP: [(i32, u32); 7] = [
+static LOOKUP: [(i32, usize); 7] = [
     (LEAST, 10),
     (-3, 9),
     (-2, 11),

@@ -1,0 +1,5 @@
+pub mod Collecting
+pub mod Placing
+pub mod Searching
+pub mod Shortening
+pub mod SwitchLists

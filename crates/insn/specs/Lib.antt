@@ -1,0 +1,3 @@
+pub mod Locating
+pub mod Operands
+pub mod Places

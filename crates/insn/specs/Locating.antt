@@ -1,0 +1,18 @@
+-- Instructions with the bytes at which they start, as they lie in memory.
+use Rattle.std.specs.Prelude.{ℕ, List, map, Result}
+use Rattle.jvms.specs.declared.fault.ClassFault.{ClassFault}
+use Rattle.jvms.specs.declared.fault.ClassFault.TheVariants as fault
+use Rattle.jvms.specs.declared.insn.Insn.{Insn}
+use Rattle.jvms.specs.Results.{present}
+use Rattle.jvms.specs.Code.{Placed, with_places}
+use Rattle.insn.specs.declared.located.Located.{Located}
+
+abbrev pub placed_of : Located → Placed
+placed_of l = record { pc = l.pc; insn = l.insn }
+
+abbrev pub all_placed : List Located → List Placed
+all_placed ls = map placed_of ls
+
+-- One instruction with places for targets.
+abbrev pub resolved_one : List ℕ → Placed → Result Insn ClassFault
+resolved_one pcs i = present (with_places pcs i.insn) (fault.Target i.pc)

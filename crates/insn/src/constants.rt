@@ -1,0 +1,93 @@
+//! The instructions that push a constant (JVMS 6.5 bipush, sipush, ldc, ldc_w, ldc2_w).
+
+ghost use Rattle.std.specs.Prelude.{◌≡◌};
+ghost use Rattle.std.specs.Option.{option_copied};
+ghost use Rattle.jvms.specs.Instructions.{passes, is_loadable as loadable, is_wide_loadable as wide_loadable};
+ghost use Rattle.jvms.specs.Reading.{Gives};
+ghost use Rattle.insn.specs.Operands.{push_byte_insn, push_short_insn, narrow_constant_insn, wide_constant_insn, long_constant_insn};
+
+use const_pool::{Pool, u1_at, u2_at, want};
+use jvms::class_file::Constant;
+use jvms::fault::{ClassFault, ReadError};
+use jvms::insn::{Insn, Push, Simple};
+
+/// The first version whose `ldc` pushes classes (JVMS 4.9.1).
+const CLASS_VERSION: u16 = 49;
+
+/// JVMS 6.5 bipush.
+pub(crate) fn push_byte(cut: ClassFault, bytes: &[u8]) -> Result<(Insn, &[u8]), ReadError>
+    ensures { Gives (λ x. (x.0, x.1.now)) result (push_byte_insn cut bytes.now) }
+{
+    let (n, rest) = u1_at(cut, bytes)?;
+    let value = i16::from(n.cast_signed());
+    Ok((Insn::Simple(Simple::Push(Push::Int(value))), rest))
+}
+
+/// JVMS 6.5 sipush.
+pub(crate) fn push_short(cut: ClassFault, bytes: &[u8]) -> Result<(Insn, &[u8]), ReadError>
+    ensures { Gives (λ x. (x.0, x.1.now)) result (push_short_insn cut bytes.now) }
+{
+    let (n, rest) = u2_at(cut, bytes)?;
+    let value = n.cast_signed();
+    Ok((Insn::Simple(Simple::Push(Push::Int(value))), rest))
+}
+
+/// Whether `ldc` may push what is found (JVMS 6.5 ldc).
+fn is_loadable(major: u16, found: Option<&Constant>) -> bool
+    ensures { result ≡ passes (loadable major) (option_copied found.entry) }
+{
+    match found {
+        Some(Constant::Integer(_) | Constant::Float(_) | Constant::String { text: _ }) => true,
+        Some(Constant::Class { name: _ }) => major >= CLASS_VERSION,
+        _ => false,
+    }
+}
+
+/// Whether `ldc2_w` may push what is found (JVMS 6.5 ldc2_w).
+fn is_wide_loadable(found: Option<&Constant>) -> bool
+    ensures { result ≡ passes wide_loadable (option_copied found.entry) }
+{
+    matches!(found, Some(Constant::Long(_) | Constant::Double(_)))
+}
+
+/// JVMS 6.5 ldc.
+pub(crate) fn constant<'a>(
+    cut: ClassFault,
+    pool: &Pool,
+    major: u16,
+    bytes: &'a [u8],
+) -> Result<(Insn, &'a [u8]), ReadError>
+    ensures { Gives (λ x. (x.0, x.1.now)) result (narrow_constant_insn cut pool.now major bytes.now) }
+{
+    let (n, rest) = u1_at(cut, bytes)?;
+    let number = u16::from(n);
+    want(is_loadable(major, pool.entry(number)), cut)?;
+    Ok((Insn::Constant(number), rest))
+}
+
+/// JVMS 6.5 ldc_w.
+pub(crate) fn constant_wide<'a>(
+    cut: ClassFault,
+    pool: &Pool,
+    major: u16,
+    bytes: &'a [u8],
+) -> Result<(Insn, &'a [u8]), ReadError>
+    ensures { Gives (λ x. (x.0, x.1.now)) result (wide_constant_insn cut pool.now major bytes.now) }
+{
+    let (number, rest) = u2_at(cut, bytes)?;
+    want(is_loadable(major, pool.entry(number)), cut)?;
+    Ok((Insn::Constant(number), rest))
+}
+
+/// JVMS 6.5 ldc2_w.
+pub(crate) fn constant_long<'a>(
+    cut: ClassFault,
+    pool: &Pool,
+    bytes: &'a [u8],
+) -> Result<(Insn, &'a [u8]), ReadError>
+    ensures { Gives (λ x. (x.0, x.1.now)) result (long_constant_insn cut pool.now bytes.now) }
+{
+    let (number, rest) = u2_at(cut, bytes)?;
+    want(is_wide_loadable(pool.entry(number)), cut)?;
+    Ok((Insn::Constant(number), rest))
+}

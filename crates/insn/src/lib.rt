@@ -1,0 +1,25 @@
+//! The code of a method (JVMS 4.7.3, 6.5): from bytes to instructions whose targets are places.
+#![tactic(auto)]
+
+mod arrays;
+mod branches;
+mod code;
+mod constants;
+mod handlers;
+mod locals;
+mod located;
+mod members;
+mod opcodes;
+mod operands;
+mod places;
+mod starts;
+mod switches;
+mod targets;
+#[cfg(test)]
+mod tests;
+
+pub use code::{Decoded, decode};
+pub use handlers::handler;
+pub use jvms::insn::{Insn, Opcode};
+pub use operands::insn_at;
+pub use starts::Starts;

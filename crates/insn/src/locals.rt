@@ -1,0 +1,67 @@
+//! The instructions that name a local variable (JVMS 6.5 iload, istore, ret, iinc, wide).
+
+ghost use Rattle.std.specs.Prelude.{◌≡◌};
+ghost use Rattle.jvms.specs.Instructions.{wide_form as wide_form_at, wide_insn};
+ghost use Rattle.jvms.specs.Reading.{Gives};
+ghost use Rattle.insn.specs.Operands.{local_insn, increment_insn};
+
+use crate::opcodes::form_of;
+use const_pool::{u1_at, u2_at};
+use jvms::fault::{ClassFault, ReadError};
+use jvms::insn::{Insn, LocalUse, Opcode, Simple};
+
+/// A load, a store or ret, with a local's number of one byte.
+pub(crate) fn local(
+    cut: ClassFault,
+    how: LocalUse,
+    bytes: &[u8],
+) -> Result<(Insn, &[u8]), ReadError>
+    ensures { Gives (λ x. (x.0, x.1.now)) result (local_insn cut how bytes.now) }
+{
+    let (number, rest) = u1_at(cut, bytes)?;
+    let local = u16::from(number);
+    Ok((Insn::Simple(Simple::Local(how, local)), rest))
+}
+
+/// JVMS 6.5 iinc.
+pub(crate) fn increment(cut: ClassFault, bytes: &[u8]) -> Result<(Insn, &[u8]), ReadError>
+    ensures { Gives (λ x. (x.0, x.1.now)) result (increment_insn cut bytes.now) }
+{
+    let (number, rest) = u1_at(cut, bytes)?;
+    let (by, behind) = u1_at(cut, rest)?;
+    let local = u16::from(number);
+    let summand = i16::from(by.cast_signed());
+    Ok((Insn::Simple(Simple::Increment(local, summand)), behind))
+}
+
+/// Behind `wide` and an opcode.
+fn wide_form(
+    cut: ClassFault,
+    form: Option<Opcode>,
+    bytes: &[u8],
+) -> Result<(Insn, &[u8]), ReadError>
+    ensures { Gives (λ x. (x.0, x.1.now)) result (wide_form_at cut form bytes.now) }
+{
+    match form {
+        Some(Opcode::Local(how)) => {
+            let (number, rest) = u2_at(cut, bytes)?;
+            Ok((Insn::Simple(Simple::Local(how, number)), rest))
+        }
+        Some(Opcode::Increment) => {
+            let (number, rest) = u2_at(cut, bytes)?;
+            let (by, behind) = u2_at(cut, rest)?;
+            let summand = by.cast_signed();
+            Ok((Insn::Simple(Simple::Increment(number, summand)), behind))
+        }
+        _ => Err(ReadError::Fault(cut)),
+    }
+}
+
+/// JVMS 6.5 wide.
+#[tactic(auto, unfolding(jvms::specs::Instructions::wide_insn))]
+pub(crate) fn wide(cut: ClassFault, bytes: &[u8]) -> Result<(Insn, &[u8]), ReadError>
+    ensures { Gives (λ x. (x.0, x.1.now)) result (wide_insn cut bytes.now) }
+{
+    let (code, rest) = u1_at(cut, bytes)?;
+    wide_form(cut, form_of(code), rest)
+}

@@ -1,0 +1,10 @@
+//! An instruction with its byte.
+
+use jvms::insn::Insn;
+
+/// An instruction with the byte at which it starts. Its targets are bytes.
+#[derive(Debug, Drop)]
+pub(crate) struct Located {
+    pub(crate) pc: u32,
+    pub(crate) insn: Insn,
+}

@@ -1,0 +1,216 @@
+//! The instructions that name a field, a method or a class (JVMS 6.5 getfield, invokevirtual, new).
+
+ghost use Rattle.std.specs.Prelude.{◌≡◌};
+ghost use Rattle.std.specs.Option.{option_copied, option_map, option_and_then};
+ghost use Rattle.jvms.specs.Instructions.{passes, is_field as field_entry, field_insn, method_numbers as numbers_of, invoked as method_of, is_invocable_name as name_invocable, is_invocable as invocable, interface_operands as interface_rest, behind_invoke as rest_behind, invoke_insn, is_usable_class as usable_class, names_usable as usable_name, class_insn};
+ghost use Rattle.jvms.specs.Names.{begins_with};
+ghost use Rattle.jvms.specs.Reading.{Gives};
+ghost use Rattle.insn.specs.Operands.{counted_units};
+
+use const_pool::{Pool, u1_at, u2_at, want};
+use descriptor::{
+    DescriptorFault, dimensions_of, is_array_name, is_constructor_name, parameter_units,
+    parse_method,
+};
+use jvms::class_file::Constant;
+use jvms::fault::{ClassFault, ReadError};
+use jvms::insn::{ClassUse, FieldUse, Insn, Invoke};
+use std::alloc::Global;
+
+/// Whether what is found is a field's entry.
+fn is_field(found: Option<&Constant>) -> bool
+    ensures { result ≡ passes field_entry (option_copied found.entry) }
+{
+    matches!(
+        found,
+        Some(Constant::Field {
+            class: _,
+            name_and_type: _,
+        })
+    )
+}
+
+/// JVMS 6.5 getstatic, putstatic, getfield, putfield.
+pub(crate) fn field<'a>(
+    cut: ClassFault,
+    pool: &Pool,
+    how: FieldUse,
+    bytes: &'a [u8],
+) -> Result<(Insn, &'a [u8]), ReadError>
+    ensures { Gives (λ x. (x.0, x.1.now)) result (field_insn cut pool.now how bytes.now) }
+{
+    let (number, rest) = u2_at(cut, bytes)?;
+    want(is_field(pool.entry(number)), cut)?;
+    Ok((Insn::Field(how, number), rest))
+}
+
+/// Whether a class of this name may be used so.
+fn is_usable_class(how: ClassUse, name: &[u16]) -> bool
+    ensures { result ≡ usable_class how name.now }
+{
+    match how {
+        ClassUse::New => !is_array_name(name),
+        ClassUse::NewArray => dimensions_of(name) < 255,
+        ClassUse::CheckCast | ClassUse::InstanceOf => true,
+    }
+}
+
+/// Whether there is a class, and it may be used so.
+fn names_usable(how: ClassUse, class: Option<&[u16]>) -> bool
+    ensures { result ≡ usable_name how (option_map (λ t. t.now) class.entry) }
+{
+    match class {
+        Some(name) => is_usable_class(how, name),
+        None => false,
+    }
+}
+
+/// JVMS 6.5 new, anewarray, checkcast, instanceof.
+pub(crate) fn class<'a>(
+    cut: ClassFault,
+    pool: &Pool,
+    how: ClassUse,
+    bytes: &'a [u8],
+) -> Result<(Insn, &'a [u8]), ReadError>
+    ensures { Gives (λ x. (x.0, x.1.now)) result (class_insn cut pool.now how bytes.now) }
+{
+    let (number, rest) = u2_at(cut, bytes)?;
+    want(names_usable(how, pool.class_name(number)), cut)?;
+    Ok((Insn::Class(how, number), rest))
+}
+
+/// The numbers of a method's entry of the kind that the instruction takes (JVMS 4.9.1).
+fn method_numbers(how: Invoke, found: Option<&Constant>) -> Option<(u16, u16)>
+    ensures { result ≡ option_and_then (numbers_of how) (option_copied found.entry) }
+{
+    match found {
+        Some(
+            Constant::InterfaceMethod {
+                class,
+                name_and_type,
+            },
+        ) => match how {
+            Invoke::Interface => Some((*class, *name_and_type)),
+            Invoke::Virtual | Invoke::Special | Invoke::Static => None,
+        },
+        Some(
+            Constant::Method {
+                class,
+                name_and_type,
+            },
+        ) => match how {
+            Invoke::Interface => None,
+            Invoke::Virtual | Invoke::Special | Invoke::Static => Some((*class, *name_and_type)),
+        },
+        _ => None,
+    }
+}
+
+/// The name and the descriptor of the method that an instruction calls.
+fn invoked(pool: &Pool, how: Invoke, number: u16) -> Option<(&[u16], &[u16])>
+    ensures { option_map (λ x. (x.0.now, x.1.now)) result ≡ method_of pool.now how number }
+{
+    match method_numbers(how, pool.entry(number)) {
+        Some((_, name_and_type)) => pool.name_and_type(name_and_type),
+        None => None,
+    }
+}
+
+/// Whether a name begins with an angle bracket.
+fn is_special_name(text: &[u16]) -> bool
+    ensures { result ≡ begins_with 60 text.now }
+{
+    matches!(text, [60, ..])
+}
+
+/// Whether a method of this name may be called so (JVMS 4.9.1).
+fn is_invocable_name(how: Invoke, name: &[u16]) -> bool
+    ensures { result ≡ name_invocable how name.now }
+{
+    match how {
+        Invoke::Special => !is_special_name(name) || is_constructor_name(name),
+        Invoke::Virtual | Invoke::Static | Invoke::Interface => !is_special_name(name),
+    }
+}
+
+/// Whether there is a method, and it may be called so.
+fn is_invocable(how: Invoke, method: Option<(&[u16], &[u16])>) -> bool
+    ensures { result ≡ invocable how (option_map (λ x. (x.0.now, x.1.now)) method.entry) }
+{
+    match method {
+        Some((name, _)) => is_invocable_name(how, name),
+        None => false,
+    }
+}
+
+/// The units of an interface method's arguments, with the object.
+fn interface_units(
+    alloc: Global,
+    method: Option<(&[u16], &[u16])>,
+) -> Result<Option<usize>, ReadError>
+    ensures { Gives (λ x. x) result (counted_units (option_map (λ x. (x.0.now, x.1.now)) method.entry)) }
+{
+    let Some((_, descriptor)) = method else {
+        return Ok(None);
+    };
+    match parse_method(alloc, descriptor) {
+        Ok(found) => Ok(Some(parameter_units(&found) + 1)),
+        Err(DescriptorFault::Malformed) => Ok(None),
+        Err(DescriptorFault::Memory) => Err(ReadError::Memory),
+    }
+}
+
+/// Behind an invokeinterface: the count of argument units, and a 0.
+fn interface_operands(
+    cut: ClassFault,
+    count: Option<usize>,
+    bytes: &[u8],
+) -> Result<&[u8], ReadError>
+    ensures { Gives (λ x. x.now) result (interface_rest cut count bytes.now) }
+{
+    match count {
+        Some(units) => {
+            let (found, rest) = u1_at(cut, bytes)?;
+            let (last, behind) = u1_at(cut, rest)?;
+            want(usize::from(found) == units && last == 0, cut)?;
+            Ok(behind)
+        }
+        None => Err(ReadError::Fault(cut)),
+    }
+}
+
+/// What stands behind the pool number of an invoke.
+fn behind_invoke<'a>(
+    alloc: Global,
+    cut: ClassFault,
+    how: Invoke,
+    method: Option<(&[u16], &[u16])>,
+    bytes: &'a [u8],
+) -> Result<&'a [u8], ReadError>
+    ensures { Gives (λ x. x.now) result (rest_behind cut how (option_map (λ x. (x.0.now, x.1.now)) method.entry) bytes.now) }
+{
+    match how {
+        Invoke::Interface => {
+            let count = interface_units(alloc, method)?;
+            interface_operands(cut, count, bytes)
+        }
+        Invoke::Virtual | Invoke::Special | Invoke::Static => Ok(bytes),
+    }
+}
+
+/// JVMS 6.5 invokevirtual, invokespecial, invokestatic, invokeinterface.
+pub(crate) fn invoke<'a>(
+    alloc: Global,
+    cut: ClassFault,
+    pool: &Pool,
+    how: Invoke,
+    bytes: &'a [u8],
+) -> Result<(Insn, &'a [u8]), ReadError>
+    ensures { Gives (λ x. (x.0, x.1.now)) result (invoke_insn cut pool.now how bytes.now) }
+{
+    let (number, rest) = u2_at(cut, bytes)?;
+    let method = invoked(pool, how, number);
+    want(is_invocable(how, method), cut)?;
+    let behind = behind_invoke(alloc, cut, how, method, rest)?;
+    Ok((Insn::Invoke(how, number), behind))
+}

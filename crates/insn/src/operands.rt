@@ -1,0 +1,72 @@
+//! One instruction from bytes.
+
+ghost use Rattle.std.specs.Prelude.{◌≡◌};
+ghost use Rattle.jvms.specs.Instructions.{operands_at as operands_read, insn_at as insn_read};
+ghost use Rattle.jvms.specs.Reading.{Gives};
+
+use crate::arrays::{multi_new_array, new_array};
+use crate::branches::{branch, branch_wide};
+use crate::constants::{constant, constant_long, constant_wide, push_byte, push_short};
+use crate::locals::{increment, local, wide};
+use crate::members::{class, field, invoke};
+use crate::opcodes::form_of;
+use crate::switches::{lookup_switch, table_switch};
+use const_pool::{Pool, u1_at};
+use jvms::fault::{ClassFault, ReadError};
+use jvms::insn::{Insn, Opcode};
+use std::alloc::Global;
+
+/// The instruction of an opcode, by the operands behind it.
+#[tactic(auto, unfolding(jvms::specs::Instructions::operands_at))]
+fn operands_at<'a>(
+    alloc: Global,
+    pool: &Pool,
+    major: u16,
+    pc: usize,
+    form: Opcode,
+    bytes: &'a [u8],
+) -> Result<(Insn, &'a [u8]), ReadError>
+    ensures { Gives (λ x. (x.0, x.1.now)) result (operands_read pool.now major pc form bytes.now) }
+{
+    let cut = ClassFault::Operand { pc };
+    match form {
+        Opcode::Alone(simple) => Ok((Insn::Simple(simple), bytes)),
+        Opcode::PushByte => push_byte(cut, bytes),
+        Opcode::PushShort => push_short(cut, bytes),
+        Opcode::Constant => constant(cut, pool, major, bytes),
+        Opcode::ConstantWide => constant_wide(cut, pool, major, bytes),
+        Opcode::ConstantLong => constant_long(cut, pool, bytes),
+        Opcode::Local(how) => local(cut, how, bytes),
+        Opcode::Increment => increment(cut, bytes),
+        Opcode::Branch(how) => branch(cut, pc, how, bytes),
+        Opcode::BranchWide(how) => branch_wide(cut, pc, how, bytes),
+        Opcode::TableSwitch => table_switch(alloc, cut, pc, bytes),
+        Opcode::LookupSwitch => lookup_switch(alloc, cut, pc, bytes),
+        Opcode::Field(how) => field(cut, pool, how, bytes),
+        Opcode::Invoke(how) => invoke(alloc, cut, pool, how, bytes),
+        Opcode::Class(how) => class(cut, pool, how, bytes),
+        Opcode::NewArray => new_array(cut, bytes),
+        Opcode::Wide => wide(cut, bytes),
+        Opcode::MultiNewArray => multi_new_array(cut, pool, bytes),
+        Opcode::Reserved => Err(ReadError::Fault(ClassFault::Opcode { pc })),
+    }
+}
+
+/// The instruction at byte `pc` of a method, from its bytes from there on, and the bytes behind it. Its
+/// targets are bytes of the method.
+#[tactic(auto, unfolding(jvms::specs::Instructions::insn_at))]
+pub fn insn_at<'a>(
+    alloc: Global,
+    pool: &Pool,
+    major: u16,
+    pc: usize,
+    bytes: &'a [u8],
+) -> Result<(Insn, &'a [u8]), ReadError>
+    ensures { Gives (λ x. (x.0, x.1.now)) result (insn_read pool.now major pc bytes.now) }
+{
+    let (code, rest) = u1_at(ClassFault::Operand { pc }, bytes)?;
+    match form_of(code) {
+        Some(form) => operands_at(alloc, pool, major, pc, form, rest),
+        None => Err(ReadError::Fault(ClassFault::Opcode { pc })),
+    }
+}

@@ -1,0 +1,71 @@
+//! The bytes at which instructions start.
+
+ghost use Rattle.std.specs.Prelude.{◌≡◌, length};
+ghost use Rattle.jvms.specs.Code.{place_of as place_in};
+ghost use Rattle.insn.specs.Places.{IsStarts};
+
+use std::marker::Model;
+
+/// The bytes at which the instructions of a method start, rising. Contracts see the list of them.
+#[derive(Debug, Drop)]
+pub struct Starts {
+    pcs: Vec<u32>,
+}
+
+impl Model for Starts {
+    ghost use Rattle.std.specs.Prelude.{List, ℕ};
+    ghost use Rattle.insn.specs.Places.{IsStarts};
+
+    ghost Value = { List ℕ };
+
+    ghost view = { λ s. s.pcs.items };
+
+    ghost invariant = { λ s. IsStarts s.pcs.items };
+}
+
+/// Where a number stands among rising ones. By binary search: a method of 65,535 bytes has no time for
+/// more.
+fn place_among(pcs: &[u32], pc: u32) -> Option<usize>
+    requires { IsStarts pcs.now }
+    ensures { result ≡ place_in pcs.now pc }
+{
+    match pcs.binary_search(&pc) {
+        Ok(place) => Some(place),
+        Err(_) => None,
+    }
+}
+
+impl Starts {
+    /// These bytes.
+    pub(crate) fn of(pcs: Vec<u32>) -> Self
+        requires { IsStarts pcs.items }
+        ensures { result ≡ pcs.items }
+    {
+        Starts { pcs }
+    }
+
+    /// The bytes in order.
+    pub fn as_slice(&self) -> &[u32]
+        ensures value { result.now ≡ self.now }
+        ensures starts { IsStarts result.now }
+    {
+        self.pcs.as_slice()
+    }
+
+    /// How many instructions there are.
+    pub fn count(&self) -> u32
+        ensures { result ≡ length self.now }
+    {
+        self.as_slice().len() as u32
+    }
+
+    /// The place of the instruction that starts at a byte, if one does.
+    pub fn place_of(&self, pc: u32) -> Option<u32>
+        ensures { result ≡ place_in self.now pc }
+    {
+        match place_among(self.as_slice(), pc) {
+            Some(place) => Some(place as u32),
+            None => None,
+        }
+    }
+}

@@ -1,0 +1,164 @@
+//! The instructions with many targets (JVMS 6.5 tableswitch, lookupswitch).
+
+ghost use Rattle.std.specs.Prelude.{◌≡◌, ◌+◌, ◌≤ℤ◌, ◌-ℤ◌, unsigned_abs, None, Some};
+ghost use Rattle.jvms.specs.Instructions.{pad_length as pads_at, targets_at as targets_from, cases_at as cases_from, is_above as lies_above, table_switch_insn, lookup_switch_insn};
+ghost use Rattle.jvms.specs.Reading.{Gives};
+ghost use Rattle.insn.specs.Operands.{target_at as target_from, case_at as case_from};
+
+use crate::targets::target_of;
+use const_pool::{bytes_at, u4_at, want};
+use jvms::fault::{ClassFault, ReadError};
+use jvms::insn::{Insn, LookupSwitch, SwitchCase, TableSwitch};
+use jvms::items::Items;
+use std::alloc::Global;
+
+/// How many bytes stand before the next multiple of 4.
+fn pad_length(pc: usize) -> usize
+    ensures { result ≡ pads_at pc }
+{
+    3 - pc % 4
+}
+
+/// One target.
+#[tactic(auto, unfolding(crate::specs::Operands::target_at))]
+fn target_at(cut: ClassFault, pc: usize, bytes: &[u8]) -> Result<(u32, &[u8]), ReadError>
+    ensures { Gives (λ x. (x.0, x.1.now)) result (target_from cut pc bytes.now) }
+{
+    let (offset, rest) = u4_at(cut, bytes)?;
+    Ok((target_of(pc, offset.cast_signed()), rest))
+}
+
+/// So many targets. No room is made before their bytes are seen.
+fn targets_at(
+    alloc: Global,
+    cut: ClassFault,
+    pc: usize,
+    count: usize,
+    bytes: &[u8],
+) -> Result<(Items<u32>, &[u8]), ReadError>
+    ensures { Gives (λ x. (x.0, x.1.now)) result (targets_from cut pc count bytes.now) }
+{
+    let mut targets = Items::new(alloc);
+    let mut rest = bytes;
+    for _ in 0..count {
+        let (target, behind) = target_at(cut, pc, rest)?;
+        targets.push(target)?;
+        rest = behind;
+    }
+    Ok((targets, rest))
+}
+
+/// How many values there are from one to another.
+fn count_of(low: i32, high: i32) -> usize
+    requires { low ≤ℤ high }
+    ensures { result ≡ unsigned_abs (high -ℤ low) + 1 }
+{
+    (i64::from(high) - i64::from(low)).unsigned_abs() as usize + 1
+}
+
+/// JVMS 6.5 tableswitch.
+#[tactic(auto, unfolding(jvms::specs::Instructions::table_switch_insn))]
+pub(crate) fn table_switch(
+    alloc: Global,
+    cut: ClassFault,
+    pc: usize,
+    bytes: &[u8],
+) -> Result<(Insn, &[u8]), ReadError>
+    ensures { Gives (λ x. (x.0, x.1.now)) result (table_switch_insn cut pc bytes.now) }
+{
+    let (_pads, behind_pads) = bytes_at(cut, pad_length(pc), bytes)?;
+    let (offset, behind_default) = u4_at(cut, behind_pads)?;
+    let (low_bits, behind_low) = u4_at(cut, behind_default)?;
+    let (high_bits, behind_high) = u4_at(cut, behind_low)?;
+    let low = low_bits.cast_signed();
+    let high = high_bits.cast_signed();
+    if low > high {
+        return Err(ReadError::Fault(cut));
+    }
+    let (targets, rest) = targets_at(alloc, cut, pc, count_of(low, high), behind_high)?;
+    let default = target_of(pc, offset.cast_signed());
+    Ok((
+        Insn::Table(TableSwitch {
+            default,
+            low,
+            targets,
+        }),
+        rest,
+    ))
+}
+
+/// Whether a value lies above the one before it, if there is one.
+fn is_above(last: Option<i32>, value: i32) -> bool
+    ensures { result ≡ lies_above last value }
+{
+    match last {
+        Some(before) => before < value,
+        None => true,
+    }
+}
+
+/// One case, of a value above the one before it.
+#[tactic(auto, unfolding(crate::specs::Operands::case_at))]
+fn case_at(
+    cut: ClassFault,
+    pc: usize,
+    last: Option<i32>,
+    bytes: &[u8],
+) -> Result<(SwitchCase, &[u8]), ReadError>
+    ensures { Gives (λ x. (x.0, x.1.now)) result (case_from cut pc last bytes.now) }
+{
+    let (value_bits, behind_value) = u4_at(cut, bytes)?;
+    let (offset, rest) = u4_at(cut, behind_value)?;
+    let value = value_bits.cast_signed();
+    want(is_above(last, value), cut)?;
+    let target = target_of(pc, offset.cast_signed());
+    Ok((SwitchCase { value, target }, rest))
+}
+
+/// The value that the next case's lies above.
+fn value_of(case: SwitchCase) -> Option<i32>
+    ensures { result ≡ Some case.value }
+{
+    Some(case.value)
+}
+
+/// So many cases, by strictly rising value. No room is made before their bytes are seen.
+fn cases_at(
+    alloc: Global,
+    cut: ClassFault,
+    pc: usize,
+    count: u32,
+    bytes: &[u8],
+) -> Result<(Items<SwitchCase>, &[u8]), ReadError>
+    ensures { Gives (λ x. (x.0, x.1.now)) result (cases_from cut pc count None bytes.now) }
+{
+    let mut cases = Items::new(alloc);
+    let mut rest = bytes;
+    let mut last = None;
+    for _ in 0..count {
+        let (case, behind) = case_at(cut, pc, last, rest)?;
+        cases.push(case)?;
+        last = value_of(case);
+        rest = behind;
+    }
+    Ok((cases, rest))
+}
+
+/// JVMS 6.5 lookupswitch.
+#[tactic(auto, unfolding(jvms::specs::Instructions::lookup_switch_insn))]
+pub(crate) fn lookup_switch(
+    alloc: Global,
+    cut: ClassFault,
+    pc: usize,
+    bytes: &[u8],
+) -> Result<(Insn, &[u8]), ReadError>
+    ensures { Gives (λ x. (x.0, x.1.now)) result (lookup_switch_insn cut pc bytes.now) }
+{
+    let (_pads, behind_pads) = bytes_at(cut, pad_length(pc), bytes)?;
+    let (offset, behind_default) = u4_at(cut, behind_pads)?;
+    let (count, behind_count) = u4_at(cut, behind_default)?;
+    want(count < 2_147_483_648, cut)?;
+    let (cases, rest) = cases_at(alloc, cut, pc, count, behind_count)?;
+    let default = target_of(pc, offset.cast_signed());
+    Ok((Insn::Lookup(LookupSwitch { default, cases }), rest))
+}

@@ -1,0 +1,5 @@
+pub mod BuiltInLaws
+pub mod ClassTypeLaws
+pub mod MethodLaws
+pub mod PlaceLaws
+pub mod WalkLaws

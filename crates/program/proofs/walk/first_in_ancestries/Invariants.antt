@@ -1,0 +1,10 @@
+use Rattle.std.proofs.Common.{◌≡◌, drop}
+use Rattle.std.specs.List.{flat_map}
+use Rattle.jvms.specs.Resolution.{ancestry, first_in}
+use Rattle.program.proofs.walk.first_in_ancestries.Given as goal
+
+-- what the names so far gave: nothing
+abbrev pub invariant-loop-name : goal.invariant-loop-name
+invariant-loop-name g l =
+    first_in (g.L.Look.gives l.look) (flat_map (ancestry l.classes) l.names)
+    ≡ first_in (g.L.Look.gives l.look) (flat_map (ancestry l.classes) (drop l.name-index l.names))

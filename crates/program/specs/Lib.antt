@@ -1,0 +1,3 @@
+pub mod ClassTypes
+pub mod Ordinary
+pub mod Places

@@ -1,0 +1,197 @@
+//! The classes that every program has.
+
+ghost use Rattle.std.specs.Prelude.{◌≡◌, ◌∷◌, [], codes, true, IfOk};
+ghost use Rattle.jvms.specs.BuiltIn.{object, class_with, interface_with, object_class, runnable_class, thread_class, print_stream_class, coded, field, load, return_void, target_field, call_run};
+
+use crate::code::{call_run, load, return_void, target_field};
+use crate::members::{abstracted, coded, field, native};
+use crate::text::text;
+use jvms::insn::{Branch, FieldUse};
+use jvms::items::Items;
+use jvms::program::{Class, ClassKind, Field, Instruction, Method};
+use std::alloc::{AllocError, Global};
+
+/// The name of the class above all others.
+pub(crate) const OBJECT: &str = "java/lang/Object";
+
+/// A class with a superclass.
+pub(crate) fn class_with(
+    alloc: Global,
+    superclass: &str,
+    interfaces: Vec<Items<u16>>,
+    fields: Vec<Field>,
+    methods: Vec<Method>,
+    name: &str,
+) -> Result<Class, AllocError>
+    ensures { IfOk result (λ c. c ≡ class_with superclass.now interfaces.items fields.items methods.items name.now) }
+{
+    Ok(Class {
+        name: text(alloc, name)?,
+        kind: ClassKind::Neither,
+        superclass: Some(text(alloc, superclass)?),
+        interfaces: Items::from_vec(interfaces),
+        fields: Items::from_vec(fields),
+        methods: Items::from_vec(methods),
+    })
+}
+
+/// An interface with no superinterfaces.
+pub(crate) fn interface_with(
+    alloc: Global,
+    methods: Vec<Method>,
+    name: &str,
+) -> Result<Class, AllocError>
+    ensures { IfOk result (λ c. c ≡ interface_with methods.items name.now) }
+{
+    Ok(Class {
+        name: text(alloc, name)?,
+        kind: ClassKind::Interface,
+        superclass: Some(text(alloc, OBJECT)?),
+        interfaces: Items::new(alloc),
+        fields: Items::new(alloc),
+        methods: Items::from_vec(methods),
+    })
+}
+
+pub(crate) fn object_class(alloc: Global) -> Result<Class, AllocError>
+    ensures { IfOk result (λ c. c ≡ object_class) }
+{
+    let methods = vec![in alloc; plain_constructor(alloc)?]?;
+    Ok(Class {
+        name: text(alloc, OBJECT)?,
+        kind: ClassKind::Neither,
+        superclass: None,
+        interfaces: Items::new(alloc),
+        fields: Items::new(alloc),
+        methods: Items::from_vec(methods),
+    })
+}
+
+pub(crate) fn runnable_class(alloc: Global) -> Result<Class, AllocError>
+    ensures { IfOk result (λ c. c ≡ runnable_class) }
+{
+    let methods = vec![in alloc; abstracted(alloc, "run", "()V")?]?;
+    interface_with(alloc, methods, "java/lang/Runnable")
+}
+
+/// The constructor of a thread with a target.
+fn thread_constructor(alloc: Global) -> Result<Method, AllocError>
+    ensures { IfOk result (λ m. m ≡ coded (codes "<init>") (codes "(Ljava/lang/Runnable;)V") (load 0 ∷ load 1 ∷ target_field FieldUse.Put ∷ return_void ∷ [])) }
+{
+    let put = target_field(alloc, FieldUse::Put)?;
+    let code = vec![in alloc; load(0), load(1), put, return_void()]?;
+    coded(alloc, "<init>", "(Ljava/lang/Runnable;)V", code)
+}
+
+/// A thread's run, which calls the target's run, if there is a target.
+fn thread_run(alloc: Global) -> Result<Method, AllocError>
+    ensures { IfOk result (λ m. m ≡ coded (codes "run") (codes "()V") (load 0 ∷ target_field FieldUse.Get ∷ Instruction.Branch Branch.IfNull 6 ∷ load 0 ∷ target_field FieldUse.Get ∷ call_run ∷ return_void ∷ [])) }
+{
+    let tested = target_field(alloc, FieldUse::Get)?;
+    let called = target_field(alloc, FieldUse::Get)?;
+    let call = call_run(alloc)?;
+    let branch = Instruction::Branch(Branch::IfNull, 6);
+    let code = vec![in alloc;
+        load(0),
+        tested,
+        branch,
+        load(0),
+        called,
+        call,
+        return_void(),
+    ]?;
+    coded(alloc, "run", "()V", code)
+}
+
+/// The constructor of most classes, which does nothing.
+pub(crate) fn plain_constructor(alloc: Global) -> Result<Method, AllocError>
+    ensures { IfOk result (λ m. m ≡ coded (codes "<init>") (codes "()V") (return_void ∷ [])) }
+{
+    let code = vec![in alloc; return_void()]?;
+    coded(alloc, "<init>", "()V", code)
+}
+
+/// The methods of a thread.
+fn thread_methods(alloc: Global) -> Result<Vec<Method>, AllocError>
+    ensures { IfOk result (λ methods. methods.items ≡ thread_class.methods) }
+{
+    let plain = plain_constructor(alloc)?;
+    let constructor = thread_constructor(alloc)?;
+    let run = thread_run(alloc)?;
+    let start = native(alloc, "start", "()V")?;
+    let join = native(alloc, "join", "()V")?;
+    Ok(vec![in alloc; plain, constructor, run, start, join]?)
+}
+
+/// A thread, which has a target to run.
+pub(crate) fn thread_class(alloc: Global) -> Result<Class, AllocError>
+    ensures { IfOk result (λ c. c ≡ thread_class) }
+{
+    let interfaces = vec![in alloc; text(alloc, "java/lang/Runnable")?]?;
+    let fields = vec![in alloc; field(alloc, false, "target", "Ljava/lang/Runnable;")?]?;
+    let methods = thread_methods(alloc)?;
+    class_with(
+        alloc,
+        OBJECT,
+        interfaces,
+        fields,
+        methods,
+        "java/lang/Thread",
+    )
+}
+
+/// The methods of a stream that prints.
+fn print_methods(alloc: Global) -> Result<Vec<Method>, AllocError>
+    ensures { IfOk result (λ methods. methods.items ≡ print_stream_class.methods) }
+{
+    let int = native(alloc, "print", "(I)V")?;
+    let string = native(alloc, "print", "(Ljava/lang/String;)V")?;
+    let int_line = native(alloc, "println", "(I)V")?;
+    let string_line = native(alloc, "println", "(Ljava/lang/String;)V")?;
+    let line = native(alloc, "println", "()V")?;
+    Ok(vec![in alloc; int, string, int_line, string_line, line]?)
+}
+
+/// A stream that prints.
+pub(crate) fn print_stream_class(alloc: Global) -> Result<Class, AllocError>
+    ensures { IfOk result (λ c. c ≡ print_stream_class) }
+{
+    let methods = print_methods(alloc)?;
+    let interfaces = Vec::new(alloc);
+    let fields = Vec::new(alloc);
+    class_with(
+        alloc,
+        OBJECT,
+        interfaces,
+        fields,
+        methods,
+        "java/io/PrintStream",
+    )
+}
+
+/// What is serializable and has no members.
+pub(crate) fn serializable_class(alloc: Global, name: &str) -> Result<Class, AllocError>
+    ensures { IfOk result (λ c. c ≡ class_with object (codes "java/io/Serializable" ∷ []) [] [] name.now) }
+{
+    let interfaces = vec![in alloc; text(alloc, "java/io/Serializable")?]?;
+    let fields = Vec::new(alloc);
+    let methods = Vec::new(alloc);
+    class_with(alloc, OBJECT, interfaces, fields, methods, name)
+}
+
+/// The class of the stream `out`.
+pub(crate) fn system_class(alloc: Global) -> Result<Class, AllocError>
+    ensures { IfOk result (λ c. c ≡ class_with object [] (field true (codes "out") (codes "Ljava/io/PrintStream;") ∷ []) [] (codes "java/lang/System")) }
+{
+    let fields = vec![in alloc; field(alloc, true, "out", "Ljava/io/PrintStream;")?]?;
+    let interfaces = Vec::new(alloc);
+    let methods = Vec::new(alloc);
+    class_with(
+        alloc,
+        OBJECT,
+        interfaces,
+        fields,
+        methods,
+        "java/lang/System",
+    )
+}

@@ -1,0 +1,98 @@
+//! Instructions of the built-in classes' methods.
+
+ghost use Rattle.std.specs.Prelude.{◌≡◌, IfOk};
+ghost use Rattle.jvms.specs.BuiltIn.{load, return_void, return_reference, field_insn, target_field, call_run, message_field};
+
+use crate::text::text;
+use crate::types::{field_type, method_type};
+use jvms::insn::{FieldUse, Invoke, Kind, LocalUse, ReturnInsn, Simple};
+use jvms::program::{FieldReference, Instruction, MethodReference};
+use std::alloc::{AllocError, Global};
+
+/// Pushes the reference in a local.
+pub(crate) fn load(local: u16) -> Instruction
+    ensures { result ≡ load local }
+{
+    Instruction::Simple(Simple::Local(LocalUse::Load(Kind::Reference), local))
+}
+
+/// Returns nothing.
+pub(crate) fn return_void() -> Instruction
+    ensures { result ≡ return_void }
+{
+    Instruction::Simple(Simple::Return(ReturnInsn::Void))
+}
+
+/// Returns a reference.
+pub(crate) fn return_reference() -> Instruction
+    ensures { result ≡ return_reference }
+{
+    Instruction::Simple(Simple::Return(ReturnInsn::Value(Kind::Reference)))
+}
+
+/// Uses a field.
+fn field_insn(
+    alloc: Global,
+    how: FieldUse,
+    class: &str,
+    name: &str,
+    descriptor: &str,
+) -> Result<Instruction, AllocError>
+    ensures { IfOk result (λ i. i ≡ field_insn how class.now name.now descriptor.now) }
+{
+    let class = text(alloc, class)?;
+    let name = text(alloc, name)?;
+    let descriptor = text(alloc, descriptor)?;
+    let field_type = field_type(alloc, descriptor.as_slice())?;
+    let reference = FieldReference {
+        class,
+        name,
+        descriptor,
+        field_type,
+    };
+    Ok(Instruction::Field(how, reference))
+}
+
+/// Uses a thread's target.
+pub(crate) fn target_field(alloc: Global, how: FieldUse) -> Result<Instruction, AllocError>
+    ensures { IfOk result (λ i. i ≡ target_field how) }
+{
+    field_insn(
+        alloc,
+        how,
+        "java/lang/Thread",
+        "target",
+        "Ljava/lang/Runnable;",
+    )
+}
+
+/// Uses a Throwable's message.
+pub(crate) fn message_field(alloc: Global, how: FieldUse) -> Result<Instruction, AllocError>
+    ensures { IfOk result (λ i. i ≡ message_field how) }
+{
+    field_insn(
+        alloc,
+        how,
+        "java/lang/Throwable",
+        "message",
+        "Ljava/lang/String;",
+    )
+}
+
+/// Calls a Runnable's run.
+pub(crate) fn call_run(alloc: Global) -> Result<Instruction, AllocError>
+    ensures { IfOk result (λ i. i ≡ call_run) }
+{
+    let class = text(alloc, "java/lang/Runnable")?;
+    let name = text(alloc, "run")?;
+    let descriptor = text(alloc, "()V")?;
+    let method_type = method_type(alloc, descriptor.as_slice())?;
+    let reference = MethodReference {
+        is_interface: true,
+        class,
+        name,
+        descriptor,
+        method_type,
+    };
+    Ok(Instruction::Invoke(Invoke::Interface, reference))
+}

@@ -1,0 +1,29 @@
+//! Whether a class is there.
+
+ghost use Rattle.std.specs.Prelude.{◌≡◌, is_some};
+ghost use Rattle.jvms.specs.Program.{class_named};
+ghost use Rattle.jvms.specs.Resolution.{class_exists};
+
+use crate::class_type::{Innermost, class_type};
+use crate::lookup::named;
+use jvms::program::Class;
+
+/// Whether there is a class of a name, which is no array's.
+fn is_there(classes: &[Class], name: &[u16]) -> bool
+    ensures { result ≡ is_some (class_named classes.now name.now) }
+{
+    named(classes, name).is_some()
+}
+
+/// Whether the class of a name is there: of an array, its elements' class.
+pub(crate) fn class_exists(classes: &[Class], name: &[u16]) -> bool
+    ensures { result ≡ class_exists classes.now name.now }
+{
+    match class_type(name) {
+        None => false,
+        Some(t) => match t.innermost {
+            Innermost::Primitive(_) => true,
+            Innermost::Object(element) => is_there(classes, element),
+        },
+    }
+}

@@ -1,0 +1,31 @@
+//! Programs (JVMS 5.3): the built-in classes and those of class files, with what is looked up in them by
+//! name (JVMS 5.4.3).
+#![tactic(auto)]
+
+mod all;
+mod built_in;
+mod class_type;
+mod code;
+mod exists;
+mod fields;
+mod list;
+mod look;
+mod lookup;
+mod members;
+mod methods;
+mod names;
+mod order;
+mod resolve;
+mod select;
+mod subtypes;
+#[cfg(test)]
+mod tests;
+mod text;
+mod throwables;
+mod types;
+mod walk;
+
+pub use all::is_built_in;
+pub use list::Program;
+pub use lookup::declared_number;
+pub use names::same_text;

@@ -1,0 +1,66 @@
+//! Classes and members by their names.
+
+ghost use Rattle.std.specs.Prelude.{◌≡◌, option_copied, slice_get};
+ghost use Rattle.jvms.specs.Program.{class_named, class_number, declared_number, method_at};
+ghost use Rattle.program.specs.Places.{declared_field_number, field_at};
+
+use crate::names::same_text;
+use jvms::machine::MethodNumber;
+use jvms::program::{Class, Field, Method};
+
+/// The number of a class's method of this name and descriptor: its place in the class's list.
+pub fn declared_number(class: &Class, name: &[u16], descriptor: &[u16]) -> Option<usize>
+    ensures { result ≡ declared_number class.now name.now descriptor.now }
+{
+    class.methods.as_slice().iter().position(|method| {
+        same_text(method.name.as_slice(), name)
+            && same_text(method.descriptor.as_slice(), descriptor)
+    })
+}
+
+/// The number of a class's field of this name and descriptor: its place in the class's list.
+pub(crate) fn declared_field_number(
+    class: &Class,
+    name: &[u16],
+    descriptor: &[u16],
+) -> Option<usize>
+    ensures { result ≡ declared_field_number class.now name.now descriptor.now }
+{
+    class.fields.as_slice().iter().position(|field| {
+        same_text(field.name.as_slice(), name) && same_text(field.descriptor.as_slice(), descriptor)
+    })
+}
+
+/// The number of the class of a name: its place in the list.
+pub(crate) fn number_of(classes: &[Class], name: &[u16]) -> Option<usize>
+    ensures { result ≡ class_number classes.now name.now }
+{
+    classes
+        .iter()
+        .position(|class| same_text(class.name.as_slice(), name))
+}
+
+/// The class of a name.
+pub(crate) fn named<'a>(classes: &'a [Class], name: &[u16]) -> Option<&'a Class>
+    ensures { option_copied result ≡ class_named classes.now name.now }
+{
+    classes
+        .iter()
+        .find(|class| same_text(class.name.as_slice(), name))
+}
+
+/// The method of a number.
+pub(crate) fn method_of(classes: &[Class], n: MethodNumber) -> Option<&Method>
+    ensures { option_copied result ≡ method_at classes.now n }
+{
+    let class = classes.get(n.class)?;
+    class.methods.as_slice().get(n.method)
+}
+
+/// The field of these numbers, of a class and of it there.
+pub(crate) fn field_at(classes: &[Class], place: (usize, usize)) -> Option<&Field>
+    ensures { option_copied result ≡ field_at classes.now place }
+{
+    let class = classes.get(place.0)?;
+    class.fields.as_slice().get(place.1)
+}

@@ -1,0 +1,108 @@
+//! Members of the built-in classes.
+
+ghost use Rattle.std.specs.Prelude.{◌≡◌, IfOk};
+ghost use Rattle.jvms.specs.BuiltIn.{method, coded, native, abstracted, field, no_flags};
+
+use crate::text::text;
+use crate::types::{field_type, method_type};
+use jvms::items::Items;
+use jvms::program::{Body, Field, Instruction, Method, MethodFlags};
+use std::alloc::{AllocError, Global};
+
+/// The flags of a method that has none.
+fn no_flags() -> MethodFlags
+    ensures { result ≡ no_flags }
+{
+    MethodFlags {
+        is_static: false,
+        is_private: false,
+        is_synchronized: false,
+        is_native: false,
+        is_abstract: false,
+    }
+}
+
+/// A method.
+fn method(
+    alloc: Global,
+    name: &str,
+    descriptor: &str,
+    flags: MethodFlags,
+    body: Option<Body>,
+) -> Result<Method, AllocError>
+    ensures { IfOk result (λ m. m ≡ method name.now descriptor.now flags body) }
+{
+    let name = text(alloc, name)?;
+    let descriptor = text(alloc, descriptor)?;
+    let method_type = method_type(alloc, descriptor.as_slice())?;
+    Ok(Method {
+        name,
+        descriptor,
+        method_type,
+        flags,
+        throws: Items::new(alloc),
+        body,
+    })
+}
+
+/// A method with code.
+pub(crate) fn coded(
+    alloc: Global,
+    name: &str,
+    descriptor: &str,
+    code: Vec<Instruction>,
+) -> Result<Method, AllocError>
+    ensures { IfOk result (λ m. m ≡ coded name.now descriptor.now code.items) }
+{
+    let body = Body {
+        max_stack: 2,
+        max_locals: 2,
+        instructions: Items::from_vec(code),
+        handlers: Items::new(alloc),
+    };
+    method(alloc, name, descriptor, no_flags(), Some(body))
+}
+
+/// A native method.
+pub(crate) fn native(alloc: Global, name: &str, descriptor: &str) -> Result<Method, AllocError>
+    ensures { IfOk result (λ m. m ≡ native name.now descriptor.now) }
+{
+    let flags = MethodFlags {
+        is_native: true,
+        ..no_flags()
+    };
+    method(alloc, name, descriptor, flags, None)
+}
+
+/// An abstract method.
+pub(crate) fn abstracted(alloc: Global, name: &str, descriptor: &str) -> Result<Method, AllocError>
+    ensures { IfOk result (λ m. m ≡ abstracted name.now descriptor.now) }
+{
+    let flags = MethodFlags {
+        is_abstract: true,
+        ..no_flags()
+    };
+    method(alloc, name, descriptor, flags, None)
+}
+
+/// A field.
+pub(crate) fn field(
+    alloc: Global,
+    is_static: bool,
+    name: &str,
+    descriptor: &str,
+) -> Result<Field, AllocError>
+    ensures { IfOk result (λ f. f ≡ field is_static name.now descriptor.now) }
+{
+    let name = text(alloc, name)?;
+    let descriptor = text(alloc, descriptor)?;
+    let field_type = field_type(alloc, descriptor.as_slice())?;
+    Ok(Field {
+        name,
+        descriptor,
+        field_type,
+        is_static,
+        is_private: false,
+        constant: None,
+    })
+}

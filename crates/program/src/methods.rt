@@ -1,0 +1,56 @@
+//! Resolution of methods (JVMS 5.4.3.3, 5.4.3.4).
+
+ghost use Rattle.std.specs.Prelude.{◌≡◌};
+ghost use Rattle.jvms.specs.Names.{is_constructor_name};
+ghost use Rattle.jvms.specs.Resolution.{names_interface, members_class, found_in_order, found_method};
+ghost use Rattle.program.specs.Places.{IsMethodAt, Locates};
+
+use crate::look::DeclaredMethod;
+use crate::lookup::named;
+use crate::names::members_class;
+use crate::order::{first_for_class, first_for_interface};
+use crate::walk::Look;
+use descriptor::is_constructor_name;
+use jvms::program::{Class, ClassKind, MethodReference};
+
+/// Whether the class of a name is an interface.
+pub(crate) fn names_interface(classes: &[Class], name: &[u16]) -> bool
+    ensures { result ≡ names_interface classes.now name.now }
+{
+    match named(classes, name) {
+        Some(class) => matches!(class.kind, ClassKind::Interface),
+        None => false,
+    }
+}
+
+/// The method that a reference finds in the order of the classes above.
+fn found_in_order(classes: &[Class], r: &MethodReference) -> Option<(usize, usize)>
+    ensures { Locates (IsMethodAt classes.now) (found_in_order classes.now r.now) result }
+{
+    let look = DeclaredMethod {
+        classes,
+        name: r.name.as_slice(),
+        descriptor: r.descriptor.as_slice(),
+    };
+    if r.is_interface {
+        first_for_interface(classes, r.class.as_slice(), &look)
+    } else {
+        first_for_class(classes, members_class(r.class.as_slice()), &look)
+    }
+}
+
+/// The method that a reference finds. A constructor is looked for in the named class alone.
+pub(crate) fn found_method(classes: &[Class], r: &MethodReference) -> Option<(usize, usize)>
+    ensures { Locates (IsMethodAt classes.now) (found_method classes.now r.now) result }
+{
+    if !is_constructor_name(r.name.as_slice()) {
+        return found_in_order(classes, r);
+    }
+    let class = named(classes, r.class.as_slice())?;
+    let look = DeclaredMethod {
+        classes,
+        name: r.name.as_slice(),
+        descriptor: r.descriptor.as_slice(),
+    };
+    look.look(class)
+}

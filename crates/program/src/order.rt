@@ -1,0 +1,45 @@
+//! The classes that method resolution passes, in order (JVMS 5.4.3.3, 5.4.3.4).
+
+ghost use Rattle.std.specs.Prelude.{◌≡◌};
+ghost use Rattle.jvms.specs.Resolution.{class_method_order, interface_method_order, first_in};
+
+use crate::look::InInterfaces;
+use crate::lookup::named;
+use crate::names::OBJECT;
+use crate::walk::{Look, first_in_ancestries, first_up};
+use jvms::program::Class;
+
+/// What is found first where a method of a class is looked for (JVMS 5.4.3.3).
+#[tactic(auto, using(crate::proofs::WalkLaws::appended))]
+pub(crate) fn first_for_class<L: Look>(
+    classes: &[Class],
+    name: &[u16],
+    look: &L,
+) -> Option<(usize, usize)>
+    ensures { result ≡ first_in (L.gives look.now) (class_method_order classes.now name.now) }
+{
+    if let Some(found) = first_up(classes, name, look) {
+        return Some(found);
+    }
+    first_up(classes, name, &InInterfaces { classes, look })
+}
+
+/// What is found first where a method of an interface is looked for (JVMS 5.4.3.4).
+pub(crate) fn first_for_interface<L: Look>(
+    classes: &[Class],
+    name: &[u16],
+    look: &L,
+) -> Option<(usize, usize)>
+    ensures { result ≡ first_in (L.gives look.now) (interface_method_order classes.now name.now) }
+{
+    let interface = named(classes, name)?;
+    if let Some(found) = look.look(interface) {
+        return Some(found);
+    }
+    if let Some(object) = named(classes, &OBJECT) {
+        if let Some(found) = look.look(object) {
+            return Some(found);
+        }
+    }
+    first_in_ancestries(classes, interface.interfaces.as_slice(), look)
+}

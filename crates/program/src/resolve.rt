@@ -1,0 +1,41 @@
+//! Resolution of what instructions name (JVMS 5.4.3).
+
+ghost use Rattle.jvms.specs.Resolution.{resolved_method};
+ghost use Rattle.program.specs.Places.{IsMethodAt, Resolves};
+
+use crate::exists::class_exists;
+use crate::list::Program;
+use crate::lookup::method_of;
+use crate::methods::{found_method, names_interface};
+use jvms::machine::{MethodNumber, Thrown};
+use jvms::program::MethodReference;
+
+impl Program {
+    /// The method that a reference names (JVMS 5.4.3.3, 5.4.3.4): the numbers of its class and of it there.
+    pub fn resolve_method(
+        &self,
+        is_static: bool,
+        r: &MethodReference,
+    ) -> Result<(usize, usize), Thrown>
+        ensures { Resolves (IsMethodAt self.now) (resolved_method self.now is_static r.now) result }
+    {
+        let classes = self.classes();
+        if !class_exists(classes, r.class.as_slice()) {
+            return Err(Thrown::NoClassDefFoundError);
+        }
+        if r.is_interface != names_interface(classes, r.class.as_slice()) {
+            return Err(Thrown::IncompatibleClassChangeError);
+        }
+        let Some(place) = found_method(classes, r) else {
+            return Err(Thrown::NoSuchMethodError);
+        };
+        let number = MethodNumber {
+            class: place.0,
+            method: place.1,
+        };
+        match method_of(classes, number) {
+            Some(method) if method.flags.is_static == is_static => Ok(place),
+            _ => Err(Thrown::IncompatibleClassChangeError),
+        }
+    }
+}

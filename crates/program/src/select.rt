@@ -1,0 +1,72 @@
+//! Selection of methods (JVMS 6.5 invokevirtual, invokeinterface, invokespecial).
+
+ghost use Rattle.std.specs.Prelude.{◌≡◌};
+ghost use Rattle.jvms.specs.Resolution.{MethodFound, chain, is_superclass, names_class, selected_from, selected_special};
+ghost use Rattle.program.specs.Places.{IsMethodAt, Locates};
+
+use crate::list::Program;
+use crate::look::{Named, Selectable};
+use crate::lookup::method_of;
+use crate::names::{members_class, same_text};
+use crate::walk::{first_up, superclass_name};
+use descriptor::is_constructor_name;
+use jvms::machine::MethodNumber;
+use jvms::program::{Class, MethodReference};
+
+/// Whether a class is a proper superclass of another.
+fn is_superclass(classes: &[Class], above: &[u16], class: &[u16]) -> bool
+    ensures { result ≡ is_superclass classes.now above.now class.now }
+{
+    !same_text(above, class) && is_up(classes, above, class)
+}
+
+/// Whether a class or one up its superclasses has a name.
+fn is_up(classes: &[Class], name: &[u16], class: &[u16]) -> bool
+    ensures { result ≡ names_class name.now (chain classes.now class.now) }
+{
+    first_up(classes, class, &Named { name }).is_some()
+}
+
+impl Program {
+    /// The method that a call of the method at a place selects, from the class of a name up: itself where
+    /// it is private.
+    pub fn select_from(&self, class: &[u16], place: (usize, usize)) -> Option<(usize, usize)>
+        ensures { (found : MethodFound) → IsMethodAt self.now found place → Locates (IsMethodAt self.now) (selected_from self.now class.now found) result }
+    {
+        let classes = self.classes();
+        let number = MethodNumber {
+            class: place.0,
+            method: place.1,
+        };
+        let method = method_of(classes, number)?;
+        if method.flags.is_private {
+            return Some(place);
+        }
+        let look = Selectable {
+            classes,
+            name: method.name.as_slice(),
+            descriptor: method.descriptor.as_slice(),
+        };
+        first_up(classes, members_class(class), &look)
+    }
+
+    /// The method that an invokespecial in the class `current` selects: the one at the place, but where it
+    /// is no constructor and its named class is a superclass of `current`, the selection from the
+    /// superclass of `current` on.
+    pub fn select_special(
+        &self,
+        current: &[u16],
+        r: &MethodReference,
+        place: (usize, usize),
+    ) -> Option<(usize, usize)>
+        ensures { (found : MethodFound) → IsMethodAt self.now found place → Locates (IsMethodAt self.now) (selected_special self.now current.now r.now found) result }
+    {
+        if is_constructor_name(r.name.as_slice())
+            || !is_superclass(self.classes(), r.class.as_slice(), current)
+        {
+            return Some(place);
+        }
+        let class = self.class_named(current)?;
+        self.select_from(superclass_name(class)?, place)
+    }
+}
