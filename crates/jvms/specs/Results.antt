@@ -21,7 +21,8 @@ abbrev pub collected : {A B E : Type 0} → (A → Result B E) → List A → Re
 collected f [] = Ok []
 collected f (x ∷ xs) = f x >>= λ y. (collected f xs >>= λ ys. Ok (y ∷ ys))
 
--- So many things, one behind another, each read in view of those that were seen before it.
+-- So many things, one behind another, each read in view of those that were seen before it; the answer is
+-- those seen, then these.
 unfoldable pub counted_onto : {A E : Type 0} → (List A → List ℕ → Result (A × List ℕ) E) → List A → ℕ → List ℕ → Result (List A × List ℕ) E
 counted_onto thing seen zero bytes = Ok (seen, bytes)
 counted_onto thing seen (suc left) bytes = thing seen bytes >>= λ x. counted_onto thing (seen ++ x.0 ∷ []) left x.1

@@ -1,6 +1,7 @@
 -- The grammar of class files (JVMS 4): which bytes spell which class, by cases on the class. A class may
 -- have several spellings, since pads may have any value and an instruction several forms. The tests of names,
--- descriptors and pool entries are those that reading makes too: each is a rule of its own, stated once.
+-- descriptors, pool entries, operands, versions and of Code's presence and length are those that reading
+-- makes too: each is a rule of its own, stated once.
 use Rattle.std.specs.Prelude.{◌≡◌, ℕ, zero, suc, ◌+◌, ◌-◌, ◌^◌, ◌<◌, ◌≤◌, ◌⊎◌, Bool, true, false, not, ◌==◌, ◌&&◌, ◌||◌, nat_lt, List, [], ◌∷◌, ◌++◌, length, map, Option, Some, None, is_some, IsTrue, slice_get, ℤ, ◌≤ℤ◌, ◌-ℤ◌, int_lt, int_le, unsigned_abs, codes, Result, Ok, Err}
 use Rattle.std.specs.List.{flat_map, AllByRecursion, list_any}
 use Rattle.std.specs.Int.{w8, w16, w32, w64, cast_unsigned}

@@ -1,5 +1,5 @@
-//! Laws about turns, owed to the gate: a sound state has one row for each thread, and the state after it
-//! is sound.
+//! Laws about turns, owed to the gate: the opening state is sound, a turn keeps a state sound, and an entry
+//! gives arguments. That a state and a thread have one row is that `turn` is a function.
 
 ghost use Rattle.std.specs.Prelude.{◌≡◌, ℕ, List, IsTrue, Some};
 ghost use Rattle.jvms.specs.declared.machine.Entry.{Entry};

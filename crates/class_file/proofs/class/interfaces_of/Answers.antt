@@ -1,0 +1,16 @@
+-- What is left to read stands behind what was read.
+use Rattle.jvms.specs.ClassFile.{interface_at}
+use Rattle.jvms.proofs.CountedLaws.{counted_more, counted_all, counted_fails}
+use Rattle.class_file.proofs.class.interfaces_of.Goals as goal
+
+pub returns-in-Err : goal.returns-in-Err
+returns-in-Err c =
+    counted_fails (λ seen. interface_at c.args.pool.now c.args.cut) c.loop-left.interfaces c.loop-left.left c.loop-left.rest.now _ c.in-Err.error c.loop-left-test.true c.loop-left.invariant c.in-Err.ensures
+
+pub loop-left-preserved : goal.loop-left-preserved
+loop-left-preserved c =
+    rw c.in_ok-push.ensures.ok
+    (counted_more (λ seen. interface_at c.args.pool.now c.args.cut) c.loop-left.interfaces c.loop-left.left c.loop-left.rest.now _ c.in-Ok.read.0 c.in-Ok.read.1.now c.loop-left-test.true c.loop-left.invariant c.in-Ok.ensures)
+
+pub returns : goal.returns
+returns c = counted_all (λ seen. interface_at c.args.pool.now c.args.cut) c.loop-left.interfaces c.loop-left.left c.loop-left.rest.now _ c.loop-left-test.false c.loop-left.invariant

@@ -1,0 +1,87 @@
+-- Parts of the reading of members that have functions of their own.
+use Rattle.std.specs.Prelude.{ℕ, Bool, not, ◌||◌, List, [], Result, Ok}
+use Rattle.std.specs.List.{list_any}
+use Rattle.jvms.specs.declared.class_file.Constant.{Constant}
+use Rattle.jvms.specs.declared.class_file.FieldAttribute.{FieldAttribute}
+use Rattle.jvms.specs.declared.class_file.Handler.{Handler}
+use Rattle.jvms.specs.declared.class_file.MethodAttribute.{MethodAttribute}
+use Rattle.jvms.specs.declared.class_file.MethodAttribute.TheVariants as method_attribute
+use Rattle.jvms.specs.declared.class_file.MethodInfo.{MethodInfo}
+use Rattle.jvms.specs.declared.fault.ClassFault.{ClassFault}
+use Rattle.jvms.specs.declared.fault.ClassFault.TheVariants as fault
+use Rattle.jvms.specs.Results.{◌>>=◌, want, present, counted, counted_onto}
+use Rattle.jvms.specs.Bytes.{u2_at, bytes_at}
+use Rattle.jvms.specs.Code.{handler_places}
+use Rattle.jvms.specs.ConstantPool.{utf8_at, is_utf8}
+use Rattle.jvms.specs.Members.{is_text_with, is_interface, is_abstract, is_code, is_code_length, frame_at, field_attribute_at, handler_at, class_number_at, code_at, exceptions_at, method_attribute_at, asks_code, is_initializer, is_static, is_method_descriptor_for, is_same_method}
+use Rattle.class_file.specs.declared.method.Head.{Head}
+
+-- The number of a text of a form.
+abbrev pub text_wanted : (List ℕ → Bool) → List Constant → ℕ → Result (Unit {0}) ClassFault
+text_wanted test pool n = do
+  _ ← want (is_utf8 pool n) fault.Index
+  want (is_text_with test (utf8_at pool n)) fault.Descriptor
+
+-- attributes_count and the attributes of a field.
+abbrev pub field_attributes_at : List Constant → ClassFault → ℕ → List ℕ → Result (List FieldAttribute × List ℕ) ClassFault
+field_attributes_at pool cut descriptor bytes = do
+  count ← u2_at cut bytes
+  counted_onto (field_attribute_at pool cut descriptor) [] count.0 count.1
+
+-- The bytes of instructions, behind their length.
+abbrev pub code_bytes_at : ClassFault → ℕ → List ℕ → Result (List ℕ × List ℕ) ClassFault
+code_bytes_at cut code_length bytes = do
+  _ ← want (is_code_length code_length) fault.CodeLength
+  bytes_at cut code_length bytes
+
+-- exception_table_length and the entries of the table.
+abbrev pub exception_table_at : List Constant → ClassFault → List ℕ → Result (List Handler × List ℕ) ClassFault
+exception_table_at pool cut bytes = do
+  count ← u2_at cut bytes
+  counted (handler_at pool cut) count.0 count.1
+
+-- An entry of the table with places for bytes.
+abbrev pub handler_placed : List ℕ → ℕ → Handler → Result Handler ClassFault
+handler_placed starts code_length handler = present (handler_places starts code_length handler) fault.Handler
+
+-- number_of_exceptions and the numbers of their classes.
+abbrev pub classes_at : List Constant → ClassFault → List ℕ → Result (List ℕ × List ℕ) ClassFault
+classes_at pool cut bytes = do
+  count ← u2_at cut bytes
+  counted (class_number_at pool cut) count.0 count.1
+
+-- Behind its name: a Code.
+abbrev pub code_attribute_at : List Constant → ℕ → ClassFault → ℕ → List ℕ → Result (MethodAttribute × List ℕ) ClassFault
+code_attribute_at pool major cut name bytes = do
+  frame ← frame_at cut bytes
+  c ← code_at pool major frame
+  Ok (method_attribute.Code name c.0, c.1)
+
+-- Behind its name: an Exceptions.
+abbrev pub exceptions_attribute_at : List Constant → ClassFault → ℕ → List ℕ → Result (MethodAttribute × List ℕ) ClassFault
+exceptions_attribute_at pool cut name bytes = do
+  frame ← frame_at cut bytes
+  classes ← exceptions_at pool frame
+  Ok (method_attribute.Exceptions name classes.0, classes.1)
+
+-- The attributes of a method behind its access flags, name and descriptor, with Code where and only where
+-- it is asked.
+abbrev pub method_behind : List Constant → ℕ → ClassFault → Head → Bool → List ℕ → Result (MethodInfo × List ℕ) ClassFault
+method_behind pool major cut head code bytes = do
+  count ← u2_at cut bytes
+  attributes ← counted_onto (method_attribute_at pool major cut code) [] count.0 count.1
+  _ ← want (not code || list_any is_code attributes.0) fault.CodePresence
+  Ok (record { access = head.access; name = head.name; descriptor = head.descriptor; attributes = attributes.0 }, attributes.1)
+
+-- A method behind its access flags and name; `seen` are those before it.
+abbrev pub named_method_at : List Constant → ℕ → ClassFault → ℕ → ℕ → List MethodInfo → List ℕ → Result (MethodInfo × List ℕ) ClassFault
+named_method_at pool major cut access name seen bytes = do
+  descriptor ← u2_at cut bytes
+  _ ← want (is_utf8 pool descriptor.0) fault.Index
+  _ ← want (is_text_with (is_method_descriptor_for (is_static access || is_initializer pool name)) (utf8_at pool descriptor.0)) fault.Descriptor
+  _ ← want (not (list_any (is_same_method pool name descriptor.0) seen)) fault.RepeatedMember
+  method_behind pool major cut (record { access = access; name = name; descriptor = descriptor.0 }) (asks_code (is_initializer pool name) access) descriptor.1
+
+-- A method of an interface is abstract, but for its initializer.
+abbrev pub is_placed_method : ℕ → Bool → ℕ → Bool
+is_placed_method class_access initializer access = not (is_interface class_access) || initializer || is_abstract access

@@ -1,0 +1,89 @@
+//! Attributes that are kept as bytes (JVMS 4.7), and the names of those that are read.
+
+ghost use Rattle.std.specs.Prelude.{◌≡◌};
+ghost use Rattle.jvms.specs.Reading.{Gives};
+ghost use Rattle.jvms.specs.Members.{kept_content_at, kept_at as kept_read, kept_attributes_at as kept_attributes_read, is_named as names_text};
+ghost use Rattle.jvms.specs.Results.{counted};
+
+use const_pool::{Pool, bytes_at, u2_at, u4_at, want};
+use jvms::class_file::KeptAttribute;
+use jvms::fault::{ClassFault, ReadError};
+use jvms::items::Items;
+use std::alloc::Global;
+
+/// Whether an entry is this text.
+pub(crate) fn is_named(pool: &Pool, number: u16, name: &[u16]) -> bool
+    ensures { result ≡ names_text pool.now number name.now }
+{
+    match pool.utf8(number) {
+        None => false,
+        Some(text) => text == name,
+    }
+}
+
+/// Behind its name: an attribute that is kept.
+pub(crate) fn kept_content(
+    alloc: Global,
+    cut: ClassFault,
+    name: u16,
+    bytes: &[u8],
+) -> Result<(KeptAttribute, &[u8]), ReadError>
+    ensures { Gives (λ x. (x.0, x.1.now)) result (kept_content_at cut name bytes.now) }
+{
+    let (count, rest) = u4_at(cut, bytes)?;
+    let (content, behind) = bytes_at(cut, count as usize, rest)?;
+    let bytes = Items::from_vec(content.to_vec(alloc)?);
+    Ok((KeptAttribute { name, bytes }, behind))
+}
+
+/// An attribute that is kept.
+fn kept_at<'a>(
+    alloc: Global,
+    pool: &Pool,
+    cut: ClassFault,
+    bytes: &'a [u8],
+) -> Result<(KeptAttribute, &'a [u8]), ReadError>
+    ensures { Gives (λ x. (x.0, x.1.now)) result (kept_read pool.now cut bytes.now) }
+{
+    let (name, rest) = u2_at(cut, bytes)?;
+    want(pool.is_utf8(name), ClassFault::Index)?;
+    kept_content(alloc, cut, name, rest)
+}
+
+/// So many attributes that are kept.
+fn kept_attributes_of<'a>(
+    alloc: Global,
+    pool: &Pool,
+    cut: ClassFault,
+    count: usize,
+    bytes: &'a [u8],
+) -> Result<(Items<KeptAttribute>, &'a [u8]), ReadError>
+    ensures { Gives (λ x. (x.0, x.1.now)) result (counted (kept_read pool.now cut) count bytes.now) }
+{
+    let mut attributes = Items::new(alloc);
+    let mut rest = bytes;
+    let mut left = count;
+    while left > 0 {
+        let (attribute, behind) = match kept_at(alloc, pool, cut, rest) {
+            Ok(read) => read,
+            Err(error) => return Err(error),
+        };
+        attributes.push(attribute)?;
+        rest = behind;
+        left -= 1;
+    }
+    Ok((attributes, rest))
+}
+
+/// attributes_count and the attributes, all kept.
+pub(crate) fn kept_attributes_at<'a>(
+    alloc: Global,
+    pool: &Pool,
+    cut: ClassFault,
+    bytes: &'a [u8],
+) -> Result<(Items<KeptAttribute>, &'a [u8]), ReadError>
+    ensures { Gives (λ x. (x.0, x.1.now)) result (kept_attributes_read pool.now cut bytes.now) }
+{
+    let (count, rest) = u2_at(cut, bytes)?;
+    kept_attributes_of(alloc, pool, cut, usize::from(count), rest)
+}

@@ -1,0 +1,193 @@
+//! Class files (JVMS 4.1).
+
+ghost use Rattle.std.specs.Prelude.{◌≡◌};
+ghost use Rattle.jvms.specs.ClassFile.{is_version, is_proper_class as is_proper_number, interface_at as interface_read, interfaces_at as interfaces_read, class_at as class_read, read as file_read};
+ghost use Rattle.jvms.specs.Reading.{Gives};
+ghost use Rattle.jvms.specs.Results.{counted};
+ghost use Rattle.class_file.specs.Opening.{members_behind as members_read, class_behind, pool_behind as pool_read};
+
+use crate::attribute::kept_attributes_at;
+use crate::field::fields_at;
+use crate::method::methods_at;
+use const_pool::{Pool, check_entries, entries_at_front, u2_at, u4_at, want};
+use descriptor::is_array_name;
+use jvms::class_file::ClassFile;
+use jvms::fault::{ClassFault, ReadError};
+use jvms::items::Items;
+use std::alloc::Global;
+
+/// The first four bytes of a class file.
+const MAGIC: u32 = 0xcafebabe;
+
+/// What stands before the interfaces of a class, but for the constant pool.
+#[derive(Clone, Copy)]
+pub(crate) struct Head {
+    pub(crate) minor: u16,
+    pub(crate) major: u16,
+    pub(crate) access: u16,
+    pub(crate) this_class: u16,
+    pub(crate) super_class: u16,
+}
+
+/// Whether a number is that of a class that is no array's.
+fn is_proper_class(pool: &Pool, number: u16) -> bool
+    ensures { result ≡ is_proper_number pool.now number }
+{
+    match pool.class_name(number) {
+        None => false,
+        Some(name) => !is_array_name(name),
+    }
+}
+
+/// The number of an interface's entry.
+fn interface_at<'a>(
+    pool: &Pool,
+    cut: ClassFault,
+    bytes: &'a [u8],
+) -> Result<(u16, &'a [u8]), ReadError>
+    ensures { Gives (λ x. (x.0, x.1.now)) result (interface_read pool.now cut bytes.now) }
+{
+    let (number, rest) = u2_at(cut, bytes)?;
+    want(is_proper_class(pool, number), ClassFault::Index)?;
+    Ok((number, rest))
+}
+
+/// So many interfaces.
+fn interfaces_of<'a>(
+    alloc: Global,
+    pool: &Pool,
+    cut: ClassFault,
+    count: usize,
+    bytes: &'a [u8],
+) -> Result<(Items<u16>, &'a [u8]), ReadError>
+    ensures { Gives (λ x. (x.0, x.1.now)) result (counted (interface_read pool.now cut) count bytes.now) }
+{
+    let mut interfaces = Items::new(alloc);
+    let mut rest = bytes;
+    let mut left = count;
+    while left > 0 {
+        let (interface, behind) = match interface_at(pool, cut, rest) {
+            Ok(read) => read,
+            Err(error) => return Err(error),
+        };
+        interfaces.push(interface)?;
+        rest = behind;
+        left -= 1;
+    }
+    Ok((interfaces, rest))
+}
+
+/// interfaces_count and the interfaces.
+fn interfaces_at<'a>(
+    alloc: Global,
+    pool: &Pool,
+    cut: ClassFault,
+    bytes: &'a [u8],
+) -> Result<(Items<u16>, &'a [u8]), ReadError>
+    ensures { Gives (λ x. (x.0, x.1.now)) result (interfaces_read pool.now cut bytes.now) }
+{
+    let (count, rest) = u2_at(cut, bytes)?;
+    interfaces_of(alloc, pool, cut, usize::from(count), rest)
+}
+
+/// What stands behind the superclass; the head of a class is what stands before that.
+fn members_behind(
+    alloc: Global,
+    cut: ClassFault,
+    pool: Pool,
+    head: Head,
+    bytes: &[u8],
+) -> Result<ClassFile, ReadError>
+    ensures { Gives (λ c. c) result (members_read cut pool head bytes.now) }
+{
+    let (interfaces, rest) = interfaces_at(alloc, &pool, cut, bytes)?;
+    let (fields, rest) = fields_at(alloc, &pool, cut, rest)?;
+    let (methods, rest) = methods_at(alloc, &pool, head.major, cut, head.access, rest)?;
+    let (attributes, rest) = kept_attributes_at(alloc, &pool, cut, rest)?;
+    want(rest.is_empty(), ClassFault::Trailing)?;
+    Ok(ClassFile {
+        minor: head.minor,
+        major: head.major,
+        pool: pool.into_entries(),
+        access: head.access,
+        this_class: head.this_class,
+        super_class: head.super_class,
+        interfaces,
+        fields,
+        methods,
+        attributes,
+    })
+}
+
+/// What stands behind the constant pool.
+fn class_behind(
+    alloc: Global,
+    cut: ClassFault,
+    minor: u16,
+    major: u16,
+    pool: Pool,
+    bytes: &[u8],
+) -> Result<ClassFile, ReadError>
+    ensures { Gives (λ c. c) result (class_behind cut minor major pool bytes.now) }
+{
+    let (access, rest) = u2_at(cut, bytes)?;
+    let (this_class, rest) = u2_at(cut, rest)?;
+    want(is_proper_class(&pool, this_class), ClassFault::Index)?;
+    let (super_class, rest) = u2_at(cut, rest)?;
+    want(
+        super_class == 0 || is_proper_class(&pool, super_class),
+        ClassFault::Index,
+    )?;
+    let head = Head {
+        minor,
+        major,
+        access,
+        this_class,
+        super_class,
+    };
+    members_behind(alloc, cut, pool, head, rest)
+}
+
+/// What stands behind the versions.
+fn pool_behind(
+    alloc: Global,
+    cut: ClassFault,
+    minor: u16,
+    major: u16,
+    bytes: &[u8],
+) -> Result<ClassFile, ReadError>
+    ensures { Gives (λ c. c) result (pool_read cut minor major bytes.now) }
+{
+    let (entries, rest) = entries_at_front(alloc, cut, bytes)?;
+    let pool = Pool::of(entries);
+    check_entries(&pool, pool.entries().as_slice())?;
+    class_behind(alloc, cut, minor, major, pool, rest)
+}
+
+/// Whether a major version is one that is read, 45 to 50.
+fn is_version(major: u16) -> bool
+    ensures { result ≡ is_version major }
+{
+    45 <= major && major <= 50
+}
+
+/// The class that bytes spell; `cut` is the fault of bytes that aren't there.
+#[tactic(auto, unfolding(jvms::specs::ClassFile::class_at))]
+fn class_at(alloc: Global, cut: ClassFault, bytes: &[u8]) -> Result<ClassFile, ReadError>
+    ensures { Gives (λ c. c) result (class_read cut bytes.now) }
+{
+    let (magic, rest) = u4_at(cut, bytes)?;
+    want(magic == MAGIC, ClassFault::Magic)?;
+    let (minor, rest) = u2_at(cut, rest)?;
+    let (major, rest) = u2_at(cut, rest)?;
+    want(is_version(major), ClassFault::Version)?;
+    pool_behind(alloc, cut, minor, major, rest)
+}
+
+/// The class that bytes spell, or their first fault (JVMS 4.1). The place of bytes that aren't there is the
+/// length of those that are.
+pub fn read(alloc: Global, bytes: &[u8]) -> Result<ClassFile, ReadError>
+    ensures exact { Gives (λ c. c) result (file_read bytes.now) }
+{
+    class_at(alloc, ClassFault::Truncated { at: bytes.len() }, bytes)
+}

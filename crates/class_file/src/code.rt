@@ -1,0 +1,233 @@
+//! The code of a method (JVMS 4.7.3), and the classes that it may throw (JVMS 4.7.5).
+
+ghost use Rattle.std.specs.Prelude.{◌≡◌, ◌≤◌, length, IfOk};
+ghost use Rattle.jvms.specs.Code.{handlers_of};
+ghost use Rattle.jvms.specs.Members.{handler_at as handler_read, code_at as code_read, class_number_at as class_number_read, exceptions_at as exceptions_read};
+ghost use Rattle.jvms.specs.Reading.{Gives};
+ghost use Rattle.jvms.specs.Results.{counted};
+ghost use Rattle.class_file.specs.Frames.{framed_by};
+ghost use Rattle.class_file.specs.Wanted.{code_bytes_at, exception_table_at, handler_placed, classes_at as classes_read};
+
+use crate::attribute::kept_attributes_at;
+use crate::frame::{Frame, want_all};
+use const_pool::{Pool, bytes_at, u2_at, u4_at, want};
+use insn::{Starts, decode, handler};
+use jvms::class_file::{Code, Handler};
+use jvms::fault::{ClassFault, ReadError};
+use jvms::items::Items;
+use std::alloc::Global;
+
+/// The most bytes that code has (JVMS 4.7.3).
+const MOST_CODE: u32 = 65535;
+
+/// An entry of the exception table, whose places are bytes.
+fn handler_at<'a>(
+    pool: &Pool,
+    cut: ClassFault,
+    bytes: &'a [u8],
+) -> Result<(Handler, &'a [u8]), ReadError>
+    ensures { Gives (λ x. (x.0, x.1.now)) result (handler_read pool.now cut bytes.now) }
+{
+    let (start, rest) = u2_at(cut, bytes)?;
+    let (end, rest) = u2_at(cut, rest)?;
+    let (target, rest) = u2_at(cut, rest)?;
+    let (catch_type, rest) = u2_at(cut, rest)?;
+    want(
+        catch_type == 0 || pool.is_class(catch_type),
+        ClassFault::Index,
+    )?;
+    let handler = Handler {
+        start: u32::from(start),
+        end: u32::from(end),
+        target: u32::from(target),
+        catch_type,
+    };
+    Ok((handler, rest))
+}
+
+/// So many entries of the exception table.
+fn handlers_at<'a>(
+    alloc: Global,
+    pool: &Pool,
+    cut: ClassFault,
+    count: usize,
+    bytes: &'a [u8],
+) -> Result<(Items<Handler>, &'a [u8]), ReadError>
+    ensures { Gives (λ x. (x.0, x.1.now)) result (counted (handler_read pool.now cut) count bytes.now) }
+{
+    let mut handlers = Items::new(alloc);
+    let mut rest = bytes;
+    let mut left = count;
+    while left > 0 {
+        let (handler, behind) = match handler_at(pool, cut, rest) {
+            Ok(read) => read,
+            Err(error) => return Err(error),
+        };
+        handlers.push(handler)?;
+        rest = behind;
+        left -= 1;
+    }
+    Ok((handlers, rest))
+}
+
+/// exception_table_length and the entries of the table.
+fn table_at<'a>(
+    alloc: Global,
+    pool: &Pool,
+    cut: ClassFault,
+    bytes: &'a [u8],
+) -> Result<(Items<Handler>, &'a [u8]), ReadError>
+    ensures { Gives (λ x. (x.0, x.1.now)) result (exception_table_at pool.now cut bytes.now) }
+{
+    let (count, rest) = u2_at(cut, bytes)?;
+    handlers_at(alloc, pool, cut, usize::from(count), rest)
+}
+
+/// The bytes of the instructions, behind their length.
+fn code_bytes<'a>(
+    cut: ClassFault,
+    code_length: u32,
+    bytes: &'a [u8],
+) -> Result<(&'a [u8], &'a [u8]), ReadError>
+    ensures exact { Gives (λ x. (x.0.now, x.1.now)) result (code_bytes_at cut code_length bytes.now) }
+    ensures few { IfOk result (λ x. length x.0.now ≤ 65535) }
+{
+    if code_length == 0 || code_length > MOST_CODE {
+        return Err(ReadError::Fault(ClassFault::CodeLength));
+    }
+    let count = code_length as usize;
+    if bytes.len() < count {
+        return Err(ReadError::Fault(cut));
+    }
+    Ok(bytes.split_at(count))
+}
+
+/// An entry of the exception table with places for bytes.
+fn with_places(starts: &Starts, code_length: usize, entry: Handler) -> Result<Handler, ReadError>
+    ensures { Gives (λ x. x) result (handler_placed starts.now code_length entry) }
+{
+    match handler(starts, code_length, entry) {
+        Some(placed) => Ok(placed),
+        None => Err(ReadError::Fault(ClassFault::Handler)),
+    }
+}
+
+/// The entries of the exception table with places for bytes.
+fn placed(
+    alloc: Global,
+    starts: &Starts,
+    code_length: usize,
+    handlers: &[Handler],
+) -> Result<Items<Handler>, ReadError>
+    ensures { Gives (λ x. x) result (handlers_of starts.now code_length handlers.now) }
+{
+    let mut placed = Items::new(alloc);
+    let mut rest = handlers;
+    while let [entry, behind @ ..] = rest {
+        let one = match with_places(starts, code_length, *entry) {
+            Ok(one) => one,
+            Err(error) => return Err(error),
+        };
+        placed.push(one)?;
+        rest = behind;
+    }
+    Ok(placed)
+}
+
+/// A Code's content (JVMS 4.7.3).
+#[tactic(auto, unfolding(jvms::specs::Members::code_at))]
+pub(crate) fn code_at<'a>(
+    alloc: Global,
+    pool: &Pool,
+    major: u16,
+    frame: Frame<'a>,
+) -> Result<(Code, &'a [u8]), ReadError>
+    ensures { Gives (λ x. (x.0, x.1.now)) result (code_read pool.now major (framed_by frame.entry)) }
+{
+    let (max_stack, rest) = u2_at(frame.cut, frame.content)?;
+    let (max_locals, rest) = u2_at(frame.cut, rest)?;
+    let (code_length, rest) = u4_at(frame.cut, rest)?;
+    let (bytes, rest) = code_bytes(frame.cut, code_length, rest)?;
+    let (table, rest) = table_at(alloc, pool, frame.cut, rest)?;
+    let (attributes, rest) = kept_attributes_at(alloc, pool, frame.cut, rest)?;
+    want_all(frame, rest)?;
+    let decoded = decode(alloc, pool, major, bytes)?;
+    let handlers = placed(
+        alloc,
+        &decoded.starts,
+        code_length as usize,
+        table.as_slice(),
+    )?;
+    let code = Code {
+        max_stack,
+        max_locals,
+        insns: decoded.insns,
+        handlers,
+        attributes,
+    };
+    Ok((code, frame.behind))
+}
+
+/// The number of a Class entry.
+fn class_number_at<'a>(
+    pool: &Pool,
+    cut: ClassFault,
+    bytes: &'a [u8],
+) -> Result<(u16, &'a [u8]), ReadError>
+    ensures { Gives (λ x. (x.0, x.1.now)) result (class_number_read pool.now cut bytes.now) }
+{
+    let (number, rest) = u2_at(cut, bytes)?;
+    want(pool.is_class(number), ClassFault::Index)?;
+    Ok((number, rest))
+}
+
+/// So many numbers of Class entries.
+fn class_numbers_at<'a>(
+    alloc: Global,
+    pool: &Pool,
+    cut: ClassFault,
+    count: usize,
+    bytes: &'a [u8],
+) -> Result<(Items<u16>, &'a [u8]), ReadError>
+    ensures { Gives (λ x. (x.0, x.1.now)) result (counted (class_number_read pool.now cut) count bytes.now) }
+{
+    let mut classes = Items::new(alloc);
+    let mut rest = bytes;
+    let mut left = count;
+    while left > 0 {
+        let (class, behind) = match class_number_at(pool, cut, rest) {
+            Ok(read) => read,
+            Err(error) => return Err(error),
+        };
+        classes.push(class)?;
+        rest = behind;
+        left -= 1;
+    }
+    Ok((classes, rest))
+}
+
+/// number_of_exceptions and the numbers of their classes.
+fn classes_at<'a>(
+    alloc: Global,
+    pool: &Pool,
+    cut: ClassFault,
+    bytes: &'a [u8],
+) -> Result<(Items<u16>, &'a [u8]), ReadError>
+    ensures { Gives (λ x. (x.0, x.1.now)) result (classes_read pool.now cut bytes.now) }
+{
+    let (count, rest) = u2_at(cut, bytes)?;
+    class_numbers_at(alloc, pool, cut, usize::from(count), rest)
+}
+
+/// The content of Exceptions (JVMS 4.7.5).
+pub(crate) fn exceptions_at<'a>(
+    alloc: Global,
+    pool: &Pool,
+    frame: Frame<'a>,
+) -> Result<(Items<u16>, &'a [u8]), ReadError>
+    ensures { Gives (λ x. (x.0, x.1.now)) result (exceptions_read pool.now (framed_by frame.entry)) }
+{
+    let (classes, rest) = classes_at(alloc, pool, frame.cut, frame.content)?;
+    want_all(frame, rest)?;
+    Ok((classes, frame.behind))
+}

@@ -1,0 +1,249 @@
+//! Fields and their attributes (JVMS 4.5, 4.7.2).
+
+ghost use Rattle.std.specs.Prelude.{◌≡◌, is_some, not, codes, [], List};
+ghost use Rattle.std.specs.List.{list_any};
+ghost use Rattle.std.specs.Option.{option_copied};
+ghost use Rattle.jvms.specs.Reading.{Gives};
+ghost use Rattle.jvms.specs.Results.{counted_onto};
+ghost use Rattle.jvms.specs.Descriptors.{field_type_of};
+ghost use Rattle.jvms.specs.Members.{takes_constant, is_constant_of, constant_value_at, is_constant_value, field_attribute_at, is_text_with, is_same_field, field_at as field_read, fields_at as fields_read};
+ghost use Rattle.jvms.specs.ConstantPool.{utf8_at, entry};
+ghost use Rattle.jvms.specs.Names.{is_name as is_name_text};
+ghost use Rattle.class_file.specs.Frames.{framed_by};
+ghost use Rattle.class_file.specs.Wanted.{text_wanted, field_attributes_at as attributes_read};
+
+use crate::attribute::{is_named, kept_content};
+use crate::frame::{Frame, frame_at, want_all};
+use crate::member::same_entry_text;
+use crate::names::CONSTANT_VALUE;
+use const_pool::{Pool, u2_at, want};
+use descriptor::{is_field_descriptor, is_name};
+use jvms::class_file::{Constant, FieldAttribute, FieldInfo};
+use jvms::fault::{ClassFault, ReadError};
+use jvms::items::Items;
+use std::alloc::Global;
+
+/// The descriptor of `java.lang.String`.
+const STRING: [u16; 18] = [
+    76, 106, 97, 118, 97, 47, 108, 97, 110, 103, 47, 83, 116, 114, 105, 110, 103, 59,
+];
+
+/// Whether a field of this descriptor may have this constant (JVMS table 4.7.2-A).
+fn takes(descriptor: &[u16], constant: &Constant) -> bool
+    ensures { result ≡ takes_constant descriptor.now constant.now }
+{
+    match constant {
+        Constant::Integer(_) => matches!(descriptor, [73] | [66] | [67] | [83] | [90]),
+        Constant::Long(_) => matches!(descriptor, [74]),
+        Constant::Float(_) => matches!(descriptor, [70]),
+        Constant::Double(_) => matches!(descriptor, [68]),
+        Constant::String { text: _ } => descriptor == STRING.as_slice(),
+        _ => false,
+    }
+}
+
+/// Whether a field's descriptor takes the constant of an entry.
+fn is_its_constant(pool: &Pool, descriptor: u16, value: u16) -> bool
+    ensures { result ≡ is_constant_of (utf8_at pool.now descriptor) (entry pool.now value) }
+{
+    match (pool.utf8(descriptor), pool.entry(value)) {
+        (Some(text), Some(constant)) => takes(text, constant),
+        _ => false,
+    }
+}
+
+/// A ConstantValue's content (JVMS 4.7.2).
+fn constant_value<'a>(
+    pool: &Pool,
+    descriptor: u16,
+    name: u16,
+    frame: Frame<'a>,
+) -> Result<(FieldAttribute, &'a [u8]), ReadError>
+    ensures { Gives (λ x. (x.0, x.1.now)) result (constant_value_at pool.now descriptor name (framed_by frame.entry)) }
+{
+    let (value, rest) = u2_at(frame.cut, frame.content)?;
+    want(is_its_constant(pool, descriptor, value), ClassFault::Index)?;
+    want_all(frame, rest)?;
+    Ok((FieldAttribute::ConstantValue { name, value }, frame.behind))
+}
+
+/// Whether a ConstantValue is among attributes.
+fn has_constant_value(attributes: &[FieldAttribute]) -> bool
+    ensures { result ≡ list_any is_constant_value attributes.now }
+{
+    attributes.iter().any(|a| matches!(a, FieldAttribute::ConstantValue { name: _, value: _ }))
+}
+
+/// The next attribute of a field; `seen` are those before it.
+fn attribute_at<'a>(
+    alloc: Global,
+    pool: &Pool,
+    cut: ClassFault,
+    descriptor: u16,
+    seen: &[FieldAttribute],
+    bytes: &'a [u8],
+) -> Result<(FieldAttribute, &'a [u8]), ReadError>
+    ensures { Gives (λ x. (x.0, x.1.now)) result (field_attribute_at pool.now cut descriptor seen.now bytes.now) }
+{
+    let (name, rest) = u2_at(cut, bytes)?;
+    want(pool.is_utf8(name), ClassFault::Index)?;
+    if is_named(pool, name, &CONSTANT_VALUE) {
+        want(!has_constant_value(seen), ClassFault::RepeatedAttribute)?;
+        let frame = frame_at(cut, rest)?;
+        constant_value(pool, descriptor, name, frame)
+    } else {
+        let (kept, behind) = kept_content(alloc, cut, name, rest)?;
+        Ok((FieldAttribute::Kept(kept), behind))
+    }
+}
+
+/// So many attributes of a field.
+fn attributes_of<'a>(
+    alloc: Global,
+    pool: &Pool,
+    cut: ClassFault,
+    descriptor: u16,
+    count: usize,
+    bytes: &'a [u8],
+) -> Result<(Items<FieldAttribute>, &'a [u8]), ReadError>
+    ensures { Gives (λ x. (x.0, x.1.now)) result (counted_onto (field_attribute_at pool.now cut descriptor) [] count bytes.now) }
+{
+    let mut attributes = Items::new(alloc);
+    let mut rest = bytes;
+    let mut left = count;
+    while left > 0 {
+        let (attribute, behind) = match attribute_at(
+            alloc,
+            pool,
+            cut,
+            descriptor,
+            attributes.as_slice(),
+            rest,
+        ) {
+            Ok(read) => read,
+            Err(error) => return Err(error),
+        };
+        attributes.push(attribute)?;
+        rest = behind;
+        left -= 1;
+    }
+    Ok((attributes, rest))
+}
+
+/// The number of a field's name.
+fn want_name(pool: &Pool, number: u16) -> Result<(), ReadError>
+    ensures { Gives (λ x. x) result (text_wanted is_name_text pool.now number) }
+{
+    match pool.utf8(number) {
+        None => Err(ReadError::Fault(ClassFault::Index)),
+        Some(text) => want(is_name(text), ClassFault::Descriptor),
+    }
+}
+
+/// The number of a field's descriptor.
+fn want_descriptor(pool: &Pool, number: u16) -> Result<(), ReadError>
+    ensures { Gives (λ x. x) result (text_wanted (λ text. is_some (field_type_of text)) pool.now number) }
+{
+    match pool.utf8(number) {
+        None => Err(ReadError::Fault(ClassFault::Index)),
+        Some(text) => want(is_field_descriptor(text), ClassFault::Descriptor),
+    }
+}
+
+/// Whether a field has this name and this descriptor.
+fn is_same(pool: &Pool, name: u16, descriptor: u16, field: &FieldInfo) -> bool
+    ensures { result ≡ is_same_field pool.now name descriptor field.now }
+{
+    same_entry_text(pool, field.name, name) && same_entry_text(pool, field.descriptor, descriptor)
+}
+
+/// Whether a field of this name and this descriptor is among fields.
+fn is_among(pool: &Pool, name: u16, descriptor: u16, fields: &[FieldInfo]) -> bool
+    ensures { result ≡ list_any (is_same_field pool.now name descriptor) fields.now }
+{
+    fields
+        .iter()
+        .any(|field| is_same(pool, name, descriptor, field))
+}
+
+/// attributes_count and the attributes of a field.
+fn attributes_at<'a>(
+    alloc: Global,
+    pool: &Pool,
+    cut: ClassFault,
+    descriptor: u16,
+    bytes: &'a [u8],
+) -> Result<(Items<FieldAttribute>, &'a [u8]), ReadError>
+    ensures { Gives (λ x. (x.0, x.1.now)) result (attributes_read pool.now cut descriptor bytes.now) }
+{
+    let (count, rest) = u2_at(cut, bytes)?;
+    attributes_of(alloc, pool, cut, descriptor, usize::from(count), rest)
+}
+
+/// The next field; `seen` are those before it.
+#[tactic(auto, unfolding(jvms::specs::Members::field_at))]
+fn field_at<'a>(
+    alloc: Global,
+    pool: &Pool,
+    cut: ClassFault,
+    seen: &[FieldInfo],
+    bytes: &'a [u8],
+) -> Result<(FieldInfo, &'a [u8]), ReadError>
+    ensures { Gives (λ x. (x.0, x.1.now)) result (field_read pool.now cut seen.now bytes.now) }
+{
+    let (access, rest) = u2_at(cut, bytes)?;
+    let (name, rest) = u2_at(cut, rest)?;
+    want_name(pool, name)?;
+    let (descriptor, rest) = u2_at(cut, rest)?;
+    want_descriptor(pool, descriptor)?;
+    want(
+        !is_among(pool, name, descriptor, seen),
+        ClassFault::RepeatedMember,
+    )?;
+    let (attributes, behind) = attributes_at(alloc, pool, cut, descriptor, rest)?;
+    let field = FieldInfo {
+        access,
+        name,
+        descriptor,
+        attributes,
+    };
+    Ok((field, behind))
+}
+
+/// So many fields.
+fn fields_of<'a>(
+    alloc: Global,
+    pool: &Pool,
+    cut: ClassFault,
+    count: usize,
+    bytes: &'a [u8],
+) -> Result<(Items<FieldInfo>, &'a [u8]), ReadError>
+    ensures { Gives (λ x. (x.0, x.1.now)) result (counted_onto (field_read pool.now cut) [] count bytes.now) }
+{
+    let mut fields = Items::new(alloc);
+    let mut rest = bytes;
+    let mut left = count;
+    while left > 0 {
+        let (field, behind) = match field_at(alloc, pool, cut, fields.as_slice(), rest) {
+            Ok(read) => read,
+            Err(error) => return Err(error),
+        };
+        fields.push(field)?;
+        rest = behind;
+        left -= 1;
+    }
+    Ok((fields, rest))
+}
+
+/// fields_count and the fields.
+pub(crate) fn fields_at<'a>(
+    alloc: Global,
+    pool: &Pool,
+    cut: ClassFault,
+    bytes: &'a [u8],
+) -> Result<(Items<FieldInfo>, &'a [u8]), ReadError>
+    ensures { Gives (λ x. (x.0, x.1.now)) result (fields_read pool.now cut bytes.now) }
+{
+    let (count, rest) = u2_at(cut, bytes)?;
+    fields_of(alloc, pool, cut, usize::from(count), rest)
+}
