@@ -1,3 +1,5 @@
 pub mod Frames
 pub mod Opening
+pub mod Spelled
 pub mod Wanted
+pub mod Writing

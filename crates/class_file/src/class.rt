@@ -17,7 +17,7 @@ use jvms::items::Items;
 use std::alloc::Global;
 
 /// The first four bytes of a class file.
-const MAGIC: u32 = 0xcafebabe;
+pub(crate) const MAGIC: u32 = 0xcafebabe;
 
 /// What stands before the interfaces of a class, but for the constant pool.
 #[derive(Clone, Copy)]
@@ -184,9 +184,9 @@ fn class_at(alloc: Global, cut: ClassFault, bytes: &[u8]) -> Result<ClassFile, R
     pool_behind(alloc, cut, minor, major, rest)
 }
 
-/// The class that bytes spell, or their first fault (JVMS 4.1). The place of bytes that aren't there is the
-/// length of those that are.
-pub fn read(alloc: Global, bytes: &[u8]) -> Result<ClassFile, ReadError>
+/// The class that bytes spell, or their first fault. The place of bytes that aren't there is the length of
+/// those that are.
+pub(crate) fn read_class(alloc: Global, bytes: &[u8]) -> Result<ClassFile, ReadError>
     ensures exact { Gives (λ c. c) result (file_read bytes.now) }
 {
     class_at(alloc, ClassFault::Truncated { at: bytes.len() }, bytes)

@@ -11,7 +11,7 @@ ghost use Rattle.class_file.specs.Wanted.{code_bytes_at, exception_table_at, han
 use crate::attribute::kept_attributes_at;
 use crate::frame::{Frame, want_all};
 use const_pool::{Pool, bytes_at, u2_at, u4_at, want};
-use insn::{Starts, decode, handler};
+use insn::{Starts, decode, handler, layout};
 use jvms::class_file::{Code, Handler};
 use jvms::fault::{ClassFault, ReadError};
 use jvms::items::Items;
@@ -158,9 +158,11 @@ pub(crate) fn code_at<'a>(
         code_length as usize,
         table.as_slice(),
     )?;
+    let layout = layout(alloc, decoded.starts, decoded.insns.as_slice(), bytes)?;
     let code = Code {
         max_stack,
         max_locals,
+        layout,
         insns: decoded.insns,
         handlers,
         attributes,

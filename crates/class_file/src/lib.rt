@@ -1,4 +1,4 @@
-//! Class files (JVMS 4): what bytes spell, or their first fault.
+//! Class files (JVMS 4): what bytes spell, or their first fault, and the bytes of a class.
 #![tactic(auto)]
 
 mod attribute;
@@ -6,14 +6,18 @@ mod class;
 mod code;
 mod field;
 mod frame;
+mod laws;
 mod member;
 mod method;
 mod names;
+mod spelled;
 #[cfg(test)]
 mod tests;
+mod writing;
 
-pub use class::read;
 pub use jvms::class_file::{
-    ClassFile, Code, FieldAttribute, FieldInfo, Handler, KeptAttribute, MethodAttribute, MethodInfo,
+    Code, FieldAttribute, FieldInfo, Handler, KeptAttribute, Layout, MethodAttribute, MethodInfo,
 };
 pub use jvms::fault::{ClassFault, ReadError};
+pub use laws::{what_is_written_is_read_again, what_is_written_spells};
+pub use spelled::{ClassFile, read, write};

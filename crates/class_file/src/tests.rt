@@ -79,7 +79,8 @@ fn fault(fault: ClassFault) -> Option<ReadError> {
 
 #[test]
 fn reads_a_class(rt: HostRuntime) -> Result<(), Fail> {
-    let class = read(rt.alloc(), &G)?;
+    let file = read(rt.alloc(), &G)?;
+    let class = file.class();
     assert_eq!(rt; class.major, 49);
     assert_eq!(rt; class.pool.len(), 7);
     assert_eq!(rt; class.access, 0x21);
@@ -103,7 +104,8 @@ fn reads_a_class(rt: HostRuntime) -> Result<(), Fail> {
 
 #[test]
 fn reads_fields_and_interfaces(rt: HostRuntime) -> Result<(), Fail> {
-    let class = read(rt.alloc(), &H)?;
+    let file = read(rt.alloc(), &H)?;
+    let class = file.class();
     assert_eq!(rt; class.interfaces.len(), 1);
     for number in class.interfaces.as_slice() {
         assert_eq!(rt; *number, 6);
@@ -131,7 +133,8 @@ fn reads_fields_and_interfaces(rt: HostRuntime) -> Result<(), Fail> {
 
 #[test]
 fn reads_exceptions_and_handlers(rt: HostRuntime) -> Result<(), Fail> {
-    let class = read(rt.alloc(), &H)?;
+    let file = read(rt.alloc(), &H)?;
+    let class = file.class();
     let placed = Handler {
         start: 0,
         end: 1,
@@ -224,5 +227,54 @@ fn refuses_what_is_put_in(rt: HostRuntime) -> Result<(), Fail> {
     let mut trailing = G.to_vec(rt.alloc())?;
     trailing.push(0)?;
     assert_eq!(rt; refusal(rt.alloc(), &trailing), fault(ClassFault::Trailing));
+    Ok(())
+}
+
+/// The bytes that a class read from bytes is written as.
+fn rewritten(alloc: Global, bytes: &[u8]) -> Result<Vec<u8>, Fail> {
+    let class = read(alloc, bytes)?;
+    let written = write(alloc, &class)?;
+    Ok(written)
+}
+
+#[test]
+fn writes_what_it_read(rt: HostRuntime) -> Result<(), Fail> {
+    assert!(rt; rewritten(rt.alloc(), &G)?.as_slice() == G.as_slice());
+    assert!(rt; rewritten(rt.alloc(), &H)?.as_slice() == H.as_slice());
+    Ok(())
+}
+
+#[test]
+fn writes_two_methods(rt: HostRuntime) -> Result<(), Fail> {
+    // G's method once more, under the name of entry 1.
+    let mut second = G[72..113].to_vec(rt.alloc())?;
+    if second.len() > 3 {
+        second[3] = 1;
+    }
+    let bytes = with_more(rt.alloc(), 71, 2, 113, &second)?;
+    assert_eq!(rt; read(rt.alloc(), &bytes)?.class().methods.len(), 2);
+    assert!(rt; rewritten(rt.alloc(), &bytes)?.as_slice() == bytes.as_slice());
+    Ok(())
+}
+
+/// Behind the name of G's Code: an `iload_0`, a `tableswitch` of one target whose two pads are 7f and 7e, an
+/// `iload_0` to which it leads, and an `ireturn`.
+const SWITCH: [u8; 40] = [
+    0x00, 0x00, 0x00, 0x22, 0x00, 0x03, 0x00, 0x02, 0x00, 0x00, 0x00, 0x16, 0x1a, 0xaa, 0x7f, 0x7e,
+    0x00, 0x00, 0x00, 0x13, 0x00, 0x00, 0x00, 0x00, 0x00, 0x00, 0x00, 0x00, 0x00, 0x00, 0x00, 0x13,
+    0x1a, 0xac, 0x00, 0x00, 0x00, 0x00, 0x00, 0x00,
+];
+
+#[test]
+fn writes_pads_as_0(rt: HostRuntime) -> Result<(), Fail> {
+    let mut bytes = G[..82].to_vec(rt.alloc())?;
+    bytes.extend_from_slice(&SWITCH)?;
+    let written = rewritten(rt.alloc(), &bytes)?;
+    assert!(rt; read(rt.alloc(), &written)? == read(rt.alloc(), &bytes)?);
+    if bytes.len() > 97 {
+        bytes[96] = 0;
+        bytes[97] = 0;
+    }
+    assert!(rt; written.as_slice() == bytes.as_slice());
     Ok(())
 }

@@ -1,1 +1,2 @@
 pub mod EntryLists
+pub mod Interned

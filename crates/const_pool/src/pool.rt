@@ -1,11 +1,14 @@
 //! The entries of a class file by number.
 
-ghost use Rattle.std.specs.Prelude.{◌≡◌, None, Some};
+ghost use Rattle.std.specs.Prelude.{◌≡◌, ◌++◌, None, Some, OnOk};
 ghost use Rattle.std.specs.Option.{option_copied, option_map};
 ghost use Rattle.jvms.specs.ConstantPool.{entry, utf8_at, class_name_at, name_and_type_at, is_utf8, is_class, is_name_and_type, both};
+ghost use Rattle.const_pool.specs.Writing.{pool_bytes};
 
+use crate::writing::write_pool;
 use jvms::class_file::Constant;
 use jvms::items::Items;
+use std::alloc::{AllocError, Global};
 use std::marker::Model;
 
 /// The constant pool. Contracts see the list of its entries, in which entry number n stands at place n - 1.
@@ -122,5 +125,12 @@ impl Pool {
             (Some(a), Some(b)) => Some((a, b)),
             _ => None,
         }
+    }
+
+    /// Puts the pool behind bytes: constant_pool_count, and the entries.
+    pub fn write(&self, alloc: Global, out: &mut Vec<u8>) -> Result<(), AllocError>
+        ensures { OnOk result (out.new.items ≡ out.old.items ++ pool_bytes self.now) }
+    {
+        write_pool(alloc, out, self.entries.as_slice())
     }
 }

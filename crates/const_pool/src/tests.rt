@@ -1,5 +1,6 @@
 use super::*;
 use jvms::fault::{ClassFault, ReadError};
+use std::alloc::{AllocError, Global};
 use std::test::Fail;
 
 /// The fault of bytes that aren't there.
@@ -74,5 +75,85 @@ fn refuses_by_the_first_fault(rt: HostRuntime) -> Result<(), Fail> {
         fault_of(&rt, &[0, 4, 12, 0, 2, 0, 3, 1, 0, 1, 97, 1, 0, 2, 40, 86])
             == fault(ClassFault::Descriptor)
     );
+    Ok(())
+}
+
+#[test]
+fn writes_numbers_highest_byte_first(rt: HostRuntime) -> Result<(), Fail> {
+    let mut out = vec![in rt.alloc(); 0xff]?;
+    write_u2(&mut out, 0x0102)?;
+    write_u4(&mut out, 0x0304_0506)?;
+    write_u8(&mut out, 0x0708_090a_0b0c_0d0e)?;
+    write_count(&mut out, 0x0f10)?;
+    write_length(&mut out, 0x1112_1314)?;
+    let bytes = [
+        0xff, 1, 2, 3, 4, 5, 6, 7, 8, 9, 10, 11, 12, 13, 14, 15, 16, 17, 18, 19, 20,
+    ];
+    assert!(rt; out.as_slice() == bytes.as_slice());
+    Ok(())
+}
+
+/// An entry of each kind, but for those of the pool of gcd: an int of -2, a float, a long of -2, a double, a
+/// string, a field, a method, an interface's method, a name and a type, and the texts of U+0000 and U+0800.
+const ALL_KINDS: [u8; 64] = [
+    0x00, 0x0e, 0x03, 0xff, 0xff, 0xff, 0xfe, 0x04, 0x3f, 0x80, 0x00, 0x00, 0x05, 0xff, 0xff, 0xff,
+    0xff, 0xff, 0xff, 0xff, 0xfe, 0x06, 0x3f, 0xf0, 0x00, 0x00, 0x00, 0x00, 0x00, 0x00, 0x08, 0x00,
+    0x0c, 0x09, 0x00, 0x01, 0x00, 0x0b, 0x0a, 0x00, 0x01, 0x00, 0x0b, 0x0b, 0x00, 0x01, 0x00, 0x0b,
+    0x0c, 0x00, 0x0c, 0x00, 0x0d, 0x01, 0x00, 0x02, 0xc0, 0x80, 0x01, 0x00, 0x03, 0xe0, 0xa0, 0x80,
+];
+
+#[test]
+fn writes_pools(rt: HostRuntime) -> Result<(), Fail> {
+    for bytes in [GCD_POOL.as_slice(), ALL_KINDS.as_slice()] {
+        let (entries, rest) = entries_at_front(rt.alloc(), CUT, bytes)?;
+        assert_eq!(rt; rest.len(), 0);
+        let mut out = Vec::new(rt.alloc());
+        Pool::of(entries).write(rt.alloc(), &mut out)?;
+        assert!(rt; out.as_slice() == bytes);
+    }
+    Ok(())
+}
+
+/// The text of ASCII letters.
+fn text(alloc: Global, letters: &str) -> Result<Entry, AllocError> {
+    let units = letters
+        .as_bytes()
+        .iter()
+        .map(|b| u16::from(*b))
+        .collect(alloc)?;
+    Ok(Entry::Utf8(units))
+}
+
+#[test]
+fn numbers_entries_by_first_use(rt: HostRuntime) -> Result<(), Fail> {
+    let mut builder = PoolBuilder::new(rt.alloc());
+    assert_eq!(rt; builder.intern(text(rt.alloc(), "G")?)?, 1);
+    assert_eq!(rt; builder.intern(Entry::Class { name: 1 })?, 2);
+    assert_eq!(rt; builder.intern(text(rt.alloc(), "G")?)?, 1);
+    assert_eq!(rt; builder.intern(Entry::Long(-1))?, 3);
+    assert_eq!(rt; builder.intern(Entry::Integer(-1))?, 5);
+    assert_eq!(rt; builder.intern(Entry::Long(-1))?, 3);
+    assert_eq!(rt; builder.intern(Entry::String { text: 1 })?, 6);
+    assert!(rt; builder.number(&Entry::Integer(-1)) == Some(5));
+    assert!(rt; builder.number(&Entry::Integer(1)).is_none());
+    let pool = builder.into_pool(rt.alloc())?;
+    assert!(rt; pool.class_name(2) == Some([71].as_slice()));
+    assert!(rt; pool.entry(3) == Some(&Constant::Long(-1)));
+    assert!(rt; pool.entry(4) == Some(&Constant::Unusable));
+    assert!(rt; pool.entry(7).is_none());
+    Ok(())
+}
+
+#[test]
+fn a_full_pool_keeps_what_it_has(rt: HostRuntime) -> Result<(), Fail> {
+    let mut builder = PoolBuilder::new(rt.alloc());
+    for number in 1..65534 {
+        assert_eq!(rt; i32::from(builder.intern(Entry::Integer(number))?), number);
+    }
+    assert!(rt; builder.intern(Entry::Double(0)) == Err(PoolFault::PoolFull));
+    assert_eq!(rt; builder.intern(Entry::Float(0))?, 65534);
+    assert!(rt; builder.intern(Entry::Integer(0)) == Err(PoolFault::PoolFull));
+    assert_eq!(rt; builder.intern(Entry::Integer(7))?, 7);
+    assert_eq!(rt; builder.into_pool(rt.alloc())?.into_entries().len(), 65534);
     Ok(())
 }

@@ -4,6 +4,7 @@ ghost use Rattle.std.specs.Prelude.{◌≡◌, length};
 ghost use Rattle.jvms.specs.Code.{place_of as place_in};
 ghost use Rattle.insn.specs.Places.{IsStarts};
 
+use jvms::items::Items;
 use std::marker::Model;
 
 /// The bytes at which the instructions of a method start, rising. Contracts see the list of them.
@@ -50,6 +51,13 @@ impl Starts {
         ensures starts { IsStarts result.now }
     {
         self.pcs.as_slice()
+    }
+
+    /// The bytes in order, by value.
+    pub(crate) fn into_items(self) -> Items<u32>
+        ensures { result ≡ self }
+    {
+        Items::from_vec(self.pcs)
     }
 
     /// How many instructions there are.

@@ -13,7 +13,7 @@ use jvms::items::Items;
 use std::alloc::Global;
 
 /// How many bytes stand before the next multiple of 4.
-fn pad_length(pc: usize) -> usize
+pub(crate) fn pad_length(pc: usize) -> usize
     ensures { result ≡ pads_at pc }
 {
     3 - pc % 4

@@ -246,3 +246,20 @@ fn handlers(rt: HostRuntime) -> Result<(), Fail> {
     }
     Ok(())
 }
+
+#[test]
+fn pads_of_a_layout_are_0(rt: HostRuntime) -> Result<(), Fail> {
+    // A `nop`, a `tableswitch` with pads 7f and 7e, and a `lookupswitch` at byte 20 with pads 7d, 7c and 7b.
+    let mut bytes = [
+        0x00, 0xaa, 0x7f, 0x7e, 0, 0, 0, 0, 0, 0, 0, 9, 0, 0, 0, 9, 0, 0, 0, 0, 0xab, 0x7d, 0x7c,
+        0x7b, 0, 0, 0, 0, 0, 0, 0, 0,
+    ];
+    let code = decoded(&rt, rt.alloc(), &bytes)?;
+    let layout = layout(rt.alloc(), code.starts, code.insns.as_slice(), &bytes)?;
+    for pad in [2, 3, 21, 22, 23] {
+        bytes[pad] = 0;
+    }
+    assert!(rt; layout.bytes.as_slice() == bytes.as_slice());
+    assert!(rt; layout.starts.as_slice() == [0, 1, 20].as_slice());
+    Ok(())
+}

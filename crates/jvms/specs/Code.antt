@@ -1,8 +1,9 @@
 -- The code of a method (JVMS 4.7.3): from bytes to a list of instructions whose targets are places in it.
-use Rattle.std.specs.Prelude.{ℕ, zero, suc, ◌+◌, ◌-◌, Bool, true, false, ◌==◌, ◌&&◌, ◌||◌, nat_lt, nat_le, if◌then◌else◌, List, [], ◌∷◌, ◌++◌, length, map, Option, Some, None, is_some, position, Result, Ok, Err}
+use Rattle.std.specs.Prelude.{ℕ, zero, suc, ◌+◌, ◌-◌, Bool, true, false, ◌==◌, ◌&&◌, ◌||◌, nat_lt, nat_le, if◌then◌else◌, List, [], ◌∷◌, ◌++◌, length, map, Option, Some, None, is_some, position, slice_set, Result, Ok, Err}
 use Rattle.std.specs.Option.{option_and_then, option_map}
 use Rattle.jvms.specs.declared.class_file.Constant.{Constant}
 use Rattle.jvms.specs.declared.class_file.Handler.{Handler}
+use Rattle.jvms.specs.declared.class_file.Layout.{Layout}
 use Rattle.jvms.specs.declared.fault.ClassFault.{ClassFault}
 use Rattle.jvms.specs.declared.fault.ClassFault.TheVariants as fault
 use Rattle.jvms.specs.declared.insn.Insn.{Insn}
@@ -11,7 +12,7 @@ use Rattle.jvms.specs.declared.insn.SwitchCase.{SwitchCase}
 use Rattle.jvms.specs.declared.insn.TableSwitch.{TableSwitch}
 use Rattle.jvms.specs.declared.insn.LookupSwitch.{LookupSwitch}
 use Rattle.jvms.specs.Results.{◌>>=◌, want, present, collected}
-use Rattle.jvms.specs.Instructions.{insn_at}
+use Rattle.jvms.specs.Instructions.{insn_at, pad_length}
 
 -- An instruction with the byte at which it starts; its targets are bytes.
 pub record Placed : Type 0 where
@@ -86,6 +87,27 @@ insns_of pool major bytes = do
   is ← placed pool major bytes
   insns ← resolved (starts is) is
   Ok (starts is, insns)
+
+-- ---- The layout of code
+
+abbrev pub is_switch : Insn → Bool
+is_switch (insn.Table s) = true
+is_switch (insn.Lookup s) = true
+is_switch _ = false
+
+-- So many bytes from a place on are 0.
+unfoldable pub zeroed : ℕ → ℕ → List ℕ → List ℕ
+zeroed zero place bytes = bytes
+zeroed (suc n) place bytes = zeroed n (suc place) (slice_set bytes place 0)
+
+-- The bytes of code, in which each pad is 0: those behind the opcode of a switch (JVMS 6.5 tableswitch).
+unfoldable pub with_zero_pads : List ℕ → List Insn → List ℕ → List ℕ
+with_zero_pads (pc ∷ pcs) (i ∷ is) bytes =
+    with_zero_pads pcs is (if is_switch i then zeroed (pad_length pc) (suc pc) bytes else bytes)
+with_zero_pads _ _ bytes = bytes
+
+abbrev pub layout_of : List ℕ → List Insn → List ℕ → Layout
+layout_of pcs is bytes = record { bytes = with_zero_pads pcs is bytes; starts = pcs }
 
 -- The place of a range's end: of an instruction, or behind the last (JVMS 4.7.3, end_pc).
 abbrev pub end_place_of : List ℕ → ℕ → ℕ → Option ℕ

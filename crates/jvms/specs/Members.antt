@@ -22,7 +22,7 @@ use Rattle.jvms.specs.Bytes.{u1_at, u2_at, u4_at, bytes_at}
 use Rattle.jvms.specs.Names.{same_text, is_name, is_method_name, is_initializer_name}
 use Rattle.jvms.specs.Descriptors.{field_type_of, method_type_of, parameter_units, is_array_name}
 use Rattle.jvms.specs.ConstantPool.{entry, utf8_at, is_utf8, is_class, class_name_at}
-use Rattle.jvms.specs.Code.{insns_of, handlers_of}
+use Rattle.jvms.specs.Code.{insns_of, layout_of, handlers_of}
 
 -- ---- Access flags (JVMS tables 4.1-A, 4.5-A, 4.6-A), by their bit.
 
@@ -210,7 +210,7 @@ code_at pool major frame = do
   _ ← want_all frame attributes.1
   insns ← insns_of pool major bytes.0
   handlers ← handlers_of insns.0 code_length.0 table.0
-  Ok (record { max_stack = max_stack.0; max_locals = max_locals.0; insns = insns.1; handlers = handlers; attributes = attributes.0 }, frame.behind)
+  Ok (record { max_stack = max_stack.0; max_locals = max_locals.0; layout = layout_of insns.0 insns.1 bytes.0; insns = insns.1; handlers = handlers; attributes = attributes.0 }, frame.behind)
 
 -- A number of a Class entry.
 abbrev pub class_number_at : List Constant → ClassFault → List ℕ → Result (ℕ × List ℕ) ClassFault

@@ -39,6 +39,7 @@ use Rattle.jvms.specs.Names.{is_name, is_method_name}
 use Rattle.jvms.specs.Descriptors.{field_type_of}
 use Rattle.jvms.specs.ConstantPool.{entry, utf8_at, is_utf8, is_class, class_name_at, takes_two, entries_fault}
 use Rattle.jvms.specs.Instructions.{target_of, array_type_of, is_loadable, is_wide_loadable, passes, is_field, invoked, is_invocable, interface_count, names_usable, is_dimensions, pad_length, is_above}
+use Rattle.jvms.specs.Code.{layout_of}
 use Rattle.jvms.specs.Members.{is_named, is_constant_of, is_constant_value, is_text_with, is_same_field, is_same_method, is_code, is_exceptions, asks_code, is_initializer, is_method_descriptor_for, is_static, is_abstract, is_interface, is_code_length}
 use Rattle.jvms.specs.ClassFile.{is_proper_class, is_version}
 
@@ -255,12 +256,13 @@ SpellsHandler pool pcs code_length bytes h =
     × (slice_get pcs h.target ≡ Some target) × IsTrue (h.catch_type == 0 || is_class pool h.catch_type)
     × (bytes ≡ u2 start ++ (u2 end ++ (u2 target ++ u2 h.catch_type)))
 
--- JVMS 4.7.3
+-- JVMS 4.7.3; the layout has the code's bytes, but that pads are 0, and the starts of its instructions.
 abbrev pub SpellsCode : List Constant → ℕ → List ℕ → Code → Type 0
 SpellsCode pool major bytes c =
     IsU2 c.max_stack × IsU2 c.max_locals
-    × (code : List ℕ) × IsTrue (is_code_length (length code)) × (pcs : List ℕ) × SpellsInsns pool major pcs code c.insns
-    × (table : List ℕ) × Counted (SpellsHandler pool pcs (length code)) table c.handlers
+    × (code : List ℕ) × IsTrue (is_code_length (length code)) × SpellsInsns pool major c.layout.starts code c.insns
+    × (c.layout ≡ layout_of c.layout.starts c.insns code)
+    × (table : List ℕ) × Counted (SpellsHandler pool c.layout.starts (length code)) table c.handlers
     × (attributes : List ℕ) × Counted (SpellsKept pool) attributes c.attributes
     × (bytes ≡ u2 c.max_stack ++ (u2 c.max_locals ++ (u4 (length code) ++ (code ++ (table ++ attributes)))))
 

@@ -50,11 +50,20 @@ pub struct Handler {
     pub catch_type: u16,
 }
 
+/// How a method's code is spelled: its bytes, in which pads are 0, and the byte at which each instruction
+/// starts.
+#[derive(Clone, Debug, PartialEq, Eq, Drop)]
+pub struct Layout {
+    pub bytes: Items<u8>,
+    pub starts: Items<u32>,
+}
+
 /// The code of a method (JVMS 4.7.3).
 #[derive(Clone, Debug, PartialEq, Eq, Drop)]
 pub struct Code {
     pub max_stack: u16,
     pub max_locals: u16,
+    pub layout: Layout,
     pub insns: Items<Insn>,
     pub handlers: Items<Handler>,
     pub attributes: Items<KeptAttribute>,

@@ -1,9 +1,13 @@
-//! The trace of a run: the items of its turns, in order.
+//! The trace of a run: the items of its turns, in order; and the bytes that programs read and write.
 #![tactic(auto)]
 
+mod bytes;
+mod failures;
 mod list;
 #[cfg(test)]
 mod tests;
 
+pub use bytes::{ByteIn, ByteOut, Counted, DeviceFailure};
+pub use failures::Failures;
 pub use jvms::trace::{FieldKey, Item, MethodKey, Variable};
 pub use list::Trace;

@@ -1,4 +1,4 @@
-use Rattle.std.proofs.Common.{◌≡◌, ◌≤◌}
+use Rattle.std.proofs.Common.{◌≡◌}
 use Rattle.jvms.specs.ConstantPool.{entries_at}
 use Rattle.jvms.proofs.FrontLaws.{with_front}
 use Rattle.const_pool.proofs.entries.entries_of.Given as goal

@@ -1,0 +1,76 @@
+//! Class files that bytes spell (JVMS 4.1): read from bytes, and written as bytes.
+
+ghost use Rattle.std.specs.Prelude.{◌≡◌, IfOk, Ok};
+ghost use Rattle.jvms.specs.declared.class_file.ClassFile.{ClassFile as Class};
+ghost use Rattle.jvms.specs.ClassFile.{read as file_read};
+ghost use Rattle.jvms.specs.Reading.{Gives};
+ghost use Rattle.jvms.specs.Spelling.{Spells};
+ghost use Rattle.class_file.specs.Spelled.{HasSpelling};
+ghost use Rattle.class_file.specs.Writing.{class_bytes};
+
+use crate::class::read_class;
+use crate::writing::write_class;
+use jvms::fault::ReadError;
+use std::alloc::{AllocError, Global};
+use std::marker::Model;
+
+/// A class file that bytes spell (JVMS 4.1). Contracts see it as the class.
+#[derive(Debug, PartialEq, Eq, Drop)]
+pub struct ClassFile {
+    class: jvms::class_file::ClassFile,
+}
+
+impl Model for ClassFile {
+    ghost use Rattle.jvms.specs.declared.class_file.ClassFile.{ClassFile as Class};
+
+    ghost Value = { Class };
+
+    ghost use Rattle.class_file.specs.Spelled.{HasSpelling};
+
+    ghost view = { λ a. a.class };
+
+    ghost invariant = { λ a. HasSpelling a.class };
+
+    ghost inverse = { λ c. record { class = c } };
+}
+
+impl ClassFile {
+    /// The class.
+    pub fn class(&self) -> &jvms::class_file::ClassFile
+        ensures same { result.now ≡ self.now }
+        ensures spelled { HasSpelling self.now }
+    {
+        &self.class
+    }
+
+    /// The class itself.
+    pub fn into_class(self) -> jvms::class_file::ClassFile
+        ensures same { result ≡ self }
+        ensures spelled { HasSpelling self }
+    {
+        self.class
+    }
+}
+
+/// The class that bytes spell, or their first fault (JVMS 4.1). The place of bytes that aren't there is the
+/// length of those that are.
+pub fn read(alloc: Global, bytes: &[u8]) -> Result<ClassFile, ReadError>
+    // The class of the one reading, or its first fault.
+    ensures exact { Gives (λ c. c) result (file_read bytes.now) }
+    // What is read is spelled so.
+    ensures found { IfOk result (λ c. Spells bytes.now c) }
+    // What is spelled so is read, unless memory runs out.
+    ensures only { (c : Class) → Spells bytes.now c → Gives (λ d. d) result (Ok c) }
+{
+    let class = read_class(alloc, bytes)?;
+    Ok(ClassFile { class })
+}
+
+/// Bytes that spell a class (JVMS 4.1): its code as it was read, but that pads are 0. Only memory can be
+/// wanting.
+pub fn write(alloc: Global, class: &ClassFile) -> Result<Vec<u8>, AllocError>
+    ensures exact { IfOk result (λ bytes. bytes.items ≡ class_bytes class.now) }
+    ensures spells { IfOk result (λ bytes. Spells bytes.items class.now) }
+{
+    write_class(alloc, &class.class)
+}

@@ -1,0 +1,135 @@
+//! Fields and methods (JVMS 4.5, 4.6).
+
+ghost use Rattle.std.specs.Prelude.{◌≡◌, ◌++◌, OnOk};
+ghost use Rattle.class_file.specs.Writing.{counted_bytes, member_bytes, field_attribute_bytes, field_bytes, method_attribute_bytes, method_bytes};
+
+use crate::writing::attribute::{write_framed, write_kept, write_numbers};
+use crate::writing::code::write_code;
+use const_pool::{write_count, write_u2};
+use jvms::class_file::{FieldAttribute, FieldInfo, MethodAttribute, MethodInfo};
+use std::alloc::{AllocError, Global};
+
+/// Puts the access flags, the name and the descriptor of a member behind the bytes.
+fn write_member(
+    out: &mut Vec<u8>,
+    access: u16,
+    name: u16,
+    descriptor: u16,
+) -> Result<(), AllocError>
+    ensures { OnOk result (out.new.items ≡ out.old.items ++ member_bytes access name descriptor) }
+{
+    write_u2(out, access)?;
+    write_u2(out, name)?;
+    write_u2(out, descriptor)
+}
+
+/// Puts an attribute of a field behind the bytes.
+#[tactic(auto, unfolding(crate::specs::Writing::field_attribute_bytes, jvms::specs::Spelling::u2))]
+fn write_field_attribute(out: &mut Vec<u8>, attribute: &FieldAttribute) -> Result<(), AllocError>
+    ensures { OnOk result (out.new.items ≡ out.old.items ++ field_attribute_bytes attribute.now) }
+{
+    match attribute {
+        FieldAttribute::ConstantValue { name, value } => {
+            write_framed(out, *name, &value.to_be_bytes())
+        }
+        FieldAttribute::Kept(kept) => write_kept(out, kept),
+    }
+}
+
+/// Puts attributes_count and the attributes of a field behind the bytes.
+fn write_field_attributes(
+    out: &mut Vec<u8>,
+    attributes: &[FieldAttribute],
+) -> Result<(), AllocError>
+    ensures { OnOk result (out.new.items ≡ out.old.items ++ counted_bytes field_attribute_bytes attributes.now) }
+{
+    write_count(out, attributes.len())?;
+    for attribute in attributes {
+        write_field_attribute(out, attribute)?;
+    }
+    Ok(())
+}
+
+/// Puts a field behind the bytes.
+#[tactic(auto, unfolding(crate::specs::Writing::field_bytes))]
+fn write_field(out: &mut Vec<u8>, field: &FieldInfo) -> Result<(), AllocError>
+    ensures { OnOk result (out.new.items ≡ out.old.items ++ field_bytes field.now) }
+{
+    write_member(out, field.access, field.name, field.descriptor)?;
+    write_field_attributes(out, field.attributes.as_slice())
+}
+
+/// Puts fields_count and the fields behind the bytes.
+pub(crate) fn write_fields(out: &mut Vec<u8>, fields: &[FieldInfo]) -> Result<(), AllocError>
+    ensures { OnOk result (out.new.items ≡ out.old.items ++ counted_bytes field_bytes fields.now) }
+{
+    write_count(out, fields.len())?;
+    for field in fields {
+        write_field(out, field)?;
+    }
+    Ok(())
+}
+
+/// Puts an attribute of a method behind the bytes. The length of its content stands before it, so the
+/// content is made apart.
+#[tactic(auto, unfolding(crate::specs::Writing::method_attribute_bytes))]
+fn write_method_attribute(
+    alloc: Global,
+    out: &mut Vec<u8>,
+    attribute: &MethodAttribute,
+) -> Result<(), AllocError>
+    ensures { OnOk result (out.new.items ≡ out.old.items ++ method_attribute_bytes attribute.now) }
+{
+    match attribute {
+        MethodAttribute::Code { name, code } => {
+            let mut content = Vec::new(alloc);
+            write_code(&mut content, code)?;
+            write_framed(out, *name, &content)
+        }
+        MethodAttribute::Exceptions { name, classes } => {
+            let mut content = Vec::new(alloc);
+            write_numbers(&mut content, classes.as_slice())?;
+            write_framed(out, *name, &content)
+        }
+        MethodAttribute::Kept(kept) => write_kept(out, kept),
+    }
+}
+
+/// Puts attributes_count and the attributes of a method behind the bytes.
+fn write_method_attributes(
+    alloc: Global,
+    out: &mut Vec<u8>,
+    attributes: &[MethodAttribute],
+) -> Result<(), AllocError>
+    ensures { OnOk result (out.new.items ≡ out.old.items ++ counted_bytes method_attribute_bytes attributes.now) }
+{
+    write_count(out, attributes.len())?;
+    for attribute in attributes {
+        write_method_attribute(alloc, out, attribute)?;
+    }
+    Ok(())
+}
+
+/// Puts a method behind the bytes.
+#[tactic(auto, unfolding(crate::specs::Writing::method_bytes))]
+fn write_method(alloc: Global, out: &mut Vec<u8>, method: &MethodInfo) -> Result<(), AllocError>
+    ensures { OnOk result (out.new.items ≡ out.old.items ++ method_bytes method.now) }
+{
+    write_member(out, method.access, method.name, method.descriptor)?;
+    write_method_attributes(alloc, out, method.attributes.as_slice())
+}
+
+/// Puts methods_count and the methods behind the bytes.
+pub(crate) fn write_methods(
+    alloc: Global,
+    out: &mut Vec<u8>,
+    methods: &[MethodInfo],
+) -> Result<(), AllocError>
+    ensures { OnOk result (out.new.items ≡ out.old.items ++ counted_bytes method_bytes methods.now) }
+{
+    write_count(out, methods.len())?;
+    for method in methods {
+        write_method(alloc, out, method)?;
+    }
+    Ok(())
+}

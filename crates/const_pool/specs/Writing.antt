@@ -1,0 +1,32 @@
+-- The bytes that spell a constant pool (JVMS 4.4).
+use Rattle.std.specs.Prelude.{ℕ, ◌+◌, List, [], ◌∷◌, ◌++◌, length}
+use Rattle.std.specs.List.{flat_map}
+use Rattle.std.specs.Int.{w32, w64, cast_unsigned}
+use Rattle.jvms.specs.declared.class_file.Constant.{Constant}
+use Rattle.jvms.specs.declared.class_file.Constant.TheVariants as constant
+use Rattle.jvms.specs.Texts.{encoded}
+use Rattle.jvms.specs.Spelling.{u2, u4, u8}
+
+-- A text: the length of its modified UTF-8, and these bytes (JVMS 4.4.7).
+abbrev pub text_bytes : List ℕ → List ℕ
+text_bytes text = 1 ∷ (u2 (length (encoded text)) ++ encoded text)
+
+-- An entry: its tag (JVMS table 4.4-A), and what stands behind it. A signed number is written as two's
+-- complement. The number behind a long or a double names nothing, and has no bytes (JVMS 4.4.5).
+unfoldable pub constant_bytes : Constant → List ℕ
+constant_bytes (constant.Utf8 text) = text_bytes text
+constant_bytes (constant.Integer n) = 3 ∷ u4 (cast_unsigned w32 n)
+constant_bytes (constant.Float n) = 4 ∷ u4 n
+constant_bytes (constant.Long n) = 5 ∷ u8 (cast_unsigned w64 n)
+constant_bytes (constant.Double n) = 6 ∷ u8 n
+constant_bytes (constant.Class name) = 7 ∷ u2 name
+constant_bytes (constant.String text) = 8 ∷ u2 text
+constant_bytes (constant.Field class name_and_type) = 9 ∷ (u2 class ++ u2 name_and_type)
+constant_bytes (constant.Method class name_and_type) = 10 ∷ (u2 class ++ u2 name_and_type)
+constant_bytes (constant.InterfaceMethod class name_and_type) = 11 ∷ (u2 class ++ u2 name_and_type)
+constant_bytes (constant.NameAndType name descriptor) = 12 ∷ (u2 name ++ u2 descriptor)
+constant_bytes constant.Unusable = []
+
+-- constant_pool_count, which is one more than the numbers, and the entries in order.
+abbrev pub pool_bytes : List Constant → List ℕ
+pool_bytes pool = u2 (length pool + 1) ++ flat_map constant_bytes pool

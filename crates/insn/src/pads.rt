@@ -1,0 +1,89 @@
+//! How a method's code is spelled (JVMS 4.7.3): its bytes, in which pads are 0, and the byte at which each
+//! instruction starts.
+
+ghost use Rattle.std.specs.Prelude.{◌≡◌, ◌+◌, ◌≤◌, IfOk, slice_set, suc, if◌then◌else◌};
+ghost use Rattle.jvms.specs.Code.{is_switch as is_switch_insn, zeroed, with_zero_pads, layout_of};
+ghost use Rattle.jvms.specs.Instructions.{pad_length as pads_at};
+
+use crate::starts::Starts;
+use crate::switches::pad_length;
+use jvms::class_file::Layout;
+use jvms::insn::Insn;
+use jvms::items::Items;
+use std::alloc::{AllocError, Global};
+
+/// Sets the byte at a place to 0. Outside the bytes nothing happens.
+fn set_zero(bytes: &mut [u8], place: usize)
+    ensures { bytes.new ≡ slice_set bytes.old place 0 }
+{
+    if place < bytes.len() {
+        bytes[place] = 0;
+    }
+}
+
+/// Sets so many bytes from a place on to 0.
+#[tactic(auto, unfolding(jvms::specs::Code::zeroed))]
+fn zero(bytes: &mut [u8], count: usize, place: usize)
+    requires { place + count ≤ usize.MAX }
+    ensures { bytes.new ≡ zeroed count place bytes.old }
+{
+    let mut left = count;
+    let mut at = place;
+    while left > 0 {
+        set_zero(bytes, at);
+        at += 1;
+        left -= 1;
+    }
+}
+
+/// Whether an instruction has pads (JVMS 6.5 tableswitch, lookupswitch).
+fn is_switch(insn: &Insn) -> bool
+    ensures { result ≡ is_switch_insn insn.now }
+{
+    matches!(insn, Insn::Table(_) | Insn::Lookup(_))
+}
+
+/// Sets the pads of the instruction that starts at byte `pc` to 0, if it has any.
+fn zero_pads_of(bytes: &mut [u8], pc: u32, insn: &Insn)
+    ensures { bytes.new ≡ (if is_switch_insn insn.now then zeroed (pads_at pc) (suc pc) bytes.old else bytes.old) }
+{
+    if is_switch(insn) {
+        let start = pc as usize;
+        zero(bytes, pad_length(start), start + 1);
+    }
+}
+
+/// Sets the pads of all instructions to 0; `starts` are the bytes at which they start.
+#[tactic(auto, unfolding(jvms::specs::Code::with_zero_pads))]
+fn zero_pads(bytes: &mut [u8], starts: &[u32], insns: &[Insn])
+    ensures { bytes.new ≡ with_zero_pads starts.now insns.now bytes.old }
+{
+    let mut pcs = starts;
+    let mut rest = insns;
+    while let [pc, later @ ..] = pcs {
+        let [insn, others @ ..] = rest else {
+            return;
+        };
+        zero_pads_of(bytes, *pc, insn);
+        pcs = later;
+        rest = others;
+    }
+}
+
+/// The layout of code: the bytes that spell these instructions, but that pads are 0, and the bytes at which
+/// they start.
+pub fn layout(
+    alloc: Global,
+    starts: Starts,
+    insns: &[Insn],
+    bytes: &[u8],
+) -> Result<Layout, AllocError>
+    ensures { IfOk result (λ l. l ≡ layout_of starts insns.now bytes.now) }
+{
+    let mut spelled = bytes.to_vec(alloc)?;
+    zero_pads(&mut spelled, starts.as_slice(), insns);
+    Ok(Layout {
+        bytes: Items::from_vec(spelled),
+        starts: starts.into_items(),
+    })
+}

@@ -1,0 +1,126 @@
+//! Bytes that go out and bytes that come in.
+
+ghost use Rattle.std.specs.Prelude.{◌≡◌, ℕ, ◌+◌, ◌≤◌, ◌<◌, List, length, take, Option, OnOk, OnErr, IfOk};
+ghost use Rattle.std.specs.Io.KnownBytes.{Appends, Keeps, Consumes, IsAtEnd};
+ghost use Rattle.trace.specs.Bytes.{AppendsBeginning};
+
+use crate::failures::Failures;
+use std::io::{ErrorKind, Read, Write};
+use std::sync::ledger::Ledger;
+
+/// A read or a write failed.
+#[derive(Clone, Copy, Debug, PartialEq, Eq)]
+pub struct DeviceFailure;
+
+/// What takes bytes.
+pub trait ByteOut {
+    // The bytes written so far, where the type tells them.
+    ghost written: { Self → Option (List ℕ) };
+
+    // How many calls have failed so far.
+    ghost failures: { Self → ℕ };
+
+    /// Writes all of these bytes. Where that fails, a beginning of them was written.
+    fn write_all(&mut self, bytes: &[u8]) -> Result<(), DeviceFailure>
+        ensures bytes { OnOk result (Appends (written self.old) (written self.new) bytes.now) }
+        ensures count { OnOk result (failures self.new ≡ failures self.old) }
+        ensures beginning { OnErr result (AppendsBeginning (written self.old) (written self.new) bytes.now) }
+        ensures failed { OnErr result (failures self.new ≡ failures self.old + 1) };
+}
+
+/// What gives bytes.
+pub trait ByteIn {
+    // The bytes that are left, where the type tells them.
+    ghost left: { Self → Option (List ℕ) };
+
+    // How many calls have failed so far.
+    ghost failures: { Self → ℕ };
+
+    /// Reads some of the bytes into the buffer: none only at the end, or where the buffer is empty.
+    fn read(&mut self, buffer: &mut [u8]) -> Result<usize, DeviceFailure>
+        ensures within { IfOk result (λ n. n ≤ length buffer.new) }
+        ensures bytes { IfOk result (λ n. Consumes (left self.old) (left self.new) (take n buffer.new)) }
+        ensures end { IfOk result (λ n. n ≡ 0 → 0 < length buffer.new → IsAtEnd (left self.new)) }
+        ensures count { OnOk result (failures self.new ≡ failures self.old) }
+        ensures kept { OnErr result (Keeps (left self.old) (left self.new)) }
+        ensures failed { OnErr result (failures self.new ≡ failures self.old + 1) };
+}
+
+/// A reader or a writer of the standard library, with a count of its failures.
+#[derive(Drop)]
+pub struct Counted<T, L: Ledger> {
+    inner: T,
+    failures: Failures<L>,
+}
+
+impl<T, L: Ledger> Counted<T, L> {
+    /// The reader or writer, with the failures so far.
+    pub fn new(inner: T, failures: Failures<L>) -> Self
+        ensures inner { result.inner ≡ inner }
+        ensures failures { result.failures ≡ failures }
+    {
+        Counted { inner, failures }
+    }
+
+    /// The reader or writer itself.
+    pub fn inner(&self) -> &T
+        ensures { result.now ≡ self.now.inner }
+    {
+        &self.inner
+    }
+}
+
+/// Writes all of the bytes; a write that a signal interrupts is made again.
+fn write_whole<W: Write>(writer: &mut W, bytes: &[u8]) -> Result<(), DeviceFailure>
+    ensures bytes { OnOk result (Appends (W.contents writer.old) (W.contents writer.new) bytes.now) }
+    ensures beginning { OnErr result (AppendsBeginning (W.contents writer.old) (W.contents writer.new) bytes.now) }
+{
+    let mut at = 0;
+    for _ in 0..u64::MAX {
+        if at >= bytes.len() {
+            return Ok(());
+        }
+        match writer.write(&bytes[at..]) {
+            Ok(0) => return Err(DeviceFailure),
+            Ok(count) => at += count,
+            Err(error) => {
+                if error.kind() != ErrorKind::Interrupted {
+                    return Err(DeviceFailure);
+                }
+            }
+        }
+    }
+    Err(DeviceFailure)
+}
+
+impl<T: Write, L: Ledger> ByteOut for Counted<T, L> {
+    ghost written = { λ c. T.contents c.inner };
+
+    ghost failures = { λ c. c.failures };
+
+    fn write_all(&mut self, bytes: &[u8]) -> Result<(), DeviceFailure> {
+        match write_whole(&mut self.inner, bytes) {
+            Ok(()) => Ok(()),
+            Err(failure) => {
+                self.failures.count();
+                Err(failure)
+            }
+        }
+    }
+}
+
+impl<T: Read, L: Ledger> ByteIn for Counted<T, L> {
+    ghost left = { λ c. T.remaining c.inner };
+
+    ghost failures = { λ c. c.failures };
+
+    fn read(&mut self, buffer: &mut [u8]) -> Result<usize, DeviceFailure> {
+        match self.inner.read(buffer) {
+            Ok(count) => Ok(count),
+            Err(_) => {
+                self.failures.count();
+                Err(DeviceFailure)
+            }
+        }
+    }
+}
