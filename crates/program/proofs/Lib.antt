@@ -1,5 +1,6 @@
 pub mod BuiltInLaws
 pub mod ClassTypeLaws
 pub mod MethodLaws
+mod NamedLaws
 pub mod PlaceLaws
 pub mod WalkLaws

@@ -28,4 +28,5 @@ mod walk;
 pub use all::is_built_in;
 pub use list::Program;
 pub use lookup::declared_number;
+pub use methods::Named;
 pub use names::same_text;

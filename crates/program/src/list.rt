@@ -1,6 +1,6 @@
 //! The list of a program's classes.
 
-ghost use Rattle.std.specs.Prelude.{◌≡◌, ◌++◌, IfOk, option_copied, slice_get};
+ghost use Rattle.std.specs.Prelude.{◌≡◌, ◌++◌, IfOk, IsOk, None, option_copied, slice_get};
 ghost use Rattle.jvms.specs.BuiltIn.{built_in_classes};
 ghost use Rattle.jvms.specs.Program.{class_named, class_number, method_at, key_of};
 
@@ -76,7 +76,9 @@ impl Program {
 
     /// The key of a method in a trace, if there is a method of the number.
     pub fn key(&self, alloc: Global, n: MethodNumber) -> Result<Option<MethodKey>, AllocError>
-        ensures { IfOk result (λ key. key ≡ key_of self.now n) }
+        ensures key { IfOk result (λ key. key ≡ key_of self.now n) }
+        // A key that isn't there takes no memory.
+        ensures none { key_of self.now n ≡ None → IsOk result }
     {
         let Some(class) = self.class(n.class) else {
             return Ok(None);

@@ -3,6 +3,7 @@
 ghost use Rattle.std.specs.Prelude.{◌≡◌};
 ghost use Rattle.jvms.specs.Names.{is_constructor_name};
 ghost use Rattle.jvms.specs.Resolution.{names_interface, members_class, found_in_order, found_method};
+ghost use Rattle.program.specs.Named.{reference};
 ghost use Rattle.program.specs.Places.{IsMethodAt, Locates};
 
 use crate::look::DeclaredMethod;
@@ -11,7 +12,17 @@ use crate::names::members_class;
 use crate::order::{first_for_class, first_for_interface};
 use crate::walk::Look;
 use descriptor::is_constructor_name;
-use jvms::program::{Class, ClassKind, MethodReference};
+use jvms::program::{Class, ClassKind};
+
+/// A method by its names: what resolution asks of a reference.
+#[derive(Clone, Copy)]
+pub struct Named<'a> {
+    /// Whether the pool entry is an InterfaceMethodref.
+    pub is_interface: bool,
+    pub class: &'a [u16],
+    pub name: &'a [u16],
+    pub descriptor: &'a [u16],
+}
 
 /// Whether the class of a name is an interface.
 pub(crate) fn names_interface(classes: &[Class], name: &[u16]) -> bool
@@ -24,33 +35,33 @@ pub(crate) fn names_interface(classes: &[Class], name: &[u16]) -> bool
 }
 
 /// The method that a reference finds in the order of the classes above.
-fn found_in_order(classes: &[Class], r: &MethodReference) -> Option<(usize, usize)>
-    ensures { Locates (IsMethodAt classes.now) (found_in_order classes.now r.now) result }
+fn found_in_order(classes: &[Class], r: Named) -> Option<(usize, usize)>
+    ensures { Locates (IsMethodAt classes.now) (found_in_order classes.now (reference r.entry)) result }
 {
     let look = DeclaredMethod {
         classes,
-        name: r.name.as_slice(),
-        descriptor: r.descriptor.as_slice(),
+        name: r.name,
+        descriptor: r.descriptor,
     };
     if r.is_interface {
-        first_for_interface(classes, r.class.as_slice(), &look)
+        first_for_interface(classes, r.class, &look)
     } else {
-        first_for_class(classes, members_class(r.class.as_slice()), &look)
+        first_for_class(classes, members_class(r.class), &look)
     }
 }
 
 /// The method that a reference finds. A constructor is looked for in the named class alone.
-pub(crate) fn found_method(classes: &[Class], r: &MethodReference) -> Option<(usize, usize)>
-    ensures { Locates (IsMethodAt classes.now) (found_method classes.now r.now) result }
+pub(crate) fn found_method(classes: &[Class], r: Named) -> Option<(usize, usize)>
+    ensures { Locates (IsMethodAt classes.now) (found_method classes.now (reference r.entry)) result }
 {
-    if !is_constructor_name(r.name.as_slice()) {
+    if !is_constructor_name(r.name) {
         return found_in_order(classes, r);
     }
-    let class = named(classes, r.class.as_slice())?;
+    let class = named(classes, r.class)?;
     let look = DeclaredMethod {
         classes,
-        name: r.name.as_slice(),
-        descriptor: r.descriptor.as_slice(),
+        name: r.name,
+        descriptor: r.descriptor,
     };
     look.look(class)
 }

@@ -1,29 +1,27 @@
 //! Resolution of what instructions name (JVMS 5.4.3).
 
 ghost use Rattle.jvms.specs.Resolution.{resolved_method};
+ghost use Rattle.program.specs.Named.{reference};
 ghost use Rattle.program.specs.Places.{IsMethodAt, Resolves};
 
 use crate::exists::class_exists;
 use crate::list::Program;
 use crate::lookup::method_of;
-use crate::methods::{found_method, names_interface};
+use crate::methods::{Named, found_method, names_interface};
 use jvms::machine::{MethodNumber, Thrown};
 use jvms::program::MethodReference;
 
 impl Program {
-    /// The method that a reference names (JVMS 5.4.3.3, 5.4.3.4): the numbers of its class and of it there.
-    pub fn resolve_method(
-        &self,
-        is_static: bool,
-        r: &MethodReference,
-    ) -> Result<(usize, usize), Thrown>
-        ensures { Resolves (IsMethodAt self.now) (resolved_method self.now is_static r.now) result }
+    /// The method of these names (JVMS 5.4.3.3, 5.4.3.4): the numbers of its class and of it there. It takes
+    /// no memory.
+    pub fn resolve_named(&self, is_static: bool, r: Named) -> Result<(usize, usize), Thrown>
+        ensures { Resolves (IsMethodAt self.now) (resolved_method self.now is_static (reference r.entry)) result }
     {
         let classes = self.classes();
-        if !class_exists(classes, r.class.as_slice()) {
+        if !class_exists(classes, r.class) {
             return Err(Thrown::NoClassDefFoundError);
         }
-        if r.is_interface != names_interface(classes, r.class.as_slice()) {
+        if r.is_interface != names_interface(classes, r.class) {
             return Err(Thrown::IncompatibleClassChangeError);
         }
         let Some(place) = found_method(classes, r) else {
@@ -37,5 +35,22 @@ impl Program {
             Some(method) if method.flags.is_static == is_static => Ok(place),
             _ => Err(Thrown::IncompatibleClassChangeError),
         }
+    }
+
+    /// The method that a reference names (JVMS 5.4.3.3, 5.4.3.4): the numbers of its class and of it there.
+    pub fn resolve_method(
+        &self,
+        is_static: bool,
+        r: &MethodReference,
+    ) -> Result<(usize, usize), Thrown>
+        ensures { Resolves (IsMethodAt self.now) (resolved_method self.now is_static r.now) result }
+    {
+        let named = Named {
+            is_interface: r.is_interface,
+            class: r.class.as_slice(),
+            name: r.name.as_slice(),
+            descriptor: r.descriptor.as_slice(),
+        };
+        self.resolve_named(is_static, named)
     }
 }

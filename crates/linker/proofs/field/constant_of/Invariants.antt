@@ -1,0 +1,9 @@
+use Rattle.std.proofs.Common.{◌≡◌, length}
+use Rattle.jvms.specs.Meaning.{constant_of}
+use Rattle.linker.proofs.field.constant_of.Given as goal
+
+abbrev pub invariant-loop-rest : goal.invariant-loop-rest
+invariant-loop-rest l = constant_of l.pool l.rest ≡ constant_of l.pool l.fn.attributes
+
+abbrev pub decreases-loop-rest : goal.decreases-loop-rest
+decreases-loop-rest l = length l.rest

@@ -1,0 +1,6 @@
+use Rattle.std.proofs.Common.{◌≡◌, take, map}
+use Rattle.jvms.specs.Meaning.{method_of}
+use Rattle.linker.proofs.method.methods_of.Given as goal
+
+abbrev pub invariant-loop-info : goal.invariant-loop-info
+invariant-loop-info l = l.methods.items ≡ map (method_of l.pool) (take l.info-index l.infos)

@@ -1,0 +1,91 @@
+//! The code of methods (JVMS 4.7.3).
+
+ghost use Rattle.std.specs.Prelude.{◌≡◌, IfOk, map};
+ghost use Rattle.std.specs.Option.{option_map};
+ghost use Rattle.jvms.specs.Meaning.{catch_of, handler_of, body_of, code_of};
+
+use crate::instruction::instructions_of;
+use crate::texts::class_text;
+use const_pool::Pool;
+use jvms::class_file::{Code, Handler, MethodAttribute};
+use jvms::items::Items;
+use jvms::program::{Body, Catch, ExceptionHandler};
+use std::alloc::{AllocError, Global};
+
+/// What a handler of this catch_type catches: all for 0.
+fn catch_of(alloc: Global, pool: &Pool, catch_type: u16) -> Result<Catch, AllocError>
+    ensures { IfOk result (λ c. c ≡ catch_of pool.now catch_type) }
+{
+    if catch_type == 0 {
+        Ok(Catch::All)
+    } else {
+        Ok(Catch::Class(class_text(alloc, pool, catch_type)?))
+    }
+}
+
+/// A handler with the class that it catches.
+fn handler_of(alloc: Global, pool: &Pool, handler: &Handler) -> Result<ExceptionHandler, AllocError>
+    ensures { IfOk result (λ h. h ≡ handler_of pool.now handler.now) }
+{
+    Ok(ExceptionHandler {
+        start: handler.start,
+        end: handler.end,
+        target: handler.target,
+        catch: catch_of(alloc, pool, handler.catch_type)?,
+    })
+}
+
+/// The handlers of a method, in the order of its table.
+fn handlers_of(
+    alloc: Global,
+    pool: &Pool,
+    table: &[Handler],
+) -> Result<Items<ExceptionHandler>, AllocError>
+    ensures { IfOk result (λ hs. hs ≡ map (handler_of pool.now) table.now) }
+{
+    let mut handlers = Vec::new(alloc);
+    for handler in table {
+        handlers.push(handler_of(alloc, pool, handler)?)?;
+    }
+    Ok(Items::from_vec(handlers))
+}
+
+/// The code of a method with what it names.
+fn body_of(alloc: Global, pool: &Pool, code: &Code) -> Result<Body, AllocError>
+    ensures { IfOk result (λ b. b ≡ body_of pool.now code.now) }
+{
+    Ok(Body {
+        max_stack: code.max_stack,
+        max_locals: code.max_locals,
+        instructions: instructions_of(alloc, pool, code.insns.as_slice())?,
+        handlers: handlers_of(alloc, pool, code.handlers.as_slice())?,
+    })
+}
+
+/// The first Code among attributes.
+fn code_of(attributes: &[MethodAttribute]) -> Option<&Code>
+    ensures { option_map (λ c. c.now) result ≡ code_of attributes.now }
+{
+    let mut rest = attributes;
+    while let [attribute, others @ ..] = rest {
+        if let MethodAttribute::Code { name: _, code } = attribute {
+            return Some(code);
+        }
+        rest = others;
+    }
+    None
+}
+
+/// The code of a method that has these attributes, if one is Code.
+pub(crate) fn body_among(
+    alloc: Global,
+    pool: &Pool,
+    attributes: &[MethodAttribute],
+) -> Result<Option<Body>, AllocError>
+    ensures { IfOk result (λ b. b ≡ option_map (body_of pool.now) (code_of attributes.now)) }
+{
+    match code_of(attributes) {
+        Some(code) => Ok(Some(body_of(alloc, pool, code)?)),
+        None => Ok(None),
+    }
+}

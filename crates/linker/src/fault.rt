@@ -1,0 +1,41 @@
+//! Why class files make no program.
+
+ghost use Rattle.std.specs.Prelude.{◌≡◌};
+ghost use Rattle.linker.specs.declared.fault.LinkFault.TheVariants.{Memory};
+
+use std::alloc::{AllocError, AllocFailed};
+use thiserror::Error;
+
+/// Why class files make no program. A class is given by its file's place in the list, from 0.
+#[derive(Clone, Copy, Debug, PartialEq, Eq, Error)]
+pub enum LinkFault {
+    /// K05: the class has the name of a built-in class.
+    #[error("K05 BuiltInName")]
+    BuiltInName { class: usize },
+    /// K01: the class has the name of one before it.
+    #[error("K01 RepeatedClass")]
+    RepeatedClass { class: usize },
+    /// K07: the class has interfaces, fields or a superclass other than `java/lang/Object`, which are not
+    /// linked yet.
+    #[error("K07 Later")]
+    Later { class: usize },
+    /// K06: there was no memory for the program.
+    #[error("K06 Memory")]
+    Memory,
+}
+
+impl From<AllocError> for LinkFault {
+    ghost from_gives = { λ _ fault. fault ≡ Memory };
+
+    fn from(_error: AllocError) -> LinkFault {
+        LinkFault::Memory
+    }
+}
+
+impl<T: Drop> From<AllocFailed<T>> for LinkFault {
+    ghost from_gives = { λ _ fault. fault ≡ Memory };
+
+    fn from(_error: AllocFailed<T>) -> LinkFault {
+        LinkFault::Memory
+    }
+}

@@ -1,0 +1,75 @@
+//! Instructions with what they name in place of pool entries (JVMS 6.5).
+
+ghost use Rattle.std.specs.Prelude.{◌≡◌, IfOk, map};
+ghost use Rattle.jvms.specs.Meaning.{instruction_of};
+
+use crate::loadable::loadable_of;
+use crate::reference::{field_reference_of, method_reference_of};
+use crate::texts::{class_text, copied};
+use const_pool::Pool;
+use jvms::insn::{Insn, LookupSwitch, TableSwitch};
+use jvms::items::Items;
+use jvms::program::Instruction;
+use std::alloc::{AllocError, Global};
+
+/// The same cases of a tableswitch.
+fn table_switch(alloc: Global, s: &TableSwitch) -> Result<TableSwitch, AllocError>
+    ensures { IfOk result (λ copy. copy ≡ s.now) }
+{
+    Ok(TableSwitch {
+        default: s.default,
+        low: s.low,
+        targets: copied(alloc, s.targets.as_slice())?,
+    })
+}
+
+/// The same cases of a lookupswitch.
+fn lookup_switch(alloc: Global, s: &LookupSwitch) -> Result<LookupSwitch, AllocError>
+    ensures { IfOk result (λ copy. copy ≡ s.now) }
+{
+    Ok(LookupSwitch {
+        default: s.default,
+        cases: copied(alloc, s.cases.as_slice())?,
+    })
+}
+
+/// The instruction with what its number names.
+fn instruction_of(alloc: Global, pool: &Pool, insn: &Insn) -> Result<Instruction, AllocError>
+    ensures { IfOk result (λ i. i ≡ instruction_of pool.now insn.now) }
+{
+    match insn {
+        Insn::Simple(s) => Ok(Instruction::Simple(*s)),
+        Insn::Branch(how, target) => Ok(Instruction::Branch(*how, *target)),
+        Insn::Table(s) => Ok(Instruction::Table(table_switch(alloc, s)?)),
+        Insn::Lookup(s) => Ok(Instruction::Lookup(lookup_switch(alloc, s)?)),
+        Insn::Constant(n) => Ok(Instruction::Constant(loadable_of(alloc, pool, *n)?)),
+        Insn::Field(how, n) => {
+            let field = field_reference_of(alloc, pool, *n)?;
+            Ok(Instruction::Field(*how, field))
+        }
+        Insn::Invoke(how, n) => {
+            let method = method_reference_of(alloc, pool, *n)?;
+            Ok(Instruction::Invoke(*how, method))
+        }
+        Insn::Class(how, n) => Ok(Instruction::Class(*how, class_text(alloc, pool, *n)?)),
+        Insn::MultiNewArray(n, count) => {
+            let class = class_text(alloc, pool, *n)?;
+            Ok(Instruction::MultiNewArray(class, *count))
+        }
+    }
+}
+
+/// The instructions of a method, in order.
+pub(crate) fn instructions_of(
+    alloc: Global,
+    pool: &Pool,
+    insns: &[Insn],
+) -> Result<Items<Instruction>, AllocError>
+    ensures { IfOk result (λ is. is ≡ map (instruction_of pool.now) insns.now) }
+{
+    let mut instructions = Vec::new(alloc);
+    for insn in insns {
+        instructions.push(instruction_of(alloc, pool, insn)?)?;
+    }
+    Ok(Items::from_vec(instructions))
+}

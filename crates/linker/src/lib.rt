@@ -1,0 +1,23 @@
+//! Linking (JVMS 5.3): the program that class files and the built-in classes make, or why they make none.
+#![tactic(auto)]
+
+mod class;
+mod code;
+mod fault;
+mod field;
+mod instruction;
+mod linking;
+mod loadable;
+mod method;
+mod reference;
+mod refusals;
+#[cfg(test)]
+mod tests;
+mod texts;
+mod types;
+
+pub use class::meaning;
+pub use fault::LinkFault;
+pub use jvms::class_file::ClassFile;
+pub use linking::link;
+pub use program::Program;

@@ -1,0 +1,55 @@
+//! Linking (JVMS 5.3).
+
+ghost use Rattle.std.specs.Prelude.{◌≡◌, IfOk, map};
+ghost use Rattle.jvms.specs.Meaning.{meaning};
+ghost use Rattle.linker.specs.Linking.{Answers, HaveDistinctNames, linked, refusal};
+
+use crate::class::meaning;
+use crate::fault::LinkFault;
+use crate::refusals::{built_in_name, later, repeated_name};
+use jvms::class_file::ClassFile;
+use jvms::program::Class;
+use program::Program;
+use std::alloc::{AllocError, Global};
+
+/// The classes that class files mean, in order. Each file is given up as its class is made.
+fn classes_of(alloc: Global, files: Vec<ClassFile>) -> Result<Vec<Class>, AllocError>
+    ensures { IfOk result (λ classes. classes.items ≡ map meaning files.items) }
+{
+    let mut classes = Vec::new(alloc);
+    for file in files {
+        classes.push(meaning(alloc, file)?)?;
+    }
+    Ok(classes)
+}
+
+/// Tests all classes: of the tests in their order, the first that one fails, with the first class that
+/// fails it.
+fn check(alloc: Global, classes: &[Class]) -> Result<(), LinkFault>
+    ensures { Answers result (refusal classes.now) }
+{
+    if let Some(class) = built_in_name(classes) {
+        return Err(LinkFault::BuiltInName { class });
+    }
+    if let Some(class) = repeated_name(alloc, classes)? {
+        return Err(LinkFault::RepeatedClass { class });
+    }
+    if let Some(class) = later(classes) {
+        return Err(LinkFault::Later { class });
+    }
+    Ok(())
+}
+
+/// The program of class files with the built-in classes (JVMS 5.3), or the first test that one of their
+/// classes fails, want of memory aside.
+#[tactic(auto, unfolding(crate::specs::Linking::linked, jvms::specs::Program::program_of))]
+pub fn link(alloc: Global, files: Vec<ClassFile>) -> Result<Program, LinkFault>
+    // The built-in classes and those of the files in order, or the first test that fails.
+    ensures exact { Answers result (linked files.items) }
+    // No two classes of the program have one name.
+    ensures distinct { IfOk result (λ p. HaveDistinctNames p) }
+{
+    let classes = classes_of(alloc, files)?;
+    check(alloc, classes.as_slice())?;
+    Ok(Program::new(alloc, classes)?)
+}

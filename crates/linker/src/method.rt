@@ -1,0 +1,89 @@
+//! Methods (JVMS 4.6).
+
+ghost use Rattle.std.specs.Prelude.{◌≡◌, IfOk, map};
+ghost use Rattle.jvms.specs.Members.{is_initializer};
+ghost use Rattle.jvms.specs.Meaning.{throws_of, flags_of, method_of};
+
+use crate::code::body_among;
+use crate::texts::{class_texts, text_of};
+use crate::types::method_type;
+use const_pool::Pool;
+use descriptor::{Flags, is_initializer_name};
+use jvms::class_file::{MethodAttribute, MethodInfo};
+use jvms::items::Items;
+use jvms::program::{Method, MethodFlags};
+use std::alloc::{AllocError, Global};
+
+/// The classes that the first Exceptions among attributes lists (JVMS 4.7.5).
+fn throws_of(
+    alloc: Global,
+    pool: &Pool,
+    attributes: &[MethodAttribute],
+) -> Result<Items<Items<u16>>, AllocError>
+    ensures { IfOk result (λ names. names ≡ throws_of pool.now attributes.now) }
+{
+    let mut rest = attributes;
+    while let [attribute, others @ ..] = rest {
+        if let MethodAttribute::Exceptions { name: _, classes } = attribute {
+            return class_texts(alloc, pool, classes.as_slice());
+        }
+        rest = others;
+    }
+    Ok(Items::new(alloc))
+}
+
+/// Whether a method of this name is a class's or an interface's initialization method (JVMS 2.9).
+fn is_initializer(pool: &Pool, name: u16) -> bool
+    ensures { result ≡ is_initializer pool.now name }
+{
+    match pool.utf8(name) {
+        Some(text) => is_initializer_name(text),
+        None => false,
+    }
+}
+
+/// The flags that calls ask of a method (JVMS table 4.6-A). An initialization method has none.
+fn flags_of(is_initializer: bool, access: u16) -> MethodFlags
+    ensures { result ≡ flags_of is_initializer access }
+{
+    let flags = Flags::of_access(access);
+    MethodFlags {
+        is_static: !is_initializer && flags.is_static(),
+        is_private: !is_initializer && flags.is_private(),
+        is_synchronized: !is_initializer && flags.is_synchronized(),
+        is_native: !is_initializer && flags.is_native(),
+        is_abstract: !is_initializer && flags.is_abstract(),
+    }
+}
+
+/// A method with its texts.
+fn method_of(alloc: Global, pool: &Pool, info: &MethodInfo) -> Result<Method, AllocError>
+    ensures { IfOk result (λ m. m ≡ method_of pool.now info.now) }
+{
+    let attributes = info.attributes.as_slice();
+    let descriptor = text_of(alloc, pool, info.descriptor)?;
+    let method_type = method_type(alloc, descriptor.as_slice())?;
+    Ok(Method {
+        name: text_of(alloc, pool, info.name)?,
+        descriptor,
+        method_type,
+        flags: flags_of(is_initializer(pool, info.name), info.access),
+        throws: throws_of(alloc, pool, attributes)?,
+        body: body_among(alloc, pool, attributes)?,
+    })
+}
+
+/// The methods of a class, in order.
+pub(crate) fn methods_of(
+    alloc: Global,
+    pool: &Pool,
+    infos: &[MethodInfo],
+) -> Result<Items<Method>, AllocError>
+    ensures { IfOk result (λ ms. ms ≡ map (method_of pool.now) infos.now) }
+{
+    let mut methods = Vec::new(alloc);
+    for info in infos {
+        methods.push(method_of(alloc, pool, info)?)?;
+    }
+    Ok(Items::from_vec(methods))
+}

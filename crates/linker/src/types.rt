@@ -1,0 +1,38 @@
+//! The types that descriptors spell (JVMS 4.3).
+
+ghost use Rattle.std.specs.Prelude.{◌≡◌, IfOk};
+ghost use Rattle.jvms.specs.Meaning.{field_type, method_type};
+
+use descriptor::{DescriptorFault, parse_field, parse_method};
+use jvms::descriptor::{Element, FieldType, MethodType, Primitive, ResultType};
+use jvms::items::Items;
+use std::alloc::{AllocError, Global};
+
+/// The type that a field's descriptor spells; of a text that spells none, int.
+pub(crate) fn field_type(alloc: Global, descriptor: &[u16]) -> Result<FieldType, AllocError>
+    ensures { IfOk result (λ t. t ≡ field_type descriptor.now) }
+{
+    match parse_field(alloc, descriptor) {
+        Ok(t) => Ok(t),
+        Err(DescriptorFault::Malformed) => Ok(FieldType {
+            dimensions: 0,
+            element: Element::Primitive(Primitive::Int),
+        }),
+        Err(DescriptorFault::Memory) => Err(AllocError),
+    }
+}
+
+/// The type that a method's descriptor spells; of a text that spells none, that of no parameters and no
+/// result.
+pub(crate) fn method_type(alloc: Global, descriptor: &[u16]) -> Result<MethodType, AllocError>
+    ensures { IfOk result (λ t. t ≡ method_type descriptor.now) }
+{
+    match parse_method(alloc, descriptor) {
+        Ok(t) => Ok(t),
+        Err(DescriptorFault::Malformed) => Ok(MethodType {
+            parameters: Items::new(alloc),
+            result: ResultType::Void,
+        }),
+        Err(DescriptorFault::Memory) => Err(AllocError),
+    }
+}

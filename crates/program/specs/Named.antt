@@ -1,0 +1,9 @@
+-- A reference by its names.
+use Rattle.jvms.specs.declared.program.MethodReference.{MethodReference}
+use Rattle.jvms.specs.Meaning.{method_type}
+use Rattle.program.specs.declared.methods.Named.{Named}
+
+-- The reference of these names.
+abbrev pub reference : Named → MethodReference
+reference r =
+    record { is_interface = r.is_interface; class = r.class.now; name = r.name.now; descriptor = r.descriptor.now; method_type = method_type r.descriptor.now }
