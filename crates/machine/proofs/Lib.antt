@@ -1,0 +1,11 @@
+mod Changes
+mod EntryLaws
+mod Going
+mod Invariants
+mod Opened
+mod Answered
+mod Memory
+mod StatusLaws
+mod RunLaws
+mod Stacks
+mod TurnPlans

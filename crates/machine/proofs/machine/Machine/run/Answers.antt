@@ -1,0 +1,23 @@
+use Rattle.std.proofs.Common.{rules, ◌≡◌, ◌+◌, ◌++◌, ◌∷◌, [], length, take, Some, slice_get, sym, ap, ◌∙◌, subst, arith}
+use Rattle.std.proofs.lemmas.Option.{gets}
+use Rattle.std.proofs.lemmas.List.{length-append, length-set}
+use Rattle.jvms.specs.declared.machine.Outcome.TheVariants as outcome
+use Rattle.machine.specs.Runs.{IsRun}
+use Rattle.machine.proofs.RunLaws.{run_none, run_on, set_last}
+use Rattle.machine.proofs.machine.Machine.run.Goals as goal
+
+pub loop-choice-init : goal.loop-choice-init
+loop-choice-init c =
+    record {
+      ran = subst (λ os. IsRun c.args.self.now [] os c.args.self.now c.args.trace.now c.args.trace.now) (sym c.new-outcomes.ensures.items) (run_none c.args.self.now c.args.trace.now);
+      many = ap length c.new-outcomes.ensures.items;
+    }
+
+pub loop-choice-preserved : goal.loop-choice-preserved
+loop-choice-preserved c =
+    record {
+      ran = run_on c.args.self.now c.loop-choice.self c.step.new.self c.args.choices.now c.loop-choice.choice-index _ c.loop-choice.outcomes.items _ c.args.trace.now c.loop-choice.trace c.step.new.trace c.in-Ok.outcome
+          c.loop-choice.invariant.ran (search (gets, rules)) (set_last c.loop-choice.outcomes.items c.push.new.self.items outcome.NoThread c.in-Ok.outcome c.len-last.result (search rules) (search rules))
+          c.in-Ok.ensures.outcome c.in-Ok.ensures.state c.in-Ok.ensures.items;
+      many = search rules;
+    }

@@ -1,0 +1,30 @@
+-- The start of a machine, as its entry says.
+use Rattle.std.specs.Prelude.{◌≡◌, ℕ, Option, Some, None, MatchOption, MatchResult, Result, Ok, Err, List}
+use Rattle.jvms.specs.declared.machine.Entry.{Entry}
+use Rattle.jvms.specs.declared.machine.Limits.{Limits}
+use Rattle.jvms.specs.declared.machine.MethodNumber.{MethodNumber}
+use Rattle.jvms.specs.declared.program.Class.{Class}
+use Rattle.jvms.specs.Turn.{Start}
+use Rattle.jvms.specs.Run.{start_of, entry_arguments, made, opening, no_entry, no_limits}
+use Rattle.machine.specs.declared.fault.MachineFault.{MachineFault}
+use Rattle.machine.specs.declared.fault.MachineFault.TheVariants as fault
+use Rattle.machine.specs.Machine.{Machine}
+
+abbrev pub with_arguments : Entry → MethodNumber → Start
+with_arguments e n = record { method = n; arguments = entry_arguments e }
+
+-- A machine at its opening.
+abbrev pub opened : List Class → Limits → Start → Machine
+opened program limits start = record { program = program; limits = limits; start = start; state = opening program }
+
+-- What a machine that isn't made says: the entry is looked at first, then the limits. Without memory there
+-- may be a start all the same.
+abbrev pub IsNotMade : List Class → Limits → Entry → MachineFault → Type 0
+IsNotMade program limits e fault.NoEntry = made program limits e ≡ Err no_entry
+IsNotMade program limits e fault.Limits = made program limits e ≡ Err no_limits
+IsNotMade program limits e fault.Memory = Unit {0}
+
+-- A machine is made at its opening, where it starts as the entry says.
+abbrev pub IsNew : List Class → Limits → Entry → Result Machine MachineFault → Type 0
+IsNew program limits e result =
+    MatchResult result (λ m. (start : Start) × (made program limits e ≡ Ok start) × (m ≡ opened program limits start)) (IsNotMade program limits e)

@@ -1,0 +1,27 @@
+//! The limits of a run.
+
+ghost use Rattle.std.specs.Prelude.{◌≡◌};
+ghost use Rattle.jvms.specs.Run.{are_limits as in_range};
+
+use jvms::machine::Limits;
+
+/// The most objects, elements, threads and frames.
+const MOST: Limits = Limits {
+    objects: 16_777_216,
+    elements: 268_435_456,
+    threads: 1024,
+    frames: 65_536,
+};
+
+/// Whether each limit is in its range.
+pub(crate) fn are_limits(limits: Limits) -> bool
+    ensures { result ≡ in_range limits }
+{
+    4 <= limits.objects
+        && limits.objects <= MOST.objects
+        && limits.elements <= MOST.elements
+        && 1 <= limits.threads
+        && limits.threads <= MOST.threads
+        && 1 <= limits.frames
+        && limits.frames <= MOST.frames
+}

@@ -1,0 +1,108 @@
+//! The machine.
+
+ghost use Rattle.std.specs.Prelude.{◌≡◌, ◌++◌, length, IsOk, IfOk, OnOk, OnErr, is_ok};
+ghost use Rattle.jvms.specs.Run.{made as made_by};
+ghost use Rattle.machine.specs.Machine.{row_of, with_state, TakesNone};
+ghost use Rattle.machine.specs.Started.{IsNew};
+
+use crate::entry::start_of;
+use crate::fault::MachineFault;
+use crate::limits::are_limits;
+use crate::parts::Parts;
+use jvms::machine::{Entry, Limits, Outcome, ThreadId};
+use jvms::value::Value;
+use program::Program;
+use std::alloc::{AllocError, Global};
+use std::marker::Model;
+use trace::Trace;
+
+/// Whether a machine of this program can be made with these limits and this entry: the entry's method is
+/// there, is static and isn't `<clinit>`, and takes the arguments, and each limit is in its range. It takes
+/// no memory.
+pub fn admits(program: &Program, limits: Limits, entry: &Entry) -> bool
+    ensures { result ≡ is_ok (made_by program.now limits entry.now) }
+{
+    start_of(program, entry).is_some() && are_limits(limits)
+}
+
+/// A machine: a program, the limits of its run, where it starts, and its state (JVMS 2.5). Contracts see
+/// these; every state that it shows is sound.
+#[derive(Drop)]
+pub struct Machine<'p> {
+    pub(crate) parts: Parts<'p>,
+}
+
+impl<'p> Model for Machine<'p> {
+    ghost use Rattle.machine.specs.Machine.{Machine as Seen, machine_of, IsMachine};
+
+    ghost Value = { Seen };
+
+    ghost view = { λ m. machine_of m.parts };
+
+    ghost invariant = { λ m. IsMachine m.parts };
+}
+
+impl<'p> Machine<'p> {
+    /// A machine at the opening of a run. `NoEntry` comes before `Limits`, and without memory there is
+    /// `Memory`.
+    pub fn new(
+        alloc: Global,
+        program: &'p Program,
+        limits: Limits,
+        entry: &Entry,
+    ) -> Result<Machine<'p>, MachineFault>
+        ensures { IsNew program.now limits entry.now result }
+    {
+        let Some(method) = start_of(program, entry) else {
+            return Err(MachineFault::NoEntry);
+        };
+        if !are_limits(limits) {
+            return Err(MachineFault::Limits);
+        }
+        let parts = Parts::open(alloc, program, limits, method, entry)?;
+        Ok(Machine { parts })
+    }
+
+    /// Makes the turn of a thread, as its row of the instruction table says: the outcome, the state
+    /// afterwards, and the items that are put behind those of the trace. Without memory nothing changes.
+    pub fn step(&mut self, t: ThreadId, trace: &mut Trace) -> Result<Outcome, AllocError>
+        ensures outcome { IfOk result (λ o. o ≡ (row_of self.old t).outcome) }
+        ensures state { OnOk result (self.new ≡ with_state self.old (row_of self.old t).state) }
+        ensures items { OnOk result (trace.new ≡ trace.old ++ (row_of self.old t).items) }
+        ensures kept { OnErr result (self.new ≡ self.old) }
+        ensures no_items { OnErr result (trace.new ≡ trace.old) }
+        // A turn that pushes no frame and gives no item takes no memory.
+        ensures none { TakesNone self.old t → IsOk result }
+    {
+        self.parts.step(t, trace)
+    }
+
+    /// What the turn of a thread would come to, with nothing changed. It takes no memory.
+    pub fn peek(&self, t: ThreadId) -> Outcome
+        ensures { result ≡ (row_of self.now t).outcome }
+    {
+        self.parts.plan(t as usize).outcome()
+    }
+
+    /// The bytes that were written so far.
+    pub fn output(&self) -> &[u8]
+        ensures { result.now ≡ self.now.state.output }
+    {
+        let _ = &self.parts;
+        &[]
+    }
+
+    /// What thread 0's entry method returned, if it has returned a value.
+    pub fn result(&self) -> Option<Value>
+        ensures { result ≡ self.now.state.result }
+    {
+        self.parts.result
+    }
+
+    /// How many threads were ever started, thread 0 included.
+    pub fn thread_count(&self) -> usize
+        ensures { result ≡ length self.now.state.threads }
+    {
+        self.parts.threads.len()
+    }
+}

@@ -1,0 +1,89 @@
+//! The opening of a machine.
+
+ghost use Rattle.std.specs.Prelude.{◌≡◌, ◌++◌, ◌∷◌, [], map, IfOk};
+ghost use Rattle.jvms.specs.declared.value.Value.TheVariants as value;
+ghost use Rattle.jvms.specs.Run.{entry_arguments};
+ghost use Rattle.machine.specs.Plans.{first_initialisation as first, opened_machine};
+ghost use Rattle.machine.specs.Started.{with_arguments};
+
+use crate::initialisation::Initialisation;
+use crate::parts::Parts;
+use crate::thread::Thread;
+use jvms::machine::{Entry, Limits, MethodNumber};
+use jvms::program::Class;
+use jvms::value::Value;
+use program::{Program, is_built_in};
+use std::alloc::{AllocError, Global};
+
+/// The reference of main's argument, an array of no strings.
+const NO_STRINGS: u32 = 4;
+
+/// Ints as values.
+fn ints(alloc: Global, numbers: &[i32]) -> Result<Vec<Value>, AllocError>
+    ensures { IfOk result (λ values. values.items ≡ map value.Int numbers.now) }
+{
+    let mut values = Vec::new(alloc);
+    for number in numbers {
+        values.push(Value::Int(*number))?;
+    }
+    Ok(values)
+}
+
+/// The arguments of an entry's method.
+fn arguments(alloc: Global, entry: &Entry) -> Result<Vec<Value>, AllocError>
+    ensures { IfOk result (λ values. values.items ≡ entry_arguments entry.now) }
+{
+    match entry {
+        Entry::Main { .. } => Ok(vec![in alloc; Value::Reference(NO_STRINGS)]?),
+        Entry::Static { arguments, .. } => ints(alloc, arguments.as_slice()),
+    }
+}
+
+/// Built-in classes are initialised, and no other is.
+fn first_initialisation(class: &Class) -> Initialisation
+    ensures { result ≡ first class.now }
+{
+    if is_built_in(class.name.as_slice()) {
+        Initialisation::Done
+    } else {
+        Initialisation::NotBegun
+    }
+}
+
+/// How far the initialisation of each class has come at the opening.
+fn initialisations(alloc: Global, classes: &[Class]) -> Result<Vec<Initialisation>, AllocError>
+    ensures { IfOk result (λ marks. marks.items ≡ map first classes.now) }
+{
+    let mut marks = Vec::new(alloc);
+    for class in classes {
+        marks.push(first_initialisation(class))?;
+    }
+    Ok(marks)
+}
+
+impl<'p> Parts<'p> {
+    /// The parts of a machine at its opening: thread 0 has no frame yet.
+    pub(crate) fn open(
+        alloc: Global,
+        program: &'p Program,
+        limits: Limits,
+        method: MethodNumber,
+        entry: &Entry,
+    ) -> Result<Parts<'p>, AllocError>
+        ensures { IfOk result (λ m. m ≡ opened_machine program.now limits (with_arguments entry.now method)) }
+    {
+        let arguments = arguments(alloc, entry)?;
+        let initialisations = initialisations(alloc, program.classes())?;
+        let threads = vec![in alloc; Thread::new(alloc)]?;
+        Ok(Parts {
+            alloc,
+            program,
+            limits,
+            method,
+            arguments,
+            initialisations,
+            threads,
+            result: None,
+        })
+    }
+}

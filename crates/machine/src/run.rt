@@ -1,0 +1,43 @@
+//! Runs: the turns of a list of choices, one after another.
+
+ghost use Rattle.std.specs.Prelude.{◌≡◌, take, length, IfOk, IfErr};
+ghost use Rattle.machine.specs.Runs.{IsRun};
+
+use crate::machine::Machine;
+use jvms::machine::{Outcome, ThreadId};
+use trace::Trace;
+
+/// Memory ran out in a run: as many turns were made as there are outcomes, and no more.
+#[derive(Debug, Drop)]
+pub struct RunStop {
+    /// The outcomes of the choices whose turns were made.
+    pub outcomes: Vec<Outcome>,
+}
+
+impl Machine<'_> {
+    /// Makes the turns of these choices of threads, one after another, and answers their outcomes; their
+    /// items are put behind those of the trace. Where memory runs out, machine and trace are those after as
+    /// many choices as the `RunStop` has outcomes.
+    pub fn run(&mut self, choices: &[ThreadId], trace: &mut Trace) -> Result<Vec<Outcome>, RunStop>
+        ensures run { IfOk result (λ v. IsRun self.old choices.now v.items self.new trace.old trace.new) }
+        ensures stop { IfErr result (λ s. IsRun self.old (take (length s.outcomes.items) choices.now) s.outcomes.items self.new trace.old trace.new) }
+    {
+        let mut outcomes = Vec::new(self.parts.alloc);
+        for choice in choices {
+            if outcomes.push(Outcome::NoThread).is_err() {
+                return Err(RunStop { outcomes });
+            }
+            match self.step(*choice, trace) {
+                Ok(outcome) => {
+                    let last = outcomes.len() - 1;
+                    outcomes[last] = outcome;
+                }
+                Err(_) => {
+                    outcomes.pop();
+                    return Err(RunStop { outcomes });
+                }
+            }
+        }
+        Ok(outcomes)
+    }
+}

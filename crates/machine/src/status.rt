@@ -1,0 +1,84 @@
+//! How a machine stands.
+
+ghost use Rattle.std.specs.Prelude.{◌≡◌, drop};
+ghost use Rattle.std.specs.List.{list_all};
+ghost use Rattle.jvms.specs.Run.{is_enabled as enabled, is_bad as bad, status_of};
+ghost use Rattle.machine.specs.Statuses.{any_thread, status_by};
+
+use crate::machine::Machine;
+use crate::parts::Parts;
+use jvms::machine::{Outcome, Status};
+
+/// Whether a thread with this outcome before it is enabled.
+fn is_enabled(outcome: Outcome) -> bool
+    ensures { result ≡ enabled outcome }
+{
+    match outcome {
+        Outcome::Ran | Outcome::Raised => true,
+        Outcome::Ended { last } => last,
+        Outcome::Blocked { .. } | Outcome::NoThread | Outcome::Bad { .. } => false,
+    }
+}
+
+fn is_bad(outcome: Outcome) -> bool
+    ensures { result ≡ bad outcome }
+{
+    matches!(outcome, Outcome::Bad { .. })
+}
+
+impl Parts<'_> {
+    /// Whether all threads have ended.
+    fn all_ended(&self) -> bool
+        ensures { result ≡ list_all (λ x. x.ended) self.now.threads }
+    {
+        self.threads
+            .as_slice()
+            .iter()
+            .all(|thread| thread.has_ended())
+    }
+
+    /// Whether a thread from number `t` on is enabled.
+    fn any_enabled(&self, t: usize) -> bool
+        ensures { result ≡ any_thread enabled self.now t (drop t self.now.threads) }
+    {
+        if t >= self.threads.len() {
+            return false;
+        }
+        is_enabled(self.plan(t).outcome()) || self.any_enabled(t + 1)
+    }
+
+    /// Whether a thread from number `t` on can't go on.
+    fn any_bad(&self, t: usize) -> bool
+        ensures { result ≡ any_thread bad self.now t (drop t self.now.threads) }
+    {
+        if t >= self.threads.len() {
+            return false;
+        }
+        is_bad(self.plan(t).outcome()) || self.any_bad(t + 1)
+    }
+
+    fn stands(&self) -> Status
+        ensures { result ≡ status_by self.now }
+    {
+        if self.all_ended() {
+            Status::Finished
+        } else if self.any_enabled(0) {
+            Status::Running
+        } else if self.any_bad(0) {
+            Status::Stalled
+        } else {
+            Status::Deadlocked
+        }
+    }
+}
+
+impl Machine<'_> {
+    /// How the machine stands: finished, if all threads have ended; running, if one is enabled; stalled, if
+    /// one can't go on; else deadlocked. It takes no memory.
+    #[tactic(auto, unfolding(jvms::specs::Run::status_of))]
+    pub fn status(&self) -> Status
+        ensures { result ≡ status_of self.now.program self.now.limits self.now.start self.now.state }
+    {
+        self.parts.stands()
+    }
+}
