@@ -1,5 +1,5 @@
 -- What follows at an Ok and at an Err.
-use Rattle.std.proofs.Common.{◌≡◌, IfOk, OnOk, OnErr}
+use Rattle.std.proofs.Common.{IfOk, OnOk, OnErr}
 use Rattle.std.specs.Prelude.{Result, Ok, Err}
 
 pub if_ok_so : {A E : Type 0} (r : Result A E) (P Q : A → Type 0) → IfOk r P → ((x : A) → P x → Q x) → IfOk r Q

@@ -11,7 +11,7 @@ use Rattle.jvms.specs.declared.descriptor.Element.TheVariants as element
 use Rattle.jvms.specs.declared.descriptor.FieldType.{FieldType}
 use Rattle.jvms.specs.declared.descriptor.ResultType.TheVariants as result_type
 use Rattle.jvms.specs.declared.descriptor.MethodType.{MethodType}
-use Rattle.jvms.specs.Descriptors.{field_text, element_text, result_text, method_text, method_type_of}
+use Rattle.jvms.specs.Descriptors.{field_text, element_text, result_text, method_type_of}
 use Rattle.jvms.specs.Meaning.{method_type}
 use Rattle.jvms.specs.declared.machine.Entry.{Entry}
 use Rattle.jvms.specs.declared.machine.Entry.TheVariants as entry

@@ -1,10 +1,8 @@
 -- A turn leaves a machine a machine.
-use Rattle.std.proofs.Common.{◌≡◌, ◌≤◌, ℕ, zero, suc, ◌+◌, Bool, true, false, if◌then◌else◌, List, [], ◌∷◌, ◌++◌, length, drop, map, Option, Some, None, IsTrue, slice_get, slice_set, option_and_then, refl, sym, ap, ◌∙◌, subst, arith}
+use Rattle.std.proofs.Common.{◌≡◌, ℕ, Bool, true, false, if◌then◌else◌, List, [], ◌∷◌, drop, Option, Some, None, IsTrue, slice_get, option_and_then, refl, sym, ap, ◌∙◌, subst}
 use Rattle.std.specs.List.{AllByRecursion}
-use Rattle.std.proofs.lemmas.Option.{none-some, same_Some}
-use Rattle.std.proofs.lemmas.List.{length-map}
+use Rattle.std.proofs.lemmas.Option.{none-some}
 use Rattle.jvms.specs.declared.machine.Limits.{Limits}
-use Rattle.jvms.specs.declared.machine.Entry.{Entry}
 use Rattle.jvms.specs.declared.machine.MethodNumber.{MethodNumber}
 use Rattle.jvms.specs.declared.insn.ReturnInsn.{ReturnInsn}
 use Rattle.jvms.specs.declared.value.Value.{Value}
@@ -16,8 +14,8 @@ use Rattle.jvms.specs.Program.{method_at}
 use Rattle.jvms.specs.State.{MethodFrame, body_at, Sound}
 use Rattle.jvms.specs.RowsNumbers.{FrameRow, goes, throws, stops}
 use Rattle.jvms.specs.RowsCalls.{enterable_body}
-use Rattle.jvms.specs.Turn.{Start, IsStart, turn}
-use Rattle.jvms.specs.Run.{are_limits, opening}
+use Rattle.jvms.specs.Turn.{Start, IsStart}
+use Rattle.jvms.specs.Run.{are_limits}
 use Rattle.jvms.proofs.ListLaws.{all_set, all_at}
 use Rattle.jvms.proofs.TurnSoundness.{turn_keeps}
 use Rattle.jvms.proofs.OpeningSoundness.{opening_is_sound}
@@ -26,10 +24,10 @@ use Rattle.machine.specs.declared.thread.StackFrame.TheVariants as stack_frame
 use Rattle.machine.specs.declared.plan.Plan.{Plan}
 use Rattle.machine.specs.declared.plan.Plan.TheVariants as plan
 use Rattle.machine.specs.Kept.{CodedFrame, return_of, frame_after_at, frame_after_or, frame_after_row, instruction_at, row_at, call_after}
-use Rattle.machine.specs.Threads.{KeptThread, thread_after, frames_after, top_after, pending_after, live_after}
-use Rattle.machine.specs.Plans.{KeptMachine, made, plan_of, entry_body, with_room, entry_with_room, entered_call, with_first_call, with_initialisation_of, without_top, at_end, entered_machine, threads_with, with_changed, marked, with_result, outcome_of, items_made, opened_machine}
-use Rattle.machine.specs.Machine.{Machine, state_of, machine_of, IsCoded, AreCoded, IsMachine, row_of, with_state}
-use Rattle.machine.proofs.TurnPlans.{planned_row, turn_is}
+use Rattle.machine.specs.Threads.{KeptThread, thread_after, frames_after, pending_after, live_after}
+use Rattle.machine.specs.Plans.{KeptMachine, made, plan_of, entry_body, with_room, entry_with_room, entered_call, with_first_call, with_initialisation_of, without_top, at_end, entered_machine, threads_with, with_changed, outcome_of, items_made, opened_machine}
+use Rattle.machine.specs.Machine.{state_of, machine_of, IsCoded, AreCoded, IsMachine, row_of, with_state}
+use Rattle.machine.proofs.TurnPlans.{turn_is}
 use Rattle.machine.proofs.Opened.{opened_is}
 
 -- ---- Each call's code stays its method's.

@@ -1,16 +1,14 @@
 -- A turn that gives no item and pushes no frame is planned so.
-use Rattle.std.proofs.Common.{◌≡◌, ◌≤◌, ℕ, Bool, true, false, List, ◌∷◌, length, map, Option, Some, None, IsTrue, slice_get, slice_set, refl, sym, ap, ◌∙◌, subst, arith}
-use Rattle.std.proofs.lemmas.Option.{none-some}
+use Rattle.std.proofs.Common.{◌≡◌, ◌≤◌, ℕ, ◌∷◌, length, map, Option, Some, None, IsTrue, slice_get, slice_set, refl, sym, ap, ◌∙◌, subst, arith}
 use Rattle.jvms.specs.declared.machine.Outcome.TheVariants as outcome
 use Rattle.jvms.specs.declared.program.Body.{Body}
-use Rattle.jvms.specs.State.{Thread}
 use Rattle.jvms.proofs.ListLaws.{get_set_same}
 use Rattle.machine.specs.declared.thread.StackFrame.{StackFrame}
 use Rattle.machine.specs.declared.plan.Plan.{Plan}
 use Rattle.machine.specs.declared.plan.Plan.TheVariants as plan
 use Rattle.machine.specs.Threads.{KeptThread, thread_of, frame_of}
 use Rattle.machine.specs.Plans.{KeptMachine, made, plan_of, thread_plan, entry_with_room, entered_call, with_first_call, with_initialisation_of, entered_machine, threads_with, is_missing, pushes_none}
-use Rattle.machine.specs.Machine.{Machine, state_of, machine_of, AreCoded, row_of, height, TakesNone}
+use Rattle.machine.specs.Machine.{state_of, machine_of, AreCoded, height, TakesNone}
 use Rattle.machine.proofs.TurnPlans.{turn_is, get_map}
 
 -- A thread with one frame more is higher.

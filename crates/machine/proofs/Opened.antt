@@ -1,5 +1,5 @@
 -- The machine at its opening.
-use Rattle.std.proofs.Common.{◌≡◌, ◌==◌, Bool, true, false, if◌then◌else◌, List, [], ◌∷◌, map, refl, ap, ◌∙◌}
+use Rattle.std.proofs.Common.{◌≡◌, Bool, true, false, if◌then◌else◌, List, [], ◌∷◌, map, refl, ap, ◌∙◌}
 use Rattle.jvms.specs.declared.machine.Limits.{Limits}
 use Rattle.jvms.specs.declared.program.Class.{Class}
 use Rattle.jvms.specs.BuiltIn.{is_built_in}

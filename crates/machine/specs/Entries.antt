@@ -1,5 +1,5 @@
 -- What an entry asks of a descriptor, told from its text.
-use Rattle.std.specs.Prelude.{ℕ, zero, suc, Bool, true, false, ◌==◌, ◌&&◌, ◌||◌, List, [], ◌∷◌, is_some}
+use Rattle.std.specs.Prelude.{ℕ, zero, suc, Bool, false, ◌==◌, ◌&&◌, ◌||◌, List, [], ◌∷◌, is_some}
 use Rattle.jvms.specs.Descriptors.{method_type_of}
 
 -- I, B, C, S or Z.

@@ -1,7 +1,6 @@
 -- What contracts see of a machine.
-use Rattle.std.specs.Prelude.{◌≡◌, ℕ, ◌≤◌, ◌++◌, List, [], ◌∷◌, length, map, Option, Some, None, IsTrue, slice_get, Result, Ok, Err}
+use Rattle.std.specs.Prelude.{◌≡◌, ℕ, ◌≤◌, ◌++◌, List, [], length, map, Option, Some, None, IsTrue, slice_get}
 use Rattle.std.specs.List.{AllByRecursion}
-use Rattle.jvms.specs.declared.value.Value.{Value}
 use Rattle.jvms.specs.declared.machine.Limits.{Limits}
 use Rattle.jvms.specs.declared.machine.Outcome.{Outcome}
 use Rattle.jvms.specs.declared.program.Class.{Class}
@@ -11,12 +10,11 @@ use Rattle.jvms.specs.State as state
 use Rattle.jvms.specs.Rows.{Row}
 use Rattle.jvms.specs.Turn.{Start, IsStart, turn}
 use Rattle.jvms.specs.Run.{are_limits, opening_heap, opening_static}
-use Rattle.machine.specs.Kept.{CodedFrame}
 use Rattle.machine.specs.declared.thread.StackFrame.{StackFrame}
 use Rattle.machine.specs.declared.thread.StackFrame.TheVariants as stack_frame
 use Rattle.machine.specs.declared.initialisation.Initialisation.{Initialisation}
 use Rattle.machine.specs.declared.initialisation.Initialisation.TheVariants as initialisation
-use Rattle.machine.specs.Threads.{KeptThread, thread_of}
+use Rattle.machine.specs.Threads.{thread_of}
 use Rattle.machine.specs.Plans.{KeptMachine}
 
 -- A machine: its program, the limits, where it starts, and its state.

@@ -1,11 +1,11 @@
 -- The start of a machine, as its entry says.
-use Rattle.std.specs.Prelude.{◌≡◌, ℕ, Option, Some, None, MatchOption, MatchResult, Result, Ok, Err, List}
+use Rattle.std.specs.Prelude.{◌≡◌, MatchResult, Result, Ok, Err, List}
 use Rattle.jvms.specs.declared.machine.Entry.{Entry}
 use Rattle.jvms.specs.declared.machine.Limits.{Limits}
 use Rattle.jvms.specs.declared.machine.MethodNumber.{MethodNumber}
 use Rattle.jvms.specs.declared.program.Class.{Class}
 use Rattle.jvms.specs.Turn.{Start}
-use Rattle.jvms.specs.Run.{start_of, entry_arguments, made, opening, no_entry, no_limits}
+use Rattle.jvms.specs.Run.{entry_arguments, made, opening, no_entry, no_limits}
 use Rattle.machine.specs.declared.fault.MachineFault.{MachineFault}
 use Rattle.machine.specs.declared.fault.MachineFault.TheVariants as fault
 use Rattle.machine.specs.Machine.{Machine}

@@ -1,10 +1,10 @@
-use Rattle.std.proofs.Common.{rules, ◌≡◌, true, Some, IsTrue, if◌then◌else◌, refl, sym, ap, ◌∙◌, subst}
+use Rattle.std.proofs.Common.{rules, ◌≡◌, true, Some, IsTrue, if◌then◌else◌, sym, ap, ◌∙◌, subst}
 use Rattle.std.specs.Prelude.{Ok, Err}
-use Rattle.jvms.specs.Turn.{Start, IsStart}
-use Rattle.jvms.specs.Run.{are_limits, start_of, start_within, within, no_limits}
+use Rattle.jvms.specs.Turn.{Start}
+use Rattle.jvms.specs.Run.{are_limits, start_of, start_within, no_limits}
 use Rattle.jvms.proofs.StartLaws.{entry_is_start}
 use Rattle.machine.specs.Machine.{IsMachine, machine_of}
-use Rattle.machine.specs.Started.{with_arguments, opened}
+use Rattle.machine.specs.Started.{with_arguments}
 use Rattle.machine.proofs.Opened.{opened_is}
 use Rattle.machine.proofs.Invariants.{opened_is_machine}
 use Rattle.machine.proofs.machine.Machine.new.Goals as goal

@@ -1,6 +1,5 @@
-use Rattle.std.proofs.Common.{rules, ◌≡◌, ◌+◌, ◌++◌, ◌∷◌, [], length, take, Some, slice_get, sym, ap, ◌∙◌, subst, arith}
+use Rattle.std.proofs.Common.{rules, [], length, sym, ap, subst}
 use Rattle.std.proofs.lemmas.Option.{gets}
-use Rattle.std.proofs.lemmas.List.{length-append, length-set}
 use Rattle.jvms.specs.declared.machine.Outcome.TheVariants as outcome
 use Rattle.machine.specs.Runs.{IsRun}
 use Rattle.machine.proofs.RunLaws.{run_none, run_on, set_last}

@@ -1,4 +1,4 @@
-use Rattle.std.proofs.Common.{sym, ap, ◌∙◌}
+use Rattle.std.proofs.Common.{sym, ◌∙◌}
 use Rattle.machine.specs.Plans.{made}
 use Rattle.machine.proofs.Going.{going_is_planned, staying_is_same}
 use Rattle.machine.proofs.parts.Parts.goes.Goals as goal
