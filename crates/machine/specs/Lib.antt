@@ -6,3 +6,4 @@ pub mod Entries
 pub mod Started
 pub mod Statuses
 pub mod Runs
+pub mod Views

@@ -15,10 +15,14 @@ mod parts;
 mod plan;
 mod planning;
 mod run;
+mod state;
 mod status;
+#[cfg(test)]
+mod tests;
 mod thread;
 
 pub use fault::MachineFault;
+pub use initialisation::Initialisation;
 pub use jvms::machine::{Entry, Limits, Outcome, Status, ThreadId};
 pub use machine::{Machine, admits};
 pub use run::RunStop;

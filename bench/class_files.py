@@ -1,0 +1,124 @@
+#!/usr/bin/env python3
+"""Makes class files of unusual size in the folder that is named, each with a static method f()I (in Loop: f(I)I).
+
+    bench/class_files.py FOLDER
+"""
+import struct
+import sys
+from pathlib import Path
+
+
+def u2(n):
+    return struct.pack(">H", n & 0xFFFF)
+
+
+def u4(n):
+    return struct.pack(">I", n & 0xFFFFFFFF)
+
+
+class Pool:
+    """A constant pool in which equal entries share a number."""
+
+    def __init__(self):
+        self.entries, self.numbers = [], {}
+
+    def put(self, entry):
+        if entry not in self.numbers:
+            self.entries.append(entry)
+            self.numbers[entry] = len(self.entries)
+        return self.numbers[entry]
+
+    def text(self, text):
+        raw = text.encode()
+        return self.put(b"\x01" + u2(len(raw)) + raw)
+
+    def name(self, text):
+        return self.put(b"\x07" + u2(self.text(text)))
+
+    def spelled(self):
+        return u2(len(self.entries) + 1) + b"".join(self.entries)
+
+
+def code(pool, stack, local, instructions):
+    content = u2(stack) + u2(local) + u4(len(instructions)) + instructions + u2(0) + u2(0)
+    return u2(pool.text("Code")) + u4(len(content)) + content
+
+
+def method(pool, name, descriptor, stack, local, instructions):
+    return u2(0x0009) + u2(pool.text(name)) + u2(pool.text(descriptor)) + u2(1) + code(pool, stack, local, instructions)
+
+
+def class_file(pool, name, methods, attributes):
+    this, above = pool.name(name), pool.name("java/lang/Object")
+    return (
+        u4(0xCAFEBABE) + u2(0) + u2(49) + pool.spelled() + u2(0x0021) + u2(this) + u2(above) + u2(0) + u2(0)
+        + u2(len(methods)) + b"".join(methods) + u2(len(attributes)) + b"".join(attributes)
+    )
+
+
+GIVE_7 = b"\x10\x07\xac"  # bipush 7, ireturn
+
+
+def one_large_attribute(size):
+    pool = Pool()
+    f = method(pool, "f", "()I", 1, 0, GIVE_7)
+    head = len(class_file(pool, "Attribute", [f], [u2(pool.text("Large")) + u4(0)]))
+    large = size - head - 64
+    return class_file(pool, "Attribute", [f], [u2(pool.text("Large")) + u4(large) + bytes(large)])
+
+
+def many_methods(count, length):
+    pool = Pool()
+    body = b"\x00" * (length - len(GIVE_7)) + GIVE_7
+    methods = [method(pool, "f", "()I", 1, 0, GIVE_7)]
+    methods += [method(pool, f"m{n}", "()I", 1, 0, body) for n in range(count - 1)]
+    return class_file(pool, "Methods", methods, [])
+
+
+def many_branches(count):
+    # Each goto leads to the next instruction; then nops up to 65,535 bytes, and the return.
+    pool = Pool()
+    body = b"\xa7\x00\x03" * count
+    body += b"\x00" * (65535 - len(body) - len(GIVE_7)) + GIVE_7
+    return class_file(pool, "Branches", [method(pool, "f", "()I", 1, 0, body)], [])
+
+
+def large_switch(pairs):
+    # iconst_0, lookupswitch at byte 1 with 2 pads; all pairs lead to the return behind it.
+    pool = Pool()
+    behind = 3 + 8 + 8 * pairs
+    body = b"\x03\xab\x00\x00" + u4(behind) + u4(pairs)
+    body += b"".join(u4(n) + u4(behind) for n in range(pairs)) + GIVE_7
+    return class_file(pool, "Switch", [method(pool, "f", "()I", 1, 0, body)], [])
+
+
+def loop():
+    # f(n): for (i = 0; i < n; i++) { s = s + i ^ n }, eleven instructions a round; gives s.
+    pool = Pool()
+    body = bytes([0x03, 0x3C, 0x03, 0x3D])  # i = 0, s = 0
+    body += bytes([0x1B, 0x1A, 0xA2, 0x00, 0x10])  # iload_1 iload_0 if_icmpge +16
+    body += bytes([0x1C, 0x1B, 0x60, 0x1A, 0x82, 0x3D])  # s = s + i ^ n
+    body += bytes([0x84, 0x01, 0x01])  # i++
+    body += bytes([0xA7, 0xFF, 0xF2])  # goto -14
+    body += bytes([0x00, 0x1C, 0xAC])  # nop iload_2 ireturn
+    return class_file(pool, "Loop", [method(pool, "f", "(I)I", 2, 3, body)], [])
+
+
+FILES = {
+    "Attribute": lambda: one_large_attribute(67108864),
+    "Methods": lambda: many_methods(2000, 30000),
+    "Members": lambda: many_methods(20000, 3).replace(b"Methods", b"Members"),
+    "Branches": lambda: many_branches(20000),
+    "Switch": lambda: large_switch(8000),
+    "Loop": loop,
+}
+
+
+def main():
+    folder = Path(sys.argv[1])
+    folder.mkdir(parents=True, exist_ok=True)
+    for name, make in FILES.items():
+        (folder / f"{name}.class").write_bytes(make())
+
+
+main()

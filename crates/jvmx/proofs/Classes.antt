@@ -1,0 +1,37 @@
+-- Classes that are read one after another.
+use Rattle.std.proofs.Common.{◌≡◌, ℕ, suc, List, [], ◌∷◌, ◌++◌, refl, ap, append-nil}
+use Rattle.std.specs.Prelude.{Result, Ok, Err}
+use Rattle.std.proofs.lemmas.List.{append_assoc}
+use Rattle.jvms.specs.declared.fault.ClassFault.{ClassFault}
+use Rattle.jvms.specs.declared.class_file.ClassFile.{ClassFile}
+use Rattle.jvms.specs.Results.{◌>>=◌}
+use Rattle.jvms.specs.ClassFile.{read}
+use Rattle.jvmx.specs.Evaluation.{NotEvaluated, no_class, classes_from}
+
+-- The classes that were read, then those that are still to be read.
+abbrev pub still : List ClassFile → Result (List ClassFile) NotEvaluated → Result (List ClassFile) NotEvaluated
+still seen (Ok classes) = Ok (seen ++ classes)
+still seen (Err why) = Err why
+
+still_none : (r : Result (List ClassFile) NotEvaluated) → still [] r ≡ r
+still_none (Ok classes) = refl
+still_none (Err why) = refl
+
+pub still_all : (files : List (List ℕ)) → still [] (classes_from 0 files) ≡ classes_from 0 files
+still_all files = still_none (classes_from 0 files)
+
+still_with : (seen : List ClassFile) (class : ClassFile) (r : Result (List ClassFile) NotEvaluated) → still (seen ++ class ∷ []) r ≡ still seen (r >>= λ classes. Ok (class ∷ classes))
+still_with seen class (Ok classes) = ap Ok (append_assoc seen (class ∷ []) classes)
+still_with seen class (Err why) = refl
+
+-- One more class is read.
+pub still_more : (seen : List ClassFile) (file : ℕ) (bytes : List ℕ) (rest : List (List ℕ)) (class : ClassFile) → read bytes ≡ Ok class → still (seen ++ class ∷ []) (classes_from (suc file) rest) ≡ still seen (classes_from file (bytes ∷ rest))
+still_more seen file bytes rest class read_so = rw read_so (still_with seen class (classes_from (suc file) rest))
+
+-- The next file is no class file.
+pub still_fails : (seen : List ClassFile) (file : ℕ) (bytes : List ℕ) (rest : List (List ℕ)) (fault : ClassFault) → read bytes ≡ Err fault → still seen (classes_from file (bytes ∷ rest)) ≡ Err (no_class file fault)
+still_fails seen file bytes rest fault read_so = rw read_so refl
+
+-- No file is left.
+pub still_done : (seen : List ClassFile) (file : ℕ) → still seen (classes_from file []) ≡ Ok seen
+still_done seen file = ap Ok (append-nil seen)

@@ -1,0 +1,60 @@
+//! Files by name.
+
+ghost use Rattle.std.specs.Prelude.{◌≡◌, ◌≤◌, ◌<◌, length, IfOk, IfSome, IsErrOf};
+
+use std::alloc::Global;
+use std::io::{self, ErrorKind, Read};
+use std::{fs, rt};
+
+/// How many bytes a file may have.
+pub const MOST_BYTES: u64 = 67_108_864;
+
+/// Why a file wasn't read.
+#[derive(Clone, Copy, Debug, PartialEq, Eq)]
+pub enum FileFault {
+    /// P02: it isn't there, or it can't be read.
+    File,
+    /// P01: it has more than 67,108,864 bytes.
+    TooLarge,
+    /// There was no memory for its bytes.
+    Memory,
+}
+
+impl From<io::Error> for FileFault {
+    fn from(error: io::Error) -> FileFault {
+        match error.kind() {
+            ErrorKind::OutOfMemory => FileFault::Memory,
+            _ => FileFault::File,
+        }
+    }
+}
+
+/// Files that are read by name.
+pub trait Files {
+    /// The bytes of a file, if there are at most 67,108,864.
+    fn read(&mut self, name: &str) -> Result<Vec<u8>, FileFault>;
+}
+
+/// All bytes that a reader has left, if there aren't too many; of more, one too many is read.
+fn read_bounded<R: Read + Drop>(alloc: Global, reader: R) -> Result<Vec<u8>, FileFault> {
+    let mut bytes = Vec::new(alloc);
+    let mut bounded = reader.take(MOST_BYTES + 1);
+    bounded.read_to_end(&mut bytes)?;
+    if bytes.len() as u64 > MOST_BYTES {
+        return Err(FileFault::TooLarge);
+    }
+    Ok(bytes)
+}
+
+/// The files of the system.
+#[derive(Drop)]
+pub(crate) struct SystemFiles<'r, R> {
+    pub(crate) rt: &'r R,
+}
+
+impl<R: rt::Files + AllocGlobal> Files for SystemFiles<'_, R> {
+    fn read(&mut self, name: &str) -> Result<Vec<u8>, FileFault> {
+        let file = fs::open(self.rt, name)?;
+        read_bounded(self.rt.alloc(), file)
+    }
+}

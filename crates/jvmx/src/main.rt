@@ -1,0 +1,77 @@
+//! The program `jvmx`: runs Java class files, one turn of one thread at a time.
+#![tactic(auto)]
+
+mod entry;
+mod eval;
+mod files;
+mod help;
+mod perform;
+mod refusal;
+#[cfg(test)]
+mod tests;
+mod words;
+
+ghost use Rattle.std.specs.Prelude.{◌≡◌, ◌<◌};
+
+use crate::files::SystemFiles;
+use crate::perform::perform;
+use crate::words::WordsFault;
+use std::env;
+use std::marker::Brand;
+use std::process::ExitCode;
+use std::sync::ledger::{Blank, Ledger};
+use trace::{Counted, Failures};
+
+/// The words behind the program's name.
+fn words_of(rt: &HostRuntime) -> Result<Vec<String>, WordsFault> {
+    let words = env::args(rt)?.skip(1).collect(rt.alloc())?;
+    Ok(words)
+}
+
+/// The program over the system's files, standard input, standard output and standard error, whose failures
+/// these three ledgers count.
+fn run<I: Ledger, O: Ledger, E: Ledger>(
+    rt: &HostRuntime,
+    words: &[String],
+    input: Blank,
+    output: Blank,
+    errors: Blank,
+) -> u8
+    requires input { (input.name ≡ I.name) × (input.parts ≡ I.parts) × (0 < I.parts) }
+    requires output { (output.name ≡ O.name) × (output.parts ≡ O.parts) × (0 < O.parts) }
+    requires errors { (errors.name ≡ E.name) × (errors.parts ≡ E.parts) × (0 < E.parts) }
+{
+    perform(
+        rt.alloc(),
+        words,
+        &mut SystemFiles { rt },
+        &mut Counted::new(rt.stdin(), Failures::<I>::none(input)),
+        &mut Counted::new(rt.stdout(), Failures::<O>::none(output)),
+        &mut Counted::new(rt.stderr(), Failures::<E>::none(errors)),
+    )
+}
+
+/// The exit status of the program on these words.
+fn performed(rt: &HostRuntime, words: &[String]) -> u8 {
+    let (input, output, errors) = (Blank::new(1), Blank::new(1), Blank::new(1));
+    run::<Brand, Brand, Brand>(rt, words, input, output, errors)
+}
+
+/// Tells that the words couldn't be had, as where one isn't UTF-8: 2, but 3 for want of memory or where
+/// standard error fails.
+fn refused(rt: &HostRuntime, fault: WordsFault) -> u8 {
+    let told = eprintln!(rt; "jvmx: {fault}");
+    if told.is_ok() && fault == WordsFault::Words {
+        2
+    } else {
+        3
+    }
+}
+
+fn main(rt: HostRuntime) -> ExitCode {
+    let status = match words_of(&rt) {
+        Ok(words) => performed(&rt, words.as_slice()),
+        Err(fault) => refused(&rt, fault),
+    };
+    ExitCode::from(status)
+}
