@@ -73,9 +73,9 @@ pub fn run(body: &Body, instruction: &Instruction, frame: &mut Frame) -> Step
     match instruction {
         Instruction::Simple(what) => simple(body, *what, frame),
         Instruction::Branch(how, target) => branches::branch(body, *how, *target, frame),
-        Instruction::Table(switch) => switches::table(body, switch, frame),
-        Instruction::Lookup(switch) => switches::lookup(body, switch, frame),
-        Instruction::Constant(what) => constants::constant(body, what, frame),
+        Instruction::Table(switch) => switches::table(body, switch.get(), frame),
+        Instruction::Lookup(switch) => switches::lookup(body, switch.get(), frame),
+        Instruction::Constant(what) => constants::constant(body, what.get(), frame),
         Instruction::Field(_, _)
         | Instruction::Invoke(_, _)
         | Instruction::Class(_, _)
@@ -95,7 +95,7 @@ pub fn peek(body: &Body, instruction: &Instruction, frame: &Frame) -> Step
         Instruction::Simple(what) => peek_simple(body, *what, frame),
         Instruction::Branch(how, target) => branches::peek_branch(body, *how, *target, frame),
         Instruction::Table(_) | Instruction::Lookup(_) => switches::peek_switch(body, frame),
-        Instruction::Constant(what) => constants::peek_constant(body, what, frame),
+        Instruction::Constant(what) => constants::peek_constant(body, what.get(), frame),
         Instruction::Field(_, _)
         | Instruction::Invoke(_, _)
         | Instruction::Class(_, _)

@@ -2,6 +2,7 @@
 
 use crate::{Step, peek, run};
 use frames::Frame;
+use jvms::boxed::Boxed;
 use jvms::insn::{
     Binary, Branch, Division, IntInsn, Kind, LocalUse, LongInsn, LookupSwitch, Push, Simple,
     StackForm, SwitchCase, TableSwitch,
@@ -209,11 +210,12 @@ static TABLE: [(i32, usize); 6] = [(-2, 10), (1, 13), (-3, 9), (2, 9), (LEAST, 9
 #[test]
 fn tables_switch(rt: HostRuntime) -> Result<(), Fail> {
     let targets = Items::from_vec([10, 11, 12, 13].to_vec(rt.alloc())?);
-    let code = [Instruction::Table(TableSwitch {
+    let switch = TableSwitch {
         default: 9,
         low: -2,
         targets,
-    })];
+    };
+    let code = [Instruction::Table(Boxed::new(rt.alloc(), switch)?)];
     for (n, want) in &TABLE {
         assert_switch(&rt, rt.alloc(), &code, *n, *want)?;
     }
@@ -223,11 +225,12 @@ fn tables_switch(rt: HostRuntime) -> Result<(), Fail> {
 #[test]
 fn tables_reach_both_ends(rt: HostRuntime) -> Result<(), Fail> {
     let targets = Items::from_vec([10, 11].to_vec(rt.alloc())?);
-    let code = [Instruction::Table(TableSwitch {
+    let switch = TableSwitch {
         default: 9,
         low: LEAST,
         targets,
-    })];
+    };
+    let code = [Instruction::Table(Boxed::new(rt.alloc(), switch)?)];
     assert_switch(&rt, rt.alloc(), &code, LEAST, 10)?;
     assert_switch(&rt, rt.alloc(), &code, MOST, 9)
 }
@@ -263,10 +266,11 @@ static LOOKUP: [(i32, usize); 7] = [
 
 #[test]
 fn cases_switch(rt: HostRuntime) -> Result<(), Fail> {
-    let code = [Instruction::Lookup(LookupSwitch {
+    let switch = LookupSwitch {
         default: 9,
         cases: Items::from_vec(CASES.to_vec(rt.alloc())?),
-    })];
+    };
+    let code = [Instruction::Lookup(Boxed::new(rt.alloc(), switch)?)];
     for (n, want) in &LOOKUP {
         assert_switch(&rt, rt.alloc(), &code, *n, *want)?;
     }
@@ -299,7 +303,8 @@ fn null_is_null(rt: HostRuntime) -> Result<(), Fail> {
 
 #[test]
 fn a_constant_is_loaded(rt: HostRuntime) -> Result<(), Fail> {
-    let code = [Instruction::Constant(Loadable::Integer(1))];
+    let one = Boxed::new(rt.alloc(), Loadable::Integer(1))?;
+    let code = [Instruction::Constant(one)];
     let mut frame = frame_of(&rt, rt.alloc(), &[], &[])?;
     assert_turns(&rt, rt.alloc(), &code, &mut frame, Step::Goes);
     assert_operands(&rt, &frame, &[INT]);

@@ -6,6 +6,7 @@ ghost use Rattle.jvms.specs.Reading.{Gives};
 ghost use Rattle.insn.specs.Places.{place_found, case_found, table_found, lookup_found, insn_found};
 
 use crate::starts::Starts;
+use jvms::boxed::Boxed;
 use jvms::fault::{ClassFault, ReadError};
 use jvms::insn::{Insn, LookupSwitch, SwitchCase, TableSwitch};
 use jvms::items::Items;
@@ -120,12 +121,12 @@ pub(crate) fn with_places(
             Ok(Insn::Branch(*how, found))
         }
         Insn::Table(switch) => {
-            let found = table(alloc, starts, fault, switch)?;
-            Ok(Insn::Table(found))
+            let found = table(alloc, starts, fault, switch.get())?;
+            Ok(Insn::Table(Boxed::new(alloc, found)?))
         }
         Insn::Lookup(switch) => {
-            let found = lookup(alloc, starts, fault, switch)?;
-            Ok(Insn::Lookup(found))
+            let found = lookup(alloc, starts, fault, switch.get())?;
+            Ok(Insn::Lookup(Boxed::new(alloc, found)?))
         }
         Insn::Simple(simple) => Ok(Insn::Simple(*simple)),
         Insn::Constant(number) => Ok(Insn::Constant(*number)),

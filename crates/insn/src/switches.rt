@@ -7,6 +7,7 @@ ghost use Rattle.insn.specs.Operands.{target_at as target_from, case_at as case_
 
 use crate::targets::target_of;
 use const_pool::{bytes_at, u4_at, want};
+use jvms::boxed::Boxed;
 use jvms::fault::{ClassFault, ReadError};
 use jvms::insn::{Insn, LookupSwitch, SwitchCase, TableSwitch};
 use jvms::items::Items;
@@ -77,14 +78,12 @@ pub(crate) fn table_switch(
     }
     let (targets, rest) = targets_at(alloc, cut, pc, count_of(low, high), behind_high)?;
     let default = target_of(pc, offset.cast_signed());
-    Ok((
-        Insn::Table(TableSwitch {
-            default,
-            low,
-            targets,
-        }),
-        rest,
-    ))
+    let switch = TableSwitch {
+        default,
+        low,
+        targets,
+    };
+    Ok((Insn::Table(Boxed::new(alloc, switch)?), rest))
 }
 
 /// Whether a value lies above the one before it, if there is one.
@@ -160,5 +159,6 @@ pub(crate) fn lookup_switch(
     want(count < 2_147_483_648, cut)?;
     let (cases, rest) = cases_at(alloc, cut, pc, count, behind_count)?;
     let default = target_of(pc, offset.cast_signed());
-    Ok((Insn::Lookup(LookupSwitch { default, cases }), rest))
+    let switch = LookupSwitch { default, cases };
+    Ok((Insn::Lookup(Boxed::new(alloc, switch)?), rest))
 }

@@ -3,6 +3,7 @@
 
 use crate::*;
 use const_pool::Pool;
+use jvms::boxed::Boxed;
 use jvms::class_file::{Constant, Handler};
 use jvms::fault::{ClassFault, ReadError};
 use jvms::insn::{
@@ -130,11 +131,12 @@ fn switches(rt: HostRuntime) -> Result<(), Fail> {
         }
         let code = decoded(&rt, rt.alloc(), &bytes)?;
         let place = u32::from(pc);
-        let table = Insn::Table(TableSwitch {
+        let switch = TableSwitch {
             default: place,
             low: -1,
             targets: Items::from_vec(vec![in rt.alloc(); place, place]?),
-        });
+        };
+        let table = Insn::Table(Boxed::new(rt.alloc(), switch)?);
         assert!(rt; code.insns.as_slice().last() == Some(&table), "at {pc}");
     }
     let bytes = [
@@ -145,10 +147,11 @@ fn switches(rt: HostRuntime) -> Result<(), Fail> {
         value: -1,
         target: 0,
     };
-    let lookup = Insn::Lookup(LookupSwitch {
+    let switch = LookupSwitch {
         default: 0,
         cases: Items::from_vec(vec![in rt.alloc(); case]?),
-    });
+    };
+    let lookup = Insn::Lookup(Boxed::new(rt.alloc(), switch)?);
     assert!(rt; code.insns.as_slice().last() == Some(&lookup));
     Ok(())
 }

@@ -1,6 +1,7 @@
 //! Instructions without their spelling (JVMS 6.5): short, wide and `_w` forms of one instruction are
 //! one value here. A target is the place of an instruction in the method's list, from 0.
 
+use crate::boxed::Boxed;
 use crate::items::Items;
 
 /// The kinds of values that loads, stores and returns tell apart.
@@ -350,8 +351,8 @@ pub enum Opcode {
 pub enum Insn {
     Simple(Simple),
     Branch(Branch, u32),
-    Table(TableSwitch),
-    Lookup(LookupSwitch),
+    Table(Boxed<TableSwitch>),
+    Lookup(Boxed<LookupSwitch>),
     /// JVMS 6.5 ldc, ldc_w, ldc2_w: which of them follows from the entry, but for the width.
     Constant(u16),
     Field(FieldUse, u16),

@@ -3,6 +3,7 @@
 //! Java SE 8 edition (JVMS).
 #![tactic(auto)]
 
+pub mod boxed;
 pub mod class_file;
 pub mod descriptor;
 pub mod fault;

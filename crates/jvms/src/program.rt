@@ -1,5 +1,6 @@
 //! A program: classes with their members by name, and their methods as lists of instructions.
 
+use crate::boxed::Boxed;
 use crate::descriptor::{FieldType, MethodType};
 use crate::insn::{Branch, ClassUse, FieldUse, Invoke, LookupSwitch, Simple, TableSwitch};
 use crate::items::Items;
@@ -42,13 +43,13 @@ pub enum Loadable {
 pub enum Instruction {
     Simple(Simple),
     Branch(Branch, u32),
-    Table(TableSwitch),
-    Lookup(LookupSwitch),
-    Constant(Loadable),
-    Field(FieldUse, FieldReference),
-    Invoke(Invoke, MethodReference),
-    Class(ClassUse, Items<u16>),
-    MultiNewArray(Items<u16>, u8),
+    Table(Boxed<TableSwitch>),
+    Lookup(Boxed<LookupSwitch>),
+    Constant(Boxed<Loadable>),
+    Field(FieldUse, Boxed<FieldReference>),
+    Invoke(Invoke, Boxed<MethodReference>),
+    Class(ClassUse, Boxed<Items<u16>>),
+    MultiNewArray(Boxed<Items<u16>>, u8),
 }
 
 /// What a handler catches (JVMS 4.7.3, catch_type).

@@ -7,6 +7,7 @@ use crate::loadable::loadable_of;
 use crate::reference::{field_reference_of, method_reference_of};
 use crate::texts::{class_text, copied};
 use const_pool::Pool;
+use jvms::boxed::Boxed;
 use jvms::insn::{Insn, LookupSwitch, TableSwitch};
 use jvms::items::Items;
 use jvms::program::Instruction;
@@ -40,21 +41,33 @@ fn instruction_of(alloc: Global, pool: &Pool, insn: &Insn) -> Result<Instruction
     match insn {
         Insn::Simple(s) => Ok(Instruction::Simple(*s)),
         Insn::Branch(how, target) => Ok(Instruction::Branch(*how, *target)),
-        Insn::Table(s) => Ok(Instruction::Table(table_switch(alloc, s)?)),
-        Insn::Lookup(s) => Ok(Instruction::Lookup(lookup_switch(alloc, s)?)),
-        Insn::Constant(n) => Ok(Instruction::Constant(loadable_of(alloc, pool, *n)?)),
+        Insn::Table(s) => {
+            let switch = table_switch(alloc, s.get())?;
+            Ok(Instruction::Table(Boxed::new(alloc, switch)?))
+        }
+        Insn::Lookup(s) => {
+            let switch = lookup_switch(alloc, s.get())?;
+            Ok(Instruction::Lookup(Boxed::new(alloc, switch)?))
+        }
+        Insn::Constant(n) => {
+            let what = loadable_of(alloc, pool, *n)?;
+            Ok(Instruction::Constant(Boxed::new(alloc, what)?))
+        }
         Insn::Field(how, n) => {
             let field = field_reference_of(alloc, pool, *n)?;
-            Ok(Instruction::Field(*how, field))
+            Ok(Instruction::Field(*how, Boxed::new(alloc, field)?))
         }
         Insn::Invoke(how, n) => {
             let method = method_reference_of(alloc, pool, *n)?;
-            Ok(Instruction::Invoke(*how, method))
+            Ok(Instruction::Invoke(*how, Boxed::new(alloc, method)?))
         }
-        Insn::Class(how, n) => Ok(Instruction::Class(*how, class_text(alloc, pool, *n)?)),
+        Insn::Class(how, n) => {
+            let class = class_text(alloc, pool, *n)?;
+            Ok(Instruction::Class(*how, Boxed::new(alloc, class)?))
+        }
         Insn::MultiNewArray(n, count) => {
             let class = class_text(alloc, pool, *n)?;
-            Ok(Instruction::MultiNewArray(class, *count))
+            Ok(Instruction::MultiNewArray(Boxed::new(alloc, class)?, *count))
         }
     }
 }

@@ -3,6 +3,7 @@
 
 use super::*;
 use descriptor::parse_method;
+use jvms::boxed::Boxed;
 use jvms::insn::{
     Binary, Branch, Comparison, Division, IntInsn, Kind, LocalUse, LongInsn, LookupSwitch, Push,
     ReturnInsn, Simple, StackForm, SwitchCase, TableSwitch,
@@ -443,7 +444,7 @@ fn table(alloc: Global, low: i32) -> Result<Body, Fail> {
         low,
         targets: Items::from_vec(vec![in alloc; 4, 6]?),
     };
-    switch_body(alloc, Instruction::Table(switch))
+    switch_body(alloc, Instruction::Table(Boxed::new(alloc, switch)?))
 }
 
 fn lookup(alloc: Global) -> Result<Body, Fail> {
@@ -459,7 +460,7 @@ fn lookup(alloc: Global) -> Result<Body, Fail> {
         default: 2,
         cases: Items::from_vec(vec![in alloc; least, most]?),
     };
-    switch_body(alloc, Instruction::Lookup(switch))
+    switch_body(alloc, Instruction::Lookup(Boxed::new(alloc, switch)?))
 }
 
 fn assert_switches(

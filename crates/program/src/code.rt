@@ -5,6 +5,7 @@ ghost use Rattle.jvms.specs.BuiltIn.{load, return_void, return_reference, field_
 
 use crate::text::text;
 use crate::types::{field_type, method_type};
+use jvms::boxed::Boxed;
 use jvms::insn::{FieldUse, Invoke, Kind, LocalUse, ReturnInsn, Simple};
 use jvms::program::{FieldReference, Instruction, MethodReference};
 use std::alloc::{AllocError, Global};
@@ -50,7 +51,7 @@ fn field_insn(
         descriptor,
         field_type,
     };
-    Ok(Instruction::Field(how, reference))
+    Ok(Instruction::Field(how, Boxed::new(alloc, reference)?))
 }
 
 /// Uses a thread's target.
@@ -94,5 +95,6 @@ pub(crate) fn call_run(alloc: Global) -> Result<Instruction, AllocError>
         descriptor,
         method_type,
     };
+    let reference = Boxed::new(alloc, reference)?;
     Ok(Instruction::Invoke(Invoke::Interface, reference))
 }

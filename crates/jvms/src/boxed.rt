@@ -1,0 +1,62 @@
+//! A value that shared data holds apart, so that what holds it stays small.
+
+ghost use Rattle.std.specs.Prelude.{◌≡◌, IfOk};
+
+use std::alloc::{AllocError, Global};
+use std::marker::Model;
+
+/// A value held apart, which contracts see as the value.
+#[derive(Debug, Drop)]
+pub struct Boxed<T> {
+    held: Box<T>,
+}
+
+impl<T> Model for Boxed<T> {
+    ghost Value = { T };
+
+    ghost view = { λ b. b.held.value };
+}
+
+impl<T> Boxed<T> {
+    /// Holds a value apart.
+    pub fn new(alloc: Global, value: T) -> Result<Self, AllocError>
+    where
+        T: Drop,
+        ensures { IfOk result (λ b. b ≡ value) }
+    {
+        Ok(Boxed {
+            held: Box::new(alloc, value)?,
+        })
+    }
+
+    /// The value.
+    pub fn get(&self) -> &T
+        ensures { result.now ≡ self.now }
+    {
+        &*self.held
+    }
+}
+
+impl<T: PartialEq> PartialEq for Boxed<T> {
+    ghost eq = { T.eq };
+
+    ghost laws = { T.laws };
+
+    fn eq(&self, other: &Self) -> bool {
+        self.get() == other.get()
+    }
+}
+
+impl<T: Eq> Eq for Boxed<T> {
+    ghost laws = { T.Eq.laws };
+}
+
+impl<T: Clone> Clone for Boxed<T> {
+    ghost is_clone = { T.is_clone };
+
+    fn clone(&self) -> Result<Self, AllocError> {
+        Ok(Boxed {
+            held: self.held.clone()?,
+        })
+    }
+}
