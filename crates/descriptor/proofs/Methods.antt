@@ -1,13 +1,12 @@
 -- A method's type, put together from its parameters and its result.
-use Rattle.std.proofs.Common.{◌≡◌, ℕ, ◌+◌, ◌<◌, ◌≤◌, Bool, true, false, cond, ◌&&◌, ◌==◌, nat_le, List, [], ◌∷◌, length, Option, Some, None, Err, refl, sym, ap, subst, ◌∙◌, arith}
+use Rattle.std.proofs.Common.{◌≡◌, ℕ, ◌+◌, Bool, true, false, cond, ◌&&◌, ◌==◌, nat_le, List, [], ◌∷◌, length, Option, Some, None, Err, refl, sym, ap, subst, ◌∙◌, arith}
 use Rattle.std.specs.Prelude.{is_some, sum_by}
 use Rattle.std.specs.Option.{option_and_then, option_map}
-use Rattle.std.proofs.lemmas.Bool.{le-leb, lt-leb}
 use Rattle.std.proofs.lemmas.Option.{same_Some, some_pair_parts}
 use Rattle.jvms.specs.declared.descriptor.FieldType.{FieldType}
 use Rattle.jvms.specs.declared.descriptor.ResultType.{ResultType}
 use Rattle.jvms.specs.declared.descriptor.MethodType.{MethodType}
-use Rattle.jvms.specs.Descriptors.{parameters_from, result_type_of, within_255_units, method_type_of, units_of}
+use Rattle.jvms.specs.Descriptors.{parameter_units, parameters_from, result_type_of, within_255_units, method_type_of, units_of}
 use Rattle.descriptor.specs.declared.fault.DescriptorFault.{DescriptorFault}
 use Rattle.descriptor.specs.declared.fault.DescriptorFault.TheVariants as faults
 use Rattle.descriptor.specs.Reading.{IsRead}
@@ -76,53 +75,52 @@ result_fault e us ts rest read fault =
 
 -- ---- Without memory
 
+-- the units of a type, if there is one
+abbrev pub units_in : Option MethodType → Option ℕ
+units_in o = option_map (λ t. parameter_units t) o
+
 -- no parameters have no units
-none_of : (o : Option Read) → None ≡ option_map (counted 0) o → false ≡ is_some (option_and_then with_result o)
+none_of : (o : Option Read) → None ≡ option_map (counted 0) o → None ≡ units_in (option_and_then with_result o)
 none_of None e = refl
 none_of (Some x) e = absurd cc
 
--- no parameters
-pub no_parameters : (us : List ℕ) → None ≡ units_behind 0 us → false ≡ is_some (method_behind us)
+-- No parameters.
+pub no_parameters : (us : List ℕ) → None ≡ units_behind 0 us → None ≡ units_in (method_behind us)
 unfolding units_behind
-no_parameters us e = none_of (parameters_from (length us) us) e ∙ ap is_some (sym (method_behind_is us))
+no_parameters us e = none_of (parameters_from (length us) us) e ∙ ap units_in (sym (method_behind_is us))
 
--- a type that counts few enough
-some_if : (few : Bool) (m : MethodType) → few ≡ is_some (cond few (Some m) None)
-some_if true m = refl
-some_if false m = refl
+-- no result
+without_result : (few : Bool) (units : ℕ) → cond (few && false) (Some units) None ≡ None
+without_result true units = refl
+without_result false units = refl
 
--- false on the right
-and_false : (b : Bool) → (b && false) ≡ false
-and_false true = refl
-and_false false = refl
-
--- true on the right
-and_true : (b : Bool) → (b && true) ≡ b
-and_true true = refl
-and_true false = refl
+-- a result behind parameters that are few enough or not
+before_result : (few : Bool) (m : MethodType) → cond (few && true) (Some (parameter_units m)) None ≡ units_in (cond few (Some m) None)
+before_result true m = refl
+before_result false m = refl
 
 -- few enough units, and a result
-with_result_of : (ts : List FieldType) (o : Option ResultType) → (nat_le (sum_by units_of ts) 255 && is_some o) ≡ is_some (option_and_then (method_of ts) o)
-with_result_of ts None = and_false (nat_le (sum_by units_of ts) 255)
-with_result_of ts (Some r) = and_true (nat_le (sum_by units_of ts) 255) ∙ some_if (nat_le (sum_by units_of ts) 255) (record { parameters = ts; result = r })
+with_result_of : (ts : List FieldType) (o : Option ResultType)
+    → cond (nat_le (sum_by units_of ts) 255 && is_some o) (Some (sum_by units_of ts)) None ≡ units_in (option_and_then (method_of ts) o)
+with_result_of ts None = without_result (nat_le (sum_by units_of ts) 255) (sum_by units_of ts)
+with_result_of ts (Some r) = before_result (nat_le (sum_by units_of ts) 255) (record { parameters = ts; result = r })
 
 -- parameters have their units
-some_of : (units : ℕ) (rest : List ℕ) (o : Option Read) → Some (units, rest) ≡ option_map (counted 0) o → (nat_le units 255 && is_some (result_type_of rest)) ≡ is_some (option_and_then with_result o)
+some_of : (units : ℕ) (rest : List ℕ) (o : Option Read) → Some (units, rest) ≡ option_map (counted 0) o
+    → cond (nat_le units 255 && is_some (result_type_of rest)) (Some units) None ≡ units_in (option_and_then with_result o)
 some_of units rest None e = absurd cc
 some_of units rest (Some x) e =
     let both : (units ≡ 0 + sum_by units_of x.0) × (rest ≡ x.1) = some_pair_parts units (0 + sum_by units_of x.0) rest x.1 e in
     let n : units ≡ sum_by units_of x.0 = both.0 ∙ omega arith in
     rw (n, both.1) (with_result_of x.0 (result_type_of x.1))
 
--- parameters of so many units
-pub some_parameters : (us : List ℕ) (units : ℕ) (rest : List ℕ) → Some (units, rest) ≡ units_behind 0 us → (nat_le units 255 && is_some (result_type_of rest)) ≡ is_some (method_behind us)
+-- Parameters of so many units.
+pub some_parameters : (us : List ℕ) (units : ℕ) (rest : List ℕ) → Some (units, rest) ≡ units_behind 0 us
+    → cond (nat_le units 255 && is_some (result_type_of rest)) (Some units) None ≡ units_in (method_behind us)
 unfolding units_behind
-some_parameters us units rest e = some_of units rest (parameters_from (length us) us) e ∙ ap is_some (sym (method_behind_is us))
+some_parameters us units rest e = some_of units rest (parameters_from (length us) us) e ∙ ap units_in (sym (method_behind_is us))
 
--- Few enough units.
-pub few_units : (us : List ℕ) (units : ℕ) (rest : List ℕ) → Some (units, rest) ≡ units_behind 0 us → units ≤ 255 → is_some (result_type_of rest) ≡ is_some (method_behind us)
-few_units us units rest e few = ap (λ (b : Bool). b && is_some (result_type_of rest)) (sym (le-leb units 255 few)) ∙ some_parameters us units rest e
-
--- Too many units.
-pub many_units : (us : List ℕ) (units : ℕ) (rest : List ℕ) → Some (units, rest) ≡ units_behind 0 us → 255 < units → false ≡ is_some (method_behind us)
-many_units us units rest e many = ap (λ (b : Bool). b && is_some (result_type_of rest)) (sym (lt-leb units 255 many)) ∙ some_parameters us units rest e
+-- There are units where there is a type.
+pub units_of_some : (o : Option MethodType) → is_some (units_in o) ≡ is_some o
+units_of_some None = refl
+units_of_some (Some m) = refl

@@ -7,7 +7,7 @@ ghost use Rattle.descriptor.specs.Reading.{IsRead};
 ghost use Rattle.descriptor.specs.Scanning.{element_of, type_of};
 
 use crate::fault::DescriptorFault;
-use crate::scan::{Innermost, Spelled, field_at};
+use crate::scan::{Innermost, Spelled, field_in};
 use jvms::descriptor::{Element, FieldType};
 use jvms::items::Items;
 use std::alloc::{AllocError, Global};
@@ -30,9 +30,9 @@ pub(crate) fn owned(alloc: Global, spelled: Spelled<'_>) -> Result<FieldType, Al
 pub(crate) fn read_field(alloc: Global, text: &[u16]) -> Result<FieldType, DescriptorFault>
     ensures { IsRead result (field_type_of text.now) }
 {
-    match field_at(text) {
-        Some((spelled, [])) => Ok(owned(alloc, spelled)?),
-        _ => Err(DescriptorFault::Malformed),
+    match field_in(text) {
+        Some(spelled) => Ok(owned(alloc, spelled)?),
+        None => Err(DescriptorFault::Malformed),
     }
 }
 
@@ -52,5 +52,5 @@ pub fn parse_field(alloc: Global, text: &[u16]) -> Result<FieldType, DescriptorF
 pub fn is_field_descriptor(text: &[u16]) -> bool
     ensures { result ≡ is_some (field_type_of text.now) }
 {
-    matches!(field_at(text), Some((_, [])))
+    field_in(text).is_some()
 }

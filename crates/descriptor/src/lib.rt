@@ -13,12 +13,17 @@ mod names;
 mod scan;
 #[cfg(test)]
 mod tests;
+mod types;
 mod units;
 
 pub use entry::{dimensions_of, is_array_name, is_class_entry_name};
 pub use fault::DescriptorFault;
 pub use field::{is_field_descriptor, parse_field};
 pub use flags::Flags;
-pub use method::{is_method_descriptor, parse_method};
-pub use names::{is_class_name, is_constructor_name, is_initializer_name, is_method_name, is_name};
+pub use method::{is_method_descriptor, method_units, parse_method};
+pub use names::{
+    is_class_name, is_constructor_name, is_initializer_name, is_method_name, is_name, same_text,
+};
+pub use scan::{Innermost, Spelled, field_in};
+pub use types::{field_type, method_type};
 pub use units::parameter_units;

@@ -1,17 +1,17 @@
 //! Method descriptors (JVMS 4.3.3).
 
-ghost use Rattle.std.specs.Prelude.{◌≡◌, ◌++◌, ◌∷◌, [], IfOk, is_some, Some, length};
+ghost use Rattle.std.specs.Prelude.{◌≡◌, ◌≤◌, ◌++◌, ◌∷◌, [], IfOk, IfSome, is_some, Some, None, length, nat_le, ◌&&◌, if◌then◌else◌};
 ghost use Rattle.std.specs.Option.{option_map};
 ghost use Rattle.jvms.specs.declared.descriptor.MethodType.{MethodType};
 ghost use Rattle.jvms.specs.Names.{same_text};
-ghost use Rattle.jvms.specs.Descriptors.{method_type_of, result_type_of, within_255_units, SpellsMethodType};
+ghost use Rattle.jvms.specs.Descriptors.{method_type_of, parameter_units, result_type_of, within_255_units, SpellsMethodType};
 ghost use Rattle.descriptor.specs.Reading.{IsRead, IsReadBy};
 ghost use Rattle.descriptor.specs.Scanning.{parameters_behind, units_behind, behind_parenthesis, method_behind};
 
 use crate::fault::DescriptorFault;
 use crate::field::{is_field_descriptor, owned, read_field};
 use crate::letters::{CLOSE, OPEN, VOID};
-use crate::names::is_text;
+use crate::names::same_text;
 use crate::scan::field_at;
 use crate::units::{parameter_units, spelled_units};
 use jvms::descriptor::{FieldType, MethodType, ResultType};
@@ -64,7 +64,7 @@ fn units_at(text: &[u16]) -> Option<(usize, &[u16])>
 fn read_result(alloc: Global, text: &[u16]) -> Result<ResultType, DescriptorFault>
     ensures { IsRead result (result_type_of text.now) }
 {
-    if is_text(text, &NO_RESULT) {
+    if same_text(text, &NO_RESULT) {
         return Ok(ResultType::Void);
     }
     Ok(ResultType::Value(read_field(alloc, text)?))
@@ -74,7 +74,7 @@ fn read_result(alloc: Global, text: &[u16]) -> Result<ResultType, DescriptorFaul
 fn is_result(text: &[u16]) -> bool
     ensures { result ≡ is_some (result_type_of text.now) }
 {
-    is_text(text, &NO_RESULT) || is_field_descriptor(text)
+    same_text(text, &NO_RESULT) || is_field_descriptor(text)
 }
 
 /// The text behind the opening parenthesis, where a text begins with one.
@@ -106,7 +106,7 @@ fn read_behind(alloc: Global, behind: &[u16]) -> Result<MethodType, DescriptorFa
 
 /// The type that a text spells.
 #[tactic(auto, using(crate::proofs::Methods::method_opened, crate::proofs::Methods::method_unopened))]
-fn read_method(alloc: Global, text: &[u16]) -> Result<MethodType, DescriptorFault>
+pub(crate) fn read_method(alloc: Global, text: &[u16]) -> Result<MethodType, DescriptorFault>
     ensures { IsRead result (method_type_of text.now) }
 {
     match behind_parenthesis(text) {
@@ -127,23 +127,47 @@ pub fn parse_method(alloc: Global, text: &[u16]) -> Result<MethodType, Descripto
     read_method(alloc, text)
 }
 
-/// Whether a text behind its opening parenthesis is that of a method's descriptor.
-fn is_behind(behind: &[u16]) -> bool
-    ensures { result ≡ is_some (method_behind behind.now) }
+/// So many units, where they are few enough and what the method returns stands behind them.
+fn few_enough(units: usize, has_result: bool) -> Option<usize>
+    ensures exact { result ≡ (if nat_le units 255 && has_result then Some units else None) }
+    ensures few { IfSome result (λ n. n ≤ 255) }
+{
+    if units <= MOST_UNITS && has_result {
+        Some(units)
+    } else {
+        None
+    }
+}
+
+/// The units of a method's parameters, by the text behind its opening parenthesis.
+#[tactic(auto, using(crate::proofs::Methods::no_parameters, crate::proofs::Methods::some_parameters))]
+fn behind_units(behind: &[u16]) -> Option<usize>
+    ensures exact { result ≡ option_map (λ t. parameter_units t) (method_behind behind.now) }
+    ensures few { IfSome result (λ n. n ≤ 255) }
 {
     match units_at(behind) {
-        None => false,
-        Some((units, rest)) => units <= MOST_UNITS && is_result(rest),
+        None => None,
+        Some((units, rest)) => few_enough(units, is_result(rest)),
+    }
+}
+
+/// The units of a method's parameters, by its descriptor and without memory; none where a text is no
+/// method's descriptor.
+#[tactic(auto, using(crate::proofs::Methods::method_opened, crate::proofs::Methods::method_unopened))]
+pub fn method_units(text: &[u16]) -> Option<usize>
+    ensures exact { result ≡ option_map (λ t. parameter_units t) (method_type_of text.now) }
+    ensures few { IfSome result (λ units. units ≤ 255) }
+{
+    match behind_parenthesis(text) {
+        None => None,
+        Some(behind) => behind_units(behind),
     }
 }
 
 /// Whether a text is a method's descriptor.
-#[tactic(auto, using(crate::proofs::Methods::method_opened, crate::proofs::Methods::method_unopened))]
+#[tactic(auto, using(crate::proofs::Methods::units_of_some))]
 pub fn is_method_descriptor(text: &[u16]) -> bool
     ensures { result ≡ is_some (method_type_of text.now) }
 {
-    match behind_parenthesis(text) {
-        None => false,
-        Some(behind) => is_behind(behind),
-    }
+    method_units(text).is_some()
 }

@@ -29,10 +29,10 @@ const INITIALIZER: [u16; 8] = [
 ];
 
 /// Whether two texts are the same.
-pub(crate) fn is_text(text: &[u16], wanted: &[u16]) -> bool
-    ensures { result ≡ same_text text.now wanted.now }
+pub fn same_text(a: &[u16], b: &[u16]) -> bool
+    ensures { result ≡ same_text a.now b.now }
 {
-    text == wanted
+    a == b
 }
 
 /// Whether a unit is one that no name holds: one of `.` `;` `[` `/`.
@@ -75,14 +75,14 @@ pub fn is_class_name(text: &[u16]) -> bool
 pub fn is_constructor_name(text: &[u16]) -> bool
     ensures { result ≡ is_constructor_name text.now }
 {
-    is_text(text, &CONSTRUCTOR)
+    same_text(text, &CONSTRUCTOR)
 }
 
 /// Whether a text is the name of the initializer of a class or an interface (JVMS 2.9).
 pub fn is_initializer_name(text: &[u16]) -> bool
     ensures { result ≡ is_initializer_name text.now }
 {
-    is_text(text, &INITIALIZER)
+    same_text(text, &INITIALIZER)
 }
 
 /// Whether a text has neither `<` nor `>`.

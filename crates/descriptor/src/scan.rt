@@ -2,7 +2,7 @@
 
 ghost use Rattle.std.specs.Prelude.{◌≡◌, ◌<◌, ◌==◌, length, IfSome, position};
 ghost use Rattle.std.specs.Option.{option_map};
-ghost use Rattle.jvms.specs.Descriptors.{field_type_from, primitive_of};
+ghost use Rattle.jvms.specs.Descriptors.{field_type_from, field_type_of, primitive_of};
 ghost use Rattle.descriptor.specs.Scanning.{element_of, type_of, object_at, element_at};
 
 use crate::entry::dimensions_of;
@@ -13,9 +13,10 @@ use jvms::descriptor::Primitive;
 /// The most dimensions of an array's type.
 const MOST_DIMENSIONS: usize = 255;
 
-/// What stands behind the brackets.
+/// What stands behind the brackets of a type's text.
 #[derive(Clone, Copy)]
-pub(crate) enum Innermost<'a> {
+pub enum Innermost<'a> {
+    /// A primitive type.
     Primitive(Primitive),
     /// The class of this name.
     Object(&'a [u16]),
@@ -23,9 +24,11 @@ pub(crate) enum Innermost<'a> {
 
 /// A type as it stands in a text.
 #[derive(Clone, Copy)]
-pub(crate) struct Spelled<'a> {
-    pub(crate) dimensions: u8,
-    pub(crate) innermost: Innermost<'a>,
+pub struct Spelled<'a> {
+    /// How many dimensions it has; 0 where it is no array's.
+    pub dimensions: u8,
+    /// What its innermost components are, or itself where it is no array's.
+    pub innermost: Innermost<'a>,
 }
 
 /// The primitive type of a letter (JVMS table 4.3-A).
@@ -95,4 +98,14 @@ pub(crate) fn field_at(text: &[u16]) -> Option<(Spelled<'_>, &[u16])>
         innermost,
     };
     Some((spelled, rest))
+}
+
+/// The type that the whole of a text spells, if it spells one (JVMS 4.3.2).
+pub fn field_in(text: &[u16]) -> Option<Spelled<'_>>
+    ensures { option_map (λ x. type_of x) result ≡ field_type_of text.now }
+{
+    match field_at(text) {
+        Some((spelled, [])) => Some(spelled),
+        _ => None,
+    }
 }

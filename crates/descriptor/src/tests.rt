@@ -114,6 +114,39 @@ fn malformed_method_types(rt: HostRuntime) -> Result<(), Fail> {
     Ok(())
 }
 
+#[test]
+fn types_of_any_text(rt: HostRuntime) -> Result<(), Fail> {
+    let int = type_of(0, Element::Primitive(Primitive::Int));
+    let double = units(rt.alloc(), "D")?;
+    assert_eq!(rt;
+        field_type(rt.alloc(), &double)?,
+        type_of(0, Element::Primitive(Primitive::Double))
+    );
+    assert_eq!(rt; field_type(rt.alloc(), &[])?, int);
+    let read = method_type(rt.alloc(), &units(rt.alloc(), "(I)I")?)?;
+    assert!(rt;
+        read.parameters.as_slice() == [type_of(0, Element::Primitive(Primitive::Int))].as_slice()
+    );
+    assert_eq!(rt; read.result, ResultType::Value(int));
+    let none = method_type(rt.alloc(), &double)?;
+    assert!(rt; none.parameters.as_slice().is_empty());
+    assert_eq!(rt; none.result, ResultType::Void);
+    Ok(())
+}
+
+#[test]
+fn a_type_within_its_text(rt: HostRuntime) -> Result<(), Fail> {
+    let text = units(rt.alloc(), "[[La/B;")?;
+    let class = units(rt.alloc(), "a/B")?;
+    let Some(spelled) = field_in(&text) else {
+        return Err(Fail::new("a type is spelled"));
+    };
+    assert_eq!(rt; spelled.dimensions, 2);
+    assert!(rt; matches!(spelled.innermost, Innermost::Object(name) if same_text(name, &class)));
+    assert!(rt; field_in(&class).is_none());
+    Ok(())
+}
+
 /// A descriptor with so many longs, and then a text.
 fn longs(alloc: Global, count: usize, behind: &str) -> Result<Vec<u16>, AllocError> {
     let mut all = units(alloc, "(")?;
@@ -135,6 +168,8 @@ fn at_most_255_units(rt: HostRuntime) -> Result<(), Fail> {
     let more = longs(rt.alloc(), 128, ")V")?;
     assert!(rt; is_malformed(parse_method(rt.alloc(), &more)));
     assert!(rt; !is_method_descriptor(&more));
+    assert_eq!(rt; method_units(&most), Some(255));
+    assert_eq!(rt; method_units(&more), None);
     Ok(())
 }
 

@@ -12,7 +12,7 @@ use Rattle.jvms.specs.declared.insn.SwitchCase.{SwitchCase}
 use Rattle.jvms.specs.Results.{◌>>=◌, want}
 use Rattle.jvms.specs.Bytes.{u1_at, u2_at, u4_at, signed}
 use Rattle.jvms.specs.ConstantPool.{entry}
-use Rattle.jvms.specs.Instructions.{Read, constant_insn, passes, is_loadable, is_wide_loadable, interface_count, target_of, is_above}
+use Rattle.jvms.specs.Instructions.{Read, constant_insn, passes, is_loadable, is_wide_loadable, target_of, is_above}
 
 -- JVMS 6.5 bipush
 abbrev pub push_byte_insn : ClassFault → List ℕ → Read
@@ -56,10 +56,6 @@ increment_insn cut bytes = do
   n ← u1_at cut bytes
   by ← u1_at cut n.1
   Ok (insn.Simple (simple.Increment n.0 (signed w8 by.0)), by.1)
-
--- The units of an interface method's arguments, which can always be counted.
-abbrev pub counted_units : Option (List ℕ × List ℕ) → Result (Option ℕ) ClassFault
-counted_units method = Ok (interface_count method)
 
 -- One target of a switch.
 unfoldable pub target_at : ClassFault → ℕ → List ℕ → Result (ℕ × List ℕ) ClassFault

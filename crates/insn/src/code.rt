@@ -9,6 +9,7 @@ ghost use Rattle.insn.specs.Locating.{placed_of, all_placed, resolved_one};
 use crate::located::Located;
 use crate::operands::insn_at;
 use crate::places::with_places;
+use crate::room::with_room;
 use crate::starts::Starts;
 use const_pool::Pool;
 use jvms::fault::{ClassFault, ReadError};
@@ -49,7 +50,7 @@ fn placed(alloc: Global, pool: &Pool, major: u16, bytes: &[u8]) -> Result<Vec<Lo
 fn pcs_of(alloc: Global, located: &[Located]) -> Result<Vec<u32>, AllocError>
     ensures { IfOk result (λ v. v.items ≡ map (λ l. l.pc) located.now) }
 {
-    let mut pcs = Vec::new(alloc);
+    let mut pcs = Vec::with_capacity(alloc, located.len())?;
     for one in located {
         pcs.push(one.pc)?;
     }
@@ -75,11 +76,11 @@ fn resolved_insn(alloc: Global, starts: &Starts, one: &Located) -> Result<Insn, 
     with_places(alloc, starts, fault, &one.insn)
 }
 
-/// The instructions with places for targets.
+/// The instructions with places for targets. Room is made for as many as were read, and no more: they are kept.
 fn resolved(alloc: Global, starts: &Starts, located: &[Located]) -> Result<Items<Insn>, ReadError>
     ensures { Gives (λ x. x) result (all_resolved starts.now (all_placed located.now)) }
 {
-    let mut insns = Items::new(alloc);
+    let mut insns = with_room(alloc, located.len())?;
     for one in located {
         let insn = resolved_insn(alloc, starts, one)?;
         insns.push(insn)?;

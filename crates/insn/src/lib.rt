@@ -13,6 +13,7 @@ mod opcodes;
 mod operands;
 mod pads;
 mod places;
+mod room;
 mod starts;
 mod switches;
 mod targets;

@@ -2,20 +2,15 @@
 
 ghost use Rattle.std.specs.Prelude.{◌≡◌};
 ghost use Rattle.std.specs.Option.{option_copied, option_map, option_and_then};
-ghost use Rattle.jvms.specs.Instructions.{passes, is_field as field_entry, field_insn, method_numbers as numbers_of, invoked as method_of, is_invocable_name as name_invocable, is_invocable as invocable, interface_operands as interface_rest, behind_invoke as rest_behind, invoke_insn, is_usable_class as usable_class, names_usable as usable_name, class_insn};
+ghost use Rattle.jvms.specs.Instructions.{passes, is_field as field_entry, field_insn, method_numbers as numbers_of, invoked as method_of, is_invocable_name as name_invocable, is_invocable as invocable, interface_count as units_with_object, interface_operands as interface_rest, behind_invoke as rest_behind, invoke_insn, is_usable_class as usable_class, names_usable as usable_name, class_insn};
 ghost use Rattle.jvms.specs.Names.{begins_with};
 ghost use Rattle.jvms.specs.Reading.{Gives};
-ghost use Rattle.insn.specs.Operands.{counted_units};
 
 use const_pool::{Pool, u1_at, u2_at, want};
-use descriptor::{
-    DescriptorFault, dimensions_of, is_array_name, is_constructor_name, parameter_units,
-    parse_method,
-};
+use descriptor::{dimensions_of, is_array_name, is_constructor_name, method_units};
 use jvms::class_file::Constant;
 use jvms::fault::{ClassFault, ReadError};
 use jvms::insn::{ClassUse, FieldUse, Insn, Invoke};
-use std::alloc::Global;
 
 /// Whether what is found is a field's entry.
 fn is_field(found: Option<&Constant>) -> bool
@@ -144,20 +139,12 @@ fn is_invocable(how: Invoke, method: Option<(&[u16], &[u16])>) -> bool
 }
 
 /// The units of an interface method's arguments, with the object.
-fn interface_units(
-    alloc: Global,
-    method: Option<(&[u16], &[u16])>,
-) -> Result<Option<usize>, ReadError>
-    ensures { Gives (λ x. x) result (counted_units (option_map (λ x. (x.0.now, x.1.now)) method.entry)) }
+fn interface_units(method: Option<(&[u16], &[u16])>) -> Option<usize>
+    ensures { result ≡ units_with_object (option_map (λ x. (x.0.now, x.1.now)) method.entry) }
 {
-    let Some((_, descriptor)) = method else {
-        return Ok(None);
-    };
-    match parse_method(alloc, descriptor) {
-        Ok(found) => Ok(Some(parameter_units(&found) + 1)),
-        Err(DescriptorFault::Malformed) => Ok(None),
-        Err(DescriptorFault::Memory) => Err(ReadError::Memory),
-    }
+    let (_, descriptor) = method?;
+    let units = method_units(descriptor)?;
+    Some(units + 1)
 }
 
 /// Behind an invokeinterface: the count of argument units, and a 0.
@@ -181,7 +168,6 @@ fn interface_operands(
 
 /// What stands behind the pool number of an invoke.
 fn behind_invoke<'a>(
-    alloc: Global,
     cut: ClassFault,
     how: Invoke,
     method: Option<(&[u16], &[u16])>,
@@ -190,17 +176,13 @@ fn behind_invoke<'a>(
     ensures { Gives (λ x. x.now) result (rest_behind cut how (option_map (λ x. (x.0.now, x.1.now)) method.entry) bytes.now) }
 {
     match how {
-        Invoke::Interface => {
-            let count = interface_units(alloc, method)?;
-            interface_operands(cut, count, bytes)
-        }
+        Invoke::Interface => { interface_operands(cut, interface_units(method), bytes) }
         Invoke::Virtual | Invoke::Special | Invoke::Static => Ok(bytes),
     }
 }
 
 /// JVMS 6.5 invokevirtual, invokespecial, invokestatic, invokeinterface.
 pub(crate) fn invoke<'a>(
-    alloc: Global,
     cut: ClassFault,
     pool: &Pool,
     how: Invoke,
@@ -211,6 +193,6 @@ pub(crate) fn invoke<'a>(
     let (number, rest) = u2_at(cut, bytes)?;
     let method = invoked(pool, how, number);
     want(is_invocable(how, method), cut)?;
-    let behind = behind_invoke(alloc, cut, how, method, rest)?;
+    let behind = behind_invoke(cut, how, method, rest)?;
     Ok((Insn::Invoke(how, number), behind))
 }

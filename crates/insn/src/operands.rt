@@ -43,7 +43,7 @@ fn operands_at<'a>(
         Opcode::TableSwitch => table_switch(alloc, cut, pc, bytes),
         Opcode::LookupSwitch => lookup_switch(alloc, cut, pc, bytes),
         Opcode::Field(how) => field(cut, pool, how, bytes),
-        Opcode::Invoke(how) => invoke(alloc, cut, pool, how, bytes),
+        Opcode::Invoke(how) => invoke(cut, pool, how, bytes),
         Opcode::Class(how) => class(cut, pool, how, bytes),
         Opcode::NewArray => new_array(cut, bytes),
         Opcode::Wide => wide(cut, bytes),

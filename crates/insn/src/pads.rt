@@ -80,7 +80,7 @@ pub fn layout(
 ) -> Result<Layout, AllocError>
     ensures { IfOk result (λ l. l ≡ layout_of starts insns.now bytes.now) }
 {
-    let mut spelled = bytes.to_vec(alloc)?;
+    let mut spelled = Vec::from_slice(alloc, bytes)?;
     zero_pads(&mut spelled, starts.as_slice(), insns);
     Ok(Layout {
         bytes: Items::from_vec(spelled),

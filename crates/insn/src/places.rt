@@ -5,6 +5,7 @@ ghost use Rattle.jvms.specs.Results.{collected};
 ghost use Rattle.jvms.specs.Reading.{Gives};
 ghost use Rattle.insn.specs.Places.{place_found, case_found, table_found, lookup_found, insn_found};
 
+use crate::room::with_room;
 use crate::starts::Starts;
 use jvms::boxed::Boxed;
 use jvms::fault::{ClassFault, ReadError};
@@ -46,7 +47,7 @@ fn places(
 ) -> Result<Items<u32>, ReadError>
     ensures { Gives (λ x. x) result (collected (place_found starts.now fault) targets.now) }
 {
-    let mut found = Items::new(alloc);
+    let mut found = with_room(alloc, targets.len())?;
     for target in targets {
         let one = place(starts, fault, *target)?;
         found.push(one)?;
@@ -63,7 +64,7 @@ fn cases(
 ) -> Result<Items<SwitchCase>, ReadError>
     ensures { Gives (λ x. x) result (collected (case_found starts.now fault) switch_cases.now) }
 {
-    let mut found = Items::new(alloc);
+    let mut found = with_room(alloc, switch_cases.len())?;
     for switch_case in switch_cases {
         let one = case(starts, fault, *switch_case)?;
         found.push(one)?;

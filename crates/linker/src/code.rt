@@ -43,7 +43,7 @@ fn handlers_of(
 ) -> Result<Items<ExceptionHandler>, AllocError>
     ensures { IfOk result (λ hs. hs ≡ map (handler_of pool.now) table.now) }
 {
-    let mut handlers = Vec::new(alloc);
+    let mut handlers = Vec::with_capacity(alloc, table.len())?;
     for handler in table {
         handlers.push(handler_of(alloc, pool, handler)?)?;
     }

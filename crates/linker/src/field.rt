@@ -5,9 +5,8 @@ ghost use Rattle.jvms.specs.Meaning.{constant_of, field_of};
 
 use crate::loadable::loadable_of;
 use crate::texts::text_of;
-use crate::types::field_type;
 use const_pool::Pool;
-use descriptor::Flags;
+use descriptor::{Flags, field_type};
 use jvms::class_file::{FieldAttribute, FieldInfo};
 use jvms::items::Items;
 use jvms::program::{Field, Loadable};
@@ -62,7 +61,7 @@ pub(crate) fn fields_of(
 ) -> Result<Items<Field>, AllocError>
     ensures { IfOk result (λ fs. fs ≡ map (field_of pool.now in_interface) infos.now) }
 {
-    let mut fields = Vec::new(alloc);
+    let mut fields = Vec::with_capacity(alloc, infos.len())?;
     for info in infos {
         fields.push(field_of(alloc, pool, in_interface, info)?)?;
     }

@@ -80,7 +80,7 @@ pub(crate) fn instructions_of(
 ) -> Result<Items<Instruction>, AllocError>
     ensures { IfOk result (λ is. is ≡ map (instruction_of pool.now) insns.now) }
 {
-    let mut instructions = Vec::new(alloc);
+    let mut instructions = Vec::with_capacity(alloc, insns.len())?;
     for insn in insns {
         instructions.push(instruction_of(alloc, pool, insn)?)?;
     }

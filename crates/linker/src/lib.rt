@@ -14,7 +14,6 @@ mod refusals;
 #[cfg(test)]
 mod tests;
 mod texts;
-mod types;
 
 pub use class::meaning;
 pub use fault::LinkFault;

@@ -16,7 +16,7 @@ use std::alloc::{AllocError, Global};
 fn classes_of(alloc: Global, files: Vec<ClassFile>) -> Result<Vec<Class>, AllocError>
     ensures { IfOk result (λ classes. classes.items ≡ map meaning files.items) }
 {
-    let mut classes = Vec::new(alloc);
+    let mut classes = Vec::with_capacity(alloc, files.len())?;
     for file in files {
         classes.push(meaning(alloc, file)?)?;
     }

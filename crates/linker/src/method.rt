@@ -6,9 +6,8 @@ ghost use Rattle.jvms.specs.Meaning.{throws_of, flags_of, method_of};
 
 use crate::code::body_among;
 use crate::texts::{class_texts, text_of};
-use crate::types::method_type;
 use const_pool::Pool;
-use descriptor::{Flags, is_initializer_name};
+use descriptor::{Flags, is_initializer_name, method_type};
 use jvms::class_file::{MethodAttribute, MethodInfo};
 use jvms::items::Items;
 use jvms::program::{Method, MethodFlags};
@@ -81,7 +80,7 @@ pub(crate) fn methods_of(
 ) -> Result<Items<Method>, AllocError>
     ensures { IfOk result (λ ms. ms ≡ map (method_of pool.now) infos.now) }
 {
-    let mut methods = Vec::new(alloc);
+    let mut methods = Vec::with_capacity(alloc, infos.len())?;
     for info in infos {
         methods.push(method_of(alloc, pool, info)?)?;
     }

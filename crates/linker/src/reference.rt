@@ -5,8 +5,8 @@ ghost use Rattle.jvms.specs.ConstantPool.{entry};
 ghost use Rattle.jvms.specs.Meaning.{name_and_type, field_reference, field_reference_of, method_reference, method_reference_of};
 
 use crate::texts::{class_text, copied};
-use crate::types::{field_type, method_type};
 use const_pool::{Constant, Pool};
+use descriptor::{field_type, method_type};
 use jvms::items::Items;
 use jvms::program::{FieldReference, MethodReference};
 use std::alloc::{AllocError, Global};

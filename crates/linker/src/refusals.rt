@@ -5,14 +5,9 @@ ghost use Rattle.linker.specs.Linking.{built_in_name, extends_object, is_later, 
 
 use jvms::items::Items;
 use jvms::program::Class;
-use program::{is_built_in, same_text};
+use program::{OBJECT, is_built_in, same_text};
 use std::alloc::{AllocError, Global};
 use std::collections::HashSet;
-
-/// The name of the class above all others, `java/lang/Object`.
-const OBJECT: [u16; 16] = [
-    106, 97, 118, 97, 47, 108, 97, 110, 103, 47, 79, 98, 106, 101, 99, 116,
-];
 
 /// The first class with the name of a built-in class.
 pub(crate) fn built_in_name(classes: &[Class]) -> Option<usize>

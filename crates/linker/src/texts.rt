@@ -42,7 +42,7 @@ pub(crate) fn class_texts(
 ) -> Result<Items<Items<u16>>, AllocError>
     ensures { IfOk result (λ names. names ≡ map (class_text pool.now) numbers.now) }
 {
-    let mut names = Vec::new(alloc);
+    let mut names = Vec::with_capacity(alloc, numbers.len())?;
     for number in numbers {
         names.push(class_text(alloc, pool, *number)?)?;
     }

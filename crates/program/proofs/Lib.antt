@@ -1,5 +1,4 @@
 pub mod BuiltInLaws
-pub mod ClassTypeLaws
 pub mod MethodLaws
 mod NamedLaws
 pub mod PlaceLaws

@@ -1,4 +1,3 @@
-pub mod ClassTypes
 pub mod Named
 pub mod Ordinary
 pub mod Places

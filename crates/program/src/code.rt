@@ -4,7 +4,7 @@ ghost use Rattle.std.specs.Prelude.{◌≡◌, IfOk};
 ghost use Rattle.jvms.specs.BuiltIn.{load, return_void, return_reference, field_insn, target_field, call_run, message_field};
 
 use crate::text::text;
-use crate::types::{field_type, method_type};
+use descriptor::{field_type, method_type};
 use jvms::boxed::Boxed;
 use jvms::insn::{FieldUse, Invoke, Kind, LocalUse, ReturnInsn, Simple};
 use jvms::program::{FieldReference, Instruction, MethodReference};

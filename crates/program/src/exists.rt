@@ -4,8 +4,9 @@ ghost use Rattle.std.specs.Prelude.{◌≡◌, is_some};
 ghost use Rattle.jvms.specs.Program.{class_named};
 ghost use Rattle.jvms.specs.Resolution.{class_exists};
 
-use crate::class_type::{Innermost, class_type};
+use crate::class_type::class_type;
 use crate::lookup::named;
+use descriptor::Innermost;
 use jvms::program::Class;
 
 /// Whether there is a class of a name, which is no array's.

@@ -22,11 +22,11 @@ mod subtypes;
 mod tests;
 mod text;
 mod throwables;
-mod types;
 mod walk;
 
 pub use all::is_built_in;
+pub use descriptor::same_text;
 pub use list::Program;
 pub use lookup::declared_number;
 pub use methods::Named;
-pub use names::same_text;
+pub use names::OBJECT;

@@ -8,8 +8,8 @@ ghost use Rattle.jvms.specs.Resolution.{ancestry, first_in};
 ghost use Rattle.program.specs.Places.{class_place, field_place, method_place, selectable_place};
 
 use crate::lookup::{declared_field_number, declared_number, number_of};
-use crate::names::same_text;
 use crate::walk::{Look, first_in_ancestries};
+use descriptor::same_text;
 use jvms::program::Class;
 
 /// The number of a class of the program.

@@ -4,7 +4,7 @@ ghost use Rattle.std.specs.Prelude.{◌≡◌, option_copied, slice_get};
 ghost use Rattle.jvms.specs.Program.{class_named, class_number, declared_number, method_at};
 ghost use Rattle.program.specs.Places.{declared_field_number, field_at};
 
-use crate::names::same_text;
+use descriptor::same_text;
 use jvms::machine::MethodNumber;
 use jvms::program::{Class, Field, Method};
 

@@ -4,7 +4,7 @@ ghost use Rattle.std.specs.Prelude.{◌≡◌, IfOk};
 ghost use Rattle.jvms.specs.BuiltIn.{method, coded, native, abstracted, field, no_flags};
 
 use crate::text::text;
-use crate::types::{field_type, method_type};
+use descriptor::{field_type, method_type};
 use jvms::items::Items;
 use jvms::program::{Body, Field, Instruction, Method, MethodFlags};
 use std::alloc::{AllocError, Global};

@@ -7,9 +7,9 @@ ghost use Rattle.program.specs.Places.{IsMethodAt, Locates};
 use crate::list::Program;
 use crate::look::{Named, Selectable};
 use crate::lookup::method_of;
-use crate::names::{members_class, same_text};
+use crate::names::members_class;
 use crate::walk::{first_up, superclass_name};
-use descriptor::is_constructor_name;
+use descriptor::{is_constructor_name, same_text};
 use jvms::machine::MethodNumber;
 use jvms::program::{Class, MethodReference};
 
@@ -28,6 +28,13 @@ fn is_up(classes: &[Class], name: &[u16], class: &[u16]) -> bool
 }
 
 impl Program {
+    /// Whether a class or one up its superclasses has a name.
+    pub fn is_or_extends(&self, class: &[u16], name: &[u16]) -> bool
+        ensures { result ≡ names_class name.now (chain self.now class.now) }
+    {
+        is_up(self.classes(), name, class)
+    }
+
     /// The method that a call of the method at a place selects, from the class of a name up: itself where
     /// it is private.
     pub fn select_from(&self, class: &[u16], place: (usize, usize)) -> Option<(usize, usize)>

@@ -3,13 +3,14 @@
 ghost use Rattle.std.specs.Prelude.{◌≡◌, codes};
 ghost use Rattle.jvms.specs.Descriptors.{letter_of};
 ghost use Rattle.jvms.specs.Resolution.{ancestry, names_class, is_array_ancestor, is_array_ancestor_element, element_fits, type_fits, fits};
-ghost use Rattle.program.specs.ClassTypes.{element_of, type_of};
+ghost use Rattle.descriptor.specs.Scanning.{element_of, type_of};
 
-use crate::class_type::{ClassType, Innermost, class_type};
+use crate::class_type::class_type;
 use crate::list::Program;
 use crate::look::Named;
 use crate::text::is_named;
 use crate::walk::first_in_ancestry;
+use descriptor::{Innermost, Spelled};
 use jvms::descriptor::Primitive;
 use jvms::program::Class;
 
@@ -72,7 +73,7 @@ fn takes_arrays(element: Innermost<'_>) -> bool
 }
 
 /// Whether a type fits another.
-fn type_fits(classes: &[Class], a: ClassType<'_>, b: ClassType<'_>) -> bool
+fn type_fits(classes: &[Class], a: Spelled<'_>, b: Spelled<'_>) -> bool
     ensures { result ≡ type_fits classes.now (type_of a.entry) (type_of b.entry) }
 {
     if b.dimensions < a.dimensions {

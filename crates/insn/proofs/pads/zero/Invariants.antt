@@ -1,4 +1,4 @@
-use Rattle.std.proofs.Common.{◌≡◌, ◌+◌, ◌≤◌}
+use Rattle.std.proofs.Common.{◌≡◌, ◌+◌}
 use Rattle.jvms.specs.Code.{zeroed}
 use Rattle.insn.proofs.pads.zero.Given as goal
 

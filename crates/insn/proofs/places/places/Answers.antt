@@ -7,7 +7,7 @@ use Rattle.insn.proofs.places.places.Goals as goal
 
 pub returns-in_err-one : goal.returns-in_err-one
 returns-in_err-one c =
-    let p = err_from_is_err_and c.from_residual.result c.from_residual.ensures.1 in
+    let p = err_from_is_err_and c.from_residual-in_err-one.result c.from_residual-in_err-one.ensures.1 in
     let f = place_found c.args.starts.now c.args.fault in
     let i = c.loop-target.target-index in
     rw (p.1, p.2) (items_stop c.in_err-one.field-0.0 f c.loop-target.found (drop i c.args.targets.now) _ (drop (i + 1) c.args.targets.now) (collected f c.args.targets.now) (drop_next c.args.targets.now i 0 c.loop-target-test.true) c.in_err-one.ensures c.loop-target.invariant)

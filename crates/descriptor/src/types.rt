@@ -1,18 +1,20 @@
-//! The types that descriptors spell.
+//! The types of fields and methods by their descriptors, also of texts that spell none (JVMS 4.3).
 
 ghost use Rattle.std.specs.Prelude.{◌≡◌, IfOk};
 ghost use Rattle.jvms.specs.Meaning.{field_type, method_type};
 
-use descriptor::{DescriptorFault, parse_field, parse_method};
+use crate::fault::DescriptorFault;
+use crate::field::read_field;
+use crate::method::read_method;
 use jvms::descriptor::{Element, FieldType, MethodType, Primitive, ResultType};
 use jvms::items::Items;
 use std::alloc::{AllocError, Global};
 
-/// The type of a field of this descriptor.
-pub(crate) fn field_type(alloc: Global, descriptor: &[u16]) -> Result<FieldType, AllocError>
+/// The type that a field's descriptor spells; of a text that spells none, int.
+pub fn field_type(alloc: Global, descriptor: &[u16]) -> Result<FieldType, AllocError>
     ensures { IfOk result (λ t. t ≡ field_type descriptor.now) }
 {
-    match parse_field(alloc, descriptor) {
+    match read_field(alloc, descriptor) {
         Ok(t) => Ok(t),
         Err(DescriptorFault::Malformed) => Ok(FieldType {
             dimensions: 0,
@@ -22,11 +24,12 @@ pub(crate) fn field_type(alloc: Global, descriptor: &[u16]) -> Result<FieldType,
     }
 }
 
-/// The type of a method of this descriptor.
-pub(crate) fn method_type(alloc: Global, descriptor: &[u16]) -> Result<MethodType, AllocError>
+/// The type that a method's descriptor spells; of a text that spells none, that of no parameters and no
+/// result.
+pub fn method_type(alloc: Global, descriptor: &[u16]) -> Result<MethodType, AllocError>
     ensures { IfOk result (λ t. t ≡ method_type descriptor.now) }
 {
-    match parse_method(alloc, descriptor) {
+    match read_method(alloc, descriptor) {
         Ok(t) => Ok(t),
         Err(DescriptorFault::Malformed) => Ok(MethodType {
             parameters: Items::new(alloc),
