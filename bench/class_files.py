@@ -75,6 +75,23 @@ def many_methods(count, length):
     return class_file(pool, "Methods", methods, [])
 
 
+def long_names(count, length):
+    # Names that differ in their last five letters alone, each under a number of its own.
+    pool = Pool()
+    methods = [method(pool, "f", "()I", 1, 0, GIVE_7)]
+    methods += [method(pool, "m" * length + f"{n:05}", "()I", 1, 0, GIVE_7) for n in range(count - 1)]
+    return class_file(pool, "LongNames", methods, [])
+
+
+def one_long_descriptor(count, length):
+    # All methods but f share a descriptor, of one parameter whose class has a long name.
+    pool = Pool()
+    long = "(L" + "x" * length + ";)I"
+    methods = [method(pool, "f", "()I", 1, 0, GIVE_7)]
+    methods += [method(pool, f"m{n}", long, 1, 1, GIVE_7) for n in range(count - 1)]
+    return class_file(pool, "LongDescriptor", methods, [])
+
+
 def many_branches(count):
     # Each goto leads to the next instruction; then nops up to 65,535 bytes, and the return.
     pool = Pool()
@@ -108,6 +125,8 @@ FILES = {
     "Attribute": lambda: one_large_attribute(67108864),
     "Methods": lambda: many_methods(2000, 30000),
     "Members": lambda: many_methods(20000, 3).replace(b"Methods", b"Members"),
+    "LongNames": lambda: long_names(64000, 1000),
+    "LongDescriptor": lambda: one_long_descriptor(20000, 10000),
     "Branches": lambda: many_branches(20000),
     "Switch": lambda: large_switch(8000),
     "Loop": loop,

@@ -1,5 +1,6 @@
 pub mod Frames
 pub mod Opening
+pub mod Seen
 pub mod Spelled
 pub mod Wanted
 pub mod Writing

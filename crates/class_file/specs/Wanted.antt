@@ -1,5 +1,5 @@
 -- Parts of the reading of members that have functions of their own.
-use Rattle.std.specs.Prelude.{ℕ, Bool, not, ◌||◌, List, [], Result, Ok}
+use Rattle.std.specs.Prelude.{ℕ, Bool, false, not, ◌||◌, nat_le, if◌then◌else◌, List, [], Option, None, Some, Result, Ok}
 use Rattle.std.specs.List.{list_any}
 use Rattle.jvms.specs.declared.class_file.Constant.{Constant}
 use Rattle.jvms.specs.declared.class_file.FieldAttribute.{FieldAttribute}
@@ -14,6 +14,7 @@ use Rattle.jvms.specs.Bytes.{u2_at, bytes_at}
 use Rattle.jvms.specs.Code.{handler_places}
 use Rattle.jvms.specs.ConstantPool.{utf8_at, is_utf8}
 use Rattle.jvms.specs.Members.{is_text_with, is_interface, is_abstract, is_code, is_code_length, frame_at, field_attribute_at, handler_at, class_number_at, code_at, exceptions_at, method_attribute_at, asks_code, is_initializer, is_static, is_method_descriptor_for, is_same_method}
+use Rattle.const_pool.specs.declared.forms.Forms.{Forms}
 use Rattle.class_file.specs.declared.method.Head.{Head}
 
 -- The number of a text of a form.
@@ -27,6 +28,14 @@ abbrev pub field_attributes_at : List Constant → ClassFault → ℕ → List �
 field_attributes_at pool cut descriptor bytes = do
   count ← u2_at cut bytes
   counted_onto (field_attribute_at pool cut descriptor) [] count.0 count.1
+
+-- Whether a text of these forms is the descriptor of a method that is called on an object, or on none.
+abbrev pub is_formed_descriptor : Bool → Forms → Bool
+is_formed_descriptor on_none forms = is_few forms.method_units
+  where
+    is_few : Option ℕ → Bool
+    is_few None = false
+    is_few (Some units) = nat_le units (if on_none then 255 else 254)
 
 -- The bytes of instructions, behind their length.
 abbrev pub code_bytes_at : ClassFault → ℕ → List ℕ → Result (List ℕ × List ℕ) ClassFault

@@ -9,7 +9,7 @@ ghost use Rattle.class_file.specs.Opening.{members_behind as members_read, class
 use crate::attribute::kept_attributes_at;
 use crate::field::fields_at;
 use crate::method::methods_at;
-use const_pool::{Pool, check_entries, entries_at_front, u2_at, u4_at, want};
+use const_pool::{Pool, ScannedPool, check_entries, entries_at_front, u2_at, u4_at, want};
 use descriptor::is_array_name;
 use jvms::class_file::ClassFile;
 use jvms::fault::{ClassFault, ReadError};
@@ -94,16 +94,16 @@ fn interfaces_at<'a>(
 fn members_behind(
     alloc: Global,
     cut: ClassFault,
-    pool: Pool,
+    pool: ScannedPool,
     head: Head,
     bytes: &[u8],
 ) -> Result<ClassFile, ReadError>
     ensures { Gives (λ c. c) result (members_read cut pool head bytes.now) }
 {
-    let (interfaces, rest) = interfaces_at(alloc, &pool, cut, bytes)?;
+    let (interfaces, rest) = interfaces_at(alloc, pool.pool(), cut, bytes)?;
     let (fields, rest) = fields_at(alloc, &pool, cut, rest)?;
     let (methods, rest) = methods_at(alloc, &pool, head.major, cut, head.access, rest)?;
-    let (attributes, rest) = kept_attributes_at(alloc, &pool, cut, rest)?;
+    let (attributes, rest) = kept_attributes_at(alloc, pool.pool(), cut, rest)?;
     want(rest.is_empty(), ClassFault::Trailing)?;
     Ok(ClassFile {
         minor: head.minor,
@@ -125,17 +125,17 @@ fn class_behind(
     cut: ClassFault,
     minor: u16,
     major: u16,
-    pool: Pool,
+    pool: ScannedPool,
     bytes: &[u8],
 ) -> Result<ClassFile, ReadError>
     ensures { Gives (λ c. c) result (class_behind cut minor major pool bytes.now) }
 {
     let (access, rest) = u2_at(cut, bytes)?;
     let (this_class, rest) = u2_at(cut, rest)?;
-    want(is_proper_class(&pool, this_class), ClassFault::Index)?;
+    want(is_proper_class(pool.pool(), this_class), ClassFault::Index)?;
     let (super_class, rest) = u2_at(cut, rest)?;
     want(
-        super_class == 0 || is_proper_class(&pool, super_class),
+        super_class == 0 || is_proper_class(pool.pool(), super_class),
         ClassFault::Index,
     )?;
     let head = Head {
@@ -159,8 +159,8 @@ fn pool_behind(
     ensures { Gives (λ c. c) result (pool_read cut minor major bytes.now) }
 {
     let (entries, rest) = entries_at_front(alloc, cut, bytes)?;
-    let pool = Pool::of(entries);
-    check_entries(&pool, pool.entries().as_slice())?;
+    let pool = ScannedPool::of(alloc, entries)?;
+    check_entries(&pool, pool.pool().entries().as_slice())?;
     class_behind(alloc, cut, minor, major, pool, rest)
 }
 

@@ -1,6 +1,6 @@
 //! Fields and their attributes (JVMS 4.5, 4.7.2).
 
-ghost use Rattle.std.specs.Prelude.{◌≡◌, is_some, not, codes, [], List};
+ghost use Rattle.std.specs.Prelude.{◌≡◌, is_some, not, codes, [], ◌∷◌, ◌++◌, List, OnOk};
 ghost use Rattle.std.specs.List.{list_any};
 ghost use Rattle.std.specs.Option.{option_copied};
 ghost use Rattle.jvms.specs.Reading.{Gives};
@@ -10,18 +10,18 @@ ghost use Rattle.jvms.specs.Members.{takes_constant, is_constant_of, constant_va
 ghost use Rattle.jvms.specs.ConstantPool.{utf8_at, entry};
 ghost use Rattle.jvms.specs.Names.{is_name as is_name_text};
 ghost use Rattle.class_file.specs.Frames.{framed_by};
+ghost use Rattle.class_file.specs.Seen.{AreFields};
 ghost use Rattle.class_file.specs.Wanted.{text_wanted, field_attributes_at as attributes_read};
 
 use crate::attribute::{is_named, kept_content};
 use crate::frame::{Frame, frame_at, want_all};
-use crate::member::same_entry_text;
 use crate::names::CONSTANT_VALUE;
-use const_pool::{Pool, u2_at, want};
-use descriptor::{is_field_descriptor, is_name};
+use crate::seen::Seen;
+use const_pool::{Pool, ScannedPool, u2_at, want};
 use jvms::class_file::{Constant, FieldAttribute, FieldInfo};
 use jvms::fault::{ClassFault, ReadError};
 use jvms::items::Items;
-use std::alloc::Global;
+use std::alloc::{AllocError, Global};
 
 /// The descriptor of `java.lang.String`.
 const STRING: [u16; 18] = [
@@ -131,39 +131,23 @@ fn attributes_of<'a>(
 }
 
 /// The number of a field's name.
-fn want_name(pool: &Pool, number: u16) -> Result<(), ReadError>
+fn want_name(pool: &ScannedPool, number: u16) -> Result<(), ReadError>
     ensures { Gives (λ x. x) result (text_wanted is_name_text pool.now number) }
 {
-    match pool.utf8(number) {
+    match pool.forms(number) {
         None => Err(ReadError::Fault(ClassFault::Index)),
-        Some(text) => want(is_name(text), ClassFault::Descriptor),
+        Some(forms) => want(forms.name, ClassFault::Descriptor),
     }
 }
 
 /// The number of a field's descriptor.
-fn want_descriptor(pool: &Pool, number: u16) -> Result<(), ReadError>
+fn want_descriptor(pool: &ScannedPool, number: u16) -> Result<(), ReadError>
     ensures { Gives (λ x. x) result (text_wanted (λ text. is_some (field_type_of text)) pool.now number) }
 {
-    match pool.utf8(number) {
+    match pool.forms(number) {
         None => Err(ReadError::Fault(ClassFault::Index)),
-        Some(text) => want(is_field_descriptor(text), ClassFault::Descriptor),
+        Some(forms) => want(forms.field_descriptor, ClassFault::Descriptor),
     }
-}
-
-/// Whether a field has this name and this descriptor.
-fn is_same(pool: &Pool, name: u16, descriptor: u16, field: &FieldInfo) -> bool
-    ensures { result ≡ is_same_field pool.now name descriptor field.now }
-{
-    same_entry_text(pool, field.name, name) && same_entry_text(pool, field.descriptor, descriptor)
-}
-
-/// Whether a field of this name and this descriptor is among fields.
-fn is_among(pool: &Pool, name: u16, descriptor: u16, fields: &[FieldInfo]) -> bool
-    ensures { result ≡ list_any (is_same_field pool.now name descriptor) fields.now }
-{
-    fields
-        .iter()
-        .any(|field| is_same(pool, name, descriptor, field))
 }
 
 /// attributes_count and the attributes of a field.
@@ -180,16 +164,57 @@ fn attributes_at<'a>(
     attributes_of(alloc, pool, cut, descriptor, usize::from(count), rest)
 }
 
-/// The next field; `seen` are those before it.
+/// Fields that were read, with their names and descriptors.
+#[derive(Drop)]
+struct Fields {
+    items: Items<FieldInfo>,
+    seen: Seen,
+}
+
+impl Fields {
+    /// No fields.
+    fn new(alloc: Global, pool: &ScannedPool) -> Self
+        ensures items { result.items ≡ [] }
+        ensures seen { AreFields pool.now result.seen result.items }
+    {
+        Fields {
+            items: Items::new(alloc),
+            seen: Seen::new(alloc),
+        }
+    }
+
+    /// Whether one of the fields has this name and this descriptor.
+    fn has(&self, pool: &ScannedPool, name: u16, descriptor: u16) -> bool
+        requires { AreFields pool.now self.now.seen self.now.items }
+        ensures { result ≡ list_any (is_same_field pool.now name descriptor) self.now.items }
+    {
+        self.seen.has(pool, name, descriptor)
+    }
+
+    /// Puts a field behind the others.
+    #[tactic(auto, using(crate::proofs::SeenMembers::field_more))]
+    fn push(&mut self, pool: &ScannedPool, field: FieldInfo) -> Result<(), AllocError>
+        requires { AreFields pool.now self.old.seen self.old.items }
+        ensures items { OnOk result (self.new.items ≡ self.old.items ++ field ∷ []) }
+        ensures seen { OnOk result (AreFields pool.now self.new.seen self.new.items) }
+    {
+        self.seen.put(pool, field.name, field.descriptor)?;
+        self.items.push(field)?;
+        Ok(())
+    }
+}
+
+/// The next field; `before` are those before it.
 #[tactic(auto, unfolding(jvms::specs::Members::field_at))]
 fn field_at<'a>(
     alloc: Global,
-    pool: &Pool,
+    pool: &ScannedPool,
     cut: ClassFault,
-    seen: &[FieldInfo],
+    before: &Fields,
     bytes: &'a [u8],
 ) -> Result<(FieldInfo, &'a [u8]), ReadError>
-    ensures { Gives (λ x. (x.0, x.1.now)) result (field_read pool.now cut seen.now bytes.now) }
+    requires { AreFields pool.now before.now.seen before.now.items }
+    ensures { Gives (λ x. (x.0, x.1.now)) result (field_read pool.now cut before.now.items bytes.now) }
 {
     let (access, rest) = u2_at(cut, bytes)?;
     let (name, rest) = u2_at(cut, rest)?;
@@ -197,10 +222,10 @@ fn field_at<'a>(
     let (descriptor, rest) = u2_at(cut, rest)?;
     want_descriptor(pool, descriptor)?;
     want(
-        !is_among(pool, name, descriptor, seen),
+        !before.has(pool, name, descriptor),
         ClassFault::RepeatedMember,
     )?;
-    let (attributes, behind) = attributes_at(alloc, pool, cut, descriptor, rest)?;
+    let (attributes, behind) = attributes_at(alloc, pool.pool(), cut, descriptor, rest)?;
     let field = FieldInfo {
         access,
         name,
@@ -213,32 +238,32 @@ fn field_at<'a>(
 /// So many fields.
 fn fields_of<'a>(
     alloc: Global,
-    pool: &Pool,
+    pool: &ScannedPool,
     cut: ClassFault,
     count: usize,
     bytes: &'a [u8],
 ) -> Result<(Items<FieldInfo>, &'a [u8]), ReadError>
     ensures { Gives (λ x. (x.0, x.1.now)) result (counted_onto (field_read pool.now cut) [] count bytes.now) }
 {
-    let mut fields = Items::new(alloc);
+    let mut fields = Fields::new(alloc, pool);
     let mut rest = bytes;
     let mut left = count;
     while left > 0 {
-        let (field, behind) = match field_at(alloc, pool, cut, fields.as_slice(), rest) {
+        let (field, behind) = match field_at(alloc, pool, cut, &fields, rest) {
             Ok(read) => read,
             Err(error) => return Err(error),
         };
-        fields.push(field)?;
+        fields.push(pool, field)?;
         rest = behind;
         left -= 1;
     }
-    Ok((fields, rest))
+    Ok((fields.items, rest))
 }
 
 /// fields_count and the fields.
 pub(crate) fn fields_at<'a>(
     alloc: Global,
-    pool: &Pool,
+    pool: &ScannedPool,
     cut: ClassFault,
     bytes: &'a [u8],
 ) -> Result<(Items<FieldInfo>, &'a [u8]), ReadError>

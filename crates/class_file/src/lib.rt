@@ -7,9 +7,11 @@ mod code;
 mod field;
 mod frame;
 mod laws;
-mod member;
 mod method;
 mod names;
+#[cfg(test)]
+mod repeat_tests;
+mod seen;
 mod spelled;
 #[cfg(test)]
 mod tests;

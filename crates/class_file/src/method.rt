@@ -1,27 +1,25 @@
 //! Methods and their attributes (JVMS 4.6, 4.7.3, 4.7.5).
 
-ghost use Rattle.std.specs.Prelude.{◌≡◌, [], List, ◌||◌, not};
+ghost use Rattle.std.specs.Prelude.{◌≡◌, [], ◌∷◌, ◌++◌, List, ◌||◌, not, OnOk};
 ghost use Rattle.std.specs.List.{list_any};
-ghost use Rattle.jvms.specs.declared.fault.ClassFault.TheVariants.{Descriptor};
 ghost use Rattle.jvms.specs.Names.{is_method_name as is_method_name_text};
 ghost use Rattle.jvms.specs.Members.{asks_code, is_code, is_exceptions, is_initializer, is_method_descriptor_for, is_same_method, method_attribute_at, method_at as method_read, methods_at as methods_read};
 ghost use Rattle.jvms.specs.Reading.{Gives};
-ghost use Rattle.jvms.specs.Results.{counted_onto, want as wanted};
-ghost use Rattle.class_file.specs.Wanted.{text_wanted, code_attribute_at, exceptions_attribute_at, method_behind, named_method_at, is_placed_method};
+ghost use Rattle.jvms.specs.Results.{counted_onto};
+ghost use Rattle.class_file.specs.Seen.{AreMethods};
+ghost use Rattle.class_file.specs.Wanted.{is_formed_descriptor, text_wanted, code_attribute_at, exceptions_attribute_at, method_behind, named_method_at, is_placed_method};
 
 use crate::attribute::{is_named, kept_content};
 use crate::code::{code_at, exceptions_at};
 use crate::frame::frame_at;
-use crate::member::same_entry_text;
 use crate::names::{CODE, EXCEPTIONS};
-use const_pool::{Pool, u2_at, want};
-use descriptor::{
-    DescriptorFault, Flags, is_initializer_name, is_method_name, parameter_units, parse_method,
-};
+use crate::seen::Seen;
+use const_pool::{Forms, Pool, ScannedPool, u2_at, want};
+use descriptor::{Flags, is_initializer_name};
 use jvms::class_file::{MethodAttribute, MethodInfo};
 use jvms::fault::{ClassFault, ReadError};
 use jvms::items::Items;
-use std::alloc::Global;
+use std::alloc::{AllocError, Global};
 
 /// What stands before a method's attributes.
 #[derive(Clone, Copy)]
@@ -209,75 +207,98 @@ fn may_have(class_access: u16, initializer: bool, access: u16) -> bool
 }
 
 /// The number of a method's name.
-fn want_name(pool: &Pool, number: u16) -> Result<(), ReadError>
+fn want_name(pool: &ScannedPool, number: u16) -> Result<(), ReadError>
     ensures { Gives (λ x. x) result (text_wanted is_method_name_text pool.now number) }
 {
-    match pool.utf8(number) {
+    match pool.forms(number) {
         None => Err(ReadError::Fault(ClassFault::Index)),
-        Some(text) => want(is_method_name(text), ClassFault::Descriptor),
+        Some(forms) => want(forms.method_name, ClassFault::Descriptor),
     }
 }
 
-/// A text is a method's descriptor, of at most 255 units with the object that it is called on, if any
-/// (JVMS 4.3.3).
-fn want_form(alloc: Global, on_none: bool, text: &[u16]) -> Result<(), ReadError>
-    ensures { Gives (λ x. x) result (wanted (is_method_descriptor_for on_none text.now) Descriptor) }
+/// Whether a text of these forms is a method's descriptor, of at most 255 units with the object that it is
+/// called on, if any (JVMS 4.3.3).
+fn is_descriptor(on_none: bool, forms: Forms) -> bool
+    ensures { result ≡ is_formed_descriptor on_none forms }
 {
-    match parse_method(alloc, text) {
-        Ok(method) => {
-            let most = if on_none { 255 } else { 254 };
-            want(parameter_units(&method) <= most, ClassFault::Descriptor)
-        }
-        Err(DescriptorFault::Malformed) => Err(ReadError::Fault(ClassFault::Descriptor)),
-        Err(DescriptorFault::Memory) => Err(ReadError::Memory),
+    let most = if on_none { 255 } else { 254 };
+    match forms.method_units {
+        Some(units) => units <= most,
+        None => false,
     }
 }
 
 /// The number of a method's descriptor.
-fn want_descriptor(alloc: Global, pool: &Pool, on_none: bool, number: u16) -> Result<(), ReadError>
+#[tactic(auto, using(crate::proofs::FormedDescriptors::formed_descriptor))]
+fn want_descriptor(pool: &ScannedPool, on_none: bool, number: u16) -> Result<(), ReadError>
     ensures { Gives (λ x. x) result (text_wanted (is_method_descriptor_for on_none) pool.now number) }
 {
-    match pool.utf8(number) {
+    match pool.forms(number) {
         None => Err(ReadError::Fault(ClassFault::Index)),
-        Some(text) => want_form(alloc, on_none, text),
+        Some(forms) => want(is_descriptor(on_none, forms), ClassFault::Descriptor),
     }
 }
 
-/// Whether a method has this name and this descriptor.
-fn is_same(pool: &Pool, name: u16, descriptor: u16, method: &MethodInfo) -> bool
-    ensures { result ≡ is_same_method pool.now name descriptor method.now }
-{
-    same_entry_text(pool, method.name, name) && same_entry_text(pool, method.descriptor, descriptor)
+/// Methods that were read, with their names and descriptors.
+#[derive(Drop)]
+struct Methods {
+    items: Items<MethodInfo>,
+    seen: Seen,
 }
 
-/// Whether a method of this name and this descriptor is among methods.
-fn is_among(pool: &Pool, name: u16, descriptor: u16, methods: &[MethodInfo]) -> bool
-    ensures { result ≡ list_any (is_same_method pool.now name descriptor) methods.now }
-{
-    methods
-        .iter()
-        .any(|method| is_same(pool, name, descriptor, method))
+impl Methods {
+    /// No methods.
+    fn new(alloc: Global, pool: &ScannedPool) -> Self
+        ensures items { result.items ≡ [] }
+        ensures seen { AreMethods pool.now result.seen result.items }
+    {
+        Methods {
+            items: Items::new(alloc),
+            seen: Seen::new(alloc),
+        }
+    }
+
+    /// Whether one of the methods has this name and this descriptor.
+    fn has(&self, pool: &ScannedPool, name: u16, descriptor: u16) -> bool
+        requires { AreMethods pool.now self.now.seen self.now.items }
+        ensures { result ≡ list_any (is_same_method pool.now name descriptor) self.now.items }
+    {
+        self.seen.has(pool, name, descriptor)
+    }
+
+    /// Puts a method behind the others.
+    #[tactic(auto, using(crate::proofs::SeenMembers::method_more))]
+    fn push(&mut self, pool: &ScannedPool, method: MethodInfo) -> Result<(), AllocError>
+        requires { AreMethods pool.now self.old.seen self.old.items }
+        ensures items { OnOk result (self.new.items ≡ self.old.items ++ method ∷ []) }
+        ensures seen { OnOk result (AreMethods pool.now self.new.seen self.new.items) }
+    {
+        self.seen.put(pool, method.name, method.descriptor)?;
+        self.items.push(method)?;
+        Ok(())
+    }
 }
 
-/// A method whose access flags and name are read; `seen` are those before it.
+/// A method whose access flags and name are read; `before` are those before it.
 fn named_at<'a>(
     alloc: Global,
-    pool: &Pool,
+    pool: &ScannedPool,
     major: u16,
     cut: ClassFault,
     access: u16,
     name: u16,
-    seen: &[MethodInfo],
+    before: &Methods,
     bytes: &'a [u8],
 ) -> Result<(MethodInfo, &'a [u8]), ReadError>
-    ensures { Gives (λ x. (x.0, x.1.now)) result (named_method_at pool.now major cut access name seen.now bytes.now) }
+    requires { AreMethods pool.now before.now.seen before.now.items }
+    ensures { Gives (λ x. (x.0, x.1.now)) result (named_method_at pool.now major cut access name before.now.items bytes.now) }
 {
     let (descriptor, rest) = u2_at(cut, bytes)?;
-    let initializer = names_initializer(pool, name);
+    let initializer = names_initializer(pool.pool(), name);
     let on_none = Flags::of_access(access).is_static() || initializer;
-    want_descriptor(alloc, pool, on_none, descriptor)?;
+    want_descriptor(pool, on_none, descriptor)?;
     want(
-        !is_among(pool, name, descriptor, seen),
+        !before.has(pool, name, descriptor),
         ClassFault::RepeatedMember,
     )?;
     let head = Head {
@@ -286,36 +307,37 @@ fn named_at<'a>(
         descriptor,
     };
     let code = has_to_have_code(initializer, access);
-    method_behind(alloc, pool, major, cut, head, code, rest)
+    method_behind(alloc, pool.pool(), major, cut, head, code, rest)
 }
 
-/// The next method of a class with these access flags; `seen` are those before it.
+/// The next method of a class with these access flags; `before` are those before it.
 #[tactic(auto, unfolding(jvms::specs::Members::method_at))]
 fn method_at<'a>(
     alloc: Global,
-    pool: &Pool,
+    pool: &ScannedPool,
     major: u16,
     cut: ClassFault,
     class_access: u16,
-    seen: &[MethodInfo],
+    before: &Methods,
     bytes: &'a [u8],
 ) -> Result<(MethodInfo, &'a [u8]), ReadError>
-    ensures { Gives (λ x. (x.0, x.1.now)) result (method_read pool.now major cut class_access seen.now bytes.now) }
+    requires { AreMethods pool.now before.now.seen before.now.items }
+    ensures { Gives (λ x. (x.0, x.1.now)) result (method_read pool.now major cut class_access before.now.items bytes.now) }
 {
     let (access, rest) = u2_at(cut, bytes)?;
     let (name, rest) = u2_at(cut, rest)?;
     want_name(pool, name)?;
     want(
-        may_have(class_access, names_initializer(pool, name), access),
+        may_have(class_access, names_initializer(pool.pool(), name), access),
         ClassFault::CodePresence,
     )?;
-    named_at(alloc, pool, major, cut, access, name, seen, rest)
+    named_at(alloc, pool, major, cut, access, name, before, rest)
 }
 
 /// So many methods.
 fn methods_of<'a>(
     alloc: Global,
-    pool: &Pool,
+    pool: &ScannedPool,
     major: u16,
     cut: ClassFault,
     class_access: u16,
@@ -324,7 +346,7 @@ fn methods_of<'a>(
 ) -> Result<(Items<MethodInfo>, &'a [u8]), ReadError>
     ensures { Gives (λ x. (x.0, x.1.now)) result (counted_onto (method_read pool.now major cut class_access) [] count bytes.now) }
 {
-    let mut methods = Items::new(alloc);
+    let mut methods = Methods::new(alloc, pool);
     let mut rest = bytes;
     let mut left = count;
     while left > 0 {
@@ -334,23 +356,23 @@ fn methods_of<'a>(
             major,
             cut,
             class_access,
-            methods.as_slice(),
+            &methods,
             rest,
         ) {
             Ok(read) => read,
             Err(error) => return Err(error),
         };
-        methods.push(method)?;
+        methods.push(pool, method)?;
         rest = behind;
         left -= 1;
     }
-    Ok((methods, rest))
+    Ok((methods.items, rest))
 }
 
 /// methods_count and the methods of a class with these access flags.
 pub(crate) fn methods_at<'a>(
     alloc: Global,
-    pool: &Pool,
+    pool: &ScannedPool,
     major: u16,
     cut: ClassFault,
     class_access: u16,

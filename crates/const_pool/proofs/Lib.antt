@@ -1,2 +1,4 @@
 pub mod EntryLists
+pub mod FirstNumbers
+pub mod FormedMembers
 pub mod Interned

@@ -1,3 +1,5 @@
+pub mod Firsts
 pub mod Interning
 pub mod Numbered
+pub mod Texts
 pub mod Writing

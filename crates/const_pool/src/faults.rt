@@ -2,32 +2,25 @@
 
 ghost use Rattle.std.specs.Prelude.{◌≡◌, []};
 ghost use Rattle.jvms.specs.declared.class_file.Constant.TheVariants.{Class, NameAndType};
-ghost use Rattle.jvms.specs.ConstantPool.{is_method_descriptor as is_method_sort, names_sort, is_member, reference_fault, entry_fault, entries_fault};
+ghost use Rattle.jvms.specs.ConstantPool.{names_sort, reference_fault, entry_fault, entries_fault};
 ghost use Rattle.jvms.specs.Reading.{Gives};
+ghost use Rattle.const_pool.specs.Texts.{is_formed_member};
 
 use crate::bytes::want;
+use crate::forms::{Forms, begins_as_method};
 use crate::pool::Pool;
-use descriptor::{
-    is_class_entry_name, is_field_descriptor, is_method_descriptor, is_method_name, is_name,
-};
+use crate::scanned::ScannedPool;
 use jvms::class_file::Constant;
 use jvms::fault::{ClassFault, ReadError};
 
-/// Whether a descriptor is of the sort that methods have.
-fn begins_as_method(descriptor: &[u16]) -> bool
-    ensures { result ≡ is_method_sort descriptor.now }
+/// Whether texts of these forms are a method's name and descriptor, or a field's.
+fn is_member_form(name: Forms, descriptor: Forms) -> bool
+    ensures { result ≡ is_formed_member name descriptor }
 {
-    matches!(descriptor, [40, ..])
-}
-
-/// Whether a name and a descriptor are a method's or a field's.
-fn is_member_form(name: &[u16], descriptor: &[u16]) -> bool
-    ensures { result ≡ is_member name.now descriptor.now }
-{
-    if begins_as_method(descriptor) {
-        is_method_name(name) && is_method_descriptor(descriptor)
+    if descriptor.method_sort {
+        name.method_name && descriptor.method_units.is_some()
     } else {
-        is_name(name) && is_field_descriptor(descriptor)
+        name.name && descriptor.field_descriptor
     }
 }
 
@@ -62,29 +55,35 @@ fn check_reference(
 
 /// A class's entry.
 #[tactic(auto, unfolding(jvms::specs::ConstantPool::entry_fault))]
-fn check_class(pool: &Pool, name: u16) -> Result<(), ReadError>
+fn check_class(pool: &ScannedPool, name: u16) -> Result<(), ReadError>
     ensures { Gives (λ x. x) result (entry_fault pool.now (Class name) []) }
 {
-    match pool.utf8(name) {
+    match pool.forms(name) {
         None => Err(ReadError::Fault(ClassFault::Index)),
-        Some(text) => want(is_class_entry_name(text), ClassFault::Descriptor),
+        Some(forms) => want(forms.class_entry_name, ClassFault::Descriptor),
     }
 }
 
 /// The entry of a name and a type.
-#[tactic(auto, unfolding(jvms::specs::ConstantPool::entry_fault))]
-fn check_name_and_type(pool: &Pool, name: u16, descriptor: u16) -> Result<(), ReadError>
+#[tactic(auto, unfolding(jvms::specs::ConstantPool::entry_fault), using(crate::proofs::FormedMembers::formed_member))]
+fn check_name_and_type(pool: &ScannedPool, name: u16, descriptor: u16) -> Result<(), ReadError>
     ensures { Gives (λ x. x) result (entry_fault pool.now (NameAndType name descriptor) []) }
 {
-    match pool.two_texts(name, descriptor) {
-        None => Err(ReadError::Fault(ClassFault::Index)),
-        Some((name, descriptor)) => want(is_member_form(name, descriptor), ClassFault::Descriptor),
+    match (pool.forms(name), pool.forms(descriptor)) {
+        (Some(name), Some(descriptor)) => {
+            want(is_member_form(name, descriptor), ClassFault::Descriptor)
+        }
+        _ => Err(ReadError::Fault(ClassFault::Index)),
     }
 }
 
 /// One entry; `behind` are the entries behind it.
 #[tactic(auto, unfolding(jvms::specs::ConstantPool::entry_fault))]
-fn check_entry(pool: &Pool, constant: &Constant, behind: &[Constant]) -> Result<(), ReadError>
+fn check_entry(
+    pool: &ScannedPool,
+    constant: &Constant,
+    behind: &[Constant],
+) -> Result<(), ReadError>
     ensures { Gives (λ x. x) result (entry_fault pool.now constant.now behind.now) }
 {
     match constant {
@@ -93,11 +92,11 @@ fn check_entry(pool: &Pool, constant: &Constant, behind: &[Constant]) -> Result<
         ),
         Constant::Long(_) | Constant::Double(_) => want(!behind.is_empty(), ClassFault::Index),
         Constant::Class { name } => check_class(pool, *name),
-        Constant::String { text } => want(pool.is_utf8(*text), ClassFault::Index),
+        Constant::String { text } => want(pool.pool().is_utf8(*text), ClassFault::Index),
         Constant::Field {
             class,
             name_and_type,
-        } => check_reference(false, pool, *class, *name_and_type),
+        } => check_reference(false, pool.pool(), *class, *name_and_type),
         Constant::Method {
             class,
             name_and_type,
@@ -105,14 +104,14 @@ fn check_entry(pool: &Pool, constant: &Constant, behind: &[Constant]) -> Result<
         | Constant::InterfaceMethod {
             class,
             name_and_type,
-        } => check_reference(true, pool, *class, *name_and_type),
+        } => check_reference(true, pool.pool(), *class, *name_and_type),
         Constant::NameAndType { name, descriptor } => check_name_and_type(pool, *name, *descriptor),
     }
 }
 
 /// The first fault of entries, by rising number.
 #[tactic(auto, unfolding(jvms::specs::ConstantPool::entries_fault))]
-pub fn check_entries(pool: &Pool, entries: &[Constant]) -> Result<(), ReadError>
+pub fn check_entries(pool: &ScannedPool, entries: &[Constant]) -> Result<(), ReadError>
     ensures { Gives (λ x. x) result (entries_fault pool.now entries.now) }
 {
     let mut rest = entries;

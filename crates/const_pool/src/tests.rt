@@ -19,8 +19,9 @@ fn reads_the_pool_of_gcd(rt: HostRuntime) -> Result<(), Fail> {
     let (entries, rest) = entries_at_front(rt.alloc(), CUT, &GCD_POOL)?;
     assert_eq!(rt; rest.len(), 0);
     assert_eq!(rt; entries.len(), 7);
-    let pool = Pool::of(entries);
-    check_entries(&pool, pool.entries().as_slice())?;
+    let scanned = ScannedPool::of(rt.alloc(), entries)?;
+    check_entries(&scanned, scanned.pool().entries().as_slice())?;
+    let pool = scanned.pool();
     assert!(rt; pool.is_class(2));
     assert!(rt; pool.is_utf8(1));
     assert!(rt; !pool.is_utf8(2));
@@ -31,7 +32,7 @@ fn reads_the_pool_of_gcd(rt: HostRuntime) -> Result<(), Fail> {
     assert!(rt; pool.utf8(5) == Some([103, 99, 100].as_slice()));
     assert!(rt; pool.name_and_type(2).is_none());
     assert!(rt; pool.two_texts(1, 5).is_some());
-    assert_eq!(rt; pool.into_entries().len(), 7);
+    assert_eq!(rt; scanned.into_entries().len(), 7);
     Ok(())
 }
 
@@ -53,10 +54,10 @@ fn reads_numbers_highest_byte_first(rt: HostRuntime) -> Result<(), Fail> {
 fn fault_of(rt: &HostRuntime, bytes: &[u8]) -> Option<ReadError> {
     match entries_at_front(rt.alloc(), CUT, bytes) {
         Err(error) => Some(error),
-        Ok((entries, _)) => {
-            let pool = Pool::of(entries);
-            check_entries(&pool, pool.entries().as_slice()).err()
-        }
+        Ok((entries, _)) => match ScannedPool::of(rt.alloc(), entries) {
+            Err(_) => Some(ReadError::Memory),
+            Ok(pool) => check_entries(&pool, pool.pool().entries().as_slice()).err(),
+        },
     }
 }
 
@@ -155,5 +156,48 @@ fn a_full_pool_keeps_what_it_has(rt: HostRuntime) -> Result<(), Fail> {
     assert!(rt; builder.intern(Entry::Integer(0)) == Err(PoolFault::PoolFull));
     assert_eq!(rt; builder.intern(Entry::Integer(7))?, 7);
     assert_eq!(rt; builder.into_pool(rt.alloc())?.into_entries().len(), 65534);
+    Ok(())
+}
+
+/// The pool of the texts `x`, `(JI)V`, `x` and `[I`, with a class's entry in front of the last.
+const TEXTS: [u8; 29] = [
+    0x00, 0x06, 0x01, 0x00, 0x01, 0x78, 0x01, 0x00, 0x05, 0x28, 0x4a, 0x49, 0x29, 0x56, 0x01, 0x00,
+    0x01, 0x78, 0x07, 0x00, 0x05, 0x01, 0x00, 0x02, 0x5b, 0x49, 0xff, 0xff, 0xff,
+];
+
+#[test]
+fn scans_texts(rt: HostRuntime) -> Result<(), Fail> {
+    let (entries, rest) = entries_at_front(rt.alloc(), CUT, &TEXTS)?;
+    assert_eq!(rt; rest.len(), 3);
+    let pool = ScannedPool::of(rt.alloc(), entries)?;
+    for (number, wanted) in [
+        (0, None),
+        (1, Some(1)),
+        (2, Some(2)),
+        (3, Some(1)),
+        (4, None),
+        (5, Some(5)),
+        (6, None),
+    ] {
+        assert_eq!(rt; pool.canonical(number), wanted, "at {number}");
+    }
+    assert!(rt; pool.forms(4).is_none());
+    assert!(rt; pool.forms(3) == pool.forms(1));
+    for (number, name, field_descriptor, class_entry_name, units) in [
+        (1, true, false, true, None),
+        (2, true, false, true, Some(3)),
+        (5, false, true, true, None),
+    ] {
+        match pool.forms(number) {
+            Some(forms) => {
+                assert_eq!(rt; forms.name, name);
+                assert_eq!(rt; forms.field_descriptor, field_descriptor);
+                assert_eq!(rt; forms.class_entry_name, class_entry_name);
+                assert_eq!(rt; forms.method_units, units);
+            }
+            None => assert!(rt; false),
+        }
+    }
+    assert_eq!(rt; pool.into_entries().len(), 5);
     Ok(())
 }

@@ -1,10 +1,15 @@
 use Rattle.std.proofs.Common.{◌≡◌, []}
 use Rattle.jvms.specs.Results.{counted_onto}
 use Rattle.jvms.specs.Members.{field_at}
+use Rattle.class_file.specs.Seen.{AreFields}
 use Rattle.class_file.proofs.field.fields_of.Given as goal
 
 abbrev pub invariant-loop-left : goal.invariant-loop-left
-invariant-loop-left l = counted_onto (field_at l.pool l.cut) l.fields l.left l.rest ≡ counted_onto (field_at l.pool l.cut) [] l.fn.count l.fn.bytes
+invariant-loop-left l =
+    record {
+      read : counted_onto (field_at l.pool l.cut) l.fields.items l.left l.rest ≡ counted_onto (field_at l.pool l.cut) [] l.fn.count l.fn.bytes;
+      seen : AreFields l.pool l.fields.seen l.fields.items;
+    }
 
 abbrev pub decreases-loop-left : goal.decreases-loop-left
 decreases-loop-left l = l.left

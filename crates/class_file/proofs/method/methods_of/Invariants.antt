@@ -1,10 +1,15 @@
 use Rattle.std.proofs.Common.{◌≡◌, []}
 use Rattle.jvms.specs.Results.{counted_onto}
 use Rattle.jvms.specs.Members.{method_at}
+use Rattle.class_file.specs.Seen.{AreMethods}
 use Rattle.class_file.proofs.method.methods_of.Given as goal
 
 abbrev pub invariant-loop-left : goal.invariant-loop-left
-invariant-loop-left l = counted_onto (method_at l.pool l.major l.cut l.class_access) l.methods l.left l.rest ≡ counted_onto (method_at l.pool l.major l.cut l.class_access) [] l.fn.count l.fn.bytes
+invariant-loop-left l =
+    record {
+      read : counted_onto (method_at l.pool l.major l.cut l.class_access) l.methods.items l.left l.rest ≡ counted_onto (method_at l.pool l.major l.cut l.class_access) [] l.fn.count l.fn.bytes;
+      seen : AreMethods l.pool l.methods.seen l.methods.items;
+    }
 
 abbrev pub decreases-loop-left : goal.decreases-loop-left
 decreases-loop-left l = l.left

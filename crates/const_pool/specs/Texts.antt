@@ -1,0 +1,72 @@
+-- What is known of the texts of a pool's entries.
+use Rattle.std.specs.Prelude.{ℕ, ◌+◌, Bool, false, ◌==◌, ◌&&◌, if◌then◌else◌, List, [], ◌∷◌, Option, Some, None, is_some}
+use Rattle.std.specs.Option.{option_map, unwrap_or}
+use Rattle.jvms.specs.declared.class_file.Constant.{Constant}
+use Rattle.jvms.specs.Names.{same_text, is_name, is_method_name}
+use Rattle.jvms.specs.Descriptors.{field_type_of, method_type_of, parameter_units, is_class_entry_name}
+use Rattle.jvms.specs.ConstantPool.{utf8_of, utf8_at, is_method_descriptor as is_method_sort}
+use Rattle.jvms.specs.Members.{is_text_with}
+use Rattle.const_pool.specs.declared.forms.Forms.{Forms}
+use Rattle.const_pool.specs.declared.scanned.Text.{Text}
+
+-- ---- Forms
+
+-- The units of a method's parameters, where a text is its descriptor.
+abbrev pub method_units_of : List ℕ → Option ℕ
+method_units_of text = option_map parameter_units (method_type_of text)
+
+abbrev pub forms_of : List ℕ → Forms
+forms_of text =
+    record {
+      name = is_name text;
+      method_name = is_method_name text;
+      class_entry_name = is_class_entry_name text;
+      field_descriptor = is_some (field_type_of text);
+      method_sort = is_method_sort text;
+      method_units = method_units_of text;
+    }
+
+-- Whether texts of these forms are a method's name and descriptor, or a field's (JVMS 4.4.6).
+abbrev pub is_formed_member : Forms → Forms → Bool
+is_formed_member name descriptor =
+    if descriptor.method_sort
+    then name.method_name && is_some descriptor.method_units
+    else name.name && descriptor.field_descriptor
+
+-- ---- Equal texts
+
+-- Whether an entry is this text.
+abbrev pub is_this : List ℕ → Constant → Bool
+is_this text c = is_text_with (same_text text) (utf8_of c)
+
+-- The number of the first entry that is this text; n is that of the first of these.
+abbrev pub first_from : ℕ → List Constant → List ℕ → Option ℕ
+first_from n [] text = None
+first_from n (c ∷ cs) text = if is_this text c then Some n else first_from (n + 1) cs text
+
+-- The least number of an entry that is this text.
+abbrev pub first_number : List Constant → List ℕ → Option ℕ
+first_number pool text = first_from 1 pool text
+
+-- The number of a text once an entry of this number is there too: the one that it has, or else the entry's
+-- where that is the text.
+abbrev pub known_after : Option ℕ → ℕ → List ℕ → Constant → Option ℕ
+known_after (Some m) n text c = Some m
+known_after None n text c = if is_this text c then Some n else None
+
+-- An entry's text, if it is one, with a number and its forms.
+abbrev pub text_with : (List ℕ → ℕ) → Constant → Option Text
+text_with number c = option_map (λ text. record { canonical = number text; forms = forms_of text }) (utf8_of c)
+
+-- What is known of an entry's text, if it is one.
+abbrev pub text_of : List Constant → Constant → Option Text
+text_of pool c = text_with (λ text. unwrap_or (first_number pool text) 0) c
+
+-- The least number of an entry whose text is that of this number.
+abbrev pub canonical : List Constant → ℕ → Option ℕ
+canonical pool n = option_map (λ text. unwrap_or (first_number pool text) 0) (utf8_at pool n)
+
+-- Whether two numbers are there, and are one.
+abbrev pub is_one_number : Option ℕ → Option ℕ → Bool
+is_one_number (Some m) (Some n) = m == n
+is_one_number _ _ = false

@@ -1,0 +1,46 @@
+//! The forms of texts (JVMS 4.2, 4.3, 4.4.1), which are looked at once for each text and not once for each
+//! entry that names it.
+
+ghost use Rattle.std.specs.Prelude.{◌≡◌};
+ghost use Rattle.jvms.specs.ConstantPool.{is_method_descriptor as is_method_sort};
+ghost use Rattle.const_pool.specs.Texts.{forms_of as forms_of_text};
+
+use descriptor::{is_class_entry_name, is_field_descriptor, is_method_name, is_name, method_units};
+
+/// Which forms a text has.
+#[derive(Clone, Copy, Debug, PartialEq, Eq)]
+pub struct Forms {
+    /// Whether it is a field's name.
+    pub name: bool,
+    /// Whether it is a method's name.
+    pub method_name: bool,
+    /// Whether it is the name of a class's entry: a class's name, or an array's descriptor.
+    pub class_entry_name: bool,
+    /// Whether it is a field's descriptor.
+    pub field_descriptor: bool,
+    /// Whether it begins as a method's descriptor does.
+    pub method_sort: bool,
+    /// The units of the parameters, where it is a method's descriptor.
+    pub method_units: Option<usize>,
+}
+
+/// Whether a text begins as a method's descriptor does.
+pub(crate) fn begins_as_method(text: &[u16]) -> bool
+    ensures { result ≡ is_method_sort text.now }
+{
+    matches!(text, [40, ..])
+}
+
+/// The forms of a text.
+pub(crate) fn forms_of(text: &[u16]) -> Forms
+    ensures { result ≡ forms_of_text text.now }
+{
+    Forms {
+        name: is_name(text),
+        method_name: is_method_name(text),
+        class_entry_name: is_class_entry_name(text),
+        field_descriptor: is_field_descriptor(text),
+        method_sort: begins_as_method(text),
+        method_units: method_units(text),
+    }
+}
