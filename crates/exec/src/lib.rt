@@ -14,5 +14,6 @@ mod switches;
 #[cfg(test)]
 mod tests;
 
+pub use locals::is_loaded;
 pub use row::{peek, run};
 pub use step::Step;

@@ -23,8 +23,9 @@ fn is_profile_kind(kind: Kind) -> bool
     }
 }
 
+/// Whether a value is of the kind that a load or a return takes.
 #[inline]
-fn is_loaded(kind: Kind, value: Value) -> bool
+pub fn is_loaded(kind: Kind, value: Value) -> bool
     ensures { result ≡ loads kind value }
 {
     match value {

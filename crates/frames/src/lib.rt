@@ -3,7 +3,6 @@
 #![tactic(auto)]
 
 mod frame;
-mod operand;
 #[cfg(test)]
 mod tests;
 

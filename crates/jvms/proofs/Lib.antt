@@ -10,3 +10,4 @@ pub mod OpeningSoundness
 pub mod StartLaws
 pub mod TextLaws
 pub mod TurnSoundness
+pub mod UnmadeTurns

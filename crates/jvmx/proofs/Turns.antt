@@ -2,6 +2,7 @@
 use Rattle.std.proofs.Common.{◌≡◌, ℕ, zero, suc, ◌+◌, ◌-◌, ◌<◌, ◌≤◌, true, false, List, [], ◌∷◌, length, refl, ap, sym, ◌∙◌, arith}
 use Rattle.jvms.specs.State.{State}
 use Rattle.jvms.specs.Run.{is_enabled, run_from}
+use Rattle.jvms.proofs.UnmadeTurns.{unmade_turn_keeps}
 use Rattle.machine.specs.Machine.{Machine, row_of, with_state}
 use Rattle.jvmx.specs.Evaluation.{zeros_from}
 
@@ -64,7 +65,7 @@ ends m left before s turns none comes =
 pub ends_used : (m : Machine) (left before : ℕ) (s : State) (turns : ℕ) → left ≡ 0 → ComesTo m left before s turns → (m.state ≡ s) × (before ≡ turns)
 ends_used m left before s turns used comes = ends m left before s turns (rw used (nothing_left m)) comes
 
-pub ends_disabled : (m : Machine) (left before : ℕ) (s : State) (turns : ℕ) → is_enabled (row_of m 0).outcome ≡ false → ComesTo m left before s turns → (m.state ≡ s) × (before ≡ turns)
+ends_disabled : (m : Machine) (left before : ℕ) (s : State) (turns : ℕ) → is_enabled (row_of m 0).outcome ≡ false → ComesTo m left before s turns → (m.state ≡ s) × (before ≡ turns)
 ends_disabled m left before s turns disabled comes = ends m left before s turns (none_left m left disabled) comes
 
 minus_more : (most turns : ℕ) → most - turns - 1 ≡ most - (turns + 1)
@@ -82,3 +83,10 @@ turn_made old m after most made s turns below enabled same comes is =
 -- The machine at the end.
 pub machine_at_end : (old m : Machine) (s : State) → m ≡ with_state old m.state → m.state ≡ s → m ≡ with_state old s
 machine_at_end old m s same is = same ∙ ap (with_state old) is
+
+-- The machine at the end, behind a turn that wasn't made.
+pub turn_unmade : (old m after : Machine) (left before : ℕ) (s : State) (turns : ℕ) → is_enabled (row_of m 0).outcome ≡ false → m ≡ with_state old m.state → ComesTo m left before s turns → after ≡ with_state m (row_of m 0).state → (after ≡ with_state old s) × (before ≡ turns)
+turn_unmade old m after left before s turns disabled same comes is =
+    let end = ends_disabled m left before s turns disabled comes in
+    let kept = ap (with_state m) (unmade_turn_keeps m.program m.limits m.start m.state 0 disabled).0 in
+    (is ∙ kept ∙ machine_at_end old m s same end.0, end.1)

@@ -4,7 +4,7 @@ ghost use Rattle.std.specs.Prelude.{◌≡◌, ◌≢◌, ◌+◌, ◌++◌, ◌
 ghost use Rattle.std.specs.Io.KnownBytes.{Appends};
 ghost use Rattle.jvms.specs.ClassFile.{read as file_read};
 ghost use Rattle.jvms.specs.Reading.{Gives};
-ghost use Rattle.jvms.specs.Run.{run_from, is_enabled as enabled_by};
+ghost use Rattle.jvms.specs.Run.{run_from};
 ghost use Rattle.machine.specs.Machine.{with_state};
 ghost use Rattle.trace.specs.Bytes.{AppendsBeginning};
 ghost use Rattle.jvmx.specs.Evaluation.{IsFault, evaluated as said_of, evaluated_program as program_said, classes_from, result_text, value_text, zeros_from, IsClassesFault, WroteBeginning};
@@ -12,10 +12,10 @@ ghost use Rattle.jvmx.specs.declared.eval.EvalFault.TheVariants.{Link, Machine a
 
 use class_file::{ReadError, read};
 use jvms::class_file::ClassFile;
-use jvms::machine::{Entry, Limits, Outcome, Status};
+use jvms::machine::{Entry, Limits, Status};
 use jvms::value::Value;
 use linker::{LinkFault, link};
-use machine::{Machine, MachineFault};
+use machine::{Machine, MachineFault, is_enabled};
 use program::Program;
 use std::alloc::{AllocError, AllocFailed, Global};
 use thiserror::Error;
@@ -128,17 +128,6 @@ fn read_all(alloc: Global, files: &[Vec<u8>]) -> Result<Vec<ClassFile>, EvalFaul
     Ok(classes)
 }
 
-/// Whether a thread whose next turn comes to this is enabled.
-fn is_enabled(outcome: Outcome) -> bool
-    ensures { result ≡ enabled_by outcome }
-{
-    match outcome {
-        Outcome::Ran | Outcome::Raised => true,
-        Outcome::Ended { last } => last,
-        Outcome::Blocked { .. } | Outcome::NoThread | Outcome::Bad { .. } => false,
-    }
-}
-
 /// Makes turns of thread 0 while it is enabled, at most so many, and counts them.
 fn take_turns(alloc: Global, machine: &mut Machine<'_>, most: u64) -> Result<u64, AllocError>
     ensures count { IfOk result (λ turns. turns ≡ length (zeros_from most machine.old.program machine.old.limits machine.old.start machine.old.state)) }
@@ -146,9 +135,12 @@ fn take_turns(alloc: Global, machine: &mut Machine<'_>, most: u64) -> Result<u64
         (zeros_from most machine.old.program machine.old.limits machine.old.start machine.old.state)).state) }
 {
     let mut turns = 0;
-    while turns < most && is_enabled(machine.peek(0)) {
+    while turns < most {
         let mut items = Trace::new(alloc);
-        machine.step(0, &mut items)?;
+        // Where thread 0 isn't enabled, the turn changes nothing.
+        if !is_enabled(machine.step(0, &mut items)?) {
+            return Ok(turns);
+        }
         turns += 1;
     }
     Ok(turns)

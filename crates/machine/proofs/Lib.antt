@@ -9,3 +9,5 @@ mod StatusLaws
 mod RunLaws
 mod Stacks
 mod TurnPlans
+mod FieldLaws
+mod OpeningLaws

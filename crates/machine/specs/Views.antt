@@ -1,16 +1,99 @@
 -- Parts of a machine's state, as they are asked for.
-use Rattle.std.specs.Prelude.{ℕ, Bool, true, List, Option, Some, None, slice_get}
+use Rattle.std.specs.Prelude.{ℕ, zero, suc, Bool, true, false, not, ◌&&◌, List, length, Option, Some, None, slice_get}
 use Rattle.std.specs.Option.{option_and_then, option_map}
-use Rattle.jvms.specs.State.{Cell, Thread, object_at, class_of}
+use Rattle.std.specs.Map.{lookup}
+use Rattle.jvms.specs.declared.value.Value.{Value}
+use Rattle.jvms.specs.declared.program.Field.{Field}
+use Rattle.jvms.specs.declared.trace.FieldKey.{FieldKey}
+use Rattle.jvms.specs.Names.{same_text}
+use Rattle.jvms.specs.State.{Cell, Object, instance, array, text, class_object, Thread, Frame, call, initialisation, object_at, class_of}
+use Rattle.jvms.specs.State as state
+use Rattle.machine.specs.declared.state.objects.Hold.{Hold}
+use Rattle.machine.specs.declared.state.threads.FrameView.{FrameView}
+use Rattle.machine.specs.declared.state.threads.FrameView.TheVariants as frame_view
+use Rattle.machine.specs.Kept.{method_frame}
 use Rattle.machine.specs.Machine.{Machine}
+
+-- ---- Threads
 
 -- The thread of a number, if it was started.
 abbrev pub thread_at : Machine → ℕ → Option Thread
 thread_at m t = slice_get m.state.threads t
 
+-- The frame of a thread at a depth, from 0 at the top.
+abbrev pub frame_at : Machine → ℕ → ℕ → Option Frame
+frame_at m t depth = option_and_then (λ x. slice_get x.frames depth) (thread_at m t)
+
+-- The frame that a view shows.
+abbrev pub shown : FrameView → Frame
+shown (frame_view.Call frame) = call (method_frame frame.now)
+shown (frame_view.Initialisation class called) = initialisation class called
+
+-- ---- Objects
+
+-- What is asked of the object that a reference leads to.
+abbrev pub asked : {A : Type 0} → (Object → Option A) → Machine → ℕ → Option A
+asked {A} part m r = option_and_then part (object_at m.state.heap r)
+
 -- The class of the object of a reference.
 abbrev pub class_at : List Cell → ℕ → Option (List ℕ)
 class_at heap r = option_map class_of (object_at heap r)
+
+abbrev pub same_key : FieldKey → FieldKey → Bool
+same_key a b = same_text a.class b.class && (same_text a.name b.name && same_text a.descriptor b.descriptor)
+
+-- The value of the first field of a key.
+abbrev pub value_of : FieldKey → List (FieldKey × Value) → Option Value
+value_of key fields = lookup (λ k. same_key k key) fields
+
+-- An instance's field.
+abbrev pub field_of : FieldKey → Object → Option Value
+field_of key (instance class fields) = value_of key fields
+field_of key _ = None
+
+-- How many elements an array has.
+abbrev pub length_of : Object → Option ℕ
+length_of (array class elements) = Some (length elements)
+length_of _ = None
+
+-- An array's element.
+abbrev pub element_of : ℕ → Object → Option Value
+element_of index (array class elements) = slice_get elements index
+element_of index _ = None
+
+-- The units of a string.
+abbrev pub units_of : Object → Option (List ℕ)
+units_of (text units) = Some units
+units_of _ = None
+
+-- The name of the class whose class object an object is.
+abbrev pub named_by : Object → Option (List ℕ)
+named_by (class_object name) = Some name
+named_by _ = None
+
+abbrev pub cell_at : List Cell → ℕ → Option Cell
+cell_at heap zero = None
+cell_at heap (suc i) = slice_get heap i
+
+-- How the monitor of the object of a reference is held, if it is.
+abbrev pub monitor_at : List Cell → ℕ → Option state.Hold
+monitor_at heap r = option_and_then (λ c. c.monitor) (cell_at heap r)
+
+abbrev pub hold_of : Hold → state.Hold
+hold_of h = record { owner = h.owner; count = h.count }
+
+-- ---- What a class declares
+
+-- Whether a field is static, or whether it isn't.
+abbrev pub is_static_or_not : Bool → Field → Bool
+is_static_or_not true f = f.is_static
+is_static_or_not false f = not f.is_static
+
+-- Whether a class's field is static or not, as is asked, and of a key's name and descriptor.
+abbrev pub is_declared : Bool → FieldKey → Field → Bool
+is_declared static key f = is_static_or_not static f && (same_text f.name key.name && same_text f.descriptor key.descriptor)
+
+-- ---- Ends of threads
 
 abbrev pub uncaught_in : List Cell → Bool → Option ℕ → Option (List ℕ)
 uncaught_in heap true (Some exception) = class_at heap exception

@@ -2,7 +2,10 @@
 
 ghost use Rattle.std.specs.Prelude.{◌≡◌, ◌≤◌, length, IfOk, slice_get};
 ghost use Rattle.jvms.specs.RowsCalls.{entered};
-ghost use Rattle.machine.specs.Kept.{CodedFrame, return_of, call_turn_of, call_after};
+ghost use Rattle.machine.specs.declared.call_frame.CallTurn.TheVariants as call_turn;
+ghost use Rattle.machine.specs.declared.thread.ThreadTurn.TheVariants as thread_turn;
+ghost use Rattle.machine.specs.Kept.{CodedFrame, method_frame, return_of, call_turn_of, call_after};
+ghost use Rattle.machine.specs.Plans.{is_going};
 
 use exec::Step;
 use frames::Frame;
@@ -52,6 +55,17 @@ fn return_of(instruction: &Instruction) -> Option<ReturnInsn>
     }
 }
 
+/// Whether an instruction was made.
+#[inline]
+fn is_made(step: Step) -> bool
+    ensures { result ≡ is_going (thread_turn.Calls (call_turn.Steps step)) }
+{
+    match step {
+        Step::Goes => true,
+        Step::Throws(_) | Step::Stops(_) => false,
+    }
+}
+
 impl<'p> CallFrame<'p> {
     /// A call that is entered with these arguments.
     pub(crate) fn enter(
@@ -74,6 +88,13 @@ impl<'p> CallFrame<'p> {
         self.frame.method()
     }
 
+    /// The frame.
+    pub(crate) fn frame(&self) -> &Frame
+        ensures { method_frame result.now ≡ self.now.frame }
+    {
+        &self.frame
+    }
+
     /// The operand on top.
     pub(crate) fn top(&self) -> Option<Value>
         ensures { result ≡ slice_get self.now.frame.operands 0 }
@@ -85,22 +106,21 @@ impl<'p> CallFrame<'p> {
         }
     }
 
-    /// Makes the turn of the instruction that is next, where it touches this frame alone.
+    /// Makes the turn of the instruction that is next, where it touches this frame alone, and tells whether
+    /// it did.
+    #[inline]
     #[tactic(auto, unfolding(crate::specs::Kept::call_turn_of, crate::specs::Kept::call_after))]
-    pub(crate) fn turn(&mut self) -> CallTurn
-        ensures turn { result ≡ call_turn_of self.old }
+    pub(crate) fn go_on(&mut self) -> bool
+        ensures goes { result ≡ is_going (thread_turn.Calls (call_turn_of self.old)) }
         ensures after { self.new ≡ call_after self.old }
     {
         let Some(instruction) = self.body.instructions.as_slice().get(self.frame.place()) else {
-            return CallTurn::FellOff;
+            return false;
         };
-        if let Some(how) = return_of(instruction) {
-            return CallTurn::Returns(how);
-        }
-        CallTurn::Steps(exec::run(self.body, instruction, &mut self.frame))
+        is_made(exec::run(self.body, instruction, &mut self.frame))
     }
 
-    /// What `turn` would come to, with nothing changed.
+    /// What the turn of the call comes to, as far as its own frame tells, with nothing changed.
     #[tactic(auto, unfolding(crate::specs::Kept::call_turn_of))]
     pub(crate) fn peek(&self) -> CallTurn
         ensures { result ≡ call_turn_of self.now }

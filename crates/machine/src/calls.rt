@@ -2,13 +2,11 @@
 
 ghost use Rattle.std.specs.Prelude.{◌≡◌, option_copied};
 ghost use Rattle.std.specs.List.{list_any};
-ghost use Rattle.jvms.specs.RowsNumbers.{is_loaded as loaded};
 ghost use Rattle.jvms.specs.RowsCalls.{is_outside_element, is_outside_result, is_outside as outside, enterable_body as enterable, has_static_constant as static_constant, has_initializer as initializer, asked_superclass as asked, kind_of_element as element_kind, kind_of_type as type_kind, gives_kind as gives, gives_nothing as nothing};
 
 use jvms::descriptor::{Element, FieldType, MethodType, Primitive, ResultType};
 use jvms::insn::Kind;
 use jvms::program::{Body, Class, ClassKind, Method};
-use jvms::value::Value;
 use program::{Program, declared_number};
 
 /// The name of the method that initialises a class, `<clinit>`.
@@ -88,17 +86,6 @@ pub(crate) fn asked_superclass(program: &Program, class: &Class) -> Option<usize
     }
     let superclass = class.superclass.as_ref()?;
     program.class_number(superclass.as_slice())
-}
-
-/// Whether a value is of the kind that a return takes.
-pub(crate) fn is_loaded(kind: Kind, value: Value) -> bool
-    ensures { result ≡ loaded kind value }
-{
-    match value {
-        Value::Int(_) => kind == Kind::Int,
-        Value::Null | Value::Reference(_) => kind == Kind::Reference,
-        Value::ReturnAddress(_) | Value::Unset => false,
-    }
 }
 
 fn kind_of_element(element: &Element) -> Kind

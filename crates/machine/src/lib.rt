@@ -26,3 +26,5 @@ pub use initialisation::Initialisation;
 pub use jvms::machine::{Entry, Limits, Outcome, Status, ThreadId};
 pub use machine::{Machine, admits};
 pub use run::RunStop;
+pub use state::{FrameView, Hold};
+pub use status::is_enabled;

@@ -8,13 +8,13 @@ ghost use Rattle.machine.specs.Plans.{begin_plan as begins, asking_plan as asks,
 use crate::call_frame::CallTurn;
 use crate::calls::{
     asked_superclass, enterable_body, gives_kind, gives_nothing, has_initializer,
-    has_static_constant, is_loaded, is_outside,
+    has_static_constant, is_outside,
 };
 use crate::initialisation::Initialisation;
 use crate::parts::Parts;
 use crate::plan::{Plan, bad, not_yet};
 use crate::thread::{Thread, ThreadTurn};
-use exec::Step;
+use exec::{Step, is_loaded};
 use jvms::descriptor::ResultType;
 use jvms::insn::{Kind, ReturnInsn};
 use jvms::machine::{BadCause, BlockedOn, Outcome};

@@ -9,8 +9,9 @@ use crate::machine::Machine;
 use crate::parts::Parts;
 use jvms::machine::{Outcome, Status};
 
-/// Whether a thread with this outcome before it is enabled.
-fn is_enabled(outcome: Outcome) -> bool
+/// Whether a thread whose next turn comes to this is enabled: the turn can be made.
+#[inline]
+pub fn is_enabled(outcome: Outcome) -> bool
     ensures { result ≡ enabled outcome }
 {
     match outcome {

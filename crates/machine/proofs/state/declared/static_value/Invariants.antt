@@ -1,0 +1,8 @@
+use Rattle.std.proofs.Common.{◌≡◌, drop}
+use Rattle.jvms.specs.State.{static_fields}
+use Rattle.machine.specs.Views.{value_of}
+use Rattle.machine.proofs.state.declared.static_value.Given as goal
+
+-- what the classes so far gave: nothing
+abbrev pub invariant-loop-class : goal.invariant-loop-class
+invariant-loop-class l = value_of l.key (static_fields l.classes) ≡ value_of l.key (static_fields (drop l.class-index l.classes))

@@ -1,0 +1,94 @@
+//! The objects of a machine, by their references. A reference that none was made of leads to nothing.
+
+ghost use Rattle.std.specs.Prelude.{◌≡◌, length};
+ghost use Rattle.std.specs.Option.{option_map};
+ghost use Rattle.machine.specs.Views.{asked, class_at, field_of, length_of, element_of, units_of, named_by, monitor_at, hold_of};
+
+use crate::machine::Machine;
+use jvms::machine::ThreadId;
+use jvms::trace::FieldKey;
+use jvms::value::Value;
+
+/// How many objects there are at the opening.
+const OPENING_OBJECTS: usize = 4;
+
+/// How many elements their arrays have.
+const OPENING_ELEMENTS: u32 = 0;
+
+/// How a monitor is held.
+#[derive(Clone, Copy, Debug, PartialEq, Eq)]
+pub struct Hold {
+    pub owner: ThreadId,
+    /// How often the owner has entered it and not left it.
+    pub count: u32,
+}
+
+impl Machine<'_> {
+    /// How many references were ever made.
+    pub fn object_count(&self) -> usize
+        ensures { result ≡ length self.now.state.heap }
+    {
+        let _ = &self.parts;
+        OPENING_OBJECTS
+    }
+
+    /// How many elements all arrays that were ever made have.
+    pub fn element_count(&self) -> u32
+        ensures { result ≡ self.now.state.elements }
+    {
+        let _ = &self.parts;
+        OPENING_ELEMENTS
+    }
+
+    /// The class of the object of a reference.
+    pub fn class_of(&self, reference: u32) -> Option<&[u16]>
+        ensures { option_map (λ c. c.now) result ≡ class_at self.now.state.heap reference }
+    {
+        self.parts.class_of(reference)
+    }
+
+    /// The value of an instance's field. There is none where the reference leads to no instance, or to one
+    /// that has no such field.
+    pub fn field(&self, reference: u32, key: &FieldKey) -> Option<Value>
+        ensures { result ≡ asked (field_of key.now) self.now reference }
+    {
+        self.parts.field(reference, key)
+    }
+
+    /// How many elements an array has. There is no answer where the reference leads to no array.
+    pub fn array_length(&self, reference: u32) -> Option<usize>
+        ensures { result ≡ asked length_of self.now reference }
+    {
+        self.parts.array_length(reference)
+    }
+
+    /// The value of an array's element. There is none where the reference leads to no array, or the array
+    /// ends before the index.
+    pub fn element(&self, reference: u32, index: usize) -> Option<Value>
+        ensures { result ≡ asked (element_of index) self.now reference }
+    {
+        self.parts.element(reference, index)
+    }
+
+    /// The units of a string. There are none where the reference leads to no string.
+    pub fn text(&self, reference: u32) -> Option<&[u16]>
+        ensures { option_map (λ units. units.now) result ≡ asked units_of self.now reference }
+    {
+        self.parts.text(reference)
+    }
+
+    /// The name of the class whose class object the reference leads to, if it leads to one.
+    pub fn class_object(&self, reference: u32) -> Option<&[u16]>
+        ensures { option_map (λ name. name.now) result ≡ asked named_by self.now reference }
+    {
+        self.parts.class_object(reference)
+    }
+
+    /// How the monitor of an object is held. There is no answer where it is free, or the reference leads
+    /// to nothing.
+    pub fn monitor(&self, reference: u32) -> Option<Hold>
+        ensures { option_map hold_of result ≡ monitor_at self.now.state.heap reference }
+    {
+        self.parts.monitor(reference)
+    }
+}

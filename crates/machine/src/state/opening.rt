@@ -1,0 +1,146 @@
+//! The objects and the static fields of the opening, which no row changes yet.
+
+ghost use Rattle.std.specs.Prelude.{◌≡◌, map};
+ghost use Rattle.std.specs.Option.{option_and_then, option_map};
+ghost use Rattle.jvms.specs.State.{object_at, static_fields};
+ghost use Rattle.jvms.specs.Run.{opening_heap, opening_static, is_system_out};
+ghost use Rattle.machine.specs.Views.{class_at, field_of, length_of, element_of, units_of, named_by, monitor_at, hold_of, value_of};
+
+use crate::parts::Parts;
+use crate::state::declared;
+use crate::state::objects::Hold;
+use jvms::trace::FieldKey;
+use jvms::value::Value;
+use program::same_text;
+
+/// `java/lang/OutOfMemoryError`, the class of reference 1.
+const OUT_OF_MEMORY_ERROR: [u16; 26] = [
+    106, 97, 118, 97, 47, 108, 97, 110, 103, 47, 79, 117, 116, 79, 102, 77, 101, 109, 111, 114,
+    121, 69, 114, 114, 111, 114,
+];
+
+/// `java/lang/StackOverflowError`, the class of reference 2.
+const STACK_OVERFLOW_ERROR: [u16; 28] = [
+    106, 97, 118, 97, 47, 108, 97, 110, 103, 47, 83, 116, 97, 99, 107, 79, 118, 101, 114, 102, 108,
+    111, 119, 69, 114, 114, 111, 114,
+];
+
+/// `java/io/PrintStream`, the class of reference 3.
+const PRINT_STREAM: [u16; 19] = [
+    106, 97, 118, 97, 47, 105, 111, 47, 80, 114, 105, 110, 116, 83, 116, 114, 101, 97, 109,
+];
+
+/// `[Ljava/lang/String;`, the class of reference 4.
+const STRINGS: [u16; 19] = [
+    91, 76, 106, 97, 118, 97, 47, 108, 97, 110, 103, 47, 83, 116, 114, 105, 110, 103, 59,
+];
+
+/// The last reference that leads to an instance.
+const LAST_INSTANCE: u32 = 3;
+
+/// `java/lang/System`, the class that declares `out`.
+const SYSTEM: [u16; 16] = [
+    106, 97, 118, 97, 47, 108, 97, 110, 103, 47, 83, 121, 115, 116, 101, 109,
+];
+
+/// `out`
+const OUT: [u16; 3] = [111, 117, 116];
+
+/// What `System.out` is.
+const SYSTEM_OUT: Value = Value::Reference(3);
+
+/// Whether a key is that of `System.out`.
+fn is_system_out(key: &FieldKey) -> bool
+    ensures { result ≡ is_system_out key.now }
+{
+    same_text(key.class.as_slice(), &SYSTEM) && same_text(key.name.as_slice(), &OUT)
+}
+
+impl Parts<'_> {
+    /// The class of the object of a reference.
+    pub(super) fn class_of(&self, reference: u32) -> Option<&[u16]>
+        ensures { option_map (λ c. c.now) result ≡ class_at (opening_heap self.now.program) reference }
+    {
+        match reference {
+            1 => Some(&OUT_OF_MEMORY_ERROR),
+            2 => Some(&STACK_OVERFLOW_ERROR),
+            3 => Some(&PRINT_STREAM),
+            4 => Some(&STRINGS),
+            _ => None,
+        }
+    }
+
+    /// The value of a field of an instance. None was stored in yet.
+    #[tactic(auto, using(crate::proofs::OpeningLaws::no_instance, crate::proofs::OpeningLaws::no_object, crate::proofs::OpeningLaws::field_of_class))]
+    pub(super) fn field(&self, reference: u32, key: &FieldKey) -> Option<Value>
+        ensures { result ≡ option_and_then (field_of key.now) (object_at (opening_heap self.now.program) reference) }
+    {
+        if reference > LAST_INSTANCE {
+            return None;
+        }
+        let class = self.class_of(reference)?;
+        declared::instance_value(self.program, class, key)
+    }
+
+    /// How many elements an array has: the one that there is has none.
+    #[tactic(auto, using(crate::proofs::OpeningLaws::no_other_array))]
+    pub(super) fn array_length(&self, reference: u32) -> Option<usize>
+        ensures { result ≡ option_and_then length_of (object_at (opening_heap self.now.program) reference) }
+    {
+        let _ = &self.program;
+        if reference == 4 { Some(0) } else { None }
+    }
+
+    /// An element of an array: there is none.
+    #[tactic(auto, using(crate::proofs::OpeningLaws::no_element))]
+    pub(super) fn element(&self, reference: u32, index: usize) -> Option<Value>
+        ensures { result ≡ option_and_then (element_of index) (object_at (opening_heap self.now.program) reference) }
+    {
+        let _ = &self.program;
+        let _ = (reference, index);
+        None
+    }
+
+    /// The units of a string: there is none.
+    #[tactic(auto, using(crate::proofs::OpeningLaws::no_text))]
+    pub(super) fn text(&self, reference: u32) -> Option<&[u16]>
+        ensures { option_map (λ units. units.now) result ≡ option_and_then units_of (object_at (opening_heap self.now.program) reference) }
+    {
+        let _ = &self.program;
+        let _ = reference;
+        None
+    }
+
+    /// The name of the class of a class object: there is none.
+    #[tactic(auto, using(crate::proofs::OpeningLaws::no_class_object))]
+    pub(super) fn class_object(&self, reference: u32) -> Option<&[u16]>
+        ensures { option_map (λ name. name.now) result ≡ option_and_then named_by (object_at (opening_heap self.now.program) reference) }
+    {
+        let _ = &self.program;
+        let _ = reference;
+        None
+    }
+
+    /// How the monitor of an object is held: none is.
+    #[tactic(auto, using(crate::proofs::OpeningLaws::no_monitor))]
+    pub(super) fn monitor(&self, reference: u32) -> Option<Hold>
+        ensures { option_map hold_of result ≡ monitor_at (opening_heap self.now.program) reference }
+    {
+        let _ = &self.program;
+        let _ = reference;
+        None
+    }
+
+    /// The value of a static field. Nothing was stored in any but `System.out`.
+    #[tactic(auto, using(crate::proofs::FieldLaws::nothing_opened, crate::proofs::FieldLaws::out_opened, crate::proofs::FieldLaws::other_opened))]
+    pub(super) fn static_value(&self, key: &FieldKey) -> Option<Value>
+        ensures { result ≡ value_of key.now (map opening_static (static_fields self.now.program)) }
+    {
+        let value = declared::static_value(self.program.classes(), key)?;
+        if is_system_out(key) {
+            Some(SYSTEM_OUT)
+        } else {
+            Some(value)
+        }
+    }
+}
