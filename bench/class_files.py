@@ -57,6 +57,7 @@ def class_file(pool, name, methods, attributes):
 
 
 GIVE_7 = b"\x10\x07\xac"  # bipush 7, ireturn
+ORDINARY = b"\x15\x05\x11\x01\x00\x60\x36\x05"  # iload 5, sipush 256, iadd, istore 5: two bytes an instruction
 
 
 def one_large_attribute(size):
@@ -67,12 +68,13 @@ def one_large_attribute(size):
     return class_file(pool, "Attribute", [f], [u2(pool.text("Large")) + u4(large) + bytes(large)])
 
 
-def many_methods(count, length):
+def many_methods(name, count, length, pattern):
+    # Each method but f repeats a pattern of instructions.
     pool = Pool()
-    body = b"\x00" * (length - len(GIVE_7)) + GIVE_7
+    body = pattern * ((length - len(GIVE_7)) // len(pattern)) + GIVE_7
     methods = [method(pool, "f", "()I", 1, 0, GIVE_7)]
-    methods += [method(pool, f"m{n}", "()I", 1, 0, body) for n in range(count - 1)]
-    return class_file(pool, "Methods", methods, [])
+    methods += [method(pool, f"m{n}", "()I", 2, 6, body) for n in range(count - 1)]
+    return class_file(pool, name, methods, [])
 
 
 def long_names(count, length):
@@ -123,8 +125,9 @@ def loop():
 
 FILES = {
     "Attribute": lambda: one_large_attribute(67108864),
-    "Methods": lambda: many_methods(2000, 30000),
-    "Members": lambda: many_methods(20000, 3).replace(b"Methods", b"Members"),
+    "Nops": lambda: many_methods("Nops", 2000, 30000, b"\x00"),
+    "Code": lambda: many_methods("Code", 2000, 30000, ORDINARY),
+    "Members": lambda: many_methods("Members", 20000, 3, b"\x00"),
     "LongNames": lambda: long_names(64000, 1000),
     "LongDescriptor": lambda: one_long_descriptor(20000, 10000),
     "Branches": lambda: many_branches(20000),
