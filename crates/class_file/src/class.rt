@@ -9,7 +9,7 @@ ghost use Rattle.class_file.specs.Opening.{members_behind as members_read, class
 use crate::attribute::kept_attributes_at;
 use crate::field::fields_at;
 use crate::method::methods_at;
-use const_pool::{Pool, ScannedPool, check_entries, entries_at_front, u2_at, u4_at, want};
+use const_pool::{Pool, ScannedPool, u2_at, u4_at, want};
 use descriptor::is_array_name;
 use jvms::class_file::ClassFile;
 use jvms::fault::{ClassFault, ReadError};
@@ -158,9 +158,7 @@ fn pool_behind(
 ) -> Result<ClassFile, ReadError>
     ensures { Gives (λ c. c) result (pool_read cut minor major bytes.now) }
 {
-    let (entries, rest) = entries_at_front(alloc, cut, bytes)?;
-    let pool = ScannedPool::of(alloc, entries)?;
-    check_entries(&pool, pool.pool().entries().as_slice())?;
+    let (pool, rest) = ScannedPool::read(alloc, cut, bytes)?;
     class_behind(alloc, cut, minor, major, pool, rest)
 }
 

@@ -10,7 +10,7 @@ ghost use Rattle.class_file.specs.Wanted.{code_bytes_at, exception_table_at, han
 
 use crate::attribute::kept_attributes_at;
 use crate::frame::{Frame, want_all};
-use const_pool::{Pool, bytes_at, u2_at, u4_at, want};
+use const_pool::{Pool, ScannedPool, bytes_at, u2_at, u4_at, want};
 use insn::{Starts, decode, handler, layout};
 use jvms::class_file::{Code, Handler};
 use jvms::fault::{ClassFault, ReadError};
@@ -138,7 +138,7 @@ fn placed(
 #[tactic(auto, unfolding(jvms::specs::Members::code_at))]
 pub(crate) fn code_at<'a>(
     alloc: Global,
-    pool: &Pool,
+    pool: &ScannedPool,
     major: u16,
     frame: Frame<'a>,
 ) -> Result<(Code, &'a [u8]), ReadError>
@@ -148,8 +148,8 @@ pub(crate) fn code_at<'a>(
     let (max_locals, rest) = u2_at(frame.cut, rest)?;
     let (code_length, rest) = u4_at(frame.cut, rest)?;
     let (bytes, rest) = code_bytes(frame.cut, code_length, rest)?;
-    let (table, rest) = table_at(alloc, pool, frame.cut, rest)?;
-    let (attributes, rest) = kept_attributes_at(alloc, pool, frame.cut, rest)?;
+    let (table, rest) = table_at(alloc, pool.pool(), frame.cut, rest)?;
+    let (attributes, rest) = kept_attributes_at(alloc, pool.pool(), frame.cut, rest)?;
     want_all(frame, rest)?;
     let decoded = decode(alloc, pool, major, bytes)?;
     let handlers = placed(

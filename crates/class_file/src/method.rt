@@ -52,7 +52,7 @@ fn has_exceptions(attributes: &[MethodAttribute]) -> bool
 /// Behind its name: a Code.
 fn code_behind<'a>(
     alloc: Global,
-    pool: &Pool,
+    pool: &ScannedPool,
     major: u16,
     cut: ClassFault,
     name: u16,
@@ -83,7 +83,7 @@ fn exceptions_behind<'a>(
 /// The next attribute of a method that may have Code or not; `seen` are those before it.
 fn attribute_at<'a>(
     alloc: Global,
-    pool: &Pool,
+    pool: &ScannedPool,
     major: u16,
     cut: ClassFault,
     code: bool,
@@ -93,14 +93,14 @@ fn attribute_at<'a>(
     ensures { Gives (λ x. (x.0, x.1.now)) result (method_attribute_at pool.now major cut code seen.now bytes.now) }
 {
     let (name, rest) = u2_at(cut, bytes)?;
-    want(pool.is_utf8(name), ClassFault::Index)?;
-    if is_named(pool, name, &CODE) {
+    want(pool.pool().is_utf8(name), ClassFault::Index)?;
+    if is_named(pool.pool(), name, &CODE) {
         want(!has_code(seen), ClassFault::RepeatedAttribute)?;
         want(code, ClassFault::CodePresence)?;
         code_behind(alloc, pool, major, cut, name, rest)
-    } else if is_named(pool, name, &EXCEPTIONS) {
+    } else if is_named(pool.pool(), name, &EXCEPTIONS) {
         want(!has_exceptions(seen), ClassFault::RepeatedAttribute)?;
-        exceptions_behind(alloc, pool, cut, name, rest)
+        exceptions_behind(alloc, pool.pool(), cut, name, rest)
     } else {
         let (kept, behind) = kept_content(alloc, cut, name, rest)?;
         Ok((MethodAttribute::Kept(kept), behind))
@@ -110,7 +110,7 @@ fn attribute_at<'a>(
 /// So many attributes of a method.
 fn attributes_of<'a>(
     alloc: Global,
-    pool: &Pool,
+    pool: &ScannedPool,
     major: u16,
     cut: ClassFault,
     code: bool,
@@ -146,7 +146,7 @@ fn attributes_of<'a>(
 /// where it is asked.
 fn method_behind<'a>(
     alloc: Global,
-    pool: &Pool,
+    pool: &ScannedPool,
     major: u16,
     cut: ClassFault,
     head: Head,
@@ -307,7 +307,7 @@ fn named_at<'a>(
         descriptor,
     };
     let code = has_to_have_code(initializer, access);
-    method_behind(alloc, pool.pool(), major, cut, head, code, rest)
+    method_behind(alloc, pool, major, cut, head, code, rest)
 }
 
 /// The next method of a class with these access flags; `before` are those before it.

@@ -60,7 +60,7 @@ fn entries_of(
 }
 
 /// constant_pool_count and its entries, whatever they name, and the bytes behind them.
-pub fn entries_at_front(
+pub(crate) fn entries_at_front(
     alloc: Global,
     cut: ClassFault,
     bytes: &[u8],

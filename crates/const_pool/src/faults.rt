@@ -111,7 +111,7 @@ fn check_entry(
 
 /// The first fault of entries, by rising number.
 #[tactic(auto, unfolding(jvms::specs::ConstantPool::entries_fault))]
-pub fn check_entries(pool: &ScannedPool, entries: &[Constant]) -> Result<(), ReadError>
+pub(crate) fn check_entries(pool: &ScannedPool, entries: &[Constant]) -> Result<(), ReadError>
     ensures { Gives (λ x. x) result (entries_fault pool.now entries.now) }
 {
     let mut rest = entries;

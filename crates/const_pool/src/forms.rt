@@ -3,7 +3,7 @@
 
 ghost use Rattle.std.specs.Prelude.{◌≡◌};
 ghost use Rattle.jvms.specs.ConstantPool.{is_method_descriptor as is_method_sort};
-ghost use Rattle.const_pool.specs.Texts.{forms_of as forms_of_text};
+ghost use Rattle.const_pool.specs.Texts.{forms_of as forms_of_text, method_units_of};
 
 use descriptor::{is_class_entry_name, is_field_descriptor, is_method_name, is_name, method_units};
 
@@ -20,8 +20,8 @@ pub struct Forms {
     pub field_descriptor: bool,
     /// Whether it begins as a method's descriptor does.
     pub method_sort: bool,
-    /// The units of the parameters, where it is a method's descriptor.
-    pub method_units: Option<usize>,
+    /// The units of the parameters, at most 255, where it is a method's descriptor (JVMS 4.3.3).
+    pub method_units: Option<u8>,
 }
 
 /// Whether a text begins as a method's descriptor does.
@@ -29,6 +29,14 @@ pub(crate) fn begins_as_method(text: &[u16]) -> bool
     ensures { result ≡ is_method_sort text.now }
 {
     matches!(text, [40, ..])
+}
+
+/// The units of a method's parameters, where a text is its descriptor.
+fn units_of(text: &[u16]) -> Option<u8>
+    ensures { result ≡ method_units_of text.now }
+{
+    let units = method_units(text)?;
+    Some(units as u8)
 }
 
 /// The forms of a text.
@@ -41,6 +49,6 @@ pub(crate) fn forms_of(text: &[u16]) -> Forms
         class_entry_name: is_class_entry_name(text),
         field_descriptor: is_field_descriptor(text),
         method_sort: begins_as_method(text),
-        method_units: method_units(text),
+        method_units: units_of(text),
     }
 }

@@ -11,6 +11,7 @@ mod firsts;
 mod forms;
 mod numbers;
 mod pool;
+mod reading;
 mod scanned;
 #[cfg(test)]
 mod tests;
@@ -19,9 +20,7 @@ mod writing;
 pub use builder::{PoolBuilder, PoolFault};
 pub use bytes::{bytes_at, u1_at, u2_at, u4_at, u8_at, want};
 pub use constant::constant_at;
-pub use entries::entries_at_front;
 pub use entry::Entry;
-pub use faults::check_entries;
 pub use forms::Forms;
 pub use jvms::class_file::Constant;
 pub use numbers::{write_count, write_length, write_u2, write_u4, write_u8};

@@ -2,7 +2,7 @@
 
 ghost use Rattle.std.specs.Prelude.{◌≡◌, ℕ, List, IfOk, map, slice_get};
 ghost use Rattle.std.specs.Option.{option_copied, option_map, option_and_then, unwrap_or};
-ghost use Rattle.jvms.specs.ConstantPool.{entry, utf8_at, utf8_of};
+ghost use Rattle.jvms.specs.ConstantPool.{entry, utf8_at, utf8_of, name_and_type_at};
 ghost use Rattle.jvms.specs.Members.{same_entry_text};
 ghost use Rattle.const_pool.specs.Firsts.{number_at};
 ghost use Rattle.const_pool.specs.Texts.{forms_of as forms_of_text, text_of as text_of_entry, text_with, known_after, canonical as canonical_number, is_one_number};
@@ -107,6 +107,13 @@ impl ScannedPool {
         self.pool.into_entries()
     }
 
+    /// The pool, by value.
+    pub fn into_pool(self) -> Pool
+        ensures { result ≡ self }
+    {
+        self.pool
+    }
+
     /// What is known of the text of a number, if it is a Utf8 entry's.
     fn text(&self, number: u16) -> Option<Text>
         ensures { result ≡ option_and_then (text_of_entry self.now) (entry self.now number) }
@@ -124,6 +131,18 @@ impl ScannedPool {
         ensures { result ≡ option_map forms_of_text (utf8_at self.now number) }
     {
         self.text(number).map(|text| text.forms)
+    }
+
+    /// The forms of the descriptor of a NameAndType entry whose numbers are those of texts (JVMS 4.4.6).
+    pub fn descriptor_forms(&self, number: u16) -> Option<Forms>
+        ensures { result ≡ option_map (λ x. forms_of_text x.1) (name_and_type_at self.now number) }
+    {
+        match self.pool.entry(number) {
+            Some(Constant::NameAndType { name, descriptor }) if self.pool.is_utf8(*name) => {
+                self.forms(*descriptor)
+            }
+            _ => None,
+        }
     }
 
     /// The least number of a Utf8 entry whose text is equal to that of this number, if it is one's. Two

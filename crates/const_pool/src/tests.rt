@@ -1,4 +1,5 @@
 use super::*;
+use crate::entries::entries_at_front;
 use jvms::fault::{ClassFault, ReadError};
 use std::alloc::{AllocError, Global};
 use std::test::Fail;
@@ -16,12 +17,9 @@ const GCD_POOL: [u8; 52] = [
 
 #[test]
 fn reads_the_pool_of_gcd(rt: HostRuntime) -> Result<(), Fail> {
-    let (entries, rest) = entries_at_front(rt.alloc(), CUT, &GCD_POOL)?;
+    let (pool, rest) = Pool::read(rt.alloc(), CUT, &GCD_POOL)?;
     assert_eq!(rt; rest.len(), 0);
-    assert_eq!(rt; entries.len(), 7);
-    let scanned = ScannedPool::of(rt.alloc(), entries)?;
-    check_entries(&scanned, scanned.pool().entries().as_slice())?;
-    let pool = scanned.pool();
+    assert_eq!(rt; pool.entries().len(), 7);
     assert!(rt; pool.is_class(2));
     assert!(rt; pool.is_utf8(1));
     assert!(rt; !pool.is_utf8(2));
@@ -32,7 +30,7 @@ fn reads_the_pool_of_gcd(rt: HostRuntime) -> Result<(), Fail> {
     assert!(rt; pool.utf8(5) == Some([103, 99, 100].as_slice()));
     assert!(rt; pool.name_and_type(2).is_none());
     assert!(rt; pool.two_texts(1, 5).is_some());
-    assert_eq!(rt; scanned.into_entries().len(), 7);
+    assert_eq!(rt; pool.into_entries().len(), 7);
     Ok(())
 }
 
@@ -52,12 +50,9 @@ fn reads_numbers_highest_byte_first(rt: HostRuntime) -> Result<(), Fail> {
 
 /// The fault of a pool's bytes.
 fn fault_of(rt: &HostRuntime, bytes: &[u8]) -> Option<ReadError> {
-    match entries_at_front(rt.alloc(), CUT, bytes) {
+    match ScannedPool::read(rt.alloc(), CUT, bytes) {
         Err(error) => Some(error),
-        Ok((entries, _)) => match ScannedPool::of(rt.alloc(), entries) {
-            Err(_) => Some(ReadError::Memory),
-            Ok(pool) => check_entries(&pool, pool.pool().entries().as_slice()).err(),
-        },
+        Ok(_) => None,
     }
 }
 
@@ -167,9 +162,8 @@ const TEXTS: [u8; 29] = [
 
 #[test]
 fn scans_texts(rt: HostRuntime) -> Result<(), Fail> {
-    let (entries, rest) = entries_at_front(rt.alloc(), CUT, &TEXTS)?;
+    let (pool, rest) = ScannedPool::read(rt.alloc(), CUT, &TEXTS)?;
     assert_eq!(rt; rest.len(), 3);
-    let pool = ScannedPool::of(rt.alloc(), entries)?;
     for (number, wanted) in [
         (0, None),
         (1, Some(1)),
@@ -182,6 +176,7 @@ fn scans_texts(rt: HostRuntime) -> Result<(), Fail> {
         assert_eq!(rt; pool.canonical(number), wanted, "at {number}");
     }
     assert!(rt; pool.forms(4).is_none());
+    assert!(rt; pool.descriptor_forms(4).is_none());
     assert!(rt; pool.forms(3) == pool.forms(1));
     for (number, name, field_descriptor, class_entry_name, units) in [
         (1, true, false, true, None),
@@ -198,6 +193,6 @@ fn scans_texts(rt: HostRuntime) -> Result<(), Fail> {
             None => assert!(rt; false),
         }
     }
-    assert_eq!(rt; pool.into_entries().len(), 5);
+    assert_eq!(rt; pool.into_pool().entries().len(), 5);
     Ok(())
 }

@@ -11,7 +11,7 @@ use crate::operands::insn_at;
 use crate::places::with_places;
 use crate::room::with_room;
 use crate::starts::Starts;
-use const_pool::Pool;
+use const_pool::ScannedPool;
 use jvms::fault::{ClassFault, ReadError};
 use jvms::insn::Insn;
 use jvms::items::Items;
@@ -27,7 +27,12 @@ pub struct Decoded {
 }
 
 /// The instructions of bytes, each with its byte.
-fn placed(alloc: Global, pool: &Pool, major: u16, bytes: &[u8]) -> Result<Vec<Located>, ReadError>
+fn placed(
+    alloc: Global,
+    pool: &ScannedPool,
+    major: u16,
+    bytes: &[u8],
+) -> Result<Vec<Located>, ReadError>
     requires { length bytes.now ≤ 65535 }
     ensures { Gives (λ v. all_placed v.items) result (placed_bytes pool.now major bytes.now) }
 {
@@ -91,7 +96,12 @@ fn resolved(alloc: Global, starts: &Starts, located: &[Located]) -> Result<Items
 /// The instructions that the bytes of a method spell. The opcodes and operands of all come before the
 /// targets of any.
 #[tactic(auto, unfolding(jvms::specs::Code::insns_of))]
-pub fn decode(alloc: Global, pool: &Pool, major: u16, bytes: &[u8]) -> Result<Decoded, ReadError>
+pub fn decode(
+    alloc: Global,
+    pool: &ScannedPool,
+    major: u16,
+    bytes: &[u8],
+) -> Result<Decoded, ReadError>
     requires { length bytes.now ≤ 65535 }
     ensures { Gives (λ d. (d.starts, d.insns)) result (insns_of pool.now major bytes.now) }
 {

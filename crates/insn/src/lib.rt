@@ -5,6 +5,7 @@ mod arrays;
 mod branches;
 mod code;
 mod constants;
+mod encoding;
 mod handlers;
 mod locals;
 mod located;
@@ -21,6 +22,7 @@ mod targets;
 mod tests;
 
 pub use code::{Decoded, decode};
+pub use encoding::encode;
 pub use handlers::handler;
 pub use jvms::insn::{Insn, Opcode};
 pub use operands::insn_at;

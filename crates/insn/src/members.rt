@@ -3,11 +3,12 @@
 ghost use Rattle.std.specs.Prelude.{◌≡◌};
 ghost use Rattle.std.specs.Option.{option_copied, option_map, option_and_then};
 ghost use Rattle.jvms.specs.Instructions.{passes, is_field as field_entry, field_insn, method_numbers as numbers_of, invoked as method_of, is_invocable_name as name_invocable, is_invocable as invocable, interface_count as units_with_object, interface_operands as interface_rest, behind_invoke as rest_behind, invoke_insn, is_usable_class as usable_class, names_usable as usable_name, class_insn};
+ghost use Rattle.jvms.specs.declared.insn.Invoke.TheVariants.{Interface};
 ghost use Rattle.jvms.specs.Names.{begins_with};
 ghost use Rattle.jvms.specs.Reading.{Gives};
 
-use const_pool::{Pool, u1_at, u2_at, want};
-use descriptor::{dimensions_of, is_array_name, is_constructor_name, method_units};
+use const_pool::{Pool, ScannedPool, u1_at, u2_at, want};
+use descriptor::{dimensions_of, is_array_name, is_constructor_name};
 use jvms::class_file::Constant;
 use jvms::fault::{ClassFault, ReadError};
 use jvms::insn::{ClassUse, FieldUse, Insn, Invoke};
@@ -139,12 +140,13 @@ fn is_invocable(how: Invoke, method: Option<(&[u16], &[u16])>) -> bool
 }
 
 /// The units of an interface method's arguments, with the object.
-fn interface_units(method: Option<(&[u16], &[u16])>) -> Option<usize>
-    ensures { result ≡ units_with_object (option_map (λ x. (x.0.now, x.1.now)) method.entry) }
+fn interface_units(pool: &ScannedPool, number: u16) -> Option<usize>
+    ensures { result ≡ units_with_object (method_of pool.now Interface number) }
 {
-    let (_, descriptor) = method?;
-    let units = method_units(descriptor)?;
-    Some(units + 1)
+    let (_, name_and_type) = method_numbers(Invoke::Interface, pool.pool().entry(number))?;
+    let forms = pool.descriptor_forms(name_and_type)?;
+    let units = forms.method_units?;
+    Some(usize::from(units) + 1)
 }
 
 /// Behind an invokeinterface: the count of argument units, and a 0.
@@ -169,14 +171,15 @@ fn interface_operands(
 /// What stands behind the pool number of an invoke.
 fn behind_invoke<'a>(
     cut: ClassFault,
+    pool: &ScannedPool,
     how: Invoke,
-    method: Option<(&[u16], &[u16])>,
+    number: u16,
     bytes: &'a [u8],
 ) -> Result<&'a [u8], ReadError>
-    ensures { Gives (λ x. x.now) result (rest_behind cut how (option_map (λ x. (x.0.now, x.1.now)) method.entry) bytes.now) }
+    ensures { Gives (λ x. x.now) result (rest_behind cut how (method_of pool.now how number) bytes.now) }
 {
     match how {
-        Invoke::Interface => { interface_operands(cut, interface_units(method), bytes) }
+        Invoke::Interface => interface_operands(cut, interface_units(pool, number), bytes),
         Invoke::Virtual | Invoke::Special | Invoke::Static => Ok(bytes),
     }
 }
@@ -184,15 +187,14 @@ fn behind_invoke<'a>(
 /// JVMS 6.5 invokevirtual, invokespecial, invokestatic, invokeinterface.
 pub(crate) fn invoke<'a>(
     cut: ClassFault,
-    pool: &Pool,
+    pool: &ScannedPool,
     how: Invoke,
     bytes: &'a [u8],
 ) -> Result<(Insn, &'a [u8]), ReadError>
     ensures { Gives (λ x. (x.0, x.1.now)) result (invoke_insn cut pool.now how bytes.now) }
 {
     let (number, rest) = u2_at(cut, bytes)?;
-    let method = invoked(pool, how, number);
-    want(is_invocable(how, method), cut)?;
-    let behind = behind_invoke(cut, how, method, rest)?;
+    want(is_invocable(how, invoked(pool.pool(), how, number)), cut)?;
+    let behind = behind_invoke(cut, pool, how, number, rest)?;
     Ok((Insn::Invoke(how, number), behind))
 }

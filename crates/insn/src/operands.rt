@@ -11,7 +11,7 @@ use crate::locals::{increment, local, wide};
 use crate::members::{class, field, invoke};
 use crate::opcodes::form_of;
 use crate::switches::{lookup_switch, table_switch};
-use const_pool::{Pool, u1_at};
+use const_pool::{ScannedPool, u1_at};
 use jvms::fault::{ClassFault, ReadError};
 use jvms::insn::{Insn, Opcode};
 use std::alloc::Global;
@@ -20,7 +20,7 @@ use std::alloc::Global;
 #[tactic(auto, unfolding(jvms::specs::Instructions::operands_at))]
 fn operands_at<'a>(
     alloc: Global,
-    pool: &Pool,
+    pool: &ScannedPool,
     major: u16,
     pc: usize,
     form: Opcode,
@@ -33,21 +33,21 @@ fn operands_at<'a>(
         Opcode::Alone(simple) => Ok((Insn::Simple(simple), bytes)),
         Opcode::PushByte => push_byte(cut, bytes),
         Opcode::PushShort => push_short(cut, bytes),
-        Opcode::Constant => constant(cut, pool, major, bytes),
-        Opcode::ConstantWide => constant_wide(cut, pool, major, bytes),
-        Opcode::ConstantLong => constant_long(cut, pool, bytes),
+        Opcode::Constant => constant(cut, pool.pool(), major, bytes),
+        Opcode::ConstantWide => constant_wide(cut, pool.pool(), major, bytes),
+        Opcode::ConstantLong => constant_long(cut, pool.pool(), bytes),
         Opcode::Local(how) => local(cut, how, bytes),
         Opcode::Increment => increment(cut, bytes),
         Opcode::Branch(how) => branch(cut, pc, how, bytes),
         Opcode::BranchWide(how) => branch_wide(cut, pc, how, bytes),
         Opcode::TableSwitch => table_switch(alloc, cut, pc, bytes),
         Opcode::LookupSwitch => lookup_switch(alloc, cut, pc, bytes),
-        Opcode::Field(how) => field(cut, pool, how, bytes),
+        Opcode::Field(how) => field(cut, pool.pool(), how, bytes),
         Opcode::Invoke(how) => invoke(cut, pool, how, bytes),
-        Opcode::Class(how) => class(cut, pool, how, bytes),
+        Opcode::Class(how) => class(cut, pool.pool(), how, bytes),
         Opcode::NewArray => new_array(cut, bytes),
         Opcode::Wide => wide(cut, bytes),
-        Opcode::MultiNewArray => multi_new_array(cut, pool, bytes),
+        Opcode::MultiNewArray => multi_new_array(cut, pool.pool(), bytes),
         Opcode::Reserved => Err(ReadError::Fault(ClassFault::Opcode { pc })),
     }
 }
@@ -57,7 +57,7 @@ fn operands_at<'a>(
 #[tactic(auto, unfolding(jvms::specs::Instructions::insn_at))]
 pub fn insn_at<'a>(
     alloc: Global,
-    pool: &Pool,
+    pool: &ScannedPool,
     major: u16,
     pc: usize,
     bytes: &'a [u8],

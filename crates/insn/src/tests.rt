@@ -2,7 +2,7 @@
 //! answers.
 
 use crate::*;
-use const_pool::Pool;
+use const_pool::ScannedPool;
 use jvms::boxed::Boxed;
 use jvms::class_file::{Constant, Handler};
 use jvms::fault::{ClassFault, ReadError};
@@ -38,7 +38,7 @@ fn text(alloc: Global, units: &str) -> Result<Constant, AllocError> {
 }
 
 /// Entry 2 is a class, entry 4 that of int[][], entry 8 an interface's method of a long.
-fn pool(alloc: Global) -> Result<Pool, AllocError> {
+fn pool(alloc: Global) -> Result<ScannedPool, AllocError> {
     let entries = vec![in alloc;
         text(alloc, "I")?,
         Constant::Class { name: 1 },
@@ -55,7 +55,7 @@ fn pool(alloc: Global) -> Result<Pool, AllocError> {
             name_and_type: 7
         },
     ]?;
-    Ok(Pool::of(Items::from_vec(entries)))
+    ScannedPool::of(alloc, Items::from_vec(entries))
 }
 
 fn decoded(rt: &impl Abort, alloc: Global, bytes: &[u8]) -> Result<Decoded, Fail> {
@@ -66,7 +66,7 @@ fn decoded(rt: &impl Abort, alloc: Global, bytes: &[u8]) -> Result<Decoded, Fail
 
 fn fault_of(rt: &impl Abort, alloc: Global, bytes: &[u8]) -> Option<ClassFault> {
     assert!(rt; bytes.len() <= 65535);
-    let entries = Pool::of(Items::new(alloc));
+    let entries = ScannedPool::of(alloc, Items::new(alloc)).ok()?;
     match decode(alloc, &entries, 49, bytes) {
         Err(ReadError::Fault(fault)) => Some(fault),
         _ => None,
@@ -263,6 +263,9 @@ fn pads_of_a_layout_are_0(rt: HostRuntime) -> Result<(), Fail> {
         bytes[pad] = 0;
     }
     assert!(rt; layout.bytes.as_slice() == bytes.as_slice());
+    let mut out = vec![in rt.alloc(); 1]?;
+    encode(&mut out, &layout)?;
+    assert!(rt; out.get(1..) == Some(bytes.as_slice()));
     assert!(rt; layout.starts.as_slice() == [0, 1, 20].as_slice());
     Ok(())
 }

@@ -7,7 +7,7 @@ ghost use Rattle.jvms.specs.declared.class_file.ClassFile.{ClassFile};
 ghost use Rattle.jvms.specs.declared.class_file.Constant.{Constant};
 ghost use Rattle.jvms.specs.declared.insn.Insn.{Insn};
 ghost use Rattle.jvms.specs.ClassFile.{read};
-ghost use Rattle.jvms.specs.Code.{insns_of};
+ghost use Rattle.jvms.specs.Code.{insns_of, layout_of};
 ghost use Rattle.jvms.specs.Spelling.{Spells, SpellsInsns};
 
 /// Bytes that spell a class are read as that class (JVMS 4.1).
@@ -38,4 +38,9 @@ pub fn insns_again()
 /// Bytes that are read as instructions spell those (JVMS 4.7.3, 6.5).
 pub fn insns_found()
     ensures { (pool : List Constant) (major : ℕ) (code : List ℕ) (is : List Insn) (pcs : List ℕ) → AllByRecursion (λ b. b < 256) code → insns_of pool major code ≡ Ok (pcs, is) → SpellsInsns pool major pcs code is }
+{}
+
+/// The bytes of a layout spell the instructions that its code spells, with the same starts (JVMS 4.7.3).
+pub fn layout_spells()
+    ensures { (pool : List Constant) (major : ℕ) (code : List ℕ) (is : List Insn) (pcs : List ℕ) → SpellsInsns pool major pcs code is → SpellsInsns pool major pcs (layout_of pcs is code).bytes is }
 {}

@@ -5,6 +5,7 @@ ghost use Rattle.class_file.specs.Writing.{counted_bytes, code_bytes, handler_by
 
 use crate::writing::attribute::write_kept_attributes;
 use const_pool::{write_count, write_length, write_u2};
+use insn::encode;
 use jvms::class_file::{Code, Handler, Layout};
 use std::alloc::AllocError;
 
@@ -45,11 +46,10 @@ fn write_table(out: &mut Vec<u8>, layout: &Layout, handlers: &[Handler]) -> Resu
 pub(crate) fn write_code(out: &mut Vec<u8>, code: &Code) -> Result<(), AllocError>
     ensures { OnOk result (out.new.items ≡ out.old.items ++ code_bytes code.now) }
 {
-    let bytes = code.layout.bytes.as_slice();
     write_u2(out, code.max_stack)?;
     write_u2(out, code.max_locals)?;
-    write_length(out, bytes.len())?;
-    out.extend_from_slice(bytes)?;
+    write_length(out, code.layout.bytes.len())?;
+    encode(out, &code.layout)?;
     write_table(out, &code.layout, code.handlers.as_slice())?;
     write_kept_attributes(out, code.attributes.as_slice())
 }
