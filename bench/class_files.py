@@ -94,6 +94,17 @@ def one_long_descriptor(count, length):
     return class_file(pool, "LongDescriptor", methods, [])
 
 
+def many_invokes(count, each, length):
+    # Each invokeinterface of a method names one method, whose descriptor has a class of a long name.
+    pool = Pool()
+    kind = u2(pool.text("call")) + u2(pool.text("(L" + "x" * length + ";)I"))
+    target = pool.put(b"\x0b" + u2(pool.name("Called")) + u2(pool.put(b"\x0c" + kind)))
+    body = (b"\xb9" + u2(target) + b"\x02\x00") * each + GIVE_7
+    methods = [method(pool, "f", "()I", 1, 0, GIVE_7)]
+    methods += [method(pool, f"m{n}", "()I", 2, 0, body) for n in range(count - 1)]
+    return class_file(pool, "Invokes", methods, [])
+
+
 def many_branches(count):
     # Each goto leads to the next instruction; then nops up to 65,535 bytes, and the return.
     pool = Pool()
@@ -130,6 +141,7 @@ FILES = {
     "Members": lambda: many_methods("Members", 20000, 3, b"\x00"),
     "LongNames": lambda: long_names(64000, 1000),
     "LongDescriptor": lambda: one_long_descriptor(20000, 10000),
+    "Invokes": lambda: many_invokes(20, 13000, 60000),
     "Branches": lambda: many_branches(20000),
     "Switch": lambda: large_switch(8000),
     "Loop": loop,
