@@ -50,13 +50,3 @@ impl<T: PartialEq> PartialEq for Boxed<T> {
 impl<T: Eq> Eq for Boxed<T> {
     ghost laws = { T.Eq.laws };
 }
-
-impl<T: Clone> Clone for Boxed<T> {
-    ghost is_clone = { T.is_clone };
-
-    fn clone(&self) -> Result<Self, AllocError> {
-        Ok(Boxed {
-            held: self.held.clone()?,
-        })
-    }
-}

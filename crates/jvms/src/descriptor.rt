@@ -16,7 +16,7 @@ pub enum Primitive {
 }
 
 /// What an array's innermost components are, or what a type is that is no array.
-#[derive(Clone, Debug, PartialEq, Eq, Drop)]
+#[derive(Debug, PartialEq, Eq, Drop)]
 pub enum Element {
     Primitive(Primitive),
     /// The class or interface of this name.
@@ -24,7 +24,7 @@ pub enum Element {
 }
 
 /// The type of a field, a parameter or a result (JVMS 4.3.2, FieldType).
-#[derive(Clone, Debug, PartialEq, Eq, Drop)]
+#[derive(Debug, PartialEq, Eq, Drop)]
 pub struct FieldType {
     /// How many brackets stand before the element; 0 where the type is no array.
     pub dimensions: u8,
@@ -32,14 +32,14 @@ pub struct FieldType {
 }
 
 /// What a method returns (JVMS 4.3.3, ReturnDescriptor).
-#[derive(Clone, Debug, PartialEq, Eq, Drop)]
+#[derive(Debug, PartialEq, Eq, Drop)]
 pub enum ResultType {
     Void,
     Value(FieldType),
 }
 
 /// The type of a method (JVMS 4.3.3, MethodDescriptor).
-#[derive(Clone, Debug, PartialEq, Eq, Drop)]
+#[derive(Debug, PartialEq, Eq, Drop)]
 pub struct MethodType {
     pub parameters: Items<FieldType>,
     pub result: ResultType,

@@ -256,7 +256,7 @@ pub enum Branch {
 }
 
 /// The cases of a `tableswitch`: the value `low + k` leads to the target number k.
-#[derive(Clone, Debug, PartialEq, Eq, Drop)]
+#[derive(Debug, PartialEq, Eq, Drop)]
 pub struct TableSwitch {
     pub default: u32,
     pub low: i32,
@@ -271,7 +271,7 @@ pub struct SwitchCase {
 }
 
 /// The cases of a `lookupswitch`, by rising value.
-#[derive(Clone, Debug, PartialEq, Eq, Drop)]
+#[derive(Debug, PartialEq, Eq, Drop)]
 pub struct LookupSwitch {
     pub default: u32,
     pub cases: Items<SwitchCase>,
@@ -347,7 +347,7 @@ pub enum Opcode {
 
 /// An instruction of a class file. A `u16` behind the first is the number of a pool entry; the count of
 /// an `invokeinterface` follows from its entry.
-#[derive(Clone, Debug, PartialEq, Eq, Drop)]
+#[derive(Debug, PartialEq, Eq, Drop)]
 pub enum Insn {
     Simple(Simple),
     Branch(Branch, u32),

@@ -80,16 +80,3 @@ impl<T: Eq> Eq for Items<T> {
 
     ghost laws = { lists_equiv T.Eq.laws };
 }
-
-impl<T: Clone> Clone for Items<T> {
-    ghost use Rattle.std.specs.List.{AllZip};
-    ghost use Rattle.std.specs.Prelude.{length};
-
-    ghost is_clone = { λ v w. AllZip T.is_clone v w × (length w ≡ length v) };
-
-    fn clone(&self) -> Result<Self, AllocError> {
-        Ok(Items {
-            items: self.items.clone()?,
-        })
-    }
-}

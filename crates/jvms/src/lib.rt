@@ -12,6 +12,7 @@ pub mod items;
 pub mod laws;
 pub mod machine;
 pub mod program;
+pub mod shared;
 pub mod soundness;
 pub mod trace;
 pub mod value;

@@ -13,7 +13,7 @@ pub struct MethodNumber {
 }
 
 /// Where a run begins.
-#[derive(Clone, Debug, PartialEq, Eq, Drop)]
+#[derive(Debug, PartialEq, Eq, Drop)]
 pub enum Entry {
     /// `main([Ljava/lang/String;)V` of the class of this name.
     Main {

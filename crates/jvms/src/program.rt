@@ -4,42 +4,43 @@ use crate::boxed::Boxed;
 use crate::descriptor::{FieldType, MethodType};
 use crate::insn::{Branch, ClassUse, FieldUse, Invoke, LookupSwitch, Simple, TableSwitch};
 use crate::items::Items;
+use crate::shared::{Shared, Text};
 
 /// A field that an instruction names (JVMS 5.1).
-#[derive(Clone, Debug, PartialEq, Eq, Drop)]
+#[derive(Debug, Drop)]
 pub struct FieldReference {
-    pub class: Items<u16>,
-    pub name: Items<u16>,
-    pub descriptor: Items<u16>,
+    pub class: Text,
+    pub name: Text,
+    pub descriptor: Text,
     /// What the descriptor spells.
-    pub field_type: FieldType,
+    pub field_type: Shared<FieldType>,
 }
 
 /// A method that an instruction names (JVMS 5.1).
-#[derive(Clone, Debug, PartialEq, Eq, Drop)]
+#[derive(Debug, Drop)]
 pub struct MethodReference {
     /// Whether the pool entry is an InterfaceMethodref.
     pub is_interface: bool,
-    pub class: Items<u16>,
-    pub name: Items<u16>,
-    pub descriptor: Items<u16>,
+    pub class: Text,
+    pub name: Text,
+    pub descriptor: Text,
     /// What the descriptor spells.
-    pub method_type: MethodType,
+    pub method_type: Shared<MethodType>,
 }
 
 /// What an instruction loads from the constant pool (JVMS 6.5 ldc, ldc2_w).
-#[derive(Clone, Debug, PartialEq, Eq, Drop)]
+#[derive(Debug, Drop)]
 pub enum Loadable {
     Integer(i32),
     Float(u32),
     Long(i64),
     Double(u64),
-    String(Items<u16>),
-    Class(Items<u16>),
+    String(Text),
+    Class(Text),
 }
 
 /// An instruction with what it names in place of pool entries.
-#[derive(Clone, Debug, PartialEq, Eq, Drop)]
+#[derive(Debug, Drop)]
 pub enum Instruction {
     Simple(Simple),
     Branch(Branch, u32),
@@ -48,19 +49,19 @@ pub enum Instruction {
     Constant(Boxed<Loadable>),
     Field(FieldUse, Boxed<FieldReference>),
     Invoke(Invoke, Boxed<MethodReference>),
-    Class(ClassUse, Boxed<Items<u16>>),
-    MultiNewArray(Boxed<Items<u16>>, u8),
+    Class(ClassUse, Text),
+    MultiNewArray(Text, u8),
 }
 
 /// What a handler catches (JVMS 4.7.3, catch_type).
-#[derive(Clone, Debug, PartialEq, Eq, Drop)]
+#[derive(Debug, Drop)]
 pub enum Catch {
     All,
-    Class(Items<u16>),
+    Class(Text),
 }
 
 /// A range of a method's instructions and where an exception in it is handled.
-#[derive(Clone, Debug, PartialEq, Eq, Drop)]
+#[derive(Debug, Drop)]
 pub struct ExceptionHandler {
     pub start: u32,
     pub end: u32,
@@ -69,7 +70,7 @@ pub struct ExceptionHandler {
 }
 
 /// The code of a method.
-#[derive(Clone, Debug, PartialEq, Eq, Drop)]
+#[derive(Debug, Drop)]
 pub struct Body {
     pub max_stack: u16,
     pub max_locals: u16,
@@ -78,12 +79,12 @@ pub struct Body {
 }
 
 /// What a class keeps of a field.
-#[derive(Clone, Debug, PartialEq, Eq, Drop)]
+#[derive(Debug, Drop)]
 pub struct Field {
-    pub name: Items<u16>,
-    pub descriptor: Items<u16>,
+    pub name: Text,
+    pub descriptor: Text,
     /// What the descriptor spells.
-    pub field_type: FieldType,
+    pub field_type: Shared<FieldType>,
     pub is_static: bool,
     pub is_private: bool,
     /// What initialisation stores, if the field is static.
@@ -102,15 +103,15 @@ pub struct MethodFlags {
 }
 
 /// What a class keeps of a method.
-#[derive(Clone, Debug, PartialEq, Eq, Drop)]
+#[derive(Debug, Drop)]
 pub struct Method {
-    pub name: Items<u16>,
-    pub descriptor: Items<u16>,
+    pub name: Text,
+    pub descriptor: Text,
     /// What the descriptor spells.
-    pub method_type: MethodType,
+    pub method_type: Shared<MethodType>,
     pub flags: MethodFlags,
     /// The classes that the method declares to throw.
-    pub throws: Items<Items<u16>>,
+    pub throws: Items<Text>,
     pub body: Option<Body>,
 }
 
@@ -123,12 +124,12 @@ pub enum ClassKind {
 }
 
 /// A class or an interface.
-#[derive(Clone, Debug, PartialEq, Eq, Drop)]
+#[derive(Debug, Drop)]
 pub struct Class {
-    pub name: Items<u16>,
+    pub name: Text,
     pub kind: ClassKind,
-    pub superclass: Option<Items<u16>>,
-    pub interfaces: Items<Items<u16>>,
+    pub superclass: Option<Text>,
+    pub interfaces: Items<Text>,
     pub fields: Items<Field>,
     pub methods: Items<Method>,
 }

@@ -1,26 +1,26 @@
 //! The items of a trace: events and marks, in the order of the turns that made them.
 
-use crate::items::Items;
 use crate::machine::ThreadId;
+use crate::shared::Text;
 
 /// A field with the class that declares it.
-#[derive(Clone, Debug, PartialEq, Eq, Drop)]
+#[derive(Debug, PartialEq, Eq, Drop)]
 pub struct FieldKey {
-    pub class: Items<u16>,
-    pub name: Items<u16>,
-    pub descriptor: Items<u16>,
+    pub class: Text,
+    pub name: Text,
+    pub descriptor: Text,
 }
 
 /// A method with the class that declares it.
-#[derive(Clone, Debug, PartialEq, Eq, Drop)]
+#[derive(Debug, PartialEq, Eq, Drop)]
 pub struct MethodKey {
-    pub class: Items<u16>,
-    pub name: Items<u16>,
-    pub descriptor: Items<u16>,
+    pub class: Text,
+    pub name: Text,
+    pub descriptor: Text,
 }
 
 /// What a read or a write touches.
-#[derive(Clone, Debug, PartialEq, Eq, Drop)]
+#[derive(Debug, PartialEq, Eq, Drop)]
 pub enum Variable {
     Instance { reference: u32, field: FieldKey },
     Static { field: FieldKey },
@@ -28,7 +28,7 @@ pub enum Variable {
 }
 
 /// What a thread did.
-#[derive(Clone, Debug, PartialEq, Eq, Drop)]
+#[derive(Debug, PartialEq, Eq, Drop)]
 pub enum Item {
     Read {
         thread: ThreadId,

@@ -1,2 +1,3 @@
 pub mod DistinctNames
 pub mod RepeatedNames
+pub mod SpelledTexts

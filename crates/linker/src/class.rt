@@ -5,12 +5,12 @@ ghost use Rattle.jvms.specs.Meaning.{class_text, kind_of, meaning};
 
 use crate::field::fields_of;
 use crate::method::methods_of;
-use crate::texts::{class_text, class_texts};
+use crate::texts::Texts;
 use const_pool::Pool;
 use descriptor::Flags;
 use jvms::class_file::ClassFile;
-use jvms::items::Items;
 use jvms::program::{Class, ClassKind};
+use jvms::shared::Text;
 use std::alloc::{AllocError, Global};
 
 /// Which sort of class these access flags say (JVMS table 4.1-A).
@@ -28,13 +28,13 @@ fn kind_of(access: u16) -> ClassKind
 }
 
 /// The superclass's name; 0 says that there is none.
-fn superclass_of(alloc: Global, pool: &Pool, number: u16) -> Result<Option<Items<u16>>, AllocError>
-    ensures { IfOk result (λ name. name ≡ (if number == 0 then None else Some (class_text pool.now number))) }
+fn superclass_of(texts: &Texts, number: u16) -> Result<Option<Text>, AllocError>
+    ensures { IfOk result (λ name. name ≡ (if number == 0 then None else Some (class_text texts.now number))) }
 {
     if number == 0 {
         Ok(None)
     } else {
-        Ok(Some(class_text(alloc, pool, number)?))
+        Ok(Some(texts.class_name(number)?))
     }
 }
 
@@ -44,13 +44,13 @@ pub fn meaning(alloc: Global, file: ClassFile) -> Result<Class, AllocError>
     ensures { IfOk result (λ c. c ≡ meaning file) }
 {
     let flags = Flags::of_access(file.access);
-    let pool = Pool::of(file.pool);
+    let texts = Texts::of(alloc, Pool::of(file.pool))?;
     Ok(Class {
-        name: class_text(alloc, &pool, file.this_class)?,
+        name: texts.class_name(file.this_class)?,
         kind: kind_of(file.access),
-        superclass: superclass_of(alloc, &pool, file.super_class)?,
-        interfaces: class_texts(alloc, &pool, file.interfaces.as_slice())?,
-        fields: fields_of(alloc, &pool, flags.is_interface(), file.fields.as_slice())?,
-        methods: methods_of(alloc, &pool, file.methods.as_slice())?,
+        superclass: superclass_of(&texts, file.super_class)?,
+        interfaces: texts.class_names(alloc, file.interfaces.as_slice())?,
+        fields: fields_of(alloc, &texts, flags.is_interface(), file.fields.as_slice())?,
+        methods: methods_of(alloc, &texts, file.methods.as_slice())?,
     })
 }

@@ -5,60 +5,59 @@ ghost use Rattle.std.specs.Option.{option_map};
 ghost use Rattle.jvms.specs.Meaning.{catch_of, handler_of, body_of, code_of};
 
 use crate::instruction::instructions_of;
-use crate::texts::class_text;
-use const_pool::Pool;
+use crate::texts::Texts;
 use jvms::class_file::{Code, Handler, MethodAttribute};
 use jvms::items::Items;
 use jvms::program::{Body, Catch, ExceptionHandler};
 use std::alloc::{AllocError, Global};
 
 /// What a handler of this catch_type catches: all for 0.
-fn catch_of(alloc: Global, pool: &Pool, catch_type: u16) -> Result<Catch, AllocError>
-    ensures { IfOk result (λ c. c ≡ catch_of pool.now catch_type) }
+fn catch_of(texts: &Texts, catch_type: u16) -> Result<Catch, AllocError>
+    ensures { IfOk result (λ c. c ≡ catch_of texts.now catch_type) }
 {
     if catch_type == 0 {
         Ok(Catch::All)
     } else {
-        Ok(Catch::Class(class_text(alloc, pool, catch_type)?))
+        Ok(Catch::Class(texts.class_name(catch_type)?))
     }
 }
 
 /// A handler with the class that it catches.
-fn handler_of(alloc: Global, pool: &Pool, handler: &Handler) -> Result<ExceptionHandler, AllocError>
-    ensures { IfOk result (λ h. h ≡ handler_of pool.now handler.now) }
+fn handler_of(texts: &Texts, handler: &Handler) -> Result<ExceptionHandler, AllocError>
+    ensures { IfOk result (λ h. h ≡ handler_of texts.now handler.now) }
 {
     Ok(ExceptionHandler {
         start: handler.start,
         end: handler.end,
         target: handler.target,
-        catch: catch_of(alloc, pool, handler.catch_type)?,
+        catch: catch_of(texts, handler.catch_type)?,
     })
 }
 
 /// The handlers of a method, in the order of its table.
 fn handlers_of(
     alloc: Global,
-    pool: &Pool,
+    texts: &Texts,
     table: &[Handler],
 ) -> Result<Items<ExceptionHandler>, AllocError>
-    ensures { IfOk result (λ hs. hs ≡ map (handler_of pool.now) table.now) }
+    ensures { IfOk result (λ hs. hs ≡ map (handler_of texts.now) table.now) }
 {
     let mut handlers = Vec::with_capacity(alloc, table.len())?;
     for handler in table {
-        handlers.push(handler_of(alloc, pool, handler)?)?;
+        handlers.push(handler_of(texts, handler)?)?;
     }
     Ok(Items::from_vec(handlers))
 }
 
 /// The code of a method with what it names.
-fn body_of(alloc: Global, pool: &Pool, code: &Code) -> Result<Body, AllocError>
-    ensures { IfOk result (λ b. b ≡ body_of pool.now code.now) }
+fn body_of(alloc: Global, texts: &Texts, code: &Code) -> Result<Body, AllocError>
+    ensures { IfOk result (λ b. b ≡ body_of texts.now code.now) }
 {
     Ok(Body {
         max_stack: code.max_stack,
         max_locals: code.max_locals,
-        instructions: instructions_of(alloc, pool, code.insns.as_slice())?,
-        handlers: handlers_of(alloc, pool, code.handlers.as_slice())?,
+        instructions: instructions_of(alloc, texts, code.insns.as_slice())?,
+        handlers: handlers_of(alloc, texts, code.handlers.as_slice())?,
     })
 }
 
@@ -79,13 +78,13 @@ fn code_of(attributes: &[MethodAttribute]) -> Option<&Code>
 /// The code of a method that has these attributes, if one is Code.
 pub(crate) fn body_among(
     alloc: Global,
-    pool: &Pool,
+    texts: &Texts,
     attributes: &[MethodAttribute],
 ) -> Result<Option<Body>, AllocError>
-    ensures { IfOk result (λ b. b ≡ option_map (body_of pool.now) (code_of attributes.now)) }
+    ensures { IfOk result (λ b. b ≡ option_map (body_of texts.now) (code_of attributes.now)) }
 {
     match code_of(attributes) {
-        Some(code) => Ok(Some(body_of(alloc, pool, code)?)),
+        Some(code) => Ok(Some(body_of(alloc, texts, code)?)),
         None => Ok(None),
     }
 }

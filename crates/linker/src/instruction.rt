@@ -5,8 +5,7 @@ ghost use Rattle.jvms.specs.Meaning.{instruction_of};
 
 use crate::loadable::loadable_of;
 use crate::reference::{field_reference_of, method_reference_of};
-use crate::texts::{class_text, copied};
-use const_pool::Pool;
+use crate::texts::{Texts, copied};
 use jvms::boxed::Boxed;
 use jvms::insn::{Insn, LookupSwitch, TableSwitch};
 use jvms::items::Items;
@@ -35,8 +34,8 @@ fn lookup_switch(alloc: Global, s: &LookupSwitch) -> Result<LookupSwitch, AllocE
 }
 
 /// The instruction with what its number names.
-fn instruction_of(alloc: Global, pool: &Pool, insn: &Insn) -> Result<Instruction, AllocError>
-    ensures { IfOk result (λ i. i ≡ instruction_of pool.now insn.now) }
+fn instruction_of(alloc: Global, texts: &Texts, insn: &Insn) -> Result<Instruction, AllocError>
+    ensures { IfOk result (λ i. i ≡ instruction_of texts.now insn.now) }
 {
     match insn {
         Insn::Simple(s) => Ok(Instruction::Simple(*s)),
@@ -50,24 +49,20 @@ fn instruction_of(alloc: Global, pool: &Pool, insn: &Insn) -> Result<Instruction
             Ok(Instruction::Lookup(Boxed::new(alloc, switch)?))
         }
         Insn::Constant(n) => {
-            let what = loadable_of(alloc, pool, *n)?;
+            let what = loadable_of(texts, *n)?;
             Ok(Instruction::Constant(Boxed::new(alloc, what)?))
         }
         Insn::Field(how, n) => {
-            let field = field_reference_of(alloc, pool, *n)?;
+            let field = field_reference_of(texts, *n)?;
             Ok(Instruction::Field(*how, Boxed::new(alloc, field)?))
         }
         Insn::Invoke(how, n) => {
-            let method = method_reference_of(alloc, pool, *n)?;
+            let method = method_reference_of(texts, *n)?;
             Ok(Instruction::Invoke(*how, Boxed::new(alloc, method)?))
         }
-        Insn::Class(how, n) => {
-            let class = class_text(alloc, pool, *n)?;
-            Ok(Instruction::Class(*how, Boxed::new(alloc, class)?))
-        }
+        Insn::Class(how, n) => Ok(Instruction::Class(*how, texts.class_name(*n)?)),
         Insn::MultiNewArray(n, count) => {
-            let class = class_text(alloc, pool, *n)?;
-            Ok(Instruction::MultiNewArray(Boxed::new(alloc, class)?, *count))
+            Ok(Instruction::MultiNewArray(texts.class_name(*n)?, *count))
         }
     }
 }
@@ -75,14 +70,14 @@ fn instruction_of(alloc: Global, pool: &Pool, insn: &Insn) -> Result<Instruction
 /// The instructions of a method, in order.
 pub(crate) fn instructions_of(
     alloc: Global,
-    pool: &Pool,
+    texts: &Texts,
     insns: &[Insn],
 ) -> Result<Items<Instruction>, AllocError>
-    ensures { IfOk result (λ is. is ≡ map (instruction_of pool.now) insns.now) }
+    ensures { IfOk result (λ is. is ≡ map (instruction_of texts.now) insns.now) }
 {
     let mut instructions = Vec::with_capacity(alloc, insns.len())?;
     for insn in insns {
-        instructions.push(instruction_of(alloc, pool, insn)?)?;
+        instructions.push(instruction_of(alloc, texts, insn)?)?;
     }
     Ok(Items::from_vec(instructions))
 }

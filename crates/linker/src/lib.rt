@@ -11,6 +11,7 @@ mod loadable;
 mod method;
 mod reference;
 mod refusals;
+mod spelled;
 #[cfg(test)]
 mod tests;
 mod texts;

@@ -5,26 +5,27 @@ ghost use Rattle.jvms.specs.Members.{is_initializer};
 ghost use Rattle.jvms.specs.Meaning.{throws_of, flags_of, method_of};
 
 use crate::code::body_among;
-use crate::texts::{class_texts, text_of};
+use crate::texts::Texts;
 use const_pool::Pool;
-use descriptor::{Flags, is_initializer_name, method_type};
+use descriptor::{Flags, is_initializer_name};
 use jvms::class_file::{MethodAttribute, MethodInfo};
 use jvms::items::Items;
 use jvms::program::{Method, MethodFlags};
+use jvms::shared::Text;
 use std::alloc::{AllocError, Global};
 
 /// The classes that the first Exceptions among attributes lists (JVMS 4.7.5).
 fn throws_of(
     alloc: Global,
-    pool: &Pool,
+    texts: &Texts,
     attributes: &[MethodAttribute],
-) -> Result<Items<Items<u16>>, AllocError>
-    ensures { IfOk result (λ names. names ≡ throws_of pool.now attributes.now) }
+) -> Result<Items<Text>, AllocError>
+    ensures { IfOk result (λ names. names ≡ throws_of texts.now attributes.now) }
 {
     let mut rest = attributes;
     while let [attribute, others @ ..] = rest {
         if let MethodAttribute::Exceptions { name: _, classes } = attribute {
-            return class_texts(alloc, pool, classes.as_slice());
+            return texts.class_names(alloc, classes.as_slice());
         }
         rest = others;
     }
@@ -56,33 +57,32 @@ fn flags_of(is_initializer: bool, access: u16) -> MethodFlags
 }
 
 /// A method with its texts.
-fn method_of(alloc: Global, pool: &Pool, info: &MethodInfo) -> Result<Method, AllocError>
-    ensures { IfOk result (λ m. m ≡ method_of pool.now info.now) }
+fn method_of(alloc: Global, texts: &Texts, info: &MethodInfo) -> Result<Method, AllocError>
+    ensures { IfOk result (λ m. m ≡ method_of texts.now info.now) }
 {
     let attributes = info.attributes.as_slice();
-    let descriptor = text_of(alloc, pool, info.descriptor)?;
-    let method_type = method_type(alloc, descriptor.as_slice())?;
+    let descriptor = texts.spelled(info.descriptor);
     Ok(Method {
-        name: text_of(alloc, pool, info.name)?,
-        descriptor,
-        method_type,
-        flags: flags_of(is_initializer(pool, info.name), info.access),
-        throws: throws_of(alloc, pool, attributes)?,
-        body: body_among(alloc, pool, attributes)?,
+        name: texts.text(info.name)?,
+        descriptor: descriptor.text.share()?,
+        method_type: descriptor.method_type.share()?,
+        flags: flags_of(is_initializer(texts.pool(), info.name), info.access),
+        throws: throws_of(alloc, texts, attributes)?,
+        body: body_among(alloc, texts, attributes)?,
     })
 }
 
 /// The methods of a class, in order.
 pub(crate) fn methods_of(
     alloc: Global,
-    pool: &Pool,
+    texts: &Texts,
     infos: &[MethodInfo],
 ) -> Result<Items<Method>, AllocError>
-    ensures { IfOk result (λ ms. ms ≡ map (method_of pool.now) infos.now) }
+    ensures { IfOk result (λ ms. ms ≡ map (method_of texts.now) infos.now) }
 {
     let mut methods = Vec::with_capacity(alloc, infos.len())?;
     for info in infos {
-        methods.push(method_of(alloc, pool, info)?)?;
+        methods.push(method_of(alloc, texts, info)?)?;
     }
     Ok(Items::from_vec(methods))
 }

@@ -3,8 +3,8 @@
 ghost use Rattle.std.specs.Prelude.{◌≡◌, IfOk};
 ghost use Rattle.linker.specs.Linking.{built_in_name, extends_object, is_later, later, names_of, repeated_name};
 
-use jvms::items::Items;
 use jvms::program::Class;
+use jvms::shared::Text;
 use program::{OBJECT, is_built_in, same_text};
 use std::alloc::{AllocError, Global};
 use std::collections::HashSet;
@@ -19,7 +19,7 @@ pub(crate) fn built_in_name(classes: &[Class]) -> Option<usize>
 }
 
 /// Whether a superclass is `java/lang/Object`.
-fn extends_object(superclass: &Option<Items<u16>>) -> bool
+fn extends_object(superclass: &Option<Text>) -> bool
     ensures { result ≡ extends_object superclass.now }
 {
     match superclass {

@@ -146,7 +146,7 @@ fn means_the_instructions_of_a_method(rt: HostRuntime) -> Result<(), Fail> {
     assert_eq!(rt; class.methods.len(), 1);
     for method in class.methods.as_slice() {
         assert!(rt; method.flags.is_static);
-        assert_eq!(rt; method.method_type.parameters.len(), 2);
+        assert_eq!(rt; method.method_type.get().parameters.len(), 2);
         assert!(rt; method.body.is_some());
         if let Some(body) = &method.body {
             assert_eq!(rt; body.instructions.len(), 11);

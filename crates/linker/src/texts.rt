@@ -1,11 +1,39 @@
-//! Texts that numbers of pool entries name.
+//! Texts and types that numbers of pool entries name.
 
-ghost use Rattle.std.specs.Prelude.{◌≡◌, IfOk, map};
-ghost use Rattle.jvms.specs.Meaning.{text_of, class_text};
+ghost use Rattle.std.specs.Prelude.{◌≡◌, IfOk, map, slice_get};
+ghost use Rattle.std.specs.Option.{option_and_then, option_copied, option_map};
+ghost use Rattle.jvms.specs.ConstantPool.{utf8_at};
+ghost use Rattle.jvms.specs.Meaning.{text_of, class_text, name_and_type};
+ghost use Rattle.linker.specs.Spelled.{spelled};
 
-use const_pool::Pool;
+use crate::spelled::{Spelled, all_spelled, spelled_by_nothing};
+use const_pool::{Constant, Pool};
 use jvms::items::Items;
+use jvms::shared::Text;
 use std::alloc::{AllocError, Global};
+use std::marker::Model;
+
+/// A class's constant pool, each of whose texts is held once for all that name it. Contracts see the list of
+/// its entries, as of a `Pool`.
+#[derive(Drop)]
+pub(crate) struct Texts {
+    pool: Pool,
+    spelled: Vec<Option<Spelled>>,
+    /// What stands for a text that isn't there.
+    nothing: Spelled,
+}
+
+impl Model for Texts {
+    ghost use Rattle.std.specs.Prelude.{List, [], ◌≡◌, map};
+    ghost use Rattle.jvms.specs.declared.class_file.Constant.{Constant};
+    ghost use Rattle.linker.specs.Spelled.{spelled as spelled_text, spelled_of};
+
+    ghost Value = { List Constant };
+
+    ghost view = { λ t. t.pool };
+
+    ghost invariant = { λ t. (t.spelled.items ≡ map spelled_of t.pool) × (t.nothing ≡ spelled_text []) };
+}
 
 /// Items of their own that are the same.
 pub(crate) fn copied<T: Copy>(alloc: Global, items: &[T]) -> Result<Items<T>, AllocError>
@@ -14,37 +42,104 @@ pub(crate) fn copied<T: Copy>(alloc: Global, items: &[T]) -> Result<Items<T>, Al
     Ok(Items::from_vec(Vec::from_slice(alloc, items)?))
 }
 
-/// The text of a Utf8 entry (JVMS 4.4.7); where a number names none, the empty text.
-pub(crate) fn text_of(alloc: Global, pool: &Pool, number: u16) -> Result<Items<u16>, AllocError>
-    ensures { IfOk result (λ text. text ≡ text_of pool.now number) }
+/// What the entry at a place gives, if it is a Utf8.
+fn at_place(spelled: &[Option<Spelled>], place: usize) -> Option<&Spelled>
+    ensures { option_copied result ≡ option_and_then (λ s. s) (slice_get spelled.now place) }
 {
-    match pool.utf8(number) {
-        Some(text) => copied(alloc, text),
-        None => Ok(Items::new(alloc)),
+    match spelled.get(place) {
+        Some(Some(found)) => Some(found),
+        _ => None,
     }
 }
 
-/// The name of a Class entry (JVMS 4.4.1); where a number names none, the empty text.
-pub(crate) fn class_text(alloc: Global, pool: &Pool, number: u16) -> Result<Items<u16>, AllocError>
-    ensures { IfOk result (λ name. name ≡ class_text pool.now number) }
-{
-    match pool.class_name(number) {
-        Some(name) => copied(alloc, name),
-        None => Ok(Items::new(alloc)),
+impl Texts {
+    /// The texts of a pool.
+    pub(crate) fn of(alloc: Global, pool: Pool) -> Result<Self, AllocError>
+        ensures { IfOk result (λ texts. texts ≡ pool) }
+    {
+        let nothing = spelled_by_nothing(alloc)?;
+        let spelled = all_spelled(alloc, pool.entries().as_slice(), &nothing)?;
+        Ok(Texts {
+            pool,
+            spelled,
+            nothing,
+        })
     }
-}
 
-/// The names of Class entries, in order.
-pub(crate) fn class_texts(
-    alloc: Global,
-    pool: &Pool,
-    numbers: &[u16],
-) -> Result<Items<Items<u16>>, AllocError>
-    ensures { IfOk result (λ names. names ≡ map (class_text pool.now) numbers.now) }
-{
-    let mut names = Vec::with_capacity(alloc, numbers.len())?;
-    for number in numbers {
-        names.push(class_text(alloc, pool, *number)?)?;
+    /// The pool.
+    pub(crate) fn pool(&self) -> &Pool
+        ensures { result.now ≡ self.now }
+    {
+        &self.pool
     }
-    Ok(Items::from_vec(names))
+
+    /// What the text of a Utf8 entry gives (JVMS 4.4.7), if a number is one's.
+    #[tactic(auto, using(crate::proofs::SpelledTexts::spelled_at))]
+    fn found(&self, number: u16) -> Option<&Spelled>
+        ensures { option_copied result ≡ option_map spelled (utf8_at self.now number) }
+    {
+        if number == 0 {
+            return None;
+        }
+        at_place(&self.spelled, usize::from(number) - 1)
+    }
+
+    /// What the text of a Utf8 entry gives; where a number names none, the empty text.
+    #[tactic(auto, using(crate::proofs::SpelledTexts::found_spelled))]
+    pub(crate) fn spelled(&self, number: u16) -> &Spelled
+        ensures { result.now ≡ spelled (text_of self.now number) }
+    {
+        match self.found(number) {
+            Some(found) => found,
+            None => &self.nothing,
+        }
+    }
+
+    /// The text of a Utf8 entry; where a number names none, the empty text.
+    pub(crate) fn text(&self, number: u16) -> Result<Text, AllocError>
+        ensures { IfOk result (λ text. text ≡ text_of self.now number) }
+    {
+        self.spelled(number).text.share()
+    }
+
+    /// The name of a Class entry (JVMS 4.4.1); where a number names none, the empty text.
+    pub(crate) fn class_name(&self, number: u16) -> Result<Text, AllocError>
+        ensures { IfOk result (λ name. name ≡ class_text self.now number) }
+    {
+        match self.pool.entry(number) {
+            Some(Constant::Class { name }) => self.text(*name),
+            _ => self.nothing.text.share(),
+        }
+    }
+
+    /// The names of Class entries, in order.
+    pub(crate) fn class_names(
+        &self,
+        alloc: Global,
+        numbers: &[u16],
+    ) -> Result<Items<Text>, AllocError>
+        ensures { IfOk result (λ names. names ≡ map (class_text self.now) numbers.now) }
+    {
+        let mut names = Vec::with_capacity(alloc, numbers.len())?;
+        for number in numbers {
+            names.push(self.class_name(*number)?)?;
+        }
+        Ok(Items::from_vec(names))
+    }
+
+    /// What the name and the descriptor of a NameAndType entry give (JVMS 4.4.6); where a number names none,
+    /// empty texts.
+    pub(crate) fn name_and_type(&self, number: u16) -> (&Spelled, &Spelled)
+        ensures name { result.0.now ≡ spelled (name_and_type self.now number).0 }
+        ensures descriptor { result.1.now ≡ spelled (name_and_type self.now number).1 }
+    {
+        match self.pool.entry(number) {
+            Some(Constant::NameAndType { name, descriptor })
+                if self.pool.is_utf8(*name) && self.pool.is_utf8(*descriptor) => (
+                self.spelled(*name),
+                self.spelled(*descriptor),
+            ),
+            _ => (&self.nothing, &self.nothing),
+        }
+    }
 }

@@ -142,7 +142,7 @@ impl Parts<'_> {
     fn entry_plan(&self, t: usize, thread: &Thread, method: &Method) -> Plan
         ensures { result ≡ entry self.now t thread.now (Some method.now) }
     {
-        if is_outside(&method.method_type) {
+        if is_outside(method.method_type.get()) {
             return bad(BadCause::OutOfProfile);
         }
         let entered = enter_plan(self.arguments.as_slice(), enterable_body(method));
@@ -202,7 +202,7 @@ impl Parts<'_> {
         let Some(method) = self.program.method(call.method()) else {
             return not_yet();
         };
-        thread.return_plan(&method.method_type.result, how, call.top())
+        thread.return_plan(&method.method_type.get().result, how, call.top())
     }
 
     fn turn_plan(&self, t: usize, thread: &Thread) -> Plan

@@ -8,8 +8,6 @@ ghost use Rattle.machine.specs.Views.{value_of};
 mod declared;
 mod objects;
 mod opening;
-#[cfg(test)]
-mod tests;
 mod threads;
 
 use crate::initialisation::Initialisation;

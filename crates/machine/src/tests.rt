@@ -8,3 +8,4 @@ mod programs;
 mod rows;
 mod runs;
 mod stalls;
+mod states;

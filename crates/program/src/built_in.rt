@@ -9,6 +9,7 @@ use crate::text::text;
 use jvms::insn::{Branch, FieldUse};
 use jvms::items::Items;
 use jvms::program::{Class, ClassKind, Field, Instruction, Method};
+use jvms::shared::Text;
 use std::alloc::{AllocError, Global};
 
 /// The name of the class above all others.
@@ -18,7 +19,7 @@ pub(crate) const OBJECT: &str = "java/lang/Object";
 pub(crate) fn class_with(
     alloc: Global,
     superclass: &str,
-    interfaces: Vec<Items<u16>>,
+    interfaces: Vec<Text>,
     fields: Vec<Field>,
     methods: Vec<Method>,
     name: &str,

@@ -8,6 +8,7 @@ use descriptor::{field_type, method_type};
 use jvms::boxed::Boxed;
 use jvms::insn::{FieldUse, Invoke, Kind, LocalUse, ReturnInsn, Simple};
 use jvms::program::{FieldReference, Instruction, MethodReference};
+use jvms::shared::Shared;
 use std::alloc::{AllocError, Global};
 
 /// Pushes the reference in a local.
@@ -44,7 +45,7 @@ fn field_insn(
     let class = text(alloc, class)?;
     let name = text(alloc, name)?;
     let descriptor = text(alloc, descriptor)?;
-    let field_type = field_type(alloc, descriptor.as_slice())?;
+    let field_type = Shared::new(alloc, field_type(alloc, descriptor.as_slice())?)?;
     let reference = FieldReference {
         class,
         name,
@@ -87,7 +88,7 @@ pub(crate) fn call_run(alloc: Global) -> Result<Instruction, AllocError>
     let class = text(alloc, "java/lang/Runnable")?;
     let name = text(alloc, "run")?;
     let descriptor = text(alloc, "()V")?;
-    let method_type = method_type(alloc, descriptor.as_slice())?;
+    let method_type = Shared::new(alloc, method_type(alloc, descriptor.as_slice())?)?;
     let reference = MethodReference {
         is_interface: true,
         class,

@@ -75,7 +75,7 @@ impl Program {
     }
 
     /// The key of a method in a trace, if there is a method of the number.
-    pub fn key(&self, alloc: Global, n: MethodNumber) -> Result<Option<MethodKey>, AllocError>
+    pub fn key(&self, n: MethodNumber) -> Result<Option<MethodKey>, AllocError>
         ensures key { IfOk result (λ key. key ≡ key_of self.now n) }
         // A key that isn't there takes no memory.
         ensures none { key_of self.now n ≡ None → IsOk result }
@@ -87,16 +87,9 @@ impl Program {
             return Ok(None);
         };
         Ok(Some(MethodKey {
-            class: copied(alloc, class.name.as_slice())?,
-            name: copied(alloc, method.name.as_slice())?,
-            descriptor: copied(alloc, method.descriptor.as_slice())?,
+            class: class.name.share()?,
+            name: method.name.share()?,
+            descriptor: method.descriptor.share()?,
         }))
     }
-}
-
-/// A text of its own.
-fn copied(alloc: Global, text: &[u16]) -> Result<Items<u16>, AllocError>
-    ensures { IfOk result (λ copy. copy ≡ text.now) }
-{
-    Ok(Items::from_vec(Vec::from_slice(alloc, text)?))
 }

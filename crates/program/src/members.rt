@@ -7,6 +7,7 @@ use crate::text::text;
 use descriptor::{field_type, method_type};
 use jvms::items::Items;
 use jvms::program::{Body, Field, Instruction, Method, MethodFlags};
+use jvms::shared::Shared;
 use std::alloc::{AllocError, Global};
 
 /// The flags of a method that has none.
@@ -34,7 +35,7 @@ fn method(
 {
     let name = text(alloc, name)?;
     let descriptor = text(alloc, descriptor)?;
-    let method_type = method_type(alloc, descriptor.as_slice())?;
+    let method_type = Shared::new(alloc, method_type(alloc, descriptor.as_slice())?)?;
     Ok(Method {
         name,
         descriptor,
@@ -96,7 +97,7 @@ pub(crate) fn field(
 {
     let name = text(alloc, name)?;
     let descriptor = text(alloc, descriptor)?;
-    let field_type = field_type(alloc, descriptor.as_slice())?;
+    let field_type = Shared::new(alloc, field_type(alloc, descriptor.as_slice())?)?;
     Ok(Field {
         name,
         descriptor,

@@ -3,32 +3,35 @@ use jvms::descriptor::{Element, FieldType, MethodType, Primitive, ResultType};
 use jvms::items::Items;
 use jvms::machine::{MethodNumber, Thrown};
 use jvms::program::{Class, ClassKind, FieldReference, Method, MethodFlags, MethodReference};
+use jvms::shared::{Shared, Text};
 use std::alloc::{AllocError, Global};
 use std::test::Fail;
 
-fn text(alloc: Global, ascii: &str) -> Result<Items<u16>, AllocError> {
+fn text(alloc: Global, ascii: &str) -> Result<Text, AllocError> {
     crate::text::text(alloc, ascii)
 }
 
-fn no_method(alloc: Global) -> MethodType {
-    MethodType {
+fn no_method(alloc: Global) -> Result<Shared<MethodType>, AllocError> {
+    let nothing = MethodType {
         parameters: Items::new(alloc),
         result: ResultType::Void,
-    }
+    };
+    Shared::new(alloc, nothing)
 }
 
-fn int() -> FieldType {
-    FieldType {
+fn int(alloc: Global) -> Result<Shared<FieldType>, AllocError> {
+    let int = FieldType {
         dimensions: 0,
         element: Element::Primitive(Primitive::Int),
-    }
+    };
+    Shared::new(alloc, int)
 }
 
 fn method(alloc: Global, name: &str, is_static: bool) -> Result<Method, AllocError> {
     Ok(Method {
         name: text(alloc, name)?,
         descriptor: text(alloc, "()V")?,
-        method_type: no_method(alloc),
+        method_type: no_method(alloc)?,
         flags: MethodFlags {
             is_static,
             is_private: false,
@@ -68,7 +71,7 @@ fn reference(
         class: text(alloc, class)?,
         name: text(alloc, name)?,
         descriptor: text(alloc, descriptor)?,
-        method_type: no_method(alloc),
+        method_type: no_method(alloc)?,
     })
 }
 
@@ -95,7 +98,7 @@ fn looks_up_by_name(rt: HostRuntime) -> Result<(), Fail> {
         method: 0,
     };
     assert!(rt; program.method(own).is_some());
-    assert!(rt; program.key(rt.alloc(), own)?.is_some());
+    assert!(rt; program.key(own)?.is_some());
     Ok(())
 }
 
@@ -135,7 +138,7 @@ fn resolves_fields(rt: HostRuntime) -> Result<(), Fail> {
         class: text(rt.alloc(), "java/lang/System")?,
         name: text(rt.alloc(), "out")?,
         descriptor: text(rt.alloc(), "Ljava/io/PrintStream;")?,
-        field_type: int(),
+        field_type: int(rt.alloc())?,
     };
     assert!(rt; program.resolve_field(true, &out) == Ok((3, 0)));
     assert!(rt; program.resolve_field(false, &out) == Err(Thrown::IncompatibleClassChangeError));

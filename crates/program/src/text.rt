@@ -4,17 +4,18 @@ ghost use Rattle.std.specs.Prelude.{◌≡◌, IfOk};
 ghost use Rattle.jvms.specs.Names.{same_text};
 
 use jvms::items::Items;
+use jvms::shared::{Shared, Text};
 use std::alloc::{AllocError, Global};
 
 /// The units of an ASCII text.
-pub(crate) fn text(alloc: Global, ascii: &str) -> Result<Items<u16>, AllocError>
+pub(crate) fn text(alloc: Global, ascii: &str) -> Result<Text, AllocError>
     ensures { IfOk result (λ units. units ≡ ascii.now) }
 {
     let mut units = Vec::new(alloc);
     for byte in ascii.as_bytes() {
         units.push(u16::from(*byte))?;
     }
-    Ok(Items::from_vec(units))
+    Shared::new(alloc, Items::from_vec(units))
 }
 
 /// Whether bytes and units are the same text.

@@ -8,6 +8,7 @@ ghost use Rattle.jvms.specs.Resolution.{chain, ancestry, ancestry_within, first_
 use crate::lookup::named;
 use jvms::items::Items;
 use jvms::program::Class;
+use jvms::shared::Text;
 
 /// What is looked for in one class after another: the number of a class, and of a member there.
 pub(crate) trait Look {
@@ -87,7 +88,7 @@ pub(crate) fn first_in_ancestry<L: Look>(
 #[tactic(auto, using(crate::proofs::WalkLaws::names))]
 pub(crate) fn first_in_ancestries<L: Look>(
     classes: &[Class],
-    names: &[Items<u16>],
+    names: &[Text],
     look: &L,
 ) -> Option<(usize, usize)>
     ensures { result ≡ first_in (L.gives look.now) (flat_map (ancestry classes.now) names.now) }

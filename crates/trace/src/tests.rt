@@ -1,10 +1,11 @@
 use super::*;
 use jvms::items::Items;
+use jvms::shared::{Shared, Text};
 use std::alloc::{AllocError, Global};
 use std::test::Fail;
 
-fn text(alloc: Global, units: &[u16]) -> Result<Items<u16>, AllocError> {
-    Ok(Items::from_vec(units.to_vec(alloc)?))
+fn text(alloc: Global, units: &[u16]) -> Result<Text, AllocError> {
+    Shared::new(alloc, Items::from_vec(units.to_vec(alloc)?))
 }
 
 fn key(alloc: Global) -> Result<FieldKey, AllocError> {

@@ -62,7 +62,7 @@ fn first_value(class: &Class, key: &FieldKey, is_static: bool) -> Option<Value>
         return None;
     }
     let field = declared(class, key, is_static)?;
-    Some(default_value(&field.field_type))
+    Some(default_value(field.field_type.get()))
 }
 
 /// The first value of the field of a key, of an instance of a class.

@@ -1,6 +1,6 @@
 //! Where a run begins.
 
-use super::programs::{ALOAD_0, POP, RETURN, body, entry, method, program, simples, text};
+use super::programs::{ALOAD_0, POP, RETURN, body, entry, method, program, simples, units};
 use super::runs::{LIMITS, fault};
 use crate::{Entry, Limits, Machine, MachineFault, Outcome, Status, admits};
 use jvms::program::Body;
@@ -79,7 +79,7 @@ fn a_static_method_of_the_arguments_is_an_entry(rt: HostRuntime) -> Result<(), F
 
 fn main_entry(alloc: Global) -> Result<Entry, Fail> {
     Ok(Entry::Main {
-        class: text(alloc, "G")?,
+        class: units(alloc, "G")?,
     })
 }
 

@@ -7,6 +7,7 @@ use super::programs::{
 use super::runs::LIMITS;
 use crate::{Initialisation, Machine, Outcome, Status};
 use jvms::insn::{Branch, Comparison};
+use jvms::program::Method;
 use jvms::trace::{Item, MethodKey};
 use jvms::value::Value;
 use program::Program;
@@ -30,10 +31,13 @@ static GCD: [Line; 11] = [
     Line::Plain(IRETURN),
 ];
 
-pub fn gcd_program(alloc: Global) -> Result<Program, Fail> {
+pub fn gcd_method(alloc: Global) -> Result<Method, Fail> {
     let code = lines(alloc, &GCD)?;
-    let gcd = method(alloc, "gcd", "(II)I", true, body(alloc, 3, 2, code))?;
-    program(alloc, vec![in alloc; gcd]?)
+    method(alloc, "gcd", "(II)I", true, body(alloc, 3, 2, code))
+}
+
+pub fn gcd_program(alloc: Global) -> Result<Program, Fail> {
+    program(alloc, vec![in alloc; gcd_method(alloc)?]?)
 }
 
 fn gcd_key(alloc: Global) -> Result<MethodKey, Fail> {

@@ -7,7 +7,8 @@ use jvms::insn::{
     StackForm,
 };
 use jvms::items::Items;
-use jvms::program::{Body, Class, ClassKind, Instruction, Method, MethodFlags};
+use jvms::program::{Body, Class, ClassKind, Field, Instruction, Method, MethodFlags};
+use jvms::shared::{Shared, Text};
 use program::Program;
 use std::alloc::Global;
 use std::test::Fail;
@@ -54,12 +55,16 @@ pub const ISTORE_0: Simple = Simple::Local(LocalUse::Store(Kind::Int), 0);
 
 pub const ISTORE_1: Simple = Simple::Local(LocalUse::Store(Kind::Int), 1);
 
-pub fn text(alloc: Global, ascii: &str) -> Result<Items<u16>, Fail> {
+pub fn units(alloc: Global, ascii: &str) -> Result<Items<u16>, Fail> {
     let mut units = Vec::new(alloc);
     for byte in ascii.as_bytes() {
         units.push(u16::from(*byte))?;
     }
     Ok(Items::from_vec(units))
+}
+
+pub fn text(alloc: Global, ascii: &str) -> Result<Text, Fail> {
+    Ok(Shared::new(alloc, units(alloc, ascii)?)?)
 }
 
 pub fn simples(alloc: Global, code: &[Simple]) -> Result<Vec<Instruction>, Fail> {
@@ -114,7 +119,7 @@ pub fn method(
     body: Body,
 ) -> Result<Method, Fail> {
     let descriptor = text(alloc, descriptor)?;
-    let method_type = parse_method(alloc, descriptor.as_slice())?;
+    let method_type = Shared::new(alloc, parse_method(alloc, descriptor.as_slice())?)?;
     Ok(Method {
         name: text(alloc, name)?,
         descriptor,
@@ -133,12 +138,21 @@ pub fn method(
 
 /// The class G with these methods.
 pub fn program(alloc: Global, methods: Vec<Method>) -> Result<Program, Fail> {
+    program_with(alloc, Vec::new(alloc), methods)
+}
+
+/// The class G with these fields and methods.
+pub fn program_with(
+    alloc: Global,
+    fields: Vec<Field>,
+    methods: Vec<Method>,
+) -> Result<Program, Fail> {
     let class = Class {
         name: text(alloc, "G")?,
         kind: ClassKind::Neither,
         superclass: Some(text(alloc, "java/lang/Object")?),
         interfaces: Items::new(alloc),
-        fields: Items::new(alloc),
+        fields: Items::from_vec(fields),
         methods: Items::from_vec(methods),
     };
     Ok(Program::new(alloc, vec![in alloc; class]?)?)
@@ -152,9 +166,9 @@ pub fn entry(
     arguments: &[i32],
 ) -> Result<Entry, Fail> {
     Ok(Entry::Static {
-        class: text(alloc, class)?,
-        name: text(alloc, name)?,
-        descriptor: text(alloc, descriptor)?,
+        class: units(alloc, class)?,
+        name: units(alloc, name)?,
+        descriptor: units(alloc, descriptor)?,
         arguments: Items::from_vec(arguments.to_vec(alloc)?),
     })
 }

@@ -3,4 +3,4 @@ use Rattle.jvms.specs.Meaning.{handler_of}
 use Rattle.linker.proofs.code.handlers_of.Given as goal
 
 abbrev pub invariant-loop-handler : goal.invariant-loop-handler
-invariant-loop-handler l = l.handlers.items ≡ map (handler_of l.pool) (take l.handler-index l.table)
+invariant-loop-handler l = l.handlers.items ≡ map (handler_of l.texts) (take l.handler-index l.table)

@@ -3,4 +3,4 @@ use Rattle.jvms.specs.Meaning.{field_of}
 use Rattle.linker.proofs.field.fields_of.Given as goal
 
 abbrev pub invariant-loop-info : goal.invariant-loop-info
-invariant-loop-info l = l.fields.items ≡ map (field_of l.pool l.in_interface) (take l.info-index l.infos)
+invariant-loop-info l = l.fields.items ≡ map (field_of l.texts l.in_interface) (take l.info-index l.infos)

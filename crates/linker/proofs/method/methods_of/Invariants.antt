@@ -3,4 +3,4 @@ use Rattle.jvms.specs.Meaning.{method_of}
 use Rattle.linker.proofs.method.methods_of.Given as goal
 
 abbrev pub invariant-loop-info : goal.invariant-loop-info
-invariant-loop-info l = l.methods.items ≡ map (method_of l.pool) (take l.info-index l.infos)
+invariant-loop-info l = l.methods.items ≡ map (method_of l.texts) (take l.info-index l.infos)

@@ -1,12 +1,13 @@
 //! The parts of the state of small runs, by the definitions and the texts of the instructions in the JVMS, and
 //! not by this crate's answers.
 
+use super::gcd::gcd_method;
+use super::programs::{entry, program_with, text};
 use crate::{FrameView, Initialisation, Machine};
-use descriptor::{parse_field, parse_method};
-use jvms::insn::{Branch, Comparison, Division, IntInsn, Kind, LocalUse, Push, ReturnInsn, Simple};
-use jvms::items::Items;
-use jvms::machine::{Entry, Limits, MethodNumber};
-use jvms::program::{Body, Class, ClassKind, Field, Instruction, Method, MethodFlags};
+use descriptor::parse_field;
+use jvms::machine::{Limits, MethodNumber};
+use jvms::program::Field;
+use jvms::shared::Shared;
 use jvms::trace::FieldKey;
 use jvms::value::Value;
 use program::Program;
@@ -27,68 +28,9 @@ const OWN: usize = 37;
 
 // ---- A program
 
-fn text(alloc: Global, ascii: &str) -> Result<Items<u16>, Fail> {
-    let mut units = Vec::new(alloc);
-    for byte in ascii.as_bytes() {
-        units.push(u16::from(*byte))?;
-    }
-    Ok(Items::from_vec(units))
-}
-
-fn load(n: u16) -> Instruction {
-    Instruction::Simple(Simple::Local(LocalUse::Load(Kind::Int), n))
-}
-
-fn store(n: u16) -> Instruction {
-    Instruction::Simple(Simple::Local(LocalUse::Store(Kind::Int), n))
-}
-
-/// While the second is not 0: the second, and the remainder of the first by it.
-fn gcd_code(alloc: Global) -> Result<Vec<Instruction>, Fail> {
-    let remainder = Simple::Int(IntInsn::Division(Division::Remainder));
-    let returned = Simple::Return(ReturnInsn::Value(Kind::Int));
-    let mut code = Vec::new(alloc);
-    code.push(load(1))?;
-    code.push(Instruction::Branch(Branch::IfZero(Comparison::Equal), 9))?;
-    code.push(load(1))?;
-    code.push(load(0))?;
-    code.push(load(1))?;
-    code.push(Instruction::Simple(remainder))?;
-    code.push(store(1))?;
-    code.push(store(0))?;
-    code.push(Instruction::Branch(Branch::Goto, 0))?;
-    code.push(load(0))?;
-    code.push(Instruction::Simple(returned))?;
-    Ok(code)
-}
-
-fn gcd(alloc: Global) -> Result<Method, Fail> {
-    let descriptor = text(alloc, "(II)I")?;
-    let method_type = parse_method(alloc, descriptor.as_slice())?;
-    Ok(Method {
-        name: text(alloc, "gcd")?,
-        descriptor,
-        method_type,
-        flags: MethodFlags {
-            is_static: true,
-            is_private: false,
-            is_synchronized: false,
-            is_native: false,
-            is_abstract: false,
-        },
-        throws: Items::new(alloc),
-        body: Some(Body {
-            max_stack: 3,
-            max_locals: 2,
-            instructions: Items::from_vec(gcd_code(alloc)?),
-            handlers: Items::new(alloc),
-        }),
-    })
-}
-
 fn field(alloc: Global, name: &str, descriptor: &str, is_static: bool) -> Result<Field, Fail> {
     let descriptor = text(alloc, descriptor)?;
-    let field_type = parse_field(alloc, descriptor.as_slice())?;
+    let field_type = Shared::new(alloc, parse_field(alloc, descriptor.as_slice())?)?;
     Ok(Field {
         name: text(alloc, name)?,
         descriptor,
@@ -111,25 +53,12 @@ fn fields(alloc: Global) -> Result<Vec<Field>, Fail> {
 
 /// The class G with these fields and gcd.
 fn program(alloc: Global) -> Result<Program, Fail> {
-    let class = Class {
-        name: text(alloc, "G")?,
-        kind: ClassKind::Neither,
-        superclass: Some(text(alloc, "java/lang/Object")?),
-        interfaces: Items::new(alloc),
-        fields: Items::from_vec(fields(alloc)?),
-        methods: Items::from_vec(vec![in alloc; gcd(alloc)?]?),
-    };
-    Ok(Program::new(alloc, vec![in alloc; class]?)?)
+    program_with(alloc, fields(alloc)?, vec![in alloc; gcd_method(alloc)?]?)
 }
 
 /// gcd(48, 36) is to be run.
 fn opened(alloc: Global, program: &Program) -> Result<Machine<'_>, Fail> {
-    let entry = Entry::Static {
-        class: text(alloc, "G")?,
-        name: text(alloc, "gcd")?,
-        descriptor: text(alloc, "(II)I")?,
-        arguments: Items::from_vec(vec![in alloc; 48, 36]?),
-    };
+    let entry = entry(alloc, "G", "gcd", "(II)I", &[48, 36])?;
     Ok(Machine::new(alloc, program, LIMITS, &entry)?)
 }
 

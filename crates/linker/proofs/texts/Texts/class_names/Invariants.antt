@@ -1,0 +1,6 @@
+use Rattle.std.proofs.Common.{◌≡◌, take, map}
+use Rattle.jvms.specs.Meaning.{class_text}
+use Rattle.linker.proofs.texts.Texts.class_names.Given as goal
+
+abbrev pub invariant-loop-number : goal.invariant-loop-number
+invariant-loop-number l = l.names.items ≡ map (class_text l.self) (take l.number-index l.numbers)

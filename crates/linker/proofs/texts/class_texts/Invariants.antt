@@ -1,6 +1,0 @@
-use Rattle.std.proofs.Common.{◌≡◌, take, map}
-use Rattle.jvms.specs.Meaning.{class_text}
-use Rattle.linker.proofs.texts.class_texts.Given as goal
-
-abbrev pub invariant-loop-number : goal.invariant-loop-number
-invariant-loop-number l = l.names.items ≡ map (class_text l.pool) (take l.number-index l.numbers)
