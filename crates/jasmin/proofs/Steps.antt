@@ -1,0 +1,20 @@
+-- What an answer that is there says of the steps that made it. Each lemma hands on what one step says, so that
+-- it is read in the order of the steps.
+use Rattle.std.proofs.Common.{◌≡◌, ◌≢◌, ℕ, suc, ◌<◌, ◌≤◌, ◌+◌, Bool, true, false, cond, List, [], ◌∷◌, ◌++◌, length, Option, Some, None, refl, sym, ap, ◌∙◌, arith}
+use Rattle.std.proofs.lemmas.Option.{none-some, same_Some}
+use Rattle.std.specs.Option.{option_and_then, option_map}
+
+-- Which way a test went.
+pub choose : {A : Type 0} {G : Type 0} (b : Bool) (x y z : A) → cond b x y ≡ z → (b ≡ true → x ≡ z → G) → (b ≡ false → y ≡ z → G) → G
+choose true x y z e met unmet = met refl e
+choose false x y z e met unmet = unmet refl e
+
+-- What was mapped.
+pub mapped : {A B : Type 0} {G : Type 0} (f : A → B) (o : Option A) (y : B) → option_map f o ≡ Some y → ((x : A) → o ≡ Some x → f x ≡ y → G) → G
+mapped f None y e next = absurd (none-some y e)
+mapped f (Some x) y e next = next x refl (same_Some (f x) y e)
+
+-- What came before.
+pub before : {A B : Type 0} {G : Type 0} (f : A → Option B) (o : Option A) (y : B) → option_and_then f o ≡ Some y → ((x : A) → o ≡ Some x → f x ≡ Some y → G) → G
+before f None y e next = absurd (none-some y e)
+before f (Some x) y e next = next x refl e

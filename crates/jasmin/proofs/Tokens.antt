@@ -1,0 +1,308 @@
+-- Tokens of a line: what is read is spelled so, and what is spelled so is read.
+use Rattle.std.proofs.Common.{◌≡◌, ◌⊎◌, ℕ, zero, suc, ◌<◌, ◌≤◌, ◌+◌, ◌&&◌, ◌||◌, Bool, true, false, not, cond, eqb, List, [], ◌∷◌, ◌++◌, length, Option, Some, None, refl, sym, ap, subst, ◌∙◌, append_assoc, arith, inl, inr}
+use Rattle.std.proofs.lemmas.Bool.{eqb-true, eqb-false, not-true, and_parts, and_from, or_cases}
+use Rattle.std.proofs.lemmas.List.{length-append}
+use Rattle.std.proofs.lemmas.Option.{none-some, same_Some}
+use Rattle.std.specs.List.{list_all}
+use Rattle.std.specs.Option.{option_and_then, option_map}
+use Rattle.jvms.specs.Names.{begins_with}
+use Rattle.jasmin.specs.declared.token.Token.{Token}
+use Rattle.jasmin.specs.declared.token.Token.TheVariants as token
+use Rattle.jasmin.specs.Lexing.{is_space, ends_word, is_word_end, is_empty, begins_comment, SpellsToken, SpellsUnits, Lexes, word_from, text_from, token_from, begin_from, tokens_from, tokens_of}
+use Rattle.jasmin.proofs.Steps.{choose, mapped, before}
+use Rattle.jasmin.proofs.Texts.{text_found, text_again}
+
+-- ---- Words
+
+abbrev goes_on : ℕ → Bool
+goes_on u = not (ends_word u)
+
+-- A word that was read, and what stands behind it.
+record WordFound (us : List ℕ) (read : List ℕ × List ℕ) : Type 0 where
+  pub parts : us ≡ read.0 ++ read.1
+  pub units : list_all goes_on read.0 ≡ true
+  pub ends : is_word_end read.1 ≡ true
+
+word_more : (u : ℕ) (us : List ℕ) (b : Bool) → ends_word u ≡ b → WordFound us (word_from us) → WordFound (u ∷ us) (cond b ([], u ∷ us) (u ∷ (word_from us).0, (word_from us).1))
+word_more u us true e f = record { parts = refl; units = refl; ends = e }
+word_more u us false e f = record { parts = ap (λ (w : List ℕ). u ∷ w) f.parts; units = rw (e, f.units) refl; ends = f.ends }
+
+word_found : (us : List ℕ) → WordFound us (word_from us)
+unfolding word_from
+word_found [] = record { parts = refl; units = refl; ends = refl }
+word_found (u ∷ us) = word_more u us (ends_word u) refl (word_found us)
+
+word_ended : (behind : List ℕ) → is_word_end behind ≡ true → word_from behind ≡ ([], behind)
+unfolding word_from
+word_ended [] e = refl
+word_ended (u ∷ us) e = rw e refl
+
+word_again : (w behind : List ℕ) → list_all goes_on w ≡ true → is_word_end behind ≡ true → word_from (w ++ behind) ≡ (w, behind)
+unfolding word_from
+word_again [] behind units ends = word_ended behind ends
+word_again (u ∷ w) behind units ends =
+    let both = and_parts (goes_on u) (list_all goes_on w) units in
+    rw (not-true (ends_word u) both.0, word_again w behind both.1 ends) refl
+
+-- ---- A token
+
+abbrev pub begins_space : List ℕ → Bool
+begins_space [] = false
+begins_space (u ∷ us) = is_space u
+
+-- A token that was read, and what stands behind it.
+record TokenFound (us : List ℕ) (t : Token) (behind : List ℕ) : Type 0 where
+  pub spelled : List ℕ
+  pub parts : us ≡ spelled ++ behind
+  pub spells : SpellsToken spelled t behind
+  pub some : is_empty spelled ≡ false
+
+-- A unit that is none of four sorts ends no word.
+no_end : (u : ℕ) → is_space u ≡ false → eqb u 34 ≡ false → eqb u 58 ≡ false → eqb u 61 ≡ false → ends_word u ≡ false
+no_end u a b c d = rw (a, b, c, d) refl
+
+word_token : (u : ℕ) (us behind : List ℕ) (t : Token) (read : List ℕ × List ℕ) → WordFound (u ∷ us) read → ends_word u ≡ false → ◌≡◌ {A = Token × List ℕ} (token.Word read.0, read.1) (t, behind) → TokenFound (u ∷ us) t behind
+word_token u us behind t ([], left) f runs e =
+    let bad : ends_word u ≡ true = subst (λ (w : List ℕ). is_word_end w ≡ true) (sym f.parts) f.ends in
+    absurd cc
+word_token u us behind t (v ∷ vs, left) f runs e =
+    subst (λ (p : Token × List ℕ). TokenFound (u ∷ us) p.0 p.1) e
+    (record { spelled = v ∷ vs; parts = f.parts; spells = (refl, refl, f.units, f.ends); some = refl })
+
+token_found : (us : List ℕ) (t : Token) (behind : List ℕ) → begins_space us ≡ false → token_from us ≡ Some (t, behind) → TokenFound us t behind
+unfolding token_from
+token_found [] t behind apart e = absurd (none-some _ e)
+token_found (u ∷ us) t behind apart e =
+    choose (eqb u 34) (option_map (λ t. (token.Text t.0, t.1)) (text_from us)) (cond (eqb u 58) (Some (token.Colon, us)) (cond (eqb u 61) (Some (token.Equals, us)) (Some (token.Word (word_from (u ∷ us)).0, (word_from (u ∷ us)).1)))) (Some (t, behind)) e
+    (λ quote read. mapped (λ t. (token.Text t.0, t.1)) (text_from us) (t, behind) read (λ x is same.
+    let f = text_found us x.0 x.1 is in
+    subst (λ (p : Token × List ℕ). TokenFound (u ∷ us) p.0 p.1) same
+    (record {
+      spelled = 34 ∷ f.inside ++ 34 ∷ [];
+      parts = rw (eqb-true u 34 quote) (ap (λ (w : List ℕ). 34 ∷ w) (f.parts ∙ sym (append_assoc f.inside (34 ∷ []) x.1)));
+      spells = (f.inside, refl, f.spells);
+      some = refl;
+    })))
+    (λ no_quote read. choose (eqb u 58) (Some (token.Colon, us)) (cond (eqb u 61) (Some (token.Equals, us)) (Some (token.Word (word_from (u ∷ us)).0, (word_from (u ∷ us)).1))) (Some (t, behind)) read
+    (λ colon is. subst (λ (p : Token × List ℕ). TokenFound (u ∷ us) p.0 p.1) (same_Some _ _ is)
+    (record { spelled = 58 ∷ []; parts = ap (λ (n : ℕ). n ∷ us) (eqb-true u 58 colon); spells = refl; some = refl }))
+    (λ no_colon read. choose (eqb u 61) (Some (token.Equals, us)) (Some (token.Word (word_from (u ∷ us)).0, (word_from (u ∷ us)).1)) (Some (t, behind)) read
+    (λ equals is. subst (λ (p : Token × List ℕ). TokenFound (u ∷ us) p.0 p.1) (same_Some _ _ is)
+    (record { spelled = 61 ∷ []; parts = ap (λ (n : ℕ). n ∷ us) (eqb-true u 61 equals); spells = refl; some = refl }))
+    (λ no_equals is. word_token u us behind t (word_from (u ∷ us)) (word_found (u ∷ us)) (no_end u apart no_quote no_colon no_equals) (same_Some _ _ is))))
+
+-- A token that is spelled is read.
+word_read : (us behind : List ℕ) → not (is_empty us) ≡ true → list_all goes_on us ≡ true → is_word_end behind ≡ true → token_from (us ++ behind) ≡ Some (token.Word us, behind)
+unfolding token_from
+word_read [] behind some units ends = absurd cc
+word_read (u ∷ us) behind some units ends =
+    let both = and_parts (goes_on u) (list_all goes_on us) units in
+    let four = no_parts (is_space u) (eqb u 34) (eqb u 58) (eqb u 61) (not-true (ends_word u) both.0) in
+    rw (four.1, four.2, four.3, word_again (u ∷ us) behind units ends) refl
+  where
+    no_parts : (a b c d : Bool) → (a || (b || (c || d))) ≡ false → (a ≡ false) × (b ≡ false) × (c ≡ false) × (d ≡ false)
+    no_parts true b c d e = absurd cc
+    no_parts false true c d e = absurd cc
+    no_parts false false true d e = absurd cc
+    no_parts false false false true e = absurd cc
+    no_parts false false false false e = (refl, refl, refl, refl)
+
+token_again : (spelled behind : List ℕ) (t : Token) → SpellsToken spelled t behind → token_from (spelled ++ behind) ≡ Some (t, behind)
+unfolding token_from
+token_again spelled behind (token.Word us) (is, some, units, ends) = rw is (word_read us behind some units ends)
+token_again spelled behind (token.Text us) (inside, is, spells) =
+    let parts : (inside ++ 34 ∷ []) ++ behind ≡ inside ++ 34 ∷ behind = append_assoc inside (34 ∷ []) behind in
+    rw (is, parts, text_again inside us behind spells) refl
+token_again spelled behind token.Colon is = rw is refl
+token_again spelled behind token.Equals is = rw is refl
+
+-- A token's spelling isn't empty, and begins with no white space.
+record Starts (spelled : List ℕ) : Type 0 where
+  pub some : is_empty spelled ≡ false
+  pub apart : begins_space spelled ≡ false
+
+word_starts : (us : List ℕ) → not (is_empty us) ≡ true → list_all goes_on us ≡ true → Starts us
+word_starts [] some units = absurd cc
+word_starts (u ∷ us) some units =
+    let both = and_parts (goes_on u) (list_all goes_on us) units in
+    record { some = refl; apart = first (is_space u) (eqb u 34 || (eqb u 58 || eqb u 61)) (not-true (ends_word u) both.0) }
+  where
+    first : (a b : Bool) → (a || b) ≡ false → a ≡ false
+    first true b e = absurd cc
+    first false b e = refl
+
+token_starts : (spelled behind : List ℕ) (t : Token) → SpellsToken spelled t behind → Starts spelled
+token_starts spelled behind (token.Word us) (is, some, units, ends) = rw is (word_starts us some units)
+token_starts spelled behind (token.Text us) (inside, is, spells) = rw is (record { some = refl; apart = refl })
+token_starts spelled behind token.Colon is = rw is (record { some = refl; apart = refl })
+token_starts spelled behind token.Equals is = rw is (record { some = refl; apart = refl })
+
+-- ---- Where a token begins
+
+-- The white space at the front, and that a token begins behind it or none does.
+record Begun (at_start : Bool) (line begin : List ℕ) : Type 0 where
+  pub space : List ℕ
+  pub behind : List ℕ
+  pub parts : line ≡ space ++ behind
+  pub spaces : list_all is_space space ≡ true
+  pub is : ((begin ≡ []) × ((is_empty behind || begins_comment at_start space behind) ≡ true))
+      ⊎ ((begin ≡ behind) × (begins_comment at_start space behind ≡ false) × (begins_space behind ≡ false) × (is_empty behind ≡ false))
+
+-- Behind white space it doesn't matter where the line started.
+anywhere : (at_start : Bool) (u : ℕ) (space behind : List ℕ) → begins_comment at_start (u ∷ space) behind ≡ begins_comment true space behind
+anywhere true u space behind = refl
+anywhere false u space behind = refl
+
+more_space : (at_start : Bool) (u : ℕ) (us begin : List ℕ) → is_space u ≡ true → Begun true us begin → Begun at_start (u ∷ us) begin
+more_space at_start u us begin e b = record {
+  space = u ∷ b.space;
+  behind = b.behind;
+  parts = ap (λ (w : List ℕ). u ∷ w) b.parts;
+  spaces = rw (e, b.spaces) refl;
+  is = rw (anywhere at_start u b.space b.behind) b.is;
+}
+
+no_space : (at_start : Bool) (u : ℕ) (us : List ℕ) (c : Bool) → is_space u ≡ false → (eqb u 59 && at_start) ≡ c → Begun at_start (u ∷ us) (cond c [] (u ∷ us))
+no_space at_start u us c e is = record { space = []; behind = u ∷ us; parts = refl; spaces = refl; is = which at_start c is }
+  where
+    which : (b d : Bool) → (eqb u 59 && b) ≡ d → ((cond d [] (u ∷ us) ≡ []) × ((false || begins_comment b [] (u ∷ us)) ≡ true))
+        ⊎ ((cond d [] (u ∷ us) ≡ u ∷ us) × (begins_comment b [] (u ∷ us) ≡ false) × (is_space u ≡ false) × (false ≡ false))
+    which true true f = inl (refl, f)
+    which false true f = inl (refl, f)
+    which true false f = inr (refl, f, e, refl)
+    which false false f = inr (refl, f, e, refl)
+
+by_space : (at_start : Bool) (u : ℕ) (us : List ℕ) (b : Bool) → is_space u ≡ b → Begun true us (begin_from true us)
+    → Begun at_start (u ∷ us) (cond b (begin_from true us) (cond (eqb u 59 && at_start) [] (u ∷ us)))
+by_space at_start u us true e later = more_space at_start u us (begin_from true us) e later
+by_space at_start u us false e later = no_space at_start u us (eqb u 59 && at_start) e refl
+
+begin_found : (at_start : Bool) (line : List ℕ) → Begun at_start line (begin_from at_start line)
+unfolding begin_from
+begin_found at_start [] = record { space = []; behind = []; parts = refl; spaces = refl; is = inl (refl, refl) }
+begin_found at_start (u ∷ us) = by_space at_start u us (is_space u) refl (begin_found true us)
+
+-- A token begins with no white space.
+pub begin_apart : (at_start : Bool) (line : List ℕ) → begins_space (begin_from at_start line) ≡ false
+begin_apart at_start line =
+    let b = begin_found at_start line in
+    elim b.is [ inl (nothing, end) ↦ ap begins_space nothing | inr (same, no_comment, apart, some) ↦ ap begins_space same ∙ apart ]
+
+pub begin_shorter : (at_start : Bool) (line : List ℕ) → length (begin_from at_start line) ≤ length line
+begin_shorter at_start line =
+    let b = begin_found at_start line in
+    let size : length line ≡ length b.space + length b.behind = ap length b.parts ∙ length-append b.space b.behind in
+    elim b.is [
+      | inl (nothing, end) ↦ let none : length (begin_from at_start line) ≡ 0 = ap length nothing in omega arith
+      | inr (same, no_comment, apart, some) ↦ let left : length (begin_from at_start line) ≡ length b.behind = ap length same in omega arith
+    ]
+
+some_length : (us : List ℕ) → is_empty us ≡ false → 0 < length us
+some_length [] some = absurd cc
+some_length (u ∷ us) some = omega arith
+
+-- What stands behind a token is shorter.
+pub token_shorter : (us : List ℕ) (t : Token) (behind : List ℕ) → begins_space us ≡ false → token_from us ≡ Some (t, behind) → length behind < length us
+token_shorter us t behind apart e =
+    let f = token_found us t behind apart e in
+    let some = some_length f.spelled f.some in
+    let size : length us ≡ length f.spelled + length behind = ap length f.parts ∙ length-append f.spelled behind in
+    omega arith
+
+-- White space and a comment, or white space alone, are left out.
+begin_end : (space behind : List ℕ) (at_start : Bool) → list_all is_space space ≡ true → (is_empty behind || begins_comment at_start space behind) ≡ true → begin_from at_start (space ++ behind) ≡ []
+unfolding begin_from
+begin_end [] [] at_start spaces e = refl
+begin_end [] (u ∷ us) true spaces e = let both = and_parts (eqb u 59) true e in rw (eqb-true u 59 both.0) refl
+begin_end [] (u ∷ us) false spaces e = let both = and_parts (eqb u 59) false e in absurd cc
+begin_end (s ∷ space) behind at_start spaces e =
+    let both = and_parts (is_space s) (list_all is_space space) spaces in
+    rw both.0 (begin_end space behind true both.1 (ap (λ (b : Bool). is_empty behind || b) (sym (anywhere at_start s space behind)) ∙ e))
+
+-- White space in front of a token is left out.
+begin_again : (space us : List ℕ) (at_start : Bool) → list_all is_space space ≡ true → begins_comment at_start space us ≡ false → begins_space us ≡ false → begin_from at_start (space ++ us) ≡ us
+unfolding begin_from
+begin_again [] [] at_start spaces e apart = refl
+begin_again [] (u ∷ us) true spaces e apart = rw (apart, e) refl
+begin_again [] (u ∷ us) false spaces e apart = rw (apart, e) refl
+begin_again (s ∷ space) us at_start spaces e apart =
+    let both = and_parts (is_space s) (list_all is_space space) spaces in
+    rw both.0 (begin_again space us true both.1 (sym (anywhere at_start s space us) ∙ e) apart)
+
+-- ---- Lines
+
+-- What stands at the front of a token's spelling stands at the front of it with what follows.
+same_front : (at_start : Bool) (space spelled behind : List ℕ) → is_empty spelled ≡ false → begins_comment at_start space (spelled ++ behind) ≡ begins_comment at_start space spelled
+same_front at_start space [] behind some = absurd cc
+same_front at_start space (u ∷ us) behind some = refl
+
+same_space : (spelled behind : List ℕ) → is_empty spelled ≡ false → begins_space (spelled ++ behind) ≡ begins_space spelled
+same_space [] behind some = absurd cc
+same_space (u ∷ us) behind some = refl
+
+not_so : (b : Bool) → b ≡ false → not b ≡ true
+not_so true e = absurd cc
+not_so false e = refl
+
+none_found : (most : ℕ) (ts : List Token) → tokens_from most [] ≡ Some ts → [] ≡ ts
+unfolding tokens_from
+none_found zero ts e = same_Some [] ts e
+none_found (suc most) ts e = same_Some [] ts e
+
+some_found : (us : List ℕ) (ts : List Token) → is_empty us ≡ false → tokens_from zero us ≡ Some ts → ⊥
+unfolding tokens_from
+some_found [] ts some e = cc
+some_found (u ∷ us) ts some e = none-some ts e
+
+token_step : (most : ℕ) (at_start : Bool) (line space begun : List ℕ) (ts : List Token) → line ≡ space ++ begun → list_all is_space space ≡ true → begins_comment at_start space begun ≡ false → begins_space begun ≡ false → is_empty begun ≡ false
+    → ((rest : List ℕ) (vs : List Token) → tokens_from most (begin_from false rest) ≡ Some vs → Lexes false rest vs) → tokens_from (suc most) begun ≡ Some ts → Lexes at_start line ts
+unfolding tokens_from
+token_step most at_start line space [] ts parts spaces no_comment apart some later e = absurd cc
+token_step most at_start line space (u ∷ us) ts parts spaces no_comment apart some later e =
+    before (λ t. option_map (λ vs. t.0 ∷ vs) (tokens_from most (begin_from false t.1))) (token_from (u ∷ us)) ts e (λ t here behind.
+    mapped (λ vs. t.0 ∷ vs) (tokens_from most (begin_from false t.1)) ts behind (λ vs is same.
+    let f = token_found (u ∷ us) t.0 t.1 apart here in
+    let no : begins_comment at_start space f.spelled ≡ false = sym (same_front at_start space f.spelled t.1 f.some) ∙ ap (λ (w : List ℕ). begins_comment at_start space w) (sym f.parts) ∙ no_comment in
+    subst (λ (ws : List Token). Lexes at_start line ws) same (space, f.spelled, t.1, parts ∙ ap (λ (w : List ℕ). space ++ w) f.parts, spaces, not_so (begins_comment at_start space f.spelled) no, f.spells, later t.1 vs is)))
+
+-- What is read as tokens is spelled so.
+tokens_found : (most : ℕ) (at_start : Bool) (line : List ℕ) (ts : List Token) → tokens_from most (begin_from at_start line) ≡ Some ts → Lexes at_start line ts
+tokens_found zero at_start line ts e =
+    let b = begin_found at_start line in
+    elim b.is [
+      | inl (nothing, end) ↦ subst (λ (ws : List Token). Lexes at_start line ws) (none_found zero ts (rw (sym nothing) e)) (b.space, b.behind, b.parts, b.spaces, end)
+      | inr (same, no_comment, apart, some) ↦ absurd (some_found b.behind ts some (rw (sym same) e))
+    ]
+tokens_found (suc most) at_start line ts e =
+    let b = begin_found at_start line in
+    elim b.is [
+      | inl (nothing, end) ↦ subst (λ (ws : List Token). Lexes at_start line ws) (none_found (suc most) ts (rw (sym nothing) e)) (b.space, b.behind, b.parts, b.spaces, end)
+      | inr (same, no_comment, apart, some) ↦ token_step most at_start line b.space b.behind ts b.parts b.spaces no_comment apart some (tokens_found most false) (rw (sym same) e)
+    ]
+
+-- One token, and those behind it.
+token_more : (t : Token) (ts : List Token) (most : ℕ) (spelled behind : List ℕ) → is_empty spelled ≡ false → token_from (spelled ++ behind) ≡ Some (t, behind) → length spelled + length behind ≤ most
+    → ((m : ℕ) → length behind ≤ m → tokens_from m (begin_from false behind) ≡ Some ts) → tokens_from most (spelled ++ behind) ≡ Some (t ∷ ts)
+unfolding tokens_from
+token_more t ts most [] behind some here fits later = absurd cc
+token_more t ts zero (u ∷ us) behind some here fits later = absurd (omega arith)
+token_more t ts (suc most) (u ∷ us) behind some here fits later = rw (here, later most (omega arith)) refl
+
+-- What is spelled as tokens is read so.
+tokens_again : (ts : List Token) (most : ℕ) (at_start : Bool) (line : List ℕ) → Lexes at_start line ts → length line ≤ most → tokens_from most (begin_from at_start line) ≡ Some ts
+unfolding tokens_from
+tokens_again [] zero at_start line (space, behind, parts, spaces, end) fits = rw (parts, begin_end space behind at_start spaces end) refl
+tokens_again [] (suc most) at_start line (space, behind, parts, spaces, end) fits = rw (parts, begin_end space behind at_start spaces end) refl
+tokens_again (t ∷ ts) most at_start line (space, spelled, behind, parts, spaces, no_comment, spells, later) fits =
+    let s = token_starts spelled behind t spells in
+    let no : begins_comment at_start space (spelled ++ behind) ≡ false = same_front at_start space spelled behind s.some ∙ not-true (begins_comment at_start space spelled) no_comment in
+    let apart : begins_space (spelled ++ behind) ≡ false = same_space spelled behind s.some ∙ s.apart in
+    let size : length line ≡ length space + (length spelled + length behind) = ap length parts ∙ length-append space (spelled ++ behind) ∙ ap (λ (n : ℕ). length space + n) (length-append spelled behind) in
+    rw (parts, begin_again space (spelled ++ behind) at_start spaces no apart)
+    (token_more t ts most spelled behind s.some (token_again spelled behind t spells) (omega arith) (λ m few. tokens_again ts m false behind later few))
+
+pub lexed_is_spelled : (line : List ℕ) (ts : List Token) → tokens_of line ≡ Some ts → Lexes true line ts
+lexed_is_spelled line ts e = tokens_found (length line) true line ts e
+
+pub spelled_is_lexed : (line : List ℕ) (ts : List Token) → Lexes true line ts → tokens_of line ≡ Some ts
+spelled_is_lexed line ts spells = tokens_again ts (length line) true line spells (omega arith)

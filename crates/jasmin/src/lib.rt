@@ -1,0 +1,6 @@
+//! Jasmin's own terms: plain data that the crates of sources share, and in `specs/` the definitions that their
+//! contracts cite. What is Jasmin here is this project's profile; where another assembler differs, this decides.
+#![tactic(auto)]
+
+pub mod laws;
+pub mod token;

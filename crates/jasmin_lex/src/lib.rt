@@ -1,0 +1,15 @@
+//! A line of a source as tokens.
+#![tactic(auto)]
+
+mod fault;
+mod space;
+#[cfg(test)]
+mod tests;
+mod text;
+mod token_list;
+mod units;
+mod word;
+
+pub use fault::LexFault;
+pub use jasmin::token::Token;
+pub use token_list::tokens;

@@ -1,0 +1,35 @@
+//! White space and comments.
+
+ghost use Rattle.std.specs.Prelude.{◌≡◌};
+ghost use Rattle.jasmin.specs.Lexing.{is_space as is_space_unit, begin_from};
+
+const SEMICOLON: u16 = 59;
+
+/// Whether a unit is white space.
+pub(crate) fn is_space(unit: u16) -> bool
+    ensures { result ≡ is_space_unit unit }
+{
+    unit == 32 || unit == 9 || unit == 12 || unit == 13
+}
+
+/// From the next token on: behind white space, and nothing where a comment begins, which it may at a line's
+/// start and behind white space.
+#[tactic(auto, unfolding(jasmin::specs::Lexing::begin_from))]
+pub(crate) fn begin(may_comment: bool, units: &[u16]) -> &[u16]
+    ensures { result.now ≡ begin_from may_comment units.now }
+{
+    let mut may_comment = may_comment;
+    let mut rest = units;
+    while let [unit, behind @ ..] = rest {
+        if !is_space(*unit) {
+            return if *unit == SEMICOLON && may_comment {
+                &[]
+            } else {
+                rest
+            };
+        }
+        may_comment = true;
+        rest = behind;
+    }
+    rest
+}
