@@ -3,8 +3,8 @@
 ghost use Rattle.std.specs.Prelude.{◌≡◌};
 ghost use Rattle.jvms.specs.Reading.{Gives};
 ghost use Rattle.jvms.specs.Members.{kept_content_at, kept_at as kept_read, kept_attributes_at as kept_attributes_read, is_named as names_text};
-ghost use Rattle.jvms.specs.Results.{counted};
 
+use crate::counted::{Part, parts_of};
 use const_pool::{Pool, bytes_at, u2_at, u4_at, want};
 use jvms::class_file::KeptAttribute;
 use jvms::fault::{ClassFault, ReadError};
@@ -36,43 +36,25 @@ pub(crate) fn kept_content(
     Ok((KeptAttribute { name, bytes }, behind))
 }
 
-/// An attribute that is kept.
-fn kept_at<'a>(
-    alloc: Global,
-    pool: &Pool,
+/// Attributes that are kept, of a class with this pool; `cut` is the fault of bytes that aren't there.
+#[derive(Clone, Copy)]
+struct KeptAttributes<'p> {
+    pool: &'p Pool,
     cut: ClassFault,
-    bytes: &'a [u8],
-) -> Result<(KeptAttribute, &'a [u8]), ReadError>
-    ensures { Gives (λ x. (x.0, x.1.now)) result (kept_read pool.now cut bytes.now) }
-{
-    let (name, rest) = u2_at(cut, bytes)?;
-    want(pool.is_utf8(name), ClassFault::Index)?;
-    kept_content(alloc, cut, name, rest)
 }
 
-/// So many attributes that are kept.
-fn kept_attributes_of<'a>(
-    alloc: Global,
-    pool: &Pool,
-    cut: ClassFault,
-    count: usize,
-    bytes: &'a [u8],
-) -> Result<(Items<KeptAttribute>, &'a [u8]), ReadError>
-    ensures { Gives (λ x. (x.0, x.1.now)) result (counted (kept_read pool.now cut) count bytes.now) }
-{
-    let mut attributes = Items::new(alloc);
-    let mut rest = bytes;
-    let mut left = count;
-    while left > 0 {
-        let (attribute, behind) = match kept_at(alloc, pool, cut, rest) {
-            Ok(read) => read,
-            Err(error) => return Err(error),
-        };
-        attributes.push(attribute)?;
-        rest = behind;
-        left -= 1;
+impl Part<KeptAttribute> for KeptAttributes<'_> {
+    ghost at = { λ k. kept_read k.pool.now k.cut };
+
+    fn part_at<'a>(
+        &self,
+        alloc: Global,
+        bytes: &'a [u8],
+    ) -> Result<(KeptAttribute, &'a [u8]), ReadError> {
+        let (name, rest) = u2_at(self.cut, bytes)?;
+        want(self.pool.is_utf8(name), ClassFault::Index)?;
+        kept_content(alloc, self.cut, name, rest)
     }
-    Ok((attributes, rest))
 }
 
 /// attributes_count and the attributes, all kept.
@@ -85,5 +67,10 @@ pub(crate) fn kept_attributes_at<'a>(
     ensures { Gives (λ x. (x.0, x.1.now)) result (kept_attributes_read pool.now cut bytes.now) }
 {
     let (count, rest) = u2_at(cut, bytes)?;
-    kept_attributes_of(alloc, pool, cut, usize::from(count), rest)
+    parts_of(
+        alloc,
+        &KeptAttributes { pool, cut },
+        usize::from(count),
+        rest,
+    )
 }

@@ -3,10 +3,10 @@
 ghost use Rattle.std.specs.Prelude.{◌≡◌};
 ghost use Rattle.jvms.specs.ClassFile.{is_version, is_proper_class as is_proper_number, interface_at as interface_read, interfaces_at as interfaces_read, class_at as class_read, read as file_read};
 ghost use Rattle.jvms.specs.Reading.{Gives};
-ghost use Rattle.jvms.specs.Results.{counted};
 ghost use Rattle.class_file.specs.Opening.{members_behind as members_read, class_behind, pool_behind as pool_read};
 
 use crate::attribute::kept_attributes_at;
+use crate::counted::{Part, parts_of};
 use crate::field::fields_at;
 use crate::method::methods_at;
 use const_pool::{Pool, ScannedPool, u2_at, u4_at, want};
@@ -39,42 +39,21 @@ fn is_proper_class(pool: &Pool, number: u16) -> bool
     }
 }
 
-/// The number of an interface's entry.
-fn interface_at<'a>(
-    pool: &Pool,
+/// The numbers of interfaces' entries, in a class with this pool; `cut` is the fault of bytes that aren't there.
+#[derive(Clone, Copy)]
+struct Interfaces<'p> {
+    pool: &'p Pool,
     cut: ClassFault,
-    bytes: &'a [u8],
-) -> Result<(u16, &'a [u8]), ReadError>
-    ensures { Gives (λ x. (x.0, x.1.now)) result (interface_read pool.now cut bytes.now) }
-{
-    let (number, rest) = u2_at(cut, bytes)?;
-    want(is_proper_class(pool, number), ClassFault::Index)?;
-    Ok((number, rest))
 }
 
-/// So many interfaces.
-fn interfaces_of<'a>(
-    alloc: Global,
-    pool: &Pool,
-    cut: ClassFault,
-    count: usize,
-    bytes: &'a [u8],
-) -> Result<(Items<u16>, &'a [u8]), ReadError>
-    ensures { Gives (λ x. (x.0, x.1.now)) result (counted (interface_read pool.now cut) count bytes.now) }
-{
-    let mut interfaces = Items::new(alloc);
-    let mut rest = bytes;
-    let mut left = count;
-    while left > 0 {
-        let (interface, behind) = match interface_at(pool, cut, rest) {
-            Ok(read) => read,
-            Err(error) => return Err(error),
-        };
-        interfaces.push(interface)?;
-        rest = behind;
-        left -= 1;
+impl Part<u16> for Interfaces<'_> {
+    ghost at = { λ i. interface_read i.pool.now i.cut };
+
+    fn part_at<'a>(&self, _alloc: Global, bytes: &'a [u8]) -> Result<(u16, &'a [u8]), ReadError> {
+        let (number, rest) = u2_at(self.cut, bytes)?;
+        want(is_proper_class(self.pool, number), ClassFault::Index)?;
+        Ok((number, rest))
     }
-    Ok((interfaces, rest))
 }
 
 /// interfaces_count and the interfaces.
@@ -87,7 +66,7 @@ fn interfaces_at<'a>(
     ensures { Gives (λ x. (x.0, x.1.now)) result (interfaces_read pool.now cut bytes.now) }
 {
     let (count, rest) = u2_at(cut, bytes)?;
-    interfaces_of(alloc, pool, cut, usize::from(count), rest)
+    parts_of(alloc, &Interfaces { pool, cut }, usize::from(count), rest)
 }
 
 /// What stands behind the superclass; the head of a class is what stands before that.

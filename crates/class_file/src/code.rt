@@ -4,11 +4,11 @@ ghost use Rattle.std.specs.Prelude.{◌≡◌, ◌≤◌, length, IfOk};
 ghost use Rattle.jvms.specs.Code.{handlers_of};
 ghost use Rattle.jvms.specs.Members.{handler_at as handler_read, code_at as code_read, class_number_at as class_number_read, exceptions_at as exceptions_read};
 ghost use Rattle.jvms.specs.Reading.{Gives};
-ghost use Rattle.jvms.specs.Results.{counted};
 ghost use Rattle.class_file.specs.Frames.{framed_by};
 ghost use Rattle.class_file.specs.Wanted.{code_bytes_at, exception_table_at, handler_placed, classes_at as classes_read};
 
 use crate::attribute::kept_attributes_at;
+use crate::counted::{Part, parts_of};
 use crate::frame::{Frame, want_all};
 use const_pool::{Pool, ScannedPool, bytes_at, u2_at, u4_at, want};
 use insn::{Starts, decode, handler, layout};
@@ -20,54 +20,38 @@ use std::alloc::Global;
 /// The most bytes that code has (JVMS 4.7.3).
 const MOST_CODE: u32 = 65535;
 
-/// An entry of the exception table, whose places are bytes.
-fn handler_at<'a>(
-    pool: &Pool,
+/// Entries of the exception table, whose places are bytes, in a class with this pool; `cut` is the fault of
+/// bytes that aren't there.
+#[derive(Clone, Copy)]
+struct Handlers<'p> {
+    pool: &'p Pool,
     cut: ClassFault,
-    bytes: &'a [u8],
-) -> Result<(Handler, &'a [u8]), ReadError>
-    ensures { Gives (λ x. (x.0, x.1.now)) result (handler_read pool.now cut bytes.now) }
-{
-    let (start, rest) = u2_at(cut, bytes)?;
-    let (end, rest) = u2_at(cut, rest)?;
-    let (target, rest) = u2_at(cut, rest)?;
-    let (catch_type, rest) = u2_at(cut, rest)?;
-    want(
-        catch_type == 0 || pool.is_class(catch_type),
-        ClassFault::Index,
-    )?;
-    let handler = Handler {
-        start: u32::from(start),
-        end: u32::from(end),
-        target: u32::from(target),
-        catch_type,
-    };
-    Ok((handler, rest))
 }
 
-/// So many entries of the exception table.
-fn handlers_at<'a>(
-    alloc: Global,
-    pool: &Pool,
-    cut: ClassFault,
-    count: usize,
-    bytes: &'a [u8],
-) -> Result<(Items<Handler>, &'a [u8]), ReadError>
-    ensures { Gives (λ x. (x.0, x.1.now)) result (counted (handler_read pool.now cut) count bytes.now) }
-{
-    let mut handlers = Items::new(alloc);
-    let mut rest = bytes;
-    let mut left = count;
-    while left > 0 {
-        let (handler, behind) = match handler_at(pool, cut, rest) {
-            Ok(read) => read,
-            Err(error) => return Err(error),
+impl Part<Handler> for Handlers<'_> {
+    ghost at = { λ h. handler_read h.pool.now h.cut };
+
+    fn part_at<'a>(
+        &self,
+        _alloc: Global,
+        bytes: &'a [u8],
+    ) -> Result<(Handler, &'a [u8]), ReadError> {
+        let (start, rest) = u2_at(self.cut, bytes)?;
+        let (end, rest) = u2_at(self.cut, rest)?;
+        let (target, rest) = u2_at(self.cut, rest)?;
+        let (catch_type, rest) = u2_at(self.cut, rest)?;
+        want(
+            catch_type == 0 || self.pool.is_class(catch_type),
+            ClassFault::Index,
+        )?;
+        let handler = Handler {
+            start: u32::from(start),
+            end: u32::from(end),
+            target: u32::from(target),
+            catch_type,
         };
-        handlers.push(handler)?;
-        rest = behind;
-        left -= 1;
+        Ok((handler, rest))
     }
-    Ok((handlers, rest))
 }
 
 /// exception_table_length and the entries of the table.
@@ -80,7 +64,7 @@ fn table_at<'a>(
     ensures { Gives (λ x. (x.0, x.1.now)) result (exception_table_at pool.now cut bytes.now) }
 {
     let (count, rest) = u2_at(cut, bytes)?;
-    handlers_at(alloc, pool, cut, usize::from(count), rest)
+    parts_of(alloc, &Handlers { pool, cut }, usize::from(count), rest)
 }
 
 /// The bytes of the instructions, behind their length.
@@ -170,42 +154,21 @@ pub(crate) fn code_at<'a>(
     Ok((code, frame.behind))
 }
 
-/// The number of a Class entry.
-fn class_number_at<'a>(
-    pool: &Pool,
+/// The numbers of Class entries, in a class with this pool; `cut` is the fault of bytes that aren't there.
+#[derive(Clone, Copy)]
+struct ClassNumbers<'p> {
+    pool: &'p Pool,
     cut: ClassFault,
-    bytes: &'a [u8],
-) -> Result<(u16, &'a [u8]), ReadError>
-    ensures { Gives (λ x. (x.0, x.1.now)) result (class_number_read pool.now cut bytes.now) }
-{
-    let (number, rest) = u2_at(cut, bytes)?;
-    want(pool.is_class(number), ClassFault::Index)?;
-    Ok((number, rest))
 }
 
-/// So many numbers of Class entries.
-fn class_numbers_at<'a>(
-    alloc: Global,
-    pool: &Pool,
-    cut: ClassFault,
-    count: usize,
-    bytes: &'a [u8],
-) -> Result<(Items<u16>, &'a [u8]), ReadError>
-    ensures { Gives (λ x. (x.0, x.1.now)) result (counted (class_number_read pool.now cut) count bytes.now) }
-{
-    let mut classes = Items::new(alloc);
-    let mut rest = bytes;
-    let mut left = count;
-    while left > 0 {
-        let (class, behind) = match class_number_at(pool, cut, rest) {
-            Ok(read) => read,
-            Err(error) => return Err(error),
-        };
-        classes.push(class)?;
-        rest = behind;
-        left -= 1;
+impl Part<u16> for ClassNumbers<'_> {
+    ghost at = { λ n. class_number_read n.pool.now n.cut };
+
+    fn part_at<'a>(&self, _alloc: Global, bytes: &'a [u8]) -> Result<(u16, &'a [u8]), ReadError> {
+        let (number, rest) = u2_at(self.cut, bytes)?;
+        want(self.pool.is_class(number), ClassFault::Index)?;
+        Ok((number, rest))
     }
-    Ok((classes, rest))
 }
 
 /// number_of_exceptions and the numbers of their classes.
@@ -218,7 +181,7 @@ fn classes_at<'a>(
     ensures { Gives (λ x. (x.0, x.1.now)) result (classes_read pool.now cut bytes.now) }
 {
     let (count, rest) = u2_at(cut, bytes)?;
-    class_numbers_at(alloc, pool, cut, usize::from(count), rest)
+    parts_of(alloc, &ClassNumbers { pool, cut }, usize::from(count), rest)
 }
 
 /// The content of Exceptions (JVMS 4.7.5).

@@ -4,6 +4,7 @@
 mod attribute;
 mod class;
 mod code;
+mod counted;
 mod field;
 mod frame;
 mod laws;

@@ -1,0 +1,43 @@
+//! Parts that stand one behind another, as many as a count says (JVMS 4).
+
+ghost use Rattle.std.specs.Prelude.{◌≡◌, ℕ, List, Result};
+ghost use Rattle.jvms.specs.declared.fault.ClassFault.{ClassFault as Fault};
+ghost use Rattle.jvms.specs.Reading.{Gives};
+ghost use Rattle.jvms.specs.Results.{counted};
+
+use jvms::fault::ReadError;
+use jvms::items::Items;
+use std::alloc::Global;
+
+/// How one part is read.
+pub(crate) trait Part<T> {
+    ghost at: { Self → List ℕ → Result (T × List ℕ) Fault };
+
+    /// The part at the front, and the bytes behind it.
+    fn part_at<'a>(&self, alloc: Global, bytes: &'a [u8]) -> Result<(T, &'a [u8]), ReadError>
+        ensures { Gives (λ x. (x.0, x.1.now)) result (at self.now bytes.now) };
+}
+
+/// So many parts, and the bytes behind them.
+pub(crate) fn parts_of<'a, T: Drop, P: Part<T>>(
+    alloc: Global,
+    part: &P,
+    count: usize,
+    bytes: &'a [u8],
+) -> Result<(Items<T>, &'a [u8]), ReadError>
+    ensures { Gives (λ x. (x.0, x.1.now)) result (counted (P.at part.now) count bytes.now) }
+{
+    let mut parts = Items::new(alloc);
+    let mut rest = bytes;
+    let mut left = count;
+    while left > 0 {
+        let (one, behind) = match part.part_at(alloc, rest) {
+            Ok(read) => read,
+            Err(error) => return Err(error),
+        };
+        parts.push(one)?;
+        rest = behind;
+        left -= 1;
+    }
+    Ok((parts, rest))
+}
