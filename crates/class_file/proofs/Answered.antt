@@ -1,11 +1,11 @@
 -- What an answer says, by the laws between reading and the grammar.
 use Rattle.std.proofs.Common.{◌≡◌, ℕ, zero, suc, List, [], ◌∷◌, Result, Ok, Err, IfOk, sym, subst, get_or, Fits, w8, arith}
-use Rattle.jvms.specs.declared.class_file.ClassFile.{ClassFile}
-use Rattle.jvms.specs.declared.fault.ClassFault.{ClassFault}
-use Rattle.jvms.specs.declared.fault.ReadError.{ReadError}
-use Rattle.jvms.specs.ClassFile.{read}
-use Rattle.jvms.specs.Reading.{Gives}
-use Rattle.jvms.specs.Spelling.{Spells}
+use Rattle.jvms_file.specs.declared.class_file.ClassFile.{ClassFile}
+use Rattle.jvms_file.specs.declared.fault.ClassFault.{ClassFault}
+use Rattle.jvms_file.specs.declared.fault.ReadError.{ReadError}
+use Rattle.jvms_file.specs.ClassFile.{read}
+use Rattle.jvms_file.specs.Reading.{Gives}
+use Rattle.jvms_file.specs.Spelling.{Spells}
 use Rattle.spelling.proofs.Numbers.{IsBytes}
 use Rattle.spelling.proofs.Classes.{spelled_is_read, read_is_spelled}
 use Rattle.class_file.specs.Spelled.{HasSpelling}

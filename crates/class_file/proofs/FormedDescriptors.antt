@@ -1,9 +1,9 @@
 -- What the forms of a text say of a method's descriptor.
 use Rattle.std.proofs.Common.{◌≡◌, ℕ, ◌+◌, Bool, true, false, List, Option, None, Some, if◌then◌else◌, refl, arith, nat_le}
 use Rattle.std.proofs.lemmas.Bool.Decides.{nat_tests}
-use Rattle.jvms.specs.declared.descriptor.MethodType.{MethodType}
-use Rattle.jvms.specs.Descriptors.{method_type_of, parameter_units}
-use Rattle.jvms.specs.Members.{is_method_descriptor_for}
+use Rattle.jvms_file.specs.declared.descriptor.MethodType.{MethodType}
+use Rattle.jvms_file.specs.Descriptors.{method_type_of, parameter_units}
+use Rattle.jvms_file.specs.Members.{is_method_descriptor_for}
 use Rattle.const_pool.specs.Texts.{forms_of}
 use Rattle.class_file.specs.Wanted.{is_formed_descriptor}
 

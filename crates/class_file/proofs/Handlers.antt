@@ -1,7 +1,7 @@
 -- The entries of the exception table, given places one after the other.
 use Rattle.std.specs.Prelude.{List, ◌++◌, Result, Ok}
-use Rattle.jvms.specs.declared.fault.ClassFault.{ClassFault}
-use Rattle.jvms.specs.Results.{◌>>=◌}
+use Rattle.jvms_file.specs.declared.fault.ClassFault.{ClassFault}
+use Rattle.jvms_file.specs.Results.{◌>>=◌}
 
 -- What was given before, and what is still given.
 abbrev pub with_items : {X : Type 0} → List X → Result (List X) ClassFault → Result (List X) ClassFault

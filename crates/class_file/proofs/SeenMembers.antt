@@ -7,11 +7,11 @@ use Rattle.std.specs.BTreeSet as sorted
 use Rattle.std.specs.List.{list_any}
 use Rattle.std.specs.Ordering.{nat_cmp, ordering_then, is_eq}
 use Rattle.std.specs.declared.cmp.Ordering.TheVariants.{Less, Equal, Greater}
-use Rattle.jvms.specs.declared.class_file.Constant.{Constant}
-use Rattle.jvms.specs.declared.class_file.FieldInfo.{FieldInfo}
-use Rattle.jvms.specs.declared.class_file.MethodInfo.{MethodInfo}
-use Rattle.jvms.specs.ConstantPool.{both}
-use Rattle.jvms.specs.Members.{same_entry_text, is_same_field, is_same_method}
+use Rattle.jvms_file.specs.declared.class_file.Constant.{Constant}
+use Rattle.jvms_file.specs.declared.class_file.FieldInfo.{FieldInfo}
+use Rattle.jvms_file.specs.declared.class_file.MethodInfo.{MethodInfo}
+use Rattle.jvms_file.specs.ConstantPool.{both}
+use Rattle.jvms_file.specs.Members.{same_entry_text, is_same_field, is_same_method}
 use Rattle.const_pool.specs.Texts.{canonical, is_one_number}
 use Rattle.const_pool.proofs.FirstNumbers.{one_canonical}
 use Rattle.class_file.specs.declared.seen.Seen.{Seen}

@@ -1,12 +1,12 @@
 -- Class files as they are written (JVMS 4.1): what is written of a class that has a spelling is one of it.
 use Rattle.std.proofs.Common.{◌≡◌, ℕ, List, length, refl, sym, ap, ◌∙◌}
 use Rattle.std.specs.Prelude.{Ok}
-use Rattle.jvms.specs.declared.class_file.Constant.{Constant}
-use Rattle.jvms.specs.declared.class_file.FieldInfo.{FieldInfo}
-use Rattle.jvms.specs.declared.class_file.MethodInfo.{MethodInfo}
-use Rattle.jvms.specs.declared.class_file.ClassFile.{ClassFile}
-use Rattle.jvms.specs.ClassFile.{read}
-use Rattle.jvms.specs.Spelling.{u2, SpellsKept, SpellsFieldAttribute, SpellsMethodAttribute, SpellsMember, SpellsField, SpellsMethod, SpellsInterface, Spells}
+use Rattle.jvms_file.specs.declared.class_file.Constant.{Constant}
+use Rattle.jvms_file.specs.declared.class_file.FieldInfo.{FieldInfo}
+use Rattle.jvms_file.specs.declared.class_file.MethodInfo.{MethodInfo}
+use Rattle.jvms_file.specs.declared.class_file.ClassFile.{ClassFile}
+use Rattle.jvms_file.specs.ClassFile.{read}
+use Rattle.jvms_file.specs.Spelling.{u2, SpellsKept, SpellsFieldAttribute, SpellsMethodAttribute, SpellsMember, SpellsField, SpellsMethod, SpellsInterface, Spells}
 use Rattle.spelling.proofs.Classes.{spelled_is_read}
 use Rattle.const_pool.specs.Writing.{pool_bytes}
 use Rattle.class_file.specs.Writing.{counted_bytes, kept_bytes, field_attribute_bytes, method_attribute_bytes, member_bytes, field_bytes, method_bytes, header_bytes, names_bytes, class_bytes}

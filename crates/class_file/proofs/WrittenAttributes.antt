@@ -1,18 +1,18 @@
 -- Attributes as they are written (JVMS 4.7): all but a method's code have one spelling.
 use Rattle.std.proofs.Common.{◌≡◌, ℕ, List, [], ◌∷◌, ◌++◌, length, Some, refl, sym, ap, subst, ◌∙◌}
 use Rattle.std.specs.Prelude.{zero, suc, slice_get, unwrap_or, codes, IsTrue}
-use Rattle.jvms.specs.declared.class_file.Constant.{Constant}
-use Rattle.jvms.specs.declared.class_file.KeptAttribute.{KeptAttribute}
-use Rattle.jvms.specs.declared.class_file.FieldAttribute.{FieldAttribute}
-use Rattle.jvms.specs.declared.class_file.FieldAttribute.TheVariants as field_attribute
-use Rattle.jvms.specs.declared.class_file.MethodAttribute.{MethodAttribute}
-use Rattle.jvms.specs.declared.class_file.MethodAttribute.TheVariants as method_attribute
-use Rattle.jvms.specs.declared.class_file.Handler.{Handler}
-use Rattle.jvms.specs.declared.class_file.Layout.{Layout}
-use Rattle.jvms.specs.declared.class_file.Code.{Code}
-use Rattle.jvms.specs.Code.{with_zero_pads, layout_of}
-use Rattle.jvms.specs.Members.{is_code_length}
-use Rattle.jvms.specs.Spelling.{u2, u4, IsU4, Counted, SpellsInsns, SpellsKept, SpellsFramed, SpellsFieldAttribute, SpellsHandler, SpellsCode, SpellsClassNumber, SpellsMethodAttribute}
+use Rattle.jvms_file.specs.declared.class_file.Constant.{Constant}
+use Rattle.jvms_file.specs.declared.class_file.KeptAttribute.{KeptAttribute}
+use Rattle.jvms_file.specs.declared.class_file.FieldAttribute.{FieldAttribute}
+use Rattle.jvms_file.specs.declared.class_file.FieldAttribute.TheVariants as field_attribute
+use Rattle.jvms_file.specs.declared.class_file.MethodAttribute.{MethodAttribute}
+use Rattle.jvms_file.specs.declared.class_file.MethodAttribute.TheVariants as method_attribute
+use Rattle.jvms_file.specs.declared.class_file.Handler.{Handler}
+use Rattle.jvms_file.specs.declared.class_file.Layout.{Layout}
+use Rattle.jvms_file.specs.declared.class_file.Code.{Code}
+use Rattle.jvms_file.specs.Code.{with_zero_pads, layout_of}
+use Rattle.jvms_file.specs.Members.{is_code_length}
+use Rattle.jvms_file.specs.Spelling.{u2, u4, IsU4, Counted, SpellsInsns, SpellsKept, SpellsFramed, SpellsFieldAttribute, SpellsHandler, SpellsCode, SpellsClassNumber, SpellsMethodAttribute}
 use Rattle.spelling.proofs.Numbers.{length-u4}
 use Rattle.spelling.proofs.InsnPads.{zero_pads_spell, zero_pads_length, zero_pads_again}
 use Rattle.class_file.specs.Writing.{counted_bytes, framed_bytes, kept_bytes, field_attribute_bytes, pc_of, handler_bytes, code_bytes, method_attribute_bytes}

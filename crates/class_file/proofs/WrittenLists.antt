@@ -2,7 +2,7 @@
 use Rattle.std.proofs.Common.{◌≡◌, ℕ, ◌+◌, List, [], ◌∷◌, ◌++◌, length, refl, sym, ap, subst, ◌∙◌}
 use Rattle.std.specs.List.{flat_map}
 use Rattle.std.proofs.lemmas.List.{length-append}
-use Rattle.jvms.specs.Spelling.{u2, InOrder, Counted}
+use Rattle.jvms_file.specs.Spelling.{u2, InOrder, Counted}
 use Rattle.class_file.specs.Writing.{counted_bytes}
 
 -- The bytes `now` in place of `bytes`, of which P holds.

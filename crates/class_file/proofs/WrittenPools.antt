@@ -5,9 +5,9 @@ use Rattle.std.specs.List.{flat_map}
 use mir.Val.{bits}
 use Rattle.std.specs.Int.{Width, w32, w64, cast_signed, cast_unsigned}
 use Rattle.std.proofs.lemmas.Int.{of_z-to_z}
-use Rattle.jvms.specs.declared.class_file.Constant.{Constant}
-use Rattle.jvms.specs.declared.class_file.Constant.TheVariants as constant
-use Rattle.jvms.specs.Spelling.{u2, u4, u8, SpellsConstant, SpellsPool}
+use Rattle.jvms_file.specs.declared.class_file.Constant.{Constant}
+use Rattle.jvms_file.specs.declared.class_file.Constant.TheVariants as constant
+use Rattle.jvms_file.specs.Spelling.{u2, u4, u8, SpellsConstant, SpellsPool}
 use Rattle.const_pool.specs.Writing.{constant_bytes, pool_bytes}
 use Rattle.class_file.proofs.WrittenLists.{InPlace, one_spelling, joined_size, in_order_written}
 

@@ -1,4 +1,4 @@
-pub mod Frames
+pub mod Contents
 pub mod Opening
 pub mod Seen
 pub mod Spelled

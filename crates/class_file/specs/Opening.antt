@@ -1,14 +1,14 @@
 -- Parts of a class (JVMS 4.1) that have functions of their own.
 use Rattle.std.specs.Prelude.{ℕ, ◌==◌, ◌||◌, List, Result, Ok}
-use Rattle.jvms.specs.declared.class_file.ClassFile.{ClassFile}
-use Rattle.jvms.specs.declared.class_file.Constant.{Constant}
-use Rattle.jvms.specs.declared.fault.ClassFault.{ClassFault}
-use Rattle.jvms.specs.declared.fault.ClassFault.TheVariants as fault
-use Rattle.jvms.specs.Results.{◌>>=◌, want}
-use Rattle.jvms.specs.Bytes.{u2_at}
-use Rattle.jvms.specs.ConstantPool.{pool_at, entries_fault}
-use Rattle.jvms.specs.Members.{fields_at, methods_at, kept_attributes_at}
-use Rattle.jvms.specs.ClassFile.{is_proper_class, is_empty, interfaces_at}
+use Rattle.jvms_file.specs.declared.class_file.ClassFile.{ClassFile}
+use Rattle.jvms_file.specs.declared.class_file.Constant.{Constant}
+use Rattle.jvms_file.specs.declared.fault.ClassFault.{ClassFault}
+use Rattle.jvms_file.specs.declared.fault.ClassFault.TheVariants as fault
+use Rattle.jvms_file.specs.Results.{◌>>=◌, want}
+use Rattle.jvms_file.specs.Bytes.{u2_at}
+use Rattle.jvms_file.specs.ConstantPool.{pool_at, entries_fault}
+use Rattle.jvms_file.specs.Members.{fields_at, methods_at, kept_attributes_at}
+use Rattle.jvms_file.specs.ClassFile.{is_proper_class, is_empty, interfaces_at}
 use Rattle.class_file.specs.declared.class.Head.{Head}
 
 -- What stands behind the superclass.

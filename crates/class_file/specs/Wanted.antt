@@ -1,19 +1,19 @@
 -- Parts of the reading of members that have functions of their own.
 use Rattle.std.specs.Prelude.{ℕ, Bool, false, not, ◌||◌, nat_le, if◌then◌else◌, List, [], Option, None, Some, Result, Ok}
 use Rattle.std.specs.List.{list_any}
-use Rattle.jvms.specs.declared.class_file.Constant.{Constant}
-use Rattle.jvms.specs.declared.class_file.FieldAttribute.{FieldAttribute}
-use Rattle.jvms.specs.declared.class_file.Handler.{Handler}
-use Rattle.jvms.specs.declared.class_file.MethodAttribute.{MethodAttribute}
-use Rattle.jvms.specs.declared.class_file.MethodAttribute.TheVariants as method_attribute
-use Rattle.jvms.specs.declared.class_file.MethodInfo.{MethodInfo}
-use Rattle.jvms.specs.declared.fault.ClassFault.{ClassFault}
-use Rattle.jvms.specs.declared.fault.ClassFault.TheVariants as fault
-use Rattle.jvms.specs.Results.{◌>>=◌, want, present, counted, counted_onto}
-use Rattle.jvms.specs.Bytes.{u2_at, bytes_at}
-use Rattle.jvms.specs.Code.{handler_places}
-use Rattle.jvms.specs.ConstantPool.{utf8_at, is_utf8}
-use Rattle.jvms.specs.Members.{is_text_with, is_interface, is_abstract, is_code, is_code_length, frame_at, field_attribute_at, handler_at, class_number_at, code_at, exceptions_at, method_attribute_at, asks_code, is_initializer, is_static, is_method_descriptor_for, is_same_method}
+use Rattle.jvms_file.specs.declared.class_file.Constant.{Constant}
+use Rattle.jvms_file.specs.declared.class_file.FieldAttribute.{FieldAttribute}
+use Rattle.jvms_file.specs.declared.class_file.Handler.{Handler}
+use Rattle.jvms_file.specs.declared.class_file.MethodAttribute.{MethodAttribute}
+use Rattle.jvms_file.specs.declared.class_file.MethodAttribute.TheVariants as method_attribute
+use Rattle.jvms_file.specs.declared.class_file.MethodInfo.{MethodInfo}
+use Rattle.jvms_file.specs.declared.fault.ClassFault.{ClassFault}
+use Rattle.jvms_file.specs.declared.fault.ClassFault.TheVariants as fault
+use Rattle.jvms_file.specs.Results.{◌>>=◌, want, present, counted, counted_onto}
+use Rattle.jvms_file.specs.Bytes.{u2_at, bytes_at}
+use Rattle.jvms_file.specs.Code.{handler_places}
+use Rattle.jvms_file.specs.ConstantPool.{utf8_at, is_utf8}
+use Rattle.jvms_file.specs.Members.{is_text_with, is_interface, is_abstract, is_code, is_code_length, frame_at, field_attribute_at, handler_at, class_number_at, code_at, exceptions_at, method_attribute_at, asks_code, is_initializer, is_static, is_method_descriptor_for, is_same_method}
 use Rattle.const_pool.specs.declared.forms.Forms.{Forms}
 use Rattle.class_file.specs.declared.method.Head.{Head}
 

@@ -2,18 +2,18 @@
 -- method's code as its layout says.
 use Rattle.std.specs.Prelude.{ℕ, List, ◌++◌, length, slice_get, unwrap_or}
 use Rattle.std.specs.List.{flat_map}
-use Rattle.jvms.specs.declared.class_file.KeptAttribute.{KeptAttribute}
-use Rattle.jvms.specs.declared.class_file.FieldAttribute.{FieldAttribute}
-use Rattle.jvms.specs.declared.class_file.FieldAttribute.TheVariants as field_attribute
-use Rattle.jvms.specs.declared.class_file.MethodAttribute.{MethodAttribute}
-use Rattle.jvms.specs.declared.class_file.MethodAttribute.TheVariants as method_attribute
-use Rattle.jvms.specs.declared.class_file.Handler.{Handler}
-use Rattle.jvms.specs.declared.class_file.Layout.{Layout}
-use Rattle.jvms.specs.declared.class_file.Code.{Code}
-use Rattle.jvms.specs.declared.class_file.FieldInfo.{FieldInfo}
-use Rattle.jvms.specs.declared.class_file.MethodInfo.{MethodInfo}
-use Rattle.jvms.specs.declared.class_file.ClassFile.{ClassFile}
-use Rattle.jvms.specs.Spelling.{u2, u4}
+use Rattle.jvms_file.specs.declared.class_file.KeptAttribute.{KeptAttribute}
+use Rattle.jvms_file.specs.declared.class_file.FieldAttribute.{FieldAttribute}
+use Rattle.jvms_file.specs.declared.class_file.FieldAttribute.TheVariants as field_attribute
+use Rattle.jvms_file.specs.declared.class_file.MethodAttribute.{MethodAttribute}
+use Rattle.jvms_file.specs.declared.class_file.MethodAttribute.TheVariants as method_attribute
+use Rattle.jvms_file.specs.declared.class_file.Handler.{Handler}
+use Rattle.jvms_file.specs.declared.class_file.Layout.{Layout}
+use Rattle.jvms_file.specs.declared.class_file.Code.{Code}
+use Rattle.jvms_file.specs.declared.class_file.FieldInfo.{FieldInfo}
+use Rattle.jvms_file.specs.declared.class_file.MethodInfo.{MethodInfo}
+use Rattle.jvms_file.specs.declared.class_file.ClassFile.{ClassFile}
+use Rattle.jvms_file.specs.Spelling.{u2, u4}
 use Rattle.const_pool.specs.Writing.{pool_bytes}
 
 -- A count of two bytes, and so many things, one behind the other.

@@ -1,14 +1,14 @@
 //! Attributes that are kept as bytes (JVMS 4.7), and the names of those that are read.
 
 ghost use Rattle.std.specs.Prelude.{◌≡◌};
-ghost use Rattle.jvms.specs.Reading.{Gives};
-ghost use Rattle.jvms.specs.Members.{kept_content_at, kept_at as kept_read, kept_attributes_at as kept_attributes_read, is_named as names_text};
+ghost use Rattle.jvms_file.specs.Reading.{Gives};
+ghost use Rattle.jvms_file.specs.Members.{kept_content_at, kept_at as kept_read, kept_attributes_at as kept_attributes_read, is_named as names_text};
 
-use crate::counted::{Part, parts_of};
-use const_pool::{Pool, bytes_at, u2_at, u4_at, want};
-use jvms::class_file::KeptAttribute;
-use jvms::fault::{ClassFault, ReadError};
-use jvms::items::Items;
+use const_pool::Pool;
+use file_bytes::{Part, bytes_at, parts_of, u2_at, u4_at, want};
+use held::items::Items;
+use jvms_file::class_file::KeptAttribute;
+use jvms_file::fault::{ClassFault, ReadError};
 use std::alloc::Global;
 
 /// Whether an entry is this text.
@@ -44,11 +44,12 @@ struct KeptAttributes<'p> {
 }
 
 impl Part<KeptAttribute> for KeptAttributes<'_> {
-    ghost at = { λ k. kept_read k.pool.now k.cut };
+    ghost at = { λ k _. kept_read k.pool.now k.cut };
 
     fn part_at<'a>(
         &self,
         alloc: Global,
+        _seen: &[KeptAttribute],
         bytes: &'a [u8],
     ) -> Result<(KeptAttribute, &'a [u8]), ReadError> {
         let (name, rest) = u2_at(self.cut, bytes)?;

@@ -1,19 +1,19 @@
 //! Class files (JVMS 4.1).
 
 ghost use Rattle.std.specs.Prelude.{◌≡◌};
-ghost use Rattle.jvms.specs.ClassFile.{is_version, is_proper_class as is_proper_number, interface_at as interface_read, interfaces_at as interfaces_read, class_at as class_read, read as file_read};
-ghost use Rattle.jvms.specs.Reading.{Gives};
+ghost use Rattle.jvms_file.specs.ClassFile.{is_version, is_proper_class as is_proper_number, interface_at as interface_read, interfaces_at as interfaces_read, class_at as class_read, read as file_read};
+ghost use Rattle.jvms_file.specs.Reading.{Gives};
 ghost use Rattle.class_file.specs.Opening.{members_behind as members_read, class_behind, pool_behind as pool_read};
 
 use crate::attribute::kept_attributes_at;
-use crate::counted::{Part, parts_of};
 use crate::field::fields_at;
 use crate::method::methods_at;
-use const_pool::{Pool, ScannedPool, u2_at, u4_at, want};
+use const_pool::{Pool, ScannedPool};
 use descriptor::is_array_name;
-use jvms::class_file::ClassFile;
-use jvms::fault::{ClassFault, ReadError};
-use jvms::items::Items;
+use file_bytes::{Part, parts_of, u2_at, u4_at, want};
+use held::items::Items;
+use jvms_file::class_file::ClassFile;
+use jvms_file::fault::{ClassFault, ReadError};
 use std::alloc::Global;
 
 /// The first four bytes of a class file.
@@ -47,9 +47,14 @@ struct Interfaces<'p> {
 }
 
 impl Part<u16> for Interfaces<'_> {
-    ghost at = { λ i. interface_read i.pool.now i.cut };
+    ghost at = { λ i _. interface_read i.pool.now i.cut };
 
-    fn part_at<'a>(&self, _alloc: Global, bytes: &'a [u8]) -> Result<(u16, &'a [u8]), ReadError> {
+    fn part_at<'a>(
+        &self,
+        _alloc: Global,
+        _seen: &[u16],
+        bytes: &'a [u8],
+    ) -> Result<(u16, &'a [u8]), ReadError> {
         let (number, rest) = u2_at(self.cut, bytes)?;
         want(is_proper_class(self.pool, number), ClassFault::Index)?;
         Ok((number, rest))
@@ -149,7 +154,7 @@ fn is_version(major: u16) -> bool
 }
 
 /// The class that bytes spell; `cut` is the fault of bytes that aren't there.
-#[tactic(auto, unfolding(jvms::specs::ClassFile::class_at))]
+#[tactic(auto, unfolding(jvms_file::specs::ClassFile::class_at))]
 fn class_at(alloc: Global, cut: ClassFault, bytes: &[u8]) -> Result<ClassFile, ReadError>
     ensures { Gives (λ c. c) result (class_read cut bytes.now) }
 {

@@ -1,20 +1,21 @@
 //! The code of a method (JVMS 4.7.3), and the classes that it may throw (JVMS 4.7.5).
 
 ghost use Rattle.std.specs.Prelude.{◌≡◌, ◌≤◌, length, IfOk};
-ghost use Rattle.jvms.specs.Code.{handlers_of};
-ghost use Rattle.jvms.specs.Members.{handler_at as handler_read, code_at as code_read, class_number_at as class_number_read, exceptions_at as exceptions_read};
-ghost use Rattle.jvms.specs.Reading.{Gives};
-ghost use Rattle.class_file.specs.Frames.{framed_by};
+ghost use Rattle.jvms_file.specs.Code.{handlers_of};
+ghost use Rattle.jvms_file.specs.Members.{handler_at as handler_read, code_at as code_read, class_number_at as class_number_read, exceptions_at as exceptions_read};
+ghost use Rattle.jvms_file.specs.Reading.{Gives};
+ghost use Rattle.file_bytes.specs.Reading.{Finds};
+ghost use Rattle.class_file.specs.Contents.{framed_by};
 ghost use Rattle.class_file.specs.Wanted.{code_bytes_at, exception_table_at, handler_placed, classes_at as classes_read};
 
 use crate::attribute::kept_attributes_at;
-use crate::counted::{Part, parts_of};
-use crate::frame::{Frame, want_all};
-use const_pool::{Pool, ScannedPool, bytes_at, u2_at, u4_at, want};
+use crate::content::{Content, want_all};
+use const_pool::{Pool, ScannedPool};
+use file_bytes::{Part, bytes_at, parts_of, u2_at, u4_at, want};
+use held::items::Items;
 use insn::{Starts, decode, handler, layout};
-use jvms::class_file::{Code, Handler};
-use jvms::fault::{ClassFault, ReadError};
-use jvms::items::Items;
+use jvms_file::class_file::{Code, Handler};
+use jvms_file::fault::{ClassFault, ReadError};
 use std::alloc::Global;
 
 /// The most bytes that code has (JVMS 4.7.3).
@@ -29,11 +30,12 @@ struct Handlers<'p> {
 }
 
 impl Part<Handler> for Handlers<'_> {
-    ghost at = { λ h. handler_read h.pool.now h.cut };
+    ghost at = { λ h _. handler_read h.pool.now h.cut };
 
     fn part_at<'a>(
         &self,
         _alloc: Global,
+        _seen: &[Handler],
         bytes: &'a [u8],
     ) -> Result<(Handler, &'a [u8]), ReadError> {
         let (start, rest) = u2_at(self.cut, bytes)?;
@@ -72,27 +74,27 @@ fn code_bytes<'a>(
     cut: ClassFault,
     code_length: u32,
     bytes: &'a [u8],
-) -> Result<(&'a [u8], &'a [u8]), ReadError>
-    ensures exact { Gives (λ x. (x.0.now, x.1.now)) result (code_bytes_at cut code_length bytes.now) }
+) -> Result<(&'a [u8], &'a [u8]), ClassFault>
+    ensures exact { Finds (λ x. (x.0.now, x.1.now)) result (code_bytes_at cut code_length bytes.now) }
     ensures few { IfOk result (λ x. length x.0.now ≤ 65535) }
 {
     if code_length == 0 || code_length > MOST_CODE {
-        return Err(ReadError::Fault(ClassFault::CodeLength));
+        return Err(ClassFault::CodeLength);
     }
     let count = code_length as usize;
     if bytes.len() < count {
-        return Err(ReadError::Fault(cut));
+        return Err(cut);
     }
     Ok(bytes.split_at(count))
 }
 
 /// An entry of the exception table with places for bytes.
-fn with_places(starts: &Starts, code_length: usize, entry: Handler) -> Result<Handler, ReadError>
-    ensures { Gives (λ x. x) result (handler_placed starts.now code_length entry) }
+fn with_places(starts: &Starts, code_length: usize, entry: Handler) -> Result<Handler, ClassFault>
+    ensures { Finds (λ x. x) result (handler_placed starts.now code_length entry) }
 {
     match handler(starts, code_length, entry) {
         Some(placed) => Ok(placed),
-        None => Err(ReadError::Fault(ClassFault::Handler)),
+        None => Err(ClassFault::Handler),
     }
 }
 
@@ -108,10 +110,7 @@ fn placed(
     let mut placed = Items::new(alloc);
     let mut rest = handlers;
     while let [entry, behind @ ..] = rest {
-        let one = match with_places(starts, code_length, *entry) {
-            Ok(one) => one,
-            Err(error) => return Err(error),
-        };
+        let one = with_places(starts, code_length, *entry)?;
         placed.push(one)?;
         rest = behind;
     }
@@ -119,22 +118,22 @@ fn placed(
 }
 
 /// A Code's content (JVMS 4.7.3).
-#[tactic(auto, unfolding(jvms::specs::Members::code_at))]
+#[tactic(auto, unfolding(jvms_file::specs::Members::code_at))]
 pub(crate) fn code_at<'a>(
     alloc: Global,
     pool: &ScannedPool,
     major: u16,
-    frame: Frame<'a>,
+    content: Content<'a>,
 ) -> Result<(Code, &'a [u8]), ReadError>
-    ensures { Gives (λ x. (x.0, x.1.now)) result (code_read pool.now major (framed_by frame.entry)) }
+    ensures { Gives (λ x. (x.0, x.1.now)) result (code_read pool.now major (framed_by content.entry)) }
 {
-    let (max_stack, rest) = u2_at(frame.cut, frame.content)?;
-    let (max_locals, rest) = u2_at(frame.cut, rest)?;
-    let (code_length, rest) = u4_at(frame.cut, rest)?;
-    let (bytes, rest) = code_bytes(frame.cut, code_length, rest)?;
-    let (table, rest) = table_at(alloc, pool.pool(), frame.cut, rest)?;
-    let (attributes, rest) = kept_attributes_at(alloc, pool.pool(), frame.cut, rest)?;
-    want_all(frame, rest)?;
+    let (max_stack, rest) = u2_at(content.cut, content.bytes)?;
+    let (max_locals, rest) = u2_at(content.cut, rest)?;
+    let (code_length, rest) = u4_at(content.cut, rest)?;
+    let (bytes, rest) = code_bytes(content.cut, code_length, rest)?;
+    let (table, rest) = table_at(alloc, pool.pool(), content.cut, rest)?;
+    let (attributes, rest) = kept_attributes_at(alloc, pool.pool(), content.cut, rest)?;
+    want_all(content, rest)?;
     let decoded = decode(alloc, pool, major, bytes)?;
     let handlers = placed(
         alloc,
@@ -151,7 +150,7 @@ pub(crate) fn code_at<'a>(
         handlers,
         attributes,
     };
-    Ok((code, frame.behind))
+    Ok((code, content.behind))
 }
 
 /// The numbers of Class entries, in a class with this pool; `cut` is the fault of bytes that aren't there.
@@ -162,9 +161,14 @@ struct ClassNumbers<'p> {
 }
 
 impl Part<u16> for ClassNumbers<'_> {
-    ghost at = { λ n. class_number_read n.pool.now n.cut };
+    ghost at = { λ n _. class_number_read n.pool.now n.cut };
 
-    fn part_at<'a>(&self, _alloc: Global, bytes: &'a [u8]) -> Result<(u16, &'a [u8]), ReadError> {
+    fn part_at<'a>(
+        &self,
+        _alloc: Global,
+        _seen: &[u16],
+        bytes: &'a [u8],
+    ) -> Result<(u16, &'a [u8]), ReadError> {
         let (number, rest) = u2_at(self.cut, bytes)?;
         want(self.pool.is_class(number), ClassFault::Index)?;
         Ok((number, rest))
@@ -188,11 +192,11 @@ fn classes_at<'a>(
 pub(crate) fn exceptions_at<'a>(
     alloc: Global,
     pool: &Pool,
-    frame: Frame<'a>,
+    content: Content<'a>,
 ) -> Result<(Items<u16>, &'a [u8]), ReadError>
-    ensures { Gives (λ x. (x.0, x.1.now)) result (exceptions_read pool.now (framed_by frame.entry)) }
+    ensures { Gives (λ x. (x.0, x.1.now)) result (exceptions_read pool.now (framed_by content.entry)) }
 {
-    let (classes, rest) = classes_at(alloc, pool, frame.cut, frame.content)?;
-    want_all(frame, rest)?;
-    Ok((classes, frame.behind))
+    let (classes, rest) = classes_at(alloc, pool, content.cut, content.bytes)?;
+    want_all(content, rest)?;
+    Ok((classes, content.behind))
 }

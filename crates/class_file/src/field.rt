@@ -3,40 +3,37 @@
 ghost use Rattle.std.specs.Prelude.{◌≡◌, is_some, not, codes, [], ◌∷◌, ◌++◌, List, OnOk};
 ghost use Rattle.std.specs.List.{list_any};
 ghost use Rattle.std.specs.Option.{option_copied};
-ghost use Rattle.jvms.specs.Reading.{Gives};
-ghost use Rattle.jvms.specs.Results.{counted_onto};
-ghost use Rattle.jvms.specs.Descriptors.{field_type_of};
-ghost use Rattle.jvms.specs.Members.{takes_constant, is_constant_of, constant_value_at, is_constant_value, field_attribute_at, is_text_with, is_same_field, field_at as field_read, fields_at as fields_read};
-ghost use Rattle.jvms.specs.ConstantPool.{utf8_at, entry};
-ghost use Rattle.jvms.specs.Names.{is_name as is_name_text};
-ghost use Rattle.class_file.specs.Frames.{framed_by};
+ghost use Rattle.jvms_file.specs.Reading.{Gives};
+ghost use Rattle.file_bytes.specs.Reading.{Finds};
+ghost use Rattle.jvms_file.specs.Results.{counted_onto};
+ghost use Rattle.jvms_file.specs.Descriptors.{field_type_of};
+ghost use Rattle.jvms_file.specs.Members.{takes_constant, is_constant_of, constant_value_at, is_constant_value, field_attribute_at, is_text_with, is_same_field, field_at as field_read, fields_at as fields_read};
+ghost use Rattle.jvms_file.specs.ConstantPool.{utf8_at, entry};
+ghost use Rattle.jvms_file.specs.Names.{is_name as is_name_text};
+ghost use Rattle.class_file.specs.Contents.{framed_by};
 ghost use Rattle.class_file.specs.Seen.{AreFields};
 ghost use Rattle.class_file.specs.Wanted.{text_wanted, field_attributes_at as attributes_read};
 
 use crate::attribute::{is_named, kept_content};
-use crate::frame::{Frame, frame_at, want_all};
-use crate::names::CONSTANT_VALUE;
+use crate::content::{Content, content_at, want_all};
+use crate::names::{BOOLEAN, BYTE, CHAR, CONSTANT_VALUE, DOUBLE, FLOAT, INT, LONG, SHORT, STRING};
 use crate::seen::Seen;
-use const_pool::{Pool, ScannedPool, u2_at, want};
-use jvms::class_file::{Constant, FieldAttribute, FieldInfo};
-use jvms::fault::{ClassFault, ReadError};
-use jvms::items::Items;
+use const_pool::{Pool, ScannedPool};
+use file_bytes::{Part, parts_of, u2_at, want};
+use held::items::Items;
+use jvms_file::class_file::{Constant, FieldAttribute, FieldInfo};
+use jvms_file::fault::{ClassFault, ReadError};
 use std::alloc::{AllocError, Global};
-
-/// The descriptor of `java.lang.String`.
-const STRING: [u16; 18] = [
-    76, 106, 97, 118, 97, 47, 108, 97, 110, 103, 47, 83, 116, 114, 105, 110, 103, 59,
-];
 
 /// Whether a field of this descriptor may have this constant (JVMS table 4.7.2-A).
 fn takes(descriptor: &[u16], constant: &Constant) -> bool
     ensures { result ≡ takes_constant descriptor.now constant.now }
 {
     match constant {
-        Constant::Integer(_) => matches!(descriptor, [73] | [66] | [67] | [83] | [90]),
-        Constant::Long(_) => matches!(descriptor, [74]),
-        Constant::Float(_) => matches!(descriptor, [70]),
-        Constant::Double(_) => matches!(descriptor, [68]),
+        Constant::Integer(_) => matches!(descriptor, [INT] | [BYTE] | [CHAR] | [SHORT] | [BOOLEAN]),
+        Constant::Long(_) => matches!(descriptor, [LONG]),
+        Constant::Float(_) => matches!(descriptor, [FLOAT]),
+        Constant::Double(_) => matches!(descriptor, [DOUBLE]),
         Constant::String { text: _ } => descriptor == STRING.as_slice(),
         _ => false,
     }
@@ -57,14 +54,17 @@ fn constant_value<'a>(
     pool: &Pool,
     descriptor: u16,
     name: u16,
-    frame: Frame<'a>,
-) -> Result<(FieldAttribute, &'a [u8]), ReadError>
-    ensures { Gives (λ x. (x.0, x.1.now)) result (constant_value_at pool.now descriptor name (framed_by frame.entry)) }
+    content: Content<'a>,
+) -> Result<(FieldAttribute, &'a [u8]), ClassFault>
+    ensures { Finds (λ x. (x.0, x.1.now)) result (constant_value_at pool.now descriptor name (framed_by content.entry)) }
 {
-    let (value, rest) = u2_at(frame.cut, frame.content)?;
+    let (value, rest) = u2_at(content.cut, content.bytes)?;
     want(is_its_constant(pool, descriptor, value), ClassFault::Index)?;
-    want_all(frame, rest)?;
-    Ok((FieldAttribute::ConstantValue { name, value }, frame.behind))
+    want_all(content, rest)?;
+    Ok((
+        FieldAttribute::ConstantValue { name, value },
+        content.behind,
+    ))
 }
 
 /// Whether a ConstantValue is among attributes.
@@ -74,78 +74,53 @@ fn has_constant_value(attributes: &[FieldAttribute]) -> bool
     attributes.iter().any(|a| matches!(a, FieldAttribute::ConstantValue { name: _, value: _ }))
 }
 
-/// The next attribute of a field; `seen` are those before it.
-fn attribute_at<'a>(
-    alloc: Global,
-    pool: &Pool,
+/// The attributes of a field of this descriptor, in a class with this pool; `cut` is the fault of bytes that
+/// aren't there.
+#[derive(Clone, Copy)]
+struct Attributes<'p> {
+    pool: &'p Pool,
     cut: ClassFault,
     descriptor: u16,
-    seen: &[FieldAttribute],
-    bytes: &'a [u8],
-) -> Result<(FieldAttribute, &'a [u8]), ReadError>
-    ensures { Gives (λ x. (x.0, x.1.now)) result (field_attribute_at pool.now cut descriptor seen.now bytes.now) }
-{
-    let (name, rest) = u2_at(cut, bytes)?;
-    want(pool.is_utf8(name), ClassFault::Index)?;
-    if is_named(pool, name, &CONSTANT_VALUE) {
-        want(!has_constant_value(seen), ClassFault::RepeatedAttribute)?;
-        let frame = frame_at(cut, rest)?;
-        constant_value(pool, descriptor, name, frame)
-    } else {
-        let (kept, behind) = kept_content(alloc, cut, name, rest)?;
-        Ok((FieldAttribute::Kept(kept), behind))
-    }
 }
 
-/// So many attributes of a field.
-fn attributes_of<'a>(
-    alloc: Global,
-    pool: &Pool,
-    cut: ClassFault,
-    descriptor: u16,
-    count: usize,
-    bytes: &'a [u8],
-) -> Result<(Items<FieldAttribute>, &'a [u8]), ReadError>
-    ensures { Gives (λ x. (x.0, x.1.now)) result (counted_onto (field_attribute_at pool.now cut descriptor) [] count bytes.now) }
-{
-    let mut attributes = Items::new(alloc);
-    let mut rest = bytes;
-    let mut left = count;
-    while left > 0 {
-        let (attribute, behind) = match attribute_at(
-            alloc,
-            pool,
-            cut,
-            descriptor,
-            attributes.as_slice(),
-            rest,
-        ) {
-            Ok(read) => read,
-            Err(error) => return Err(error),
-        };
-        attributes.push(attribute)?;
-        rest = behind;
-        left -= 1;
+impl Part<FieldAttribute> for Attributes<'_> {
+    ghost at = { λ a. field_attribute_at a.pool.now a.cut a.descriptor };
+
+    fn part_at<'a>(
+        &self,
+        alloc: Global,
+        seen: &[FieldAttribute],
+        bytes: &'a [u8],
+    ) -> Result<(FieldAttribute, &'a [u8]), ReadError> {
+        let (name, rest) = u2_at(self.cut, bytes)?;
+        want(self.pool.is_utf8(name), ClassFault::Index)?;
+        if is_named(self.pool, name, &CONSTANT_VALUE) {
+            want(!has_constant_value(seen), ClassFault::RepeatedAttribute)?;
+            let content = content_at(self.cut, rest)?;
+            Ok(constant_value(self.pool, self.descriptor, name, content)?)
+        } else {
+            let (kept, behind) = kept_content(alloc, self.cut, name, rest)?;
+            Ok((FieldAttribute::Kept(kept), behind))
+        }
     }
-    Ok((attributes, rest))
 }
 
 /// The number of a field's name.
-fn want_name(pool: &ScannedPool, number: u16) -> Result<(), ReadError>
-    ensures { Gives (λ x. x) result (text_wanted is_name_text pool.now number) }
+fn want_name(pool: &ScannedPool, number: u16) -> Result<(), ClassFault>
+    ensures { Finds (λ x. x) result (text_wanted is_name_text pool.now number) }
 {
     match pool.forms(number) {
-        None => Err(ReadError::Fault(ClassFault::Index)),
+        None => Err(ClassFault::Index),
         Some(forms) => want(forms.name, ClassFault::Descriptor),
     }
 }
 
 /// The number of a field's descriptor.
-fn want_descriptor(pool: &ScannedPool, number: u16) -> Result<(), ReadError>
-    ensures { Gives (λ x. x) result (text_wanted (λ text. is_some (field_type_of text)) pool.now number) }
+fn want_descriptor(pool: &ScannedPool, number: u16) -> Result<(), ClassFault>
+    ensures { Finds (λ x. x) result (text_wanted (λ text. is_some (field_type_of text)) pool.now number) }
 {
     match pool.forms(number) {
-        None => Err(ReadError::Fault(ClassFault::Index)),
+        None => Err(ClassFault::Index),
         Some(forms) => want(forms.field_descriptor, ClassFault::Descriptor),
     }
 }
@@ -161,7 +136,12 @@ fn attributes_at<'a>(
     ensures { Gives (λ x. (x.0, x.1.now)) result (attributes_read pool.now cut descriptor bytes.now) }
 {
     let (count, rest) = u2_at(cut, bytes)?;
-    attributes_of(alloc, pool, cut, descriptor, usize::from(count), rest)
+    let attributes = Attributes {
+        pool,
+        cut,
+        descriptor,
+    };
+    parts_of(alloc, &attributes, usize::from(count), rest)
 }
 
 /// Fields that were read, with their names and descriptors.
@@ -205,7 +185,7 @@ impl Fields {
 }
 
 /// The next field; `before` are those before it.
-#[tactic(auto, unfolding(jvms::specs::Members::field_at))]
+#[tactic(auto, unfolding(jvms_file::specs::Members::field_at))]
 fn field_at<'a>(
     alloc: Global,
     pool: &ScannedPool,

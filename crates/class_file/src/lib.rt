@@ -4,23 +4,18 @@
 mod attribute;
 mod class;
 mod code;
-mod counted;
+mod content;
 mod field;
-mod frame;
 mod laws;
 mod method;
 mod names;
-#[cfg(test)]
-mod repeat_tests;
 mod seen;
 mod spelled;
-#[cfg(test)]
-mod tests;
 mod writing;
 
-pub use jvms::class_file::{
+pub use jvms_file::class_file::{
     Code, FieldAttribute, FieldInfo, Handler, KeptAttribute, Layout, MethodAttribute, MethodInfo,
 };
-pub use jvms::fault::{ClassFault, ReadError};
+pub use jvms_file::fault::{ClassFault, ReadError};
 pub use laws::{what_is_written_is_read_again, what_is_written_spells};
 pub use spelled::{ClassFile, read, write};

@@ -2,23 +2,25 @@
 
 ghost use Rattle.std.specs.Prelude.{◌≡◌, [], ◌∷◌, ◌++◌, List, ◌||◌, not, OnOk};
 ghost use Rattle.std.specs.List.{list_any};
-ghost use Rattle.jvms.specs.Names.{is_method_name as is_method_name_text};
-ghost use Rattle.jvms.specs.Members.{asks_code, is_code, is_exceptions, is_initializer, is_method_descriptor_for, is_same_method, method_attribute_at, method_at as method_read, methods_at as methods_read};
-ghost use Rattle.jvms.specs.Reading.{Gives};
-ghost use Rattle.jvms.specs.Results.{counted_onto};
+ghost use Rattle.jvms_file.specs.Names.{is_method_name as is_method_name_text};
+ghost use Rattle.jvms_file.specs.Members.{asks_code, is_code, is_exceptions, is_initializer, is_method_descriptor_for, is_same_method, method_attribute_at, method_at as method_read, methods_at as methods_read};
+ghost use Rattle.jvms_file.specs.Reading.{Gives};
+ghost use Rattle.file_bytes.specs.Reading.{Finds};
+ghost use Rattle.jvms_file.specs.Results.{counted_onto};
 ghost use Rattle.class_file.specs.Seen.{AreMethods};
 ghost use Rattle.class_file.specs.Wanted.{is_formed_descriptor, text_wanted, code_attribute_at, exceptions_attribute_at, method_behind, named_method_at, is_placed_method};
 
 use crate::attribute::{is_named, kept_content};
 use crate::code::{code_at, exceptions_at};
-use crate::frame::frame_at;
+use crate::content::content_at;
 use crate::names::{CODE, EXCEPTIONS};
 use crate::seen::Seen;
-use const_pool::{Forms, Pool, ScannedPool, u2_at, want};
+use const_pool::{Forms, Pool, ScannedPool};
 use descriptor::{Flags, is_initializer_name};
-use jvms::class_file::{MethodAttribute, MethodInfo};
-use jvms::fault::{ClassFault, ReadError};
-use jvms::items::Items;
+use file_bytes::{Part, parts_of, u2_at, want};
+use held::items::Items;
+use jvms_file::class_file::{MethodAttribute, MethodInfo};
+use jvms_file::fault::{ClassFault, ReadError};
 use std::alloc::{AllocError, Global};
 
 /// What stands before a method's attributes.
@@ -60,8 +62,8 @@ fn code_behind<'a>(
 ) -> Result<(MethodAttribute, &'a [u8]), ReadError>
     ensures { Gives (λ x. (x.0, x.1.now)) result (code_attribute_at pool.now major cut name bytes.now) }
 {
-    let frame = frame_at(cut, bytes)?;
-    let (code, behind) = code_at(alloc, pool, major, frame)?;
+    let content = content_at(cut, bytes)?;
+    let (code, behind) = code_at(alloc, pool, major, content)?;
     Ok((MethodAttribute::Code { name, code }, behind))
 }
 
@@ -75,71 +77,45 @@ fn exceptions_behind<'a>(
 ) -> Result<(MethodAttribute, &'a [u8]), ReadError>
     ensures { Gives (λ x. (x.0, x.1.now)) result (exceptions_attribute_at pool.now cut name bytes.now) }
 {
-    let frame = frame_at(cut, bytes)?;
-    let (classes, behind) = exceptions_at(alloc, pool, frame)?;
+    let content = content_at(cut, bytes)?;
+    let (classes, behind) = exceptions_at(alloc, pool, content)?;
     Ok((MethodAttribute::Exceptions { name, classes }, behind))
 }
 
-/// The next attribute of a method that may have Code or not; `seen` are those before it.
-fn attribute_at<'a>(
-    alloc: Global,
-    pool: &ScannedPool,
+/// The attributes of a method that may have Code or not, in a class with this pool and version; `cut` is the
+/// fault of bytes that aren't there.
+#[derive(Clone, Copy)]
+struct Attributes<'p> {
+    pool: &'p ScannedPool,
     major: u16,
     cut: ClassFault,
     code: bool,
-    seen: &[MethodAttribute],
-    bytes: &'a [u8],
-) -> Result<(MethodAttribute, &'a [u8]), ReadError>
-    ensures { Gives (λ x. (x.0, x.1.now)) result (method_attribute_at pool.now major cut code seen.now bytes.now) }
-{
-    let (name, rest) = u2_at(cut, bytes)?;
-    want(pool.pool().is_utf8(name), ClassFault::Index)?;
-    if is_named(pool.pool(), name, &CODE) {
-        want(!has_code(seen), ClassFault::RepeatedAttribute)?;
-        want(code, ClassFault::CodePresence)?;
-        code_behind(alloc, pool, major, cut, name, rest)
-    } else if is_named(pool.pool(), name, &EXCEPTIONS) {
-        want(!has_exceptions(seen), ClassFault::RepeatedAttribute)?;
-        exceptions_behind(alloc, pool.pool(), cut, name, rest)
-    } else {
-        let (kept, behind) = kept_content(alloc, cut, name, rest)?;
-        Ok((MethodAttribute::Kept(kept), behind))
-    }
 }
 
-/// So many attributes of a method.
-fn attributes_of<'a>(
-    alloc: Global,
-    pool: &ScannedPool,
-    major: u16,
-    cut: ClassFault,
-    code: bool,
-    count: usize,
-    bytes: &'a [u8],
-) -> Result<(Items<MethodAttribute>, &'a [u8]), ReadError>
-    ensures { Gives (λ x. (x.0, x.1.now)) result (counted_onto (method_attribute_at pool.now major cut code) [] count bytes.now) }
-{
-    let mut attributes = Items::new(alloc);
-    let mut rest = bytes;
-    let mut left = count;
-    while left > 0 {
-        let (attribute, behind) = match attribute_at(
-            alloc,
-            pool,
-            major,
-            cut,
-            code,
-            attributes.as_slice(),
-            rest,
-        ) {
-            Ok(read) => read,
-            Err(error) => return Err(error),
-        };
-        attributes.push(attribute)?;
-        rest = behind;
-        left -= 1;
+impl Part<MethodAttribute> for Attributes<'_> {
+    ghost at = { λ a. method_attribute_at a.pool.now a.major a.cut a.code };
+
+    fn part_at<'a>(
+        &self,
+        alloc: Global,
+        seen: &[MethodAttribute],
+        bytes: &'a [u8],
+    ) -> Result<(MethodAttribute, &'a [u8]), ReadError> {
+        let pool = self.pool.pool();
+        let (name, rest) = u2_at(self.cut, bytes)?;
+        want(pool.is_utf8(name), ClassFault::Index)?;
+        if is_named(pool, name, &CODE) {
+            want(!has_code(seen), ClassFault::RepeatedAttribute)?;
+            want(self.code, ClassFault::CodePresence)?;
+            code_behind(alloc, self.pool, self.major, self.cut, name, rest)
+        } else if is_named(pool, name, &EXCEPTIONS) {
+            want(!has_exceptions(seen), ClassFault::RepeatedAttribute)?;
+            exceptions_behind(alloc, pool, self.cut, name, rest)
+        } else {
+            let (kept, behind) = kept_content(alloc, self.cut, name, rest)?;
+            Ok((MethodAttribute::Kept(kept), behind))
+        }
     }
-    Ok((attributes, rest))
 }
 
 /// The attributes of a method whose access flags, name and descriptor are read, with Code where and only
@@ -156,15 +132,13 @@ fn method_behind<'a>(
     ensures { Gives (λ x. (x.0, x.1.now)) result (method_behind pool.now major cut head code bytes.now) }
 {
     let (count, rest) = u2_at(cut, bytes)?;
-    let (attributes, behind) = attributes_of(
-        alloc,
+    let parts = Attributes {
         pool,
         major,
         cut,
         code,
-        usize::from(count),
-        rest,
-    )?;
+    };
+    let (attributes, behind) = parts_of(alloc, &parts, usize::from(count), rest)?;
     want(
         !code || has_code(attributes.as_slice()),
         ClassFault::CodePresence,
@@ -207,11 +181,11 @@ fn may_have(class_access: u16, initializer: bool, access: u16) -> bool
 }
 
 /// The number of a method's name.
-fn want_name(pool: &ScannedPool, number: u16) -> Result<(), ReadError>
-    ensures { Gives (λ x. x) result (text_wanted is_method_name_text pool.now number) }
+fn want_name(pool: &ScannedPool, number: u16) -> Result<(), ClassFault>
+    ensures { Finds (λ x. x) result (text_wanted is_method_name_text pool.now number) }
 {
     match pool.forms(number) {
-        None => Err(ReadError::Fault(ClassFault::Index)),
+        None => Err(ClassFault::Index),
         Some(forms) => want(forms.method_name, ClassFault::Descriptor),
     }
 }
@@ -230,11 +204,11 @@ fn is_descriptor(on_none: bool, forms: Forms) -> bool
 
 /// The number of a method's descriptor.
 #[tactic(auto, using(crate::proofs::FormedDescriptors::formed_descriptor))]
-fn want_descriptor(pool: &ScannedPool, on_none: bool, number: u16) -> Result<(), ReadError>
-    ensures { Gives (λ x. x) result (text_wanted (is_method_descriptor_for on_none) pool.now number) }
+fn want_descriptor(pool: &ScannedPool, on_none: bool, number: u16) -> Result<(), ClassFault>
+    ensures { Finds (λ x. x) result (text_wanted (is_method_descriptor_for on_none) pool.now number) }
 {
     match pool.forms(number) {
-        None => Err(ReadError::Fault(ClassFault::Index)),
+        None => Err(ClassFault::Index),
         Some(forms) => want(is_descriptor(on_none, forms), ClassFault::Descriptor),
     }
 }
@@ -311,7 +285,7 @@ fn named_at<'a>(
 }
 
 /// The next method of a class with these access flags; `before` are those before it.
-#[tactic(auto, unfolding(jvms::specs::Members::method_at))]
+#[tactic(auto, unfolding(jvms_file::specs::Members::method_at))]
 fn method_at<'a>(
     alloc: Global,
     pool: &ScannedPool,

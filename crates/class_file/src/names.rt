@@ -1,4 +1,5 @@
-//! The names of attributes that are read (JVMS 4.7).
+//! The names of attributes that are read (JVMS 4.7), and the descriptors of fields that have a constant (JVMS
+//! 4.3.2).
 
 /// The name `ConstantValue`.
 pub(crate) const CONSTANT_VALUE: [u16; 13] = [
@@ -32,4 +33,50 @@ pub(crate) const EXCEPTIONS: [u16; 10] = [
     b'o' as u16,
     b'n' as u16,
     b's' as u16,
+];
+
+/// The descriptor of int.
+pub(crate) const INT: u16 = b'I' as u16;
+
+/// The descriptor of byte.
+pub(crate) const BYTE: u16 = b'B' as u16;
+
+/// The descriptor of char.
+pub(crate) const CHAR: u16 = b'C' as u16;
+
+/// The descriptor of short.
+pub(crate) const SHORT: u16 = b'S' as u16;
+
+/// The descriptor of boolean.
+pub(crate) const BOOLEAN: u16 = b'Z' as u16;
+
+/// The descriptor of long.
+pub(crate) const LONG: u16 = b'J' as u16;
+
+/// The descriptor of float.
+pub(crate) const FLOAT: u16 = b'F' as u16;
+
+/// The descriptor of double.
+pub(crate) const DOUBLE: u16 = b'D' as u16;
+
+/// The descriptor of `java.lang.String`.
+pub(crate) const STRING: [u16; 18] = [
+    b'L' as u16,
+    b'j' as u16,
+    b'a' as u16,
+    b'v' as u16,
+    b'a' as u16,
+    b'/' as u16,
+    b'l' as u16,
+    b'a' as u16,
+    b'n' as u16,
+    b'g' as u16,
+    b'/' as u16,
+    b'S' as u16,
+    b't' as u16,
+    b'r' as u16,
+    b'i' as u16,
+    b'n' as u16,
+    b'g' as u16,
+    b';' as u16,
 ];

@@ -2,9 +2,9 @@
 //! 4.5, 4.6).
 
 ghost use Rattle.std.specs.Prelude.{◌≡◌, ℕ, List, false, ◌&&◌, ◌||◌, OnOk};
-ghost use Rattle.jvms.specs.declared.class_file.Constant.{Constant};
-ghost use Rattle.jvms.specs.ConstantPool.{both};
-ghost use Rattle.jvms.specs.Members.{same_entry_text};
+ghost use Rattle.jvms_file.specs.declared.class_file.Constant.{Constant};
+ghost use Rattle.jvms_file.specs.ConstantPool.{both};
+ghost use Rattle.jvms_file.specs.Members.{same_entry_text};
 ghost use Rattle.const_pool.specs.Texts.{canonical};
 ghost use Rattle.class_file.specs.Seen.{is_seen};
 

@@ -1,27 +1,27 @@
 //! Class files that bytes spell (JVMS 4.1): read from bytes, and written as bytes.
 
 ghost use Rattle.std.specs.Prelude.{◌≡◌, IfOk, Ok};
-ghost use Rattle.jvms.specs.declared.class_file.ClassFile.{ClassFile as Class};
-ghost use Rattle.jvms.specs.ClassFile.{read as file_read};
-ghost use Rattle.jvms.specs.Reading.{Gives};
-ghost use Rattle.jvms.specs.Spelling.{Spells};
+ghost use Rattle.jvms_file.specs.declared.class_file.ClassFile.{ClassFile as Class};
+ghost use Rattle.jvms_file.specs.ClassFile.{read as file_read};
+ghost use Rattle.jvms_file.specs.Reading.{Gives};
+ghost use Rattle.jvms_file.specs.Spelling.{Spells};
 ghost use Rattle.class_file.specs.Spelled.{HasSpelling};
 ghost use Rattle.class_file.specs.Writing.{class_bytes};
 
 use crate::class::read_class;
 use crate::writing::write_class;
-use jvms::fault::ReadError;
+use jvms_file::fault::ReadError;
 use std::alloc::{AllocError, Global};
 use std::marker::Model;
 
 /// A class file that bytes spell (JVMS 4.1). Contracts see it as the class.
 #[derive(Debug, PartialEq, Eq, Drop)]
 pub struct ClassFile {
-    class: jvms::class_file::ClassFile,
+    class: jvms_file::class_file::ClassFile,
 }
 
 impl Model for ClassFile {
-    ghost use Rattle.jvms.specs.declared.class_file.ClassFile.{ClassFile as Class};
+    ghost use Rattle.jvms_file.specs.declared.class_file.ClassFile.{ClassFile as Class};
 
     ghost Value = { Class };
 
@@ -36,7 +36,7 @@ impl Model for ClassFile {
 
 impl ClassFile {
     /// The class.
-    pub fn class(&self) -> &jvms::class_file::ClassFile
+    pub fn class(&self) -> &jvms_file::class_file::ClassFile
         ensures same { result.now ≡ self.now }
         ensures spelled { HasSpelling self.now }
     {
@@ -44,7 +44,7 @@ impl ClassFile {
     }
 
     /// The class itself.
-    pub fn into_class(self) -> jvms::class_file::ClassFile
+    pub fn into_class(self) -> jvms_file::class_file::ClassFile
         ensures same { result ≡ self }
         ensures spelled { HasSpelling self }
     {

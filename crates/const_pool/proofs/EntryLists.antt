@@ -2,15 +2,15 @@
 use Rattle.std.proofs.Common.{◌≡◌, ℕ, zero, suc, ◌-◌, ◌<◌, ◌≤◌, true, false, cond, ◌&&◌, nat_lt, List, [], ◌∷◌, ◌++◌, length, refl, ap, sym, ◌∙◌, arith, append-nil}
 use Rattle.std.proofs.lemmas.Bool.Decides.{nat_tests}
 use Rattle.std.specs.Prelude.{Result, Ok, Err}
-use Rattle.jvms.specs.declared.class_file.Constant.{Constant}
-use Rattle.jvms.specs.declared.class_file.Constant.TheVariants as constant
-use Rattle.jvms.specs.declared.fault.ClassFault.{ClassFault}
-use Rattle.jvms.specs.declared.fault.ReadError.{ReadError}
-use Rattle.jvms.specs.declared.fault.ReadError.TheVariants as error
-use Rattle.jvms.specs.Reading.{Fails}
-use Rattle.jvms.specs.Results.{◌>>=◌}
-use Rattle.jvms.specs.ConstantPool.{takes_two, constant_at, entries_at}
-use Rattle.jvms.proofs.FrontLaws.{with_front, with_front-append}
+use Rattle.jvms_file.specs.declared.class_file.Constant.{Constant}
+use Rattle.jvms_file.specs.declared.class_file.Constant.TheVariants as constant
+use Rattle.jvms_file.specs.declared.fault.ClassFault.{ClassFault}
+use Rattle.jvms_file.specs.declared.fault.ReadError.{ReadError}
+use Rattle.jvms_file.specs.declared.fault.ReadError.TheVariants as error
+use Rattle.jvms_file.specs.Reading.{Fails}
+use Rattle.jvms_file.specs.Results.{◌>>=◌}
+use Rattle.jvms_file.specs.ConstantPool.{takes_two, constant_at, entries_at}
+use Rattle.jvms_file.proofs.FrontLaws.{with_front, with_front-append}
 use Rattle.const_pool.specs.Numbered.{numbered}
 
 -- What is read of a pool.

@@ -11,11 +11,11 @@ use Rattle.std.specs.Option.{option_and_then, option_flatten, option_map, unwrap
 use Rattle.std.specs.Ordering.{nat_cmp, ordering_then, is_eq}
 use Rattle.std.specs.declared.cmp.Ordering.TheVariants.{Less, Equal, Greater}
 use Rattle.std.specs.Prelude.{slice_get}
-use Rattle.jvms.specs.declared.class_file.Constant.{Constant}
-use Rattle.jvms.specs.declared.class_file.Constant.TheVariants as constant
-use Rattle.jvms.specs.Names.{same_text}
-use Rattle.jvms.specs.ConstantPool.{utf8_of, utf8_at, entry}
-use Rattle.jvms.specs.Members.{is_text_with, same_entry_text}
+use Rattle.jvms_file.specs.declared.class_file.Constant.{Constant}
+use Rattle.jvms_file.specs.declared.class_file.Constant.TheVariants as constant
+use Rattle.jvms_file.specs.Names.{same_text}
+use Rattle.jvms_file.specs.ConstantPool.{utf8_of, utf8_at, entry}
+use Rattle.jvms_file.specs.Members.{is_text_with, same_entry_text}
 use Rattle.const_pool.specs.declared.scanned.Text.{Text}
 use Rattle.const_pool.specs.Texts.{is_this, first_from, first_number, known_after, text_with, text_of, forms_of, canonical, is_one_number}
 

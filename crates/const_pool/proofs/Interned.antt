@@ -9,10 +9,10 @@ use Rattle.std.specs.Cmp.Lexicographic.{same_text as texts_are_same}
 use Rattle.std.specs.Ordering.{int_eq}
 use Rattle.std.specs.Prelude.{slice_get, IfSome}
 use Rattle.std.specs.Map.{lookup, keys_of}
-use Rattle.jvms.specs.declared.class_file.Constant.{Constant}
-use Rattle.jvms.specs.declared.class_file.Constant.TheVariants as constant
-use Rattle.jvms.specs.ConstantPool.{takes_two, entry as entry_at}
-use Rattle.jvms.specs.Spelling.{IsNumbered}
+use Rattle.jvms_file.specs.declared.class_file.Constant.{Constant}
+use Rattle.jvms_file.specs.declared.class_file.Constant.TheVariants as constant
+use Rattle.jvms_file.specs.ConstantPool.{takes_two, entry as entry_at}
+use Rattle.jvms_file.specs.Spelling.{IsNumbered}
 use Rattle.const_pool.specs.declared.entry.Entry.{Entry}
 use Rattle.const_pool.specs.declared.entry.Entry.TheVariants as entry
 use Rattle.const_pool.specs.declared.builder.PoolFault.TheVariants as pool_fault

@@ -1,8 +1,8 @@
 -- The numbers that an entry takes (JVMS 4.4.5).
 use Rattle.std.specs.Prelude.{ℕ, ◌&&◌, nat_lt, if◌then◌else◌, List, [], ◌∷◌}
-use Rattle.jvms.specs.declared.class_file.Constant.{Constant}
-use Rattle.jvms.specs.declared.class_file.Constant.TheVariants as constant
-use Rattle.jvms.specs.ConstantPool.{takes_two}
+use Rattle.jvms_file.specs.declared.class_file.Constant.{Constant}
+use Rattle.jvms_file.specs.declared.class_file.Constant.TheVariants as constant
+use Rattle.jvms_file.specs.ConstantPool.{takes_two}
 
 -- An entry, and the unusable one behind a long or a double, if a number is left for it.
 abbrev pub numbered : Constant → ℕ → List Constant

@@ -1,9 +1,9 @@
 -- A constant pool from bytes (JVMS 4.4).
 use Rattle.std.specs.Prelude.{ℕ, List, Result, Ok}
-use Rattle.jvms.specs.declared.class_file.Constant.{Constant}
-use Rattle.jvms.specs.declared.fault.ClassFault.{ClassFault}
-use Rattle.jvms.specs.Results.{◌>>=◌}
-use Rattle.jvms.specs.ConstantPool.{pool_at, entries_fault}
+use Rattle.jvms_file.specs.declared.class_file.Constant.{Constant}
+use Rattle.jvms_file.specs.declared.fault.ClassFault.{ClassFault}
+use Rattle.jvms_file.specs.Results.{◌>>=◌}
+use Rattle.jvms_file.specs.ConstantPool.{pool_at, entries_fault}
 
 -- The entries, once all are read each of them names what it may (JVMS 4.4.1 to 4.4.6), and the bytes behind
 -- them.

@@ -1,11 +1,11 @@
 -- What is known of the texts of a pool's entries.
 use Rattle.std.specs.Prelude.{ℕ, ◌+◌, Bool, false, ◌==◌, ◌&&◌, if◌then◌else◌, List, [], ◌∷◌, Option, Some, None, is_some}
 use Rattle.std.specs.Option.{option_map, unwrap_or}
-use Rattle.jvms.specs.declared.class_file.Constant.{Constant}
-use Rattle.jvms.specs.Names.{same_text, is_name, is_method_name}
-use Rattle.jvms.specs.Descriptors.{field_type_of, method_type_of, parameter_units, is_class_entry_name}
-use Rattle.jvms.specs.ConstantPool.{utf8_of, utf8_at, is_method_descriptor as is_method_sort}
-use Rattle.jvms.specs.Members.{is_text_with}
+use Rattle.jvms_file.specs.declared.class_file.Constant.{Constant}
+use Rattle.jvms_file.specs.Names.{same_text, is_name, is_method_name}
+use Rattle.jvms_file.specs.Descriptors.{field_type_of, method_type_of, parameter_units, is_class_entry_name}
+use Rattle.jvms_file.specs.ConstantPool.{utf8_of, utf8_at, begins_as_method as is_method_sort}
+use Rattle.jvms_file.specs.Members.{is_text_with}
 use Rattle.const_pool.specs.declared.forms.Forms.{Forms}
 use Rattle.const_pool.specs.declared.scanned.Text.{Text}
 

@@ -2,10 +2,10 @@
 use Rattle.std.specs.Prelude.{ℕ, ◌+◌, List, [], ◌∷◌, ◌++◌, length}
 use Rattle.std.specs.List.{flat_map}
 use Rattle.std.specs.Int.{w32, w64, cast_unsigned}
-use Rattle.jvms.specs.declared.class_file.Constant.{Constant}
-use Rattle.jvms.specs.declared.class_file.Constant.TheVariants as constant
-use Rattle.jvms.specs.Texts.{encoded}
-use Rattle.jvms.specs.Spelling.{u2, u4, u8}
+use Rattle.jvms_file.specs.declared.class_file.Constant.{Constant}
+use Rattle.jvms_file.specs.declared.class_file.Constant.TheVariants as constant
+use Rattle.jvms_file.specs.Texts.{encoded}
+use Rattle.jvms_file.specs.Spelling.{u2, u4, u8}
 
 -- A text: the length of its modified UTF-8, and these bytes (JVMS 4.4.7).
 abbrev pub text_bytes : List ℕ → List ℕ

@@ -1,17 +1,17 @@
 //! A pool that is built entry by entry.
 
 ghost use Rattle.std.specs.Prelude.{◌≡◌, ◌≤◌, ℕ, false, [], ◌++◌, length, Some, IfSome, IfOk, OnOk};
-ghost use Rattle.jvms.specs.declared.class_file.Constant.{Constant};
-ghost use Rattle.jvms.specs.ConstantPool.{entry as entry_at};
-ghost use Rattle.jvms.specs.Spelling.{IsNumbered};
+ghost use Rattle.jvms_file.specs.declared.class_file.Constant.{Constant};
+ghost use Rattle.jvms_file.specs.ConstantPool.{entry as entry_at};
+ghost use Rattle.jvms_file.specs.Spelling.{IsNumbered};
 ghost use Rattle.const_pool.specs.declared.builder.PoolFault.TheVariants.{Memory};
 ghost use Rattle.const_pool.specs.Interning.{constant_of, width as width_of, constants_of, number_from, Interns, pool_of};
 
 use crate::entry::Entry;
 use crate::pool::Pool;
+use held::items::Items;
 use indexmap::IndexMap;
-use jvms::class_file::Constant;
-use jvms::items::Items;
+use jvms_file::class_file::Constant;
 use std::alloc::{AllocError, AllocFailed, Global};
 use std::marker::Model;
 use thiserror::Error;

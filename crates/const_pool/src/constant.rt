@@ -1,12 +1,13 @@
 //! One entry, as it is read: what its tag asks, and nothing of what it names.
 
 ghost use Rattle.std.specs.Prelude.{◌≡◌, ◌≤◌};
-ghost use Rattle.jvms.specs.ConstantPool.{utf8_constant_at, tagged_at, constant_at as entry_read};
-ghost use Rattle.jvms.specs.Reading.{Gives};
+ghost use Rattle.jvms_file.specs.ConstantPool.{utf8_constant_at, tagged_at, constant_at as entry_read};
+ghost use Rattle.jvms_file.specs.Reading.{Gives};
+ghost use Rattle.file_bytes.specs.Reading.{Finds};
 
-use crate::bytes::{bytes_at, u1_at, u2_at, u4_at, u8_at};
-use jvms::class_file::Constant;
-use jvms::fault::{ClassFault, ReadError};
+use file_bytes::{bytes_at, u1_at, u2_at, u4_at, u8_at};
+use jvms_file::class_file::Constant;
+use jvms_file::fault::{ClassFault, ReadError};
 use mutf8::Fault;
 use std::alloc::Global;
 
@@ -24,10 +25,10 @@ fn text_at(alloc: Global, cut: ClassFault, bytes: &[u8]) -> Result<(Constant, &[
 }
 
 /// A number of four or eight bytes (JVMS 4.4.4, 4.4.5).
-fn number_behind(tag: u8, cut: ClassFault, bytes: &[u8]) -> Result<(Constant, &[u8]), ReadError>
+fn number_behind(tag: u8, cut: ClassFault, bytes: &[u8]) -> Result<(Constant, &[u8]), ClassFault>
     requires from { 3 ≤ tag }
     requires to { tag ≤ 6 }
-    ensures { Gives (λ x. (x.0, x.1.now)) result (tagged_at tag cut bytes.now) }
+    ensures { Finds (λ x. (x.0, x.1.now)) result (tagged_at tag cut bytes.now) }
 {
     match tag {
         3 => {
@@ -50,10 +51,10 @@ fn number_behind(tag: u8, cut: ClassFault, bytes: &[u8]) -> Result<(Constant, &[
 }
 
 /// The number of one other entry (JVMS 4.4.1, 4.4.3).
-fn name_behind(tag: u8, cut: ClassFault, bytes: &[u8]) -> Result<(Constant, &[u8]), ReadError>
+fn name_behind(tag: u8, cut: ClassFault, bytes: &[u8]) -> Result<(Constant, &[u8]), ClassFault>
     requires from { 7 ≤ tag }
     requires to { tag ≤ 8 }
-    ensures { Gives (λ x. (x.0, x.1.now)) result (tagged_at tag cut bytes.now) }
+    ensures { Finds (λ x. (x.0, x.1.now)) result (tagged_at tag cut bytes.now) }
 {
     let (name, rest) = u2_at(cut, bytes)?;
     if tag == 7 {
@@ -64,10 +65,10 @@ fn name_behind(tag: u8, cut: ClassFault, bytes: &[u8]) -> Result<(Constant, &[u8
 }
 
 /// The numbers of two other entries (JVMS 4.4.2, 4.4.6).
-fn names_behind(tag: u8, cut: ClassFault, bytes: &[u8]) -> Result<(Constant, &[u8]), ReadError>
+fn names_behind(tag: u8, cut: ClassFault, bytes: &[u8]) -> Result<(Constant, &[u8]), ClassFault>
     requires from { 9 ≤ tag }
     requires to { tag ≤ 12 }
-    ensures { Gives (λ x. (x.0, x.1.now)) result (tagged_at tag cut bytes.now) }
+    ensures { Finds (λ x. (x.0, x.1.now)) result (tagged_at tag cut bytes.now) }
 {
     let (class, rest) = u2_at(cut, bytes)?;
     let (name_and_type, behind) = u2_at(cut, rest)?;
@@ -114,16 +115,16 @@ fn behind_tag(
 {
     match tag {
         1 => text_at(alloc, cut, bytes),
-        3..=6 => number_behind(tag, cut, bytes),
-        7..=8 => name_behind(tag, cut, bytes),
-        9..=12 => names_behind(tag, cut, bytes),
+        3..=6 => Ok(number_behind(tag, cut, bytes)?),
+        7..=8 => Ok(name_behind(tag, cut, bytes)?),
+        9..=12 => Ok(names_behind(tag, cut, bytes)?),
         _ => Err(ReadError::Fault(ClassFault::Tag)),
     }
 }
 
 /// The next entry, and the bytes behind it.
-#[tactic(auto, unfolding(jvms::specs::ConstantPool::constant_at))]
-pub fn constant_at(
+#[tactic(auto, unfolding(jvms_file::specs::ConstantPool::constant_at))]
+pub(crate) fn constant_at(
     alloc: Global,
     cut: ClassFault,
     bytes: &[u8],

@@ -1,15 +1,15 @@
 //! The entries of a pool, as they are read one behind the other.
 
 ghost use Rattle.std.specs.Prelude.{◌≡◌, ◌<◌, ◌-◌, ◌++◌, length, IfOk, OnErr};
-ghost use Rattle.jvms.specs.ConstantPool.{takes_two, entries_at, pool_at};
-ghost use Rattle.jvms.specs.Reading.{Gives};
+ghost use Rattle.jvms_file.specs.ConstantPool.{takes_two, entries_at, pool_at};
+ghost use Rattle.jvms_file.specs.Reading.{Gives};
 ghost use Rattle.const_pool.specs.Numbered.{numbered};
 
-use crate::bytes::u2_at;
 use crate::constant::constant_at;
-use jvms::class_file::Constant;
-use jvms::fault::{ClassFault, ReadError};
-use jvms::items::Items;
+use file_bytes::u2_at;
+use held::items::Items;
+use jvms_file::class_file::Constant;
+use jvms_file::fault::{ClassFault, ReadError};
 use std::alloc::{AllocError, Global};
 
 /// Whether an entry takes two numbers (JVMS 4.4.5).

@@ -1,11 +1,11 @@
 //! Entries that are put into a pool.
 
 ghost use Rattle.std.specs.Prelude.{◌≡◌};
-ghost use Rattle.jvms.specs.ConstantPool.{takes_two};
+ghost use Rattle.jvms_file.specs.ConstantPool.{takes_two};
 ghost use Rattle.const_pool.specs.Interning.{constant_of};
 
-use jvms::class_file::Constant;
-use jvms::items::Items;
+use held::items::Items;
+use jvms_file::class_file::Constant;
 
 /// An entry of a pool (JVMS 4.4): each that a `Constant` is, but for the unusable one, which stands behind a
 /// long or a double and nowhere else.

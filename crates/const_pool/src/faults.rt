@@ -1,17 +1,17 @@
 //! Whether entries name what they may, and in which form (JVMS 4.4.1 to 4.4.6).
 
 ghost use Rattle.std.specs.Prelude.{◌≡◌, []};
-ghost use Rattle.jvms.specs.declared.class_file.Constant.TheVariants.{Class, NameAndType};
-ghost use Rattle.jvms.specs.ConstantPool.{names_sort, reference_fault, entry_fault, entries_fault};
-ghost use Rattle.jvms.specs.Reading.{Gives};
+ghost use Rattle.jvms_file.specs.declared.class_file.Constant.TheVariants.{Class, NameAndType};
+ghost use Rattle.jvms_file.specs.ConstantPool.{names_sort, reference_fault, entry_fault, entries_fault};
+ghost use Rattle.file_bytes.specs.Reading.{Finds};
 ghost use Rattle.const_pool.specs.Texts.{is_formed_member};
 
-use crate::bytes::want;
 use crate::forms::{Forms, begins_as_method};
 use crate::pool::Pool;
 use crate::scanned::ScannedPool;
-use jvms::class_file::Constant;
-use jvms::fault::{ClassFault, ReadError};
+use file_bytes::want;
+use jvms_file::class_file::Constant;
+use jvms_file::fault::ClassFault;
 
 /// Whether texts of these forms are a method's name and descriptor, or a field's.
 fn is_member_form(name: Forms, descriptor: Forms) -> bool
@@ -40,8 +40,8 @@ fn check_reference(
     pool: &Pool,
     class: u16,
     name_and_type: u16,
-) -> Result<(), ReadError>
-    ensures { Gives (λ x. x) result (reference_fault method pool.now class name_and_type) }
+) -> Result<(), ClassFault>
+    ensures { Finds (λ x. x) result (reference_fault method pool.now class name_and_type) }
 {
     want(
         pool.is_class(class) && pool.is_name_and_type(name_and_type),
@@ -54,37 +54,37 @@ fn check_reference(
 }
 
 /// A class's entry.
-#[tactic(auto, unfolding(jvms::specs::ConstantPool::entry_fault))]
-fn check_class(pool: &ScannedPool, name: u16) -> Result<(), ReadError>
-    ensures { Gives (λ x. x) result (entry_fault pool.now (Class name) []) }
+#[tactic(auto, unfolding(jvms_file::specs::ConstantPool::entry_fault))]
+fn check_class(pool: &ScannedPool, name: u16) -> Result<(), ClassFault>
+    ensures { Finds (λ x. x) result (entry_fault pool.now (Class name) []) }
 {
     match pool.forms(name) {
-        None => Err(ReadError::Fault(ClassFault::Index)),
+        None => Err(ClassFault::Index),
         Some(forms) => want(forms.class_entry_name, ClassFault::Descriptor),
     }
 }
 
 /// The entry of a name and a type.
-#[tactic(auto, unfolding(jvms::specs::ConstantPool::entry_fault), using(crate::proofs::FormedMembers::formed_member))]
-fn check_name_and_type(pool: &ScannedPool, name: u16, descriptor: u16) -> Result<(), ReadError>
-    ensures { Gives (λ x. x) result (entry_fault pool.now (NameAndType name descriptor) []) }
+#[tactic(auto, unfolding(jvms_file::specs::ConstantPool::entry_fault), using(crate::proofs::FormedMembers::formed_member))]
+fn check_name_and_type(pool: &ScannedPool, name: u16, descriptor: u16) -> Result<(), ClassFault>
+    ensures { Finds (λ x. x) result (entry_fault pool.now (NameAndType name descriptor) []) }
 {
     match (pool.forms(name), pool.forms(descriptor)) {
         (Some(name), Some(descriptor)) => {
             want(is_member_form(name, descriptor), ClassFault::Descriptor)
         }
-        _ => Err(ReadError::Fault(ClassFault::Index)),
+        _ => Err(ClassFault::Index),
     }
 }
 
 /// One entry; `behind` are the entries behind it.
-#[tactic(auto, unfolding(jvms::specs::ConstantPool::entry_fault))]
+#[tactic(auto, unfolding(jvms_file::specs::ConstantPool::entry_fault))]
 fn check_entry(
     pool: &ScannedPool,
     constant: &Constant,
     behind: &[Constant],
-) -> Result<(), ReadError>
-    ensures { Gives (λ x. x) result (entry_fault pool.now constant.now behind.now) }
+) -> Result<(), ClassFault>
+    ensures { Finds (λ x. x) result (entry_fault pool.now constant.now behind.now) }
 {
     match constant {
         Constant::Utf8(_) | Constant::Integer(_) | Constant::Float(_) | Constant::Unusable => Ok(
@@ -110,15 +110,13 @@ fn check_entry(
 }
 
 /// The first fault of entries, by rising number.
-#[tactic(auto, unfolding(jvms::specs::ConstantPool::entries_fault))]
-pub(crate) fn check_entries(pool: &ScannedPool, entries: &[Constant]) -> Result<(), ReadError>
-    ensures { Gives (λ x. x) result (entries_fault pool.now entries.now) }
+#[tactic(auto, unfolding(jvms_file::specs::ConstantPool::entries_fault))]
+pub(crate) fn check_entries(pool: &ScannedPool, entries: &[Constant]) -> Result<(), ClassFault>
+    ensures { Finds (λ x. x) result (entries_fault pool.now entries.now) }
 {
     let mut rest = entries;
     while let [constant, behind @ ..] = rest {
-        if let Err(error) = check_entry(pool, constant, behind) {
-            return Err(error);
-        }
+        check_entry(pool, constant, behind)?;
         rest = behind;
     }
     Ok(())

@@ -2,7 +2,7 @@
 
 ghost use Rattle.std.specs.Prelude.{◌≡◌, ℕ, List, None, Some, IfOk, if◌then◌else◌};
 ghost use Rattle.std.specs.Option.{unwrap_or};
-ghost use Rattle.jvms.specs.Names.{same_text};
+ghost use Rattle.jvms_file.specs.Names.{same_text};
 ghost use Rattle.const_pool.specs.Firsts.{number_at, fingerprint_of};
 
 use std::alloc::{AllocError, Global};

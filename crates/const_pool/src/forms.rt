@@ -2,7 +2,7 @@
 //! entry that names it.
 
 ghost use Rattle.std.specs.Prelude.{◌≡◌};
-ghost use Rattle.jvms.specs.ConstantPool.{is_method_descriptor as is_method_sort};
+ghost use Rattle.jvms_file.specs.ConstantPool.{begins_as_method as is_method_sort};
 ghost use Rattle.const_pool.specs.Texts.{forms_of as forms_of_text, method_units_of};
 
 use descriptor::{is_class_entry_name, is_field_descriptor, is_method_name, is_name, method_units};
@@ -24,11 +24,14 @@ pub struct Forms {
     pub method_units: Option<u8>,
 }
 
+/// What a method's descriptor begins with (JVMS 4.3.3).
+const PARENTHESIS: u16 = b'(' as u16;
+
 /// Whether a text begins as a method's descriptor does.
 pub(crate) fn begins_as_method(text: &[u16]) -> bool
     ensures { result ≡ is_method_sort text.now }
 {
-    matches!(text, [40, ..])
+    matches!(text, [PARENTHESIS, ..])
 }
 
 /// The units of a method's parameters, where a text is its descriptor.

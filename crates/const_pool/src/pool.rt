@@ -1,13 +1,13 @@
 //! The entries of a class file by number.
 
-ghost use Rattle.std.specs.Prelude.{◌≡◌, ◌++◌, None, Some, OnOk};
+ghost use Rattle.std.specs.Prelude.{◌≡◌, ◌++◌, None, Some, OnOk, OnErr};
 ghost use Rattle.std.specs.Option.{option_copied, option_map};
-ghost use Rattle.jvms.specs.ConstantPool.{entry, utf8_at, class_name_at, name_and_type_at, is_utf8, is_class, is_name_and_type, both};
+ghost use Rattle.jvms_file.specs.ConstantPool.{entry, utf8_at, class_name_at, name_and_type_at, is_utf8, is_class, is_name_and_type, both};
 ghost use Rattle.const_pool.specs.Writing.{pool_bytes};
 
 use crate::writing::write_pool;
-use jvms::class_file::Constant;
-use jvms::items::Items;
+use held::items::Items;
+use jvms_file::class_file::Constant;
 use std::alloc::{AllocError, Global};
 use std::marker::Model;
 
@@ -19,7 +19,7 @@ pub struct Pool {
 
 impl Model for Pool {
     ghost use Rattle.std.specs.Prelude.{List};
-    ghost use Rattle.jvms.specs.declared.class_file.Constant.{Constant};
+    ghost use Rattle.jvms_file.specs.declared.class_file.Constant.{Constant};
 
     ghost Value = { List Constant };
 
@@ -127,9 +127,11 @@ impl Pool {
         }
     }
 
-    /// Puts the pool behind bytes: constant_pool_count, and the entries.
+    /// Puts the pool behind bytes: constant_pool_count, and the entries. Without memory for all of it nothing
+    /// changes.
     pub fn write(&self, alloc: Global, out: &mut Vec<u8>) -> Result<(), AllocError>
-        ensures { OnOk result (out.new.items ≡ out.old.items ++ pool_bytes self.now) }
+        ensures ok { OnOk result (out.new.items ≡ out.old.items ++ pool_bytes self.now) }
+        ensures kept { OnErr result (out.new.items ≡ out.old.items) }
     {
         write_pool(alloc, out, self.entries.as_slice())
     }

@@ -1,13 +1,13 @@
 //! A constant pool from bytes (JVMS 4.4): first its entries, and then what they name.
 
-ghost use Rattle.jvms.specs.Reading.{Gives};
+ghost use Rattle.jvms_file.specs.Reading.{Gives};
 ghost use Rattle.const_pool.specs.Reading.{formed_pool_at};
 
 use crate::entries::entries_at_front;
 use crate::faults::check_entries;
 use crate::pool::Pool;
 use crate::scanned::ScannedPool;
-use jvms::fault::{ClassFault, ReadError};
+use jvms_file::fault::{ClassFault, ReadError};
 use std::alloc::Global;
 
 impl ScannedPool {

@@ -2,16 +2,16 @@
 
 ghost use Rattle.std.specs.Prelude.{◌≡◌, ℕ, List, IfOk, map, slice_get};
 ghost use Rattle.std.specs.Option.{option_copied, option_map, option_and_then, unwrap_or};
-ghost use Rattle.jvms.specs.ConstantPool.{entry, utf8_at, utf8_of, name_and_type_at};
-ghost use Rattle.jvms.specs.Members.{same_entry_text};
+ghost use Rattle.jvms_file.specs.ConstantPool.{entry, utf8_at, utf8_of, name_and_type_at};
+ghost use Rattle.jvms_file.specs.Members.{same_entry_text};
 ghost use Rattle.const_pool.specs.Firsts.{number_at};
 ghost use Rattle.const_pool.specs.Texts.{forms_of as forms_of_text, text_of as text_of_entry, text_with, known_after, canonical as canonical_number, is_one_number};
 
 use crate::firsts::Firsts;
 use crate::forms::{Forms, forms_of};
 use crate::pool::Pool;
-use jvms::class_file::Constant;
-use jvms::items::Items;
+use held::items::Items;
+use jvms_file::class_file::Constant;
 use std::alloc::{AllocError, Global};
 use std::marker::Model;
 
@@ -34,7 +34,7 @@ pub struct ScannedPool {
 
 impl Model for ScannedPool {
     ghost use Rattle.std.specs.Prelude.{List, ◌≡◌, map};
-    ghost use Rattle.jvms.specs.declared.class_file.Constant.{Constant};
+    ghost use Rattle.jvms_file.specs.declared.class_file.Constant.{Constant};
     ghost use Rattle.const_pool.specs.Texts.{text_of};
 
     ghost Value = { List Constant };

@@ -1,12 +1,12 @@
 //! Writing entries (JVMS 4.4).
 
-ghost use Rattle.std.specs.Prelude.{◌≡◌, ◌++◌, ◌∷◌, OnOk};
+ghost use Rattle.std.specs.Prelude.{◌≡◌, ◌++◌, ◌∷◌, OnOk, OnErr, IfOk};
 ghost use Rattle.std.specs.List.{flat_map};
-ghost use Rattle.jvms.specs.Spelling.{u2, u4, u8};
+ghost use Rattle.jvms_file.specs.Spelling.{u2, u4, u8};
 ghost use Rattle.const_pool.specs.Writing.{text_bytes, constant_bytes, pool_bytes};
 
-use crate::numbers::{write_count, write_u2, write_u4, write_u8};
-use jvms::class_file::Constant;
+use file_bytes::{write_count, write_u2, write_u4, write_u8};
+use jvms_file::class_file::Constant;
 use std::alloc::{AllocError, Global};
 
 /// Puts a text behind the bytes (JVMS 4.4.7).
@@ -92,10 +92,22 @@ fn write_entries(alloc: Global, out: &mut Vec<u8>, entries: &[Constant]) -> Resu
     Ok(())
 }
 
-/// Puts a pool of these entries behind the bytes: constant_pool_count, and the entries.
-pub fn write_pool(alloc: Global, out: &mut Vec<u8>, entries: &[Constant]) -> Result<(), AllocError>
-    ensures { OnOk result (out.new.items ≡ out.old.items ++ pool_bytes entries.now) }
+/// The bytes of a pool of these entries: constant_pool_count, and the entries.
+fn pool_bytes_of(alloc: Global, entries: &[Constant]) -> Result<Vec<u8>, AllocError>
+    ensures { IfOk result (λ bytes. bytes.items ≡ pool_bytes entries.now) }
 {
-    write_count(out, entries.len() + 1)?;
-    write_entries(alloc, out, entries)
+    let mut bytes = Vec::new(alloc);
+    write_count(&mut bytes, entries.len() + 1)?;
+    write_entries(alloc, &mut bytes, entries)?;
+    Ok(bytes)
+}
+
+/// Puts a pool of these entries behind the bytes: constant_pool_count, and the entries. Without memory for
+/// all of it nothing changes.
+pub fn write_pool(alloc: Global, out: &mut Vec<u8>, entries: &[Constant]) -> Result<(), AllocError>
+    ensures ok { OnOk result (out.new.items ≡ out.old.items ++ pool_bytes entries.now) }
+    ensures kept { OnErr result (out.new.items ≡ out.old.items) }
+{
+    let bytes = pool_bytes_of(alloc, entries)?;
+    out.extend_from_slice(&bytes)
 }

@@ -1,10 +1,10 @@
 -- What an answer says, by the laws of descriptors.
 use Rattle.std.proofs.Common.{ℕ, List, Option, Some, Result, Ok, Err, subst}
 use Rattle.std.specs.Prelude.{IfOk}
-use Rattle.jvms.specs.declared.descriptor.FieldType.{FieldType}
-use Rattle.jvms.specs.declared.descriptor.MethodType.{MethodType}
-use Rattle.jvms.specs.Descriptors.{field_type_of, method_type_of, SpellsFieldType, SpellsMethodType}
-use Rattle.jvms.proofs.DescriptorLaws.{field_is_spelled, field_is_read, method_is_spelled, method_is_read}
+use Rattle.jvms_file.specs.declared.descriptor.FieldType.{FieldType}
+use Rattle.jvms_file.specs.declared.descriptor.MethodType.{MethodType}
+use Rattle.jvms_file.specs.Descriptors.{field_type_of, method_type_of, SpellsFieldType, SpellsMethodType}
+use Rattle.jvms_file.proofs.DescriptorLaws.{field_is_spelled, field_is_read, method_is_spelled, method_is_read}
 use Rattle.descriptor.specs.declared.fault.DescriptorFault.{DescriptorFault}
 use Rattle.descriptor.specs.Reading.{IsRead}
 

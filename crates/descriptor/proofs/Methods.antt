@@ -3,10 +3,10 @@ use Rattle.std.proofs.Common.{◌≡◌, ℕ, ◌+◌, Bool, true, false, cond, 
 use Rattle.std.specs.Prelude.{is_some, sum_by}
 use Rattle.std.specs.Option.{option_and_then, option_map}
 use Rattle.std.proofs.lemmas.Option.{same_Some, some_pair_parts}
-use Rattle.jvms.specs.declared.descriptor.FieldType.{FieldType}
-use Rattle.jvms.specs.declared.descriptor.ResultType.{ResultType}
-use Rattle.jvms.specs.declared.descriptor.MethodType.{MethodType}
-use Rattle.jvms.specs.Descriptors.{parameter_units, parameters_from, result_type_of, within_255_units, method_type_of, units_of}
+use Rattle.jvms_file.specs.declared.descriptor.FieldType.{FieldType}
+use Rattle.jvms_file.specs.declared.descriptor.ResultType.{ResultType}
+use Rattle.jvms_file.specs.declared.descriptor.MethodType.{MethodType}
+use Rattle.jvms_file.specs.Descriptors.{parameter_units, parameters_from, result_type_of, within_255_units, method_type_of, units_of}
 use Rattle.descriptor.specs.declared.fault.DescriptorFault.{DescriptorFault}
 use Rattle.descriptor.specs.declared.fault.DescriptorFault.TheVariants as faults
 use Rattle.descriptor.specs.Reading.{IsRead}

@@ -5,9 +5,9 @@ use Rattle.std.specs.Option.{option_map}
 use Rattle.std.proofs.lemmas.Bool.{ne_eqb}
 use Rattle.std.proofs.lemmas.List.{append-nil, nil_from_length}
 use Rattle.std.proofs.lemmas.List.Sums.{sum_by-cons}
-use Rattle.jvms.specs.declared.descriptor.FieldType.{FieldType}
-use Rattle.jvms.specs.Descriptors.{field_type_from, parameters_from, units_of, is_wide}
-use Rattle.jvms.proofs.DescriptorLaws.{with_parameter, parameters_end, parameters_step, parameters_stop, parameters_none, enough_parameters, rest_is_shorter}
+use Rattle.jvms_file.specs.declared.descriptor.FieldType.{FieldType}
+use Rattle.jvms_file.specs.Descriptors.{field_type_from, parameters_from, units_of, is_wide}
+use Rattle.jvms_file.proofs.DescriptorLaws.{with_parameter, parameters_end, parameters_step, parameters_stop, parameters_none, enough_parameters, rest_is_shorter}
 use Rattle.descriptor.specs.Scanning.{parameters_behind, units_behind}
 
 -- parameters, and the text behind them

@@ -5,13 +5,13 @@ use Rattle.std.specs.List.{before_first, after_first, list_any, position, positi
 use Rattle.std.proofs.lemmas.Bool.{le-leb, lt-leb, lt-ltb, le-ltb, cases_lt}
 use Rattle.std.proofs.lemmas.List.{take_rest}
 use Rattle.std.proofs.lemmas.Option.{same_Some}
-use Rattle.jvms.specs.declared.descriptor.Primitive.{Primitive}
-use Rattle.jvms.specs.declared.descriptor.Element.{Element}
-use Rattle.jvms.specs.declared.descriptor.Element.TheVariants as element
-use Rattle.jvms.specs.declared.descriptor.FieldType.{FieldType}
-use Rattle.jvms.specs.Names.{is_name, is_class_name}
-use Rattle.jvms.specs.Descriptors.{primitive_of, object_type_from, field_type_from, dimensions_of}
-use Rattle.jvms.proofs.DescriptorLaws.{any_is_inside}
+use Rattle.jvms_file.specs.declared.descriptor.Primitive.{Primitive}
+use Rattle.jvms_file.specs.declared.descriptor.Element.{Element}
+use Rattle.jvms_file.specs.declared.descriptor.Element.TheVariants as element
+use Rattle.jvms_file.specs.declared.descriptor.FieldType.{FieldType}
+use Rattle.jvms_file.specs.Names.{is_name, is_class_name}
+use Rattle.jvms_file.specs.Descriptors.{primitive_of, object_type_from, field_type_from, dimensions_of}
+use Rattle.jvms_file.proofs.DescriptorLaws.{any_is_inside}
 use Rattle.descriptor.specs.Scanning.{object_at, element_at, at_front, with_dimensions, unreserved}
 
 -- a name is a text that is not empty, with no reserved unit

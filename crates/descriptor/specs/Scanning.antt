@@ -2,12 +2,12 @@
 use Rattle.std.specs.Prelude.{ℕ, ◌+◌, Bool, not, ◌&&◌, ◌==◌, nat_le, List, [], ◌∷◌, ◌++◌, length, Option, Some, None, if◌then◌else◌}
 use Rattle.std.specs.Option.{option_and_then, option_map}
 use Rattle.std.specs.List.{before_first, after_first, list_all, list_any, sum_by}
-use Rattle.jvms.specs.declared.descriptor.Element.{Element}
-use Rattle.jvms.specs.declared.descriptor.Element.TheVariants as element
-use Rattle.jvms.specs.declared.descriptor.FieldType.{FieldType}
-use Rattle.jvms.specs.declared.descriptor.MethodType.{MethodType}
-use Rattle.jvms.specs.Names.{is_angle, is_class_name, is_reserved}
-use Rattle.jvms.specs.Descriptors.{primitive_of, parameters_from, units_of, result_type_of, within_255_units}
+use Rattle.jvms_file.specs.declared.descriptor.Element.{Element}
+use Rattle.jvms_file.specs.declared.descriptor.Element.TheVariants as element
+use Rattle.jvms_file.specs.declared.descriptor.FieldType.{FieldType}
+use Rattle.jvms_file.specs.declared.descriptor.MethodType.{MethodType}
+use Rattle.jvms_file.specs.Names.{is_angle, is_class_name, is_reserved}
+use Rattle.jvms_file.specs.Descriptors.{primitive_of, parameters_from, units_of, result_type_of, within_255_units}
 use Rattle.descriptor.specs.declared.scan.Innermost.{Innermost}
 use Rattle.descriptor.specs.declared.scan.Innermost.TheVariants as innermost
 use Rattle.descriptor.specs.declared.scan.Spelled.{Spelled}

@@ -1,7 +1,7 @@
 //! The names of class entries (JVMS 4.4.1).
 
 ghost use Rattle.std.specs.Prelude.{◌≡◌, ◌≤◌, length};
-ghost use Rattle.jvms.specs.Descriptors.{is_array_name, is_class_entry_name, dimensions_of};
+ghost use Rattle.jvms_file.specs.Descriptors.{is_array_name, is_class_entry_name, dimensions_of};
 
 use crate::field::is_field_descriptor;
 use crate::letters::BRACKET;

@@ -1,15 +1,15 @@
 //! Field descriptors (JVMS 4.3.2).
 
 ghost use Rattle.std.specs.Prelude.{◌≡◌, IfOk, is_some, Some};
-ghost use Rattle.jvms.specs.declared.descriptor.FieldType.{FieldType};
-ghost use Rattle.jvms.specs.Descriptors.{field_type_of, SpellsFieldType};
+ghost use Rattle.jvms_file.specs.declared.descriptor.FieldType.{FieldType};
+ghost use Rattle.jvms_file.specs.Descriptors.{field_type_of, SpellsFieldType};
 ghost use Rattle.descriptor.specs.Reading.{IsRead};
 ghost use Rattle.descriptor.specs.Scanning.{element_of, type_of};
 
 use crate::fault::DescriptorFault;
 use crate::scan::{Innermost, Spelled, field_in};
-use jvms::descriptor::{Element, FieldType};
-use jvms::items::Items;
+use held::items::Items;
+use jvms_file::descriptor::{Element, FieldType};
 use std::alloc::{AllocError, Global};
 
 /// The type with a name of its own.

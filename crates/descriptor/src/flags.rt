@@ -2,7 +2,7 @@
 
 ghost use Rattle.std.specs.Prelude.{⊤, ◌≡◌, [], ◌∷◌, codes};
 ghost use Rattle.std.specs.Int.RustNames.{bit_or};
-ghost use Rattle.jvms.specs.Members.{has_flag, is_private, is_static, is_synchronized, is_native, is_interface, is_abstract};
+ghost use Rattle.jvms_file.specs.Members.{has_flag, is_private, is_static, is_synchronized, is_native, is_interface, is_abstract};
 
 use bitflags::{Flag, Flags as BitSet, bitflag_items};
 

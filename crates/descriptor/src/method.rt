@@ -2,9 +2,9 @@
 
 ghost use Rattle.std.specs.Prelude.{◌≡◌, ◌≤◌, ◌++◌, ◌∷◌, [], IfOk, IfSome, is_some, Some, None, length, nat_le, ◌&&◌, if◌then◌else◌};
 ghost use Rattle.std.specs.Option.{option_map};
-ghost use Rattle.jvms.specs.declared.descriptor.MethodType.{MethodType};
-ghost use Rattle.jvms.specs.Names.{same_text};
-ghost use Rattle.jvms.specs.Descriptors.{method_type_of, parameter_units, result_type_of, within_255_units, SpellsMethodType};
+ghost use Rattle.jvms_file.specs.declared.descriptor.MethodType.{MethodType};
+ghost use Rattle.jvms_file.specs.Names.{same_text};
+ghost use Rattle.jvms_file.specs.Descriptors.{method_type_of, parameter_units, result_type_of, within_255_units, SpellsMethodType};
 ghost use Rattle.descriptor.specs.Reading.{IsRead, IsReadBy};
 ghost use Rattle.descriptor.specs.Scanning.{parameters_behind, units_behind, behind_parenthesis, method_behind};
 
@@ -14,8 +14,8 @@ use crate::letters::{CLOSE, OPEN, VOID};
 use crate::names::same_text;
 use crate::scan::field_at;
 use crate::units::{parameter_units, spelled_units};
-use jvms::descriptor::{FieldType, MethodType, ResultType};
-use jvms::items::Items;
+use held::items::Items;
+use jvms_file::descriptor::{FieldType, MethodType, ResultType};
 use std::alloc::Global;
 
 /// The most units that a method's parameters count.

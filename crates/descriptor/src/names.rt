@@ -1,7 +1,7 @@
 //! Names of classes and members (JVMS 4.2).
 
 ghost use Rattle.std.specs.Prelude.{◌≡◌};
-ghost use Rattle.jvms.specs.Names.{is_name, is_class_name, is_reserved, is_angle, is_constructor_name, is_initializer_name, is_method_name, same_text};
+ghost use Rattle.jvms_file.specs.Names.{is_name, is_class_name, is_reserved, is_angle, is_constructor_name, is_initializer_name, is_method_name, same_text};
 ghost use Rattle.descriptor.specs.Scanning.{without_angles, unreserved};
 
 use crate::letters::{BRACKET, DOT, GREATER, LESS, SEMICOLON, SLASH};

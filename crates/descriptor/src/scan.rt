@@ -2,13 +2,13 @@
 
 ghost use Rattle.std.specs.Prelude.{◌≡◌, ◌<◌, ◌==◌, length, IfSome, position};
 ghost use Rattle.std.specs.Option.{option_map};
-ghost use Rattle.jvms.specs.Descriptors.{field_type_from, field_type_of, primitive_of};
+ghost use Rattle.jvms_file.specs.Descriptors.{field_type_from, field_type_of, primitive_of};
 ghost use Rattle.descriptor.specs.Scanning.{element_of, type_of, object_at, element_at};
 
 use crate::entry::dimensions_of;
 use crate::letters::{BOOLEAN, BYTE, CHAR, DOUBLE, FLOAT, INT, LONG, OBJECT, SEMICOLON, SHORT};
 use crate::names::is_class_name;
-use jvms::descriptor::Primitive;
+use jvms_file::descriptor::Primitive;
 
 /// The most dimensions of an array's type.
 const MOST_DIMENSIONS: usize = 255;

@@ -1,8 +1,8 @@
 //! Texts and types from the Java Virtual Machine Specification's grammar, and not from this crate's answers.
 
 use crate::*;
-use jvms::descriptor::{Element, FieldType, Primitive, ResultType};
-use jvms::items::Items;
+use held::items::Items;
+use jvms_file::descriptor::{Element, FieldType, Primitive, ResultType};
 use std::alloc::{AllocError, Global};
 use std::test::Fail;
 

@@ -1,13 +1,13 @@
 //! The types of fields and methods by their descriptors, also of texts that spell none (JVMS 4.3).
 
 ghost use Rattle.std.specs.Prelude.{◌≡◌, IfOk};
-ghost use Rattle.jvms.specs.Meaning.{field_type, method_type};
+ghost use Rattle.jvms_file.specs.Descriptors.{field_type, method_type};
 
 use crate::fault::DescriptorFault;
 use crate::field::read_field;
 use crate::method::read_method;
-use jvms::descriptor::{Element, FieldType, MethodType, Primitive, ResultType};
-use jvms::items::Items;
+use held::items::Items;
+use jvms_file::descriptor::{Element, FieldType, MethodType, Primitive, ResultType};
 use std::alloc::{AllocError, Global};
 
 /// The type that a field's descriptor spells; of a text that spells none, int.

@@ -1,11 +1,11 @@
 //! How many units parameters count (JVMS 4.3.3).
 
 ghost use Rattle.std.specs.Prelude.{◌≡◌};
-ghost use Rattle.jvms.specs.Descriptors.{units_of, parameter_units};
+ghost use Rattle.jvms_file.specs.Descriptors.{units_of, parameter_units};
 ghost use Rattle.descriptor.specs.Scanning.{type_of};
 
 use crate::scan::{Innermost, Spelled};
-use jvms::descriptor::{Element, FieldType, MethodType, Primitive};
+use jvms_file::descriptor::{Element, FieldType, MethodType, Primitive};
 
 /// The units that a parameter of this type counts.
 fn units_of(t: &FieldType) -> usize

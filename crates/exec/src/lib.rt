@@ -1,19 +1,19 @@
-//! One instruction that touches one frame alone: numbers, the stack, local variables, jumps and switches
-//! (JVMS 6.5). `run` makes its turn, and `peek` says what that would come to.
+//! Instructions that touch one frame alone: numbers, the stack, local variables, jumps and switches (JVMS 6.5).
+//! What one comes to is decided with nothing changed, and its action is then applied.
 #![tactic(auto)]
 
+mod actions;
 mod arithmetic;
 mod branches;
 mod constants;
-mod depth;
+mod decisions;
 mod locals;
-mod row;
 mod stack;
 mod step;
 mod switches;
 #[cfg(test)]
 mod tests;
 
+pub use actions::apply;
 pub use locals::is_loaded;
-pub use row::{peek, run};
-pub use step::Step;
+pub use step::{decide, run};

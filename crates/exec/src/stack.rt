@@ -1,18 +1,17 @@
 //! The instructions that move operands of any kind (JVMS 6.5 pop to swap).
 
-ghost use Rattle.std.specs.Prelude.{◌≡◌, ◌<◌, ◌≤◌, ◌^◌, ◌+◌, ◌-◌, length, Some};
-ghost use Rattle.jvms.specs.declared.insn.StackForm.TheVariants as form;
-ghost use Rattle.jvms.specs.RowsNumbers.{stack_row, form_takes, form_gives, rearranged, is_set as set_value, are_set as set_values};
+ghost use Rattle.std.specs.Prelude.{◌≡◌, ◌≤◌, ◌+◌, ◌-◌, length};
+ghost use Rattle.jvms_file.specs.declared.insn.StackForm.TheVariants as form;
+ghost use Rattle.jvms_machine.specs.Activations.{form_takes, form_gives, rearranged, HasRoom, IfDoes};
+ghost use Rattle.jvms_machine.specs.Stack.{stack_decision, is_set as set_value, are_set as set_values};
 ghost use Rattle.frames.specs.Frame.{with_operands};
-ghost use Rattle.exec.specs.Step.{step_of, frame_after, FitsCode};
 
-use crate::depth::has_depth;
-use crate::step::Step;
+use crate::decisions::has_depth;
 use frames::Frame;
-use jvms::insn::StackForm;
-use jvms::machine::BadCause;
-use jvms::program::Body;
-use jvms::value::Value;
+use jvms_file::insn::StackForm;
+use jvms_machine::action::{FrameAction, FrameDecision};
+use jvms_machine::machine::BadCause;
+use jvms_machine::value::Value;
 
 #[inline]
 fn takes(form: StackForm) -> u8
@@ -77,22 +76,31 @@ fn are_set(frame: &Frame, count: u8) -> bool
     }
 }
 
-// The operands as the form leaves them.
 #[inline]
-fn rearrange(form: StackForm, frame: &mut Frame)
+pub(crate) fn stack(form: StackForm, frame: &Frame) -> FrameDecision
+    ensures decision { result ≡ stack_decision frame.now.body form frame.now.activation }
+    ensures room { IfDoes result (HasRoom frame.now.body frame.now.activation) }
+{
+    if !has_depth(frame, takes(form), gives(form)) {
+        return FrameDecision::Stops(BadCause::Depth);
+    }
+    if !are_set(frame, takes(form)) {
+        return FrameDecision::Stops(BadCause::Kind);
+    }
+    FrameDecision::Does(FrameAction::Rearrange(form))
+}
+
+/// Leaves the operands as the form does.
+#[inline]
+pub(crate) fn rearrange(form: StackForm, frame: &mut Frame)
     requires there { form_takes form ≤ length frame.old.activation.operands }
-    requires room { length frame.old.activation.operands - form_takes form + form_gives form ≤ frame.old.room }
-    ensures operands { rearranged form frame.old.activation.operands ≡ Some frame.new.activation.operands }
-    ensures kept { frame.new ≡ with_operands frame.old frame.new.activation.operands }
-    ensures height { length frame.new.activation.operands ≡ length frame.old.activation.operands - form_takes form + form_gives form }
+    requires room { length frame.old.activation.operands - form_takes form + form_gives form ≤ frame.old.body.max_stack }
+    ensures { frame.new ≡ with_operands frame.old (rearranged form frame.old.activation.operands) }
 {
     match form {
         StackForm::Pop => frame.drop_operands(1),
         StackForm::Pop2 => frame.drop_operands(2),
-        StackForm::Dup => {
-            let a = frame.top();
-            frame.push(a);
-        }
+        StackForm::Dup => dup(frame),
         StackForm::DupX1 => dup_x1(frame),
         StackForm::DupX2 => dup_x2(frame),
         StackForm::Dup2 => dup2(frame),
@@ -102,12 +110,19 @@ fn rearrange(form: StackForm, frame: &mut Frame)
     }
 }
 
+fn dup(frame: &mut Frame)
+    requires there { 1 ≤ length frame.old.activation.operands }
+    requires room { length frame.old.activation.operands + 1 ≤ frame.old.body.max_stack }
+    ensures { frame.new ≡ with_operands frame.old (rearranged form.Dup frame.old.activation.operands) }
+{
+    let a = frame.top();
+    frame.push(a);
+}
+
 fn dup_x1(frame: &mut Frame)
     requires there { 2 ≤ length frame.old.activation.operands }
-    requires room { length frame.old.activation.operands + 1 ≤ frame.old.room }
-    ensures operands { rearranged form.DupX1 frame.old.activation.operands ≡ Some frame.new.activation.operands }
-    ensures kept { frame.new ≡ with_operands frame.old frame.new.activation.operands }
-    ensures height { length frame.new.activation.operands ≡ length frame.old.activation.operands + 1 }
+    requires room { length frame.old.activation.operands + 1 ≤ frame.old.body.max_stack }
+    ensures { frame.new ≡ with_operands frame.old (rearranged form.DupX1 frame.old.activation.operands) }
 {
     let (a, b) = frame.top_two();
     frame.drop_operands(2);
@@ -118,10 +133,8 @@ fn dup_x1(frame: &mut Frame)
 
 fn dup_x2(frame: &mut Frame)
     requires there { 3 ≤ length frame.old.activation.operands }
-    requires room { length frame.old.activation.operands + 1 ≤ frame.old.room }
-    ensures operands { rearranged form.DupX2 frame.old.activation.operands ≡ Some frame.new.activation.operands }
-    ensures kept { frame.new ≡ with_operands frame.old frame.new.activation.operands }
-    ensures height { length frame.new.activation.operands ≡ length frame.old.activation.operands + 1 }
+    requires room { length frame.old.activation.operands + 1 ≤ frame.old.body.max_stack }
+    ensures { frame.new ≡ with_operands frame.old (rearranged form.DupX2 frame.old.activation.operands) }
 {
     let (a, b, c) = frame.top_three();
     frame.drop_operands(3);
@@ -133,10 +146,8 @@ fn dup_x2(frame: &mut Frame)
 
 fn dup2(frame: &mut Frame)
     requires there { 2 ≤ length frame.old.activation.operands }
-    requires room { length frame.old.activation.operands + 2 ≤ frame.old.room }
-    ensures operands { rearranged form.Dup2 frame.old.activation.operands ≡ Some frame.new.activation.operands }
-    ensures kept { frame.new ≡ with_operands frame.old frame.new.activation.operands }
-    ensures height { length frame.new.activation.operands ≡ length frame.old.activation.operands + 2 }
+    requires room { length frame.old.activation.operands + 2 ≤ frame.old.body.max_stack }
+    ensures { frame.new ≡ with_operands frame.old (rearranged form.Dup2 frame.old.activation.operands) }
 {
     let (a, b) = frame.top_two();
     frame.push(a);
@@ -145,10 +156,8 @@ fn dup2(frame: &mut Frame)
 
 fn dup2_x1(frame: &mut Frame)
     requires there { 3 ≤ length frame.old.activation.operands }
-    requires room { length frame.old.activation.operands + 2 ≤ frame.old.room }
-    ensures operands { rearranged form.Dup2X1 frame.old.activation.operands ≡ Some frame.new.activation.operands }
-    ensures kept { frame.new ≡ with_operands frame.old frame.new.activation.operands }
-    ensures height { length frame.new.activation.operands ≡ length frame.old.activation.operands + 2 }
+    requires room { length frame.old.activation.operands + 2 ≤ frame.old.body.max_stack }
+    ensures { frame.new ≡ with_operands frame.old (rearranged form.Dup2X1 frame.old.activation.operands) }
 {
     let (a, b, c) = frame.top_three();
     frame.drop_operands(3);
@@ -161,10 +170,8 @@ fn dup2_x1(frame: &mut Frame)
 
 fn dup2_x2(frame: &mut Frame)
     requires there { 4 ≤ length frame.old.activation.operands }
-    requires room { length frame.old.activation.operands + 2 ≤ frame.old.room }
-    ensures operands { rearranged form.Dup2X2 frame.old.activation.operands ≡ Some frame.new.activation.operands }
-    ensures kept { frame.new ≡ with_operands frame.old frame.new.activation.operands }
-    ensures height { length frame.new.activation.operands ≡ length frame.old.activation.operands + 2 }
+    requires room { length frame.old.activation.operands + 2 ≤ frame.old.body.max_stack }
+    ensures { frame.new ≡ with_operands frame.old (rearranged form.Dup2X2 frame.old.activation.operands) }
 {
     let (a, b, c, d) = frame.top_four();
     frame.drop_operands(4);
@@ -178,44 +185,11 @@ fn dup2_x2(frame: &mut Frame)
 
 fn swap(frame: &mut Frame)
     requires there { 2 ≤ length frame.old.activation.operands }
-    requires room { length frame.old.activation.operands ≤ frame.old.room }
-    ensures operands { rearranged form.Swap frame.old.activation.operands ≡ Some frame.new.activation.operands }
-    ensures kept { frame.new ≡ with_operands frame.old frame.new.activation.operands }
-    ensures height { length frame.new.activation.operands ≡ length frame.old.activation.operands }
+    requires room { length frame.old.activation.operands ≤ frame.old.body.max_stack }
+    ensures { frame.new ≡ with_operands frame.old (rearranged form.Swap frame.old.activation.operands) }
 {
     let (a, b) = frame.top_two();
     frame.drop_operands(2);
     frame.push(b);
     frame.push(a);
-}
-
-pub(crate) fn stack(body: &Body, form: StackForm, frame: &mut Frame) -> Step
-    requires room { frame.old.room ≡ body.now.max_stack }
-    requires place { frame.old.activation.place + 1 < 2 ^ 64 }
-    ensures row { result ≡ step_of (stack_row body.now form frame.old.activation) }
-    ensures frame { frame.new ≡ frame_after frame.old (stack_row body.now form frame.old.activation) }
-    ensures fits { FitsCode body.now frame.old.activation → FitsCode body.now frame.new.activation }
-{
-    if !has_depth(body, frame, takes(form), gives(form)) {
-        return Step::Stops(BadCause::Depth);
-    }
-    if !are_set(frame, takes(form)) {
-        return Step::Stops(BadCause::Kind);
-    }
-    rearrange(form, frame);
-    frame.advance();
-    Step::Goes
-}
-
-#[tactic(auto, using(crate::proofs::Forms::goes_through))]
-pub(crate) fn peek_stack(body: &Body, form: StackForm, frame: &Frame) -> Step
-    ensures { result ≡ step_of (stack_row body.now form frame.now.activation) }
-{
-    if !has_depth(body, frame, takes(form), gives(form)) {
-        return Step::Stops(BadCause::Depth);
-    }
-    if !are_set(frame, takes(form)) {
-        return Step::Stops(BadCause::Kind);
-    }
-    Step::Goes
 }

@@ -1,8 +1,13 @@
 //! Each public call once.
 
+ghost use Rattle.std.specs.Prelude.{◌≡◌};
+
 use crate::Frame;
-use jvms::machine::MethodNumber;
-use jvms::value::Value;
+use held::items::Items;
+use jvms_machine::value::Value;
+use jvms_program::number::MethodNumber;
+use jvms_program::program::Body;
+use std::alloc::Global;
 use std::test::Fail;
 
 const METHOD: MethodNumber = MethodNumber {
@@ -10,15 +15,29 @@ const METHOD: MethodNumber = MethodNumber {
     method: 1,
 };
 
+/// Code with no instruction.
+fn code(alloc: Global, max_stack: u16, max_locals: u16) -> Body
+    ensures stack { result.max_stack ≡ max_stack }
+    ensures locals { result.max_locals ≡ max_locals }
+{
+    Body {
+        max_stack,
+        max_locals,
+        instructions: Items::new(alloc),
+        handlers: Items::new(alloc),
+    }
+}
+
 #[test]
 fn a_call_begins(rt: HostRuntime) -> Result<(), Fail> {
-    let frame = Frame::new(rt.alloc(), METHOD, 9, 3, &[Value::Int(7)])?;
+    let body = code(rt.alloc(), 9, 3);
+    let frame = Frame::new(rt.alloc(), METHOD, &body, &[Value::Int(7)])?;
     let locals = [Value::Int(7), Value::Unset, Value::Unset];
     assert_eq!(rt; frame.method(), METHOD);
     assert_eq!(rt; frame.place(), 0);
     assert_eq!(rt; frame.locals(), locals.as_slice());
     assert_eq!(rt; frame.height(), 0);
-    assert_eq!(rt; frame.room(), 9);
+    assert!(rt; frame.instruction().is_none());
     assert_eq!(rt; frame.monitor(), None);
     Ok(())
 }
@@ -26,9 +45,10 @@ fn a_call_begins(rt: HostRuntime) -> Result<(), Fail> {
 // More operands than lie in the frame itself.
 #[test]
 fn operands_come_and_go(rt: HostRuntime) -> Result<(), Fail> {
-    let mut frame = Frame::new(rt.alloc(), METHOD, 9, 0, &[])?;
+    let body = code(rt.alloc(), 9, 0);
+    let mut frame = Frame::new(rt.alloc(), METHOD, &body, &[])?;
     for n in 0..9i32 {
-        assert!(rt; frame.height() < frame.room());
+        assert!(rt; frame.height() < frame.body().max_stack);
         frame.push(Value::Int(n));
     }
     assert_eq!(rt; frame.height(), 9);
@@ -51,7 +71,8 @@ fn operands_come_and_go(rt: HostRuntime) -> Result<(), Fail> {
 
 #[test]
 fn a_call_goes_on(rt: HostRuntime) -> Result<(), Fail> {
-    let mut frame = Frame::new(rt.alloc(), METHOD, 0, 2, &[Value::Null])?;
+    let body = code(rt.alloc(), 0, 2);
+    let mut frame = Frame::new(rt.alloc(), METHOD, &body, &[Value::Null])?;
     frame.set_place(5);
     frame.advance();
     assert_eq!(rt; frame.place(), 6);

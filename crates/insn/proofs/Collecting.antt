@@ -3,17 +3,17 @@ use Rattle.std.proofs.Common.{◌≡◌, ℕ, ◌+◌, ◌≤◌, ◌<◌, List,
 use Rattle.std.specs.Option.{option_and_then, option_map}
 use Rattle.std.proofs.Math.ListN.{drop_of_length-le}
 use Rattle.std.proofs.lemmas.List.{append-nil}
-use Rattle.jvms.specs.declared.fault.ClassFault.{ClassFault}
-use Rattle.jvms.specs.declared.fault.ReadError.{ReadError}
-use Rattle.jvms.specs.declared.fault.ReadError.TheVariants as error
-use Rattle.jvms.specs.declared.insn.Insn.{Insn}
-use Rattle.jvms.specs.declared.insn.Insn.TheVariants as insn
-use Rattle.jvms.specs.declared.insn.SwitchCase.{SwitchCase}
-use Rattle.jvms.specs.declared.insn.TableSwitch.{TableSwitch}
-use Rattle.jvms.specs.declared.insn.LookupSwitch.{LookupSwitch}
-use Rattle.jvms.specs.Results.{◌>>=◌, present, collected}
-use Rattle.jvms.specs.Reading.{Fails}
-use Rattle.jvms.specs.Code.{place_of, places_of, case_places, table_places, lookup_places, with_places}
+use Rattle.jvms_file.specs.declared.fault.ClassFault.{ClassFault}
+use Rattle.jvms_file.specs.declared.fault.ReadError.{ReadError}
+use Rattle.jvms_file.specs.declared.fault.ReadError.TheVariants as error
+use Rattle.jvms_file.specs.declared.insn.Insn.{Insn}
+use Rattle.jvms_file.specs.declared.insn.Insn.TheVariants as insn
+use Rattle.jvms_file.specs.declared.insn.SwitchCase.{SwitchCase}
+use Rattle.jvms_file.specs.declared.insn.TableSwitch.{TableSwitch}
+use Rattle.jvms_file.specs.declared.insn.LookupSwitch.{LookupSwitch}
+use Rattle.jvms_file.specs.Results.{◌>>=◌, present, collected}
+use Rattle.jvms_file.specs.Reading.{Fails}
+use Rattle.jvms_file.specs.Code.{place_of, places_of, case_places, table_places, lookup_places, with_places}
 use Rattle.insn.specs.Places.{place_found, case_found, table_found, lookup_found, insn_found}
 
 -- What was given before, and what is still given.

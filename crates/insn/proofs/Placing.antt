@@ -1,15 +1,15 @@
 -- The instructions of bytes, each with its byte: they are read one after the other, and their bytes rise.
 use Rattle.std.proofs.Common.{◌≡◌, ℕ, zero, suc, ◌-◌, ◌+◌, ◌≤◌, ◌<◌, List, [], ◌∷◌, ◌++◌, length, get_or, map, Result, Ok, Err, refl, sym, ap, subst, ◌∙◌, arith}
 use Rattle.std.proofs.lemmas.List.{append-nil, map_push}
-use Rattle.jvms.specs.declared.class_file.Constant.{Constant}
-use Rattle.jvms.specs.declared.fault.ClassFault.{ClassFault}
-use Rattle.jvms.specs.declared.fault.ReadError.{ReadError}
-use Rattle.jvms.specs.declared.fault.ReadError.TheVariants as error
-use Rattle.jvms.specs.declared.insn.Insn.{Insn}
-use Rattle.jvms.specs.Results.{◌>>=◌}
-use Rattle.jvms.specs.Reading.{Fails}
-use Rattle.jvms.specs.Instructions.{insn_at}
-use Rattle.jvms.specs.Code.{Placed, placed_from, placed, starts, resolved, insns_of}
+use Rattle.jvms_file.specs.declared.class_file.Constant.{Constant}
+use Rattle.jvms_file.specs.declared.fault.ClassFault.{ClassFault}
+use Rattle.jvms_file.specs.declared.fault.ReadError.{ReadError}
+use Rattle.jvms_file.specs.declared.fault.ReadError.TheVariants as error
+use Rattle.jvms_file.specs.declared.insn.Insn.{Insn}
+use Rattle.jvms_file.specs.Results.{◌>>=◌}
+use Rattle.jvms_file.specs.Reading.{Fails}
+use Rattle.jvms_file.specs.Instructions.{insn_at}
+use Rattle.jvms_file.specs.Code.{Placed, placed_from, placed, starts, resolved, insns_of}
 use Rattle.insn.specs.declared.located.Located.{Located}
 use Rattle.insn.specs.Locating.{placed_of, all_placed}
 use Rattle.insn.specs.Places.{IsStarts}

@@ -5,7 +5,7 @@ use Rattle.std.specs.List.{position_or_len}
 use Rattle.std.proofs.lemmas.List.Sums.{position_or_len_is}
 use Rattle.std.proofs.lemmas.Bool.{ne_eqb, eq-eqb, lt-ltb, le-ltb, cases_lt}
 use Rattle.std.proofs.Common.{◌⊎◌, inl, inr}
-use Rattle.jvms.specs.Code.{place_of}
+use Rattle.jvms_file.specs.Code.{place_of}
 use Rattle.insn.specs.Places.{IsStarts}
 
 pub never_falls : (pcs : List ℕ) → IsStarts pcs → (i j : ℕ) → i ≤ j → j < length pcs → get_or pcs i 0 ≤ get_or pcs j 0

@@ -3,18 +3,18 @@ use Rattle.std.proofs.Common.{◌≡◌, ℕ, zero, suc, ◌≤◌, ◌<◌, Boo
 use Rattle.std.specs.Prelude.{slice_get, nat_lt, ◌==◌, ◌&&◌}
 use Rattle.std.proofs.Common.{subst}
 use Rattle.std.proofs.lemmas.Bool.{ltb-false}
-use Rattle.jvms.specs.declared.class_file.Constant.{Constant}
-use Rattle.jvms.specs.declared.fault.ClassFault.{ClassFault}
-use Rattle.jvms.specs.declared.fault.ClassFault.TheVariants as fault
-use Rattle.jvms.specs.declared.insn.TheConstants.{OPCODES}
-use Rattle.jvms.specs.declared.insn.Insn.{Insn}
-use Rattle.jvms.specs.declared.insn.Opcode.{Opcode}
-use Rattle.jvms.specs.declared.insn.Opcode.TheVariants as opcode
-use Rattle.jvms.specs.declared.insn.Invoke.{Invoke}
-use Rattle.jvms.specs.declared.insn.Invoke.TheVariants as invoke
-use Rattle.jvms.specs.Results.{◌>>=◌, want, present}
-use Rattle.jvms.specs.Bytes.{number, u1_at, u2_at, u4_at, bytes_at}
-use Rattle.jvms.specs.Instructions.{interface_count, interface_operands, behind_invoke, targets_at, table_switch_insn, cases_at, lookup_switch_insn, wide_form, wide_insn, operands_at, insn_at}
+use Rattle.jvms_file.specs.declared.class_file.Constant.{Constant}
+use Rattle.jvms_file.specs.declared.fault.ClassFault.{ClassFault}
+use Rattle.jvms_file.specs.declared.fault.ClassFault.TheVariants as fault
+use Rattle.jvms_file.specs.declared.insn.TheConstants.{OPCODES}
+use Rattle.jvms_file.specs.declared.insn.Insn.{Insn}
+use Rattle.jvms_file.specs.declared.insn.Opcode.{Opcode}
+use Rattle.jvms_file.specs.declared.insn.Opcode.TheVariants as opcode
+use Rattle.jvms_file.specs.declared.insn.Invoke.{Invoke}
+use Rattle.jvms_file.specs.declared.insn.Invoke.TheVariants as invoke
+use Rattle.jvms_file.specs.Results.{◌>>=◌, want, present}
+use Rattle.jvms_file.specs.Bytes.{number, u1_at, u2_at, u4_at, bytes_at}
+use Rattle.jvms_file.specs.Instructions.{interface_count, interface_operands, behind_invoke, targets_at, table_switch_insn, cases_at, lookup_switch_insn, wide_form, wide_insn, operands_at, insn_at}
 
 -- What is behind a value is no longer than the bytes.
 abbrev IsShorter : {X : Type 0} → List ℕ → Result (X × List ℕ) ClassFault → Type 0

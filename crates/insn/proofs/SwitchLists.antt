@@ -1,15 +1,15 @@
 -- The targets and the cases of switches, one after the other, as a loop reads them.
-use Rattle.std.proofs.Common.{◌≡◌, ℕ, suc, ◌-◌, ◌+◌, ◌≤◌, ◌<◌, Bool, List, [], ◌∷◌, ◌++◌, Option, Some, Result, Ok, Err, ℤ, refl, sym, ap, ◌∙◌, append_assoc, arith}
+use Rattle.std.proofs.Common.{◌≡◌, ℕ, zero, suc, ◌-◌, ◌+◌, ◌≤◌, ◌<◌, Bool, List, [], ◌∷◌, ◌++◌, Option, Some, Result, Ok, Err, ℤ, refl, sym, ap, ◌∙◌, append_assoc, arith}
 use Rattle.std.specs.Int.{w32}
 use Rattle.std.proofs.lemmas.List.{append-nil}
-use Rattle.jvms.specs.declared.fault.ClassFault.{ClassFault}
-use Rattle.jvms.specs.declared.fault.ReadError.{ReadError}
-use Rattle.jvms.specs.declared.fault.ReadError.TheVariants as error
-use Rattle.jvms.specs.declared.insn.SwitchCase.{SwitchCase}
-use Rattle.jvms.specs.Results.{◌>>=◌, want}
-use Rattle.jvms.specs.Reading.{Fails}
-use Rattle.jvms.specs.Bytes.{u4_at, signed}
-use Rattle.jvms.specs.Instructions.{targets_at, cases_at, target_of, is_above}
+use Rattle.jvms_file.specs.declared.fault.ClassFault.{ClassFault}
+use Rattle.jvms_file.specs.declared.fault.ReadError.{ReadError}
+use Rattle.jvms_file.specs.declared.fault.ReadError.TheVariants as error
+use Rattle.jvms_file.specs.declared.insn.SwitchCase.{SwitchCase}
+use Rattle.jvms_file.specs.Results.{◌>>=◌, want, counted_onto, counted}
+use Rattle.jvms_file.specs.Reading.{Fails}
+use Rattle.jvms_file.specs.Bytes.{u4_at, signed}
+use Rattle.jvms_file.specs.Instructions.{targets_at, cases_at, target_of, is_above}
 use Rattle.insn.specs.Operands.{target_at, case_at}
 
 -- What was read before, and what is still read.
@@ -41,29 +41,26 @@ targets_split cut pc left bytes = split (u4_at cut bytes)
     split (Ok o) = refl
     split (Err f) = refl
 
-pub targets_go_on : (cut : ClassFault) (pc : ℕ) (front : List ℕ) (count i : ℕ) (bytes : List ℕ) (x : ℕ) (after : List ℕ) (total : Result (List ℕ × List ℕ) ClassFault) → i < count → target_at cut pc bytes ≡ Ok (x, after)
-    → with_front front (targets_at cut pc (count - i) bytes) ≡ total → with_front (front ++ x ∷ []) (targets_at cut pc (count - (i + 1)) after) ≡ total
-targets_go_on cut pc front count i bytes x after total lt h so_far =
-    let left = count - (i + 1) in
-    let k : count - i ≡ suc left = omega arith in
-    let one : with_front front (targets_at cut pc (count - i) bytes) ≡ with_front (front ++ x ∷ []) (targets_at cut pc left after) =
-    rw (k, targets_split cut pc left bytes) (more front (target_at cut pc bytes) (λ y. targets_at cut pc left y.1) x after h) in
-    sym one ∙ so_far
+behind_first : (cut : ClassFault) (pc : ℕ) (front : List ℕ) (left : ℕ) (r : Result (ℕ × List ℕ) ClassFault)
+    → ((front : List ℕ) (bytes : List ℕ) → counted_onto (λ seen. target_at cut pc) front left bytes ≡ with_front front (targets_at cut pc left bytes))
+    → (r >>= λ x. counted_onto (λ seen. target_at cut pc) (front ++ x.0 ∷ []) left x.1) ≡ with_front front (and_then r (λ x. targets_at cut pc left x.1))
+behind_first cut pc front left (Ok x) others = others (front ++ x.0 ∷ []) x.1 ∙ sym (regroup front x.0 (targets_at cut pc left x.1))
+behind_first cut pc front left (Err f) others = refl
 
-pub targets_stop : (e : ReadError) (cut : ClassFault) (pc : ℕ) (front : List ℕ) (count i : ℕ) (bytes : List ℕ) (total : Result (List ℕ × List ℕ) ClassFault) → i < count → Fails e (target_at cut pc bytes)
-    → with_front front (targets_at cut pc (count - i) bytes) ≡ total → Fails e total
-targets_stop e cut pc front count i bytes total lt h so_far =
-    let left = count - (i + 1) in
-    let k : count - i ≡ suc left = omega arith in
-    let same : targets_at cut pc (count - i) bytes ≡ and_then (target_at cut pc bytes) (λ x. targets_at cut pc left x.1) = ap (λ (n : ℕ). targets_at cut pc n bytes) k ∙ targets_split cut pc left bytes in
-    stops e front (target_at cut pc bytes) (λ x. targets_at cut pc left x.1) total h (sym (ap (with_front front) same) ∙ so_far)
+counted_behind : (cut : ClassFault) (pc count : ℕ) (front bytes : List ℕ) → counted_onto (λ seen. target_at cut pc) front count bytes ≡ with_front front (targets_at cut pc count bytes)
+unfolding counted_onto targets_at
+counted_behind cut pc zero front bytes = ap (λ (xs : List ℕ). Ok (xs, bytes)) (sym (append-nil front))
+counted_behind cut pc (suc left) front bytes =
+    behind_first cut pc front left (target_at cut pc bytes) (λ others rest. counted_behind cut pc left others rest)
+    ∙ ap (with_front front) (sym (targets_split cut pc left bytes))
 
-pub targets_done : (cut : ClassFault) (pc : ℕ) (front : List ℕ) (count i : ℕ) (bytes : List ℕ) (total : Result (List ℕ × List ℕ) ClassFault) → count ≤ i → with_front front (targets_at cut pc (count - i) bytes) ≡ total → total ≡ Ok (front, bytes)
-unfolding targets_at
-targets_done cut pc front count i bytes total le so_far =
-    let k : count - i ≡ 0 = omega arith in
-    let one : with_front front (targets_at cut pc (count - i) bytes) ≡ Ok (front, bytes) = rw k (ap (λ (xs : List ℕ). Ok (xs, bytes)) (append-nil front)) in
-    sym so_far ∙ one
+front_of_none : {X : Type 0} (r : Result (List X × List ℕ) ClassFault) → with_front [] r ≡ r
+front_of_none (Ok x) = refl
+front_of_none (Err f) = refl
+
+-- So many targets, one behind the other.
+pub counted_targets : (cut : ClassFault) (pc count : ℕ) (bytes : List ℕ) → counted (target_at cut pc) count bytes ≡ targets_at cut pc count bytes
+counted_targets cut pc count bytes = counted_behind cut pc count [] bytes ∙ front_of_none (targets_at cut pc count bytes)
 
 -- ---- Cases.
 

@@ -1,10 +1,10 @@
 -- Instructions with the bytes at which they start, as they lie in memory.
 use Rattle.std.specs.Prelude.{ℕ, List, map, Result}
-use Rattle.jvms.specs.declared.fault.ClassFault.{ClassFault}
-use Rattle.jvms.specs.declared.fault.ClassFault.TheVariants as fault
-use Rattle.jvms.specs.declared.insn.Insn.{Insn}
-use Rattle.jvms.specs.Results.{present}
-use Rattle.jvms.specs.Code.{Placed, with_places}
+use Rattle.jvms_file.specs.declared.fault.ClassFault.{ClassFault}
+use Rattle.jvms_file.specs.declared.fault.ClassFault.TheVariants as fault
+use Rattle.jvms_file.specs.declared.insn.Insn.{Insn}
+use Rattle.jvms_file.specs.Results.{present}
+use Rattle.jvms_file.specs.Code.{Placed, with_places}
 use Rattle.insn.specs.declared.located.Located.{Located}
 
 abbrev pub placed_of : Located → Placed

@@ -2,17 +2,17 @@
 -- the fault of an instruction that doesn't take its operands.
 use Rattle.std.specs.Prelude.{ℕ, List, Option, Result, Ok, ℤ}
 use Rattle.std.specs.Int.{w8, w16, w32}
-use Rattle.jvms.specs.declared.class_file.Constant.{Constant}
-use Rattle.jvms.specs.declared.fault.ClassFault.{ClassFault}
-use Rattle.jvms.specs.declared.insn.Insn.TheVariants as insn
-use Rattle.jvms.specs.declared.insn.Simple.TheVariants as simple
-use Rattle.jvms.specs.declared.insn.Push.TheVariants as push
-use Rattle.jvms.specs.declared.insn.LocalUse.{LocalUse}
-use Rattle.jvms.specs.declared.insn.SwitchCase.{SwitchCase}
-use Rattle.jvms.specs.Results.{◌>>=◌, want}
-use Rattle.jvms.specs.Bytes.{u1_at, u2_at, u4_at, signed}
-use Rattle.jvms.specs.ConstantPool.{entry}
-use Rattle.jvms.specs.Instructions.{Read, constant_insn, passes, is_loadable, is_wide_loadable, target_of, is_above}
+use Rattle.jvms_file.specs.declared.class_file.Constant.{Constant}
+use Rattle.jvms_file.specs.declared.fault.ClassFault.{ClassFault}
+use Rattle.jvms_file.specs.declared.insn.Insn.TheVariants as insn
+use Rattle.jvms_file.specs.declared.insn.Simple.TheVariants as simple
+use Rattle.jvms_file.specs.declared.insn.Push.TheVariants as push
+use Rattle.jvms_file.specs.declared.insn.LocalUse.{LocalUse}
+use Rattle.jvms_file.specs.declared.insn.SwitchCase.{SwitchCase}
+use Rattle.jvms_file.specs.Results.{◌>>=◌, want}
+use Rattle.jvms_file.specs.Bytes.{u1_at, u2_at, u4_at, signed}
+use Rattle.jvms_file.specs.ConstantPool.{entry}
+use Rattle.jvms_file.specs.Instructions.{Read, constant_insn, passes, is_loadable, is_wide_loadable, target_of, is_above}
 
 -- JVMS 6.5 bipush
 abbrev pub push_byte_insn : ClassFault → List ℕ → Read

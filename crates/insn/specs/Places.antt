@@ -1,14 +1,14 @@
 -- The bytes at which a method's instructions start, and targets as places among them, one look-up after
 -- the other: the first target that is no instruction's start is the fault.
 use Rattle.std.specs.Prelude.{ℕ, ◌<◌, ◌≤◌, List, length, Result, Ok, slice_index}
-use Rattle.jvms.specs.declared.fault.ClassFault.{ClassFault}
-use Rattle.jvms.specs.declared.insn.Insn.{Insn}
-use Rattle.jvms.specs.declared.insn.Insn.TheVariants as insn
-use Rattle.jvms.specs.declared.insn.SwitchCase.{SwitchCase}
-use Rattle.jvms.specs.declared.insn.TableSwitch.{TableSwitch}
-use Rattle.jvms.specs.declared.insn.LookupSwitch.{LookupSwitch}
-use Rattle.jvms.specs.Results.{◌>>=◌, present, collected}
-use Rattle.jvms.specs.Code.{place_of}
+use Rattle.jvms_file.specs.declared.fault.ClassFault.{ClassFault}
+use Rattle.jvms_file.specs.declared.insn.Insn.{Insn}
+use Rattle.jvms_file.specs.declared.insn.Insn.TheVariants as insn
+use Rattle.jvms_file.specs.declared.insn.SwitchCase.{SwitchCase}
+use Rattle.jvms_file.specs.declared.insn.TableSwitch.{TableSwitch}
+use Rattle.jvms_file.specs.declared.insn.LookupSwitch.{LookupSwitch}
+use Rattle.jvms_file.specs.Results.{◌>>=◌, present, collected}
+use Rattle.jvms_file.specs.Code.{place_of}
 
 -- No more than a method has bytes (JVMS 4.7.3), each above the one before it.
 pub record IsStarts (pcs : List ℕ) : Type 0 where

@@ -2,13 +2,14 @@
 
 ghost use Rattle.std.specs.Prelude.{◌≡◌};
 ghost use Rattle.std.specs.Option.{option_map};
-ghost use Rattle.jvms.specs.Instructions.{array_type_of as type_of_code, new_array_insn, is_dimensions as dimensions_fit, multi_new_array_insn};
-ghost use Rattle.jvms.specs.Reading.{Gives};
+ghost use Rattle.jvms_file.specs.Instructions.{array_type_of as type_of_code, new_array_insn, is_dimensions as dimensions_fit, multi_new_array_insn};
+ghost use Rattle.jvms_file.specs.Reading.{Gives};
 
-use const_pool::{Pool, u1_at, u2_at, want};
+use const_pool::Pool;
 use descriptor::dimensions_of;
-use jvms::fault::{ClassFault, ReadError};
-use jvms::insn::{ArrayInsn, ArrayType, Insn, Simple};
+use file_bytes::{u1_at, u2_at, want};
+use jvms_file::fault::{ClassFault, ReadError};
+use jvms_file::insn::{ArrayInsn, ArrayType, Insn, Simple};
 
 /// The component type of a code (JVMS table 6.5.newarray-A).
 fn array_type_of(code: u8) -> Option<ArrayType>

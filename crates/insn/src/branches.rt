@@ -1,13 +1,13 @@
 //! The instructions with one target (JVMS 6.5 if<cond>, goto, jsr, goto_w, jsr_w).
 
 ghost use Rattle.std.specs.Prelude.{◌≡◌};
-ghost use Rattle.jvms.specs.Instructions.{branch_insn, wide_branch_insn};
-ghost use Rattle.jvms.specs.Reading.{Gives};
+ghost use Rattle.jvms_file.specs.Instructions.{branch_insn, wide_branch_insn};
+ghost use Rattle.jvms_file.specs.Reading.{Gives};
 
 use crate::targets::target_of;
-use const_pool::{u2_at, u4_at};
-use jvms::fault::{ClassFault, ReadError};
-use jvms::insn::{Branch, Insn};
+use file_bytes::{u2_at, u4_at};
+use jvms_file::fault::{ClassFault, ReadError};
+use jvms_file::insn::{Branch, Insn};
 
 /// A branch with an offset of two bytes.
 pub(crate) fn branch(

@@ -1,8 +1,10 @@
 //! The instructions of a method (JVMS 4.7.3): first each with its byte, then each target as a place.
 
-ghost use Rattle.std.specs.Prelude.{◌≡◌, ◌≤◌, length, map, IfOk};
-ghost use Rattle.jvms.specs.Code.{placed as placed_bytes, starts, resolved as all_resolved, insns_of};
-ghost use Rattle.jvms.specs.Reading.{Gives};
+ghost use Rattle.std.specs.Prelude.{◌≡◌, ◌≤◌, ◌<◌, length, map, IfOk, Err};
+ghost use Rattle.jvms_file.specs.declared.fault.ClassFault.TheVariants.{CodeLength};
+ghost use Rattle.jvms_file.specs.declared.fault.ReadError.TheVariants.{Fault};
+ghost use Rattle.jvms_file.specs.Code.{placed as placed_bytes, starts, resolved as all_resolved, insns_of};
+ghost use Rattle.jvms_file.specs.Reading.{Gives};
 ghost use Rattle.insn.specs.Places.{IsStarts};
 ghost use Rattle.insn.specs.Locating.{placed_of, all_placed, resolved_one};
 
@@ -12,9 +14,9 @@ use crate::places::with_places;
 use crate::room::with_room;
 use crate::starts::Starts;
 use const_pool::ScannedPool;
-use jvms::fault::{ClassFault, ReadError};
-use jvms::insn::Insn;
-use jvms::items::Items;
+use held::items::Items;
+use jvms_file::fault::{ClassFault, ReadError};
+use jvms_file::insn::Insn;
 use std::alloc::{AllocError, Global};
 
 /// The code of a method.
@@ -93,18 +95,24 @@ fn resolved(alloc: Global, starts: &Starts, located: &[Located]) -> Result<Items
     Ok(insns)
 }
 
+/// The most bytes that code has (JVMS 4.7.3).
+const MOST_CODE: usize = 65535;
+
 /// The instructions that the bytes of a method spell. The opcodes and operands of all come before the
-/// targets of any.
-#[tactic(auto, unfolding(jvms::specs::Code::insns_of))]
+/// targets of any. More bytes than a method has are C15.
+#[tactic(auto, unfolding(jvms_file::specs::Code::insns_of))]
 pub fn decode(
     alloc: Global,
     pool: &ScannedPool,
     major: u16,
     bytes: &[u8],
 ) -> Result<Decoded, ReadError>
-    requires { length bytes.now ≤ 65535 }
-    ensures { Gives (λ d. (d.starts, d.insns)) result (insns_of pool.now major bytes.now) }
+    ensures exact { length bytes.now ≤ 65535 → Gives (λ d. (d.starts, d.insns)) result (insns_of pool.now major bytes.now) }
+    ensures long { 65535 < length bytes.now → result ≡ Err (Fault CodeLength) }
 {
+    if bytes.len() > MOST_CODE {
+        return Err(ReadError::Fault(ClassFault::CodeLength));
+    }
     let located = placed(alloc, pool, major, bytes)?;
     let starts = starts_of(alloc, &located)?;
     let insns = resolved(alloc, &starts, &located)?;

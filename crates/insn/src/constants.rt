@@ -2,14 +2,15 @@
 
 ghost use Rattle.std.specs.Prelude.{◌≡◌};
 ghost use Rattle.std.specs.Option.{option_copied};
-ghost use Rattle.jvms.specs.Instructions.{passes, is_loadable as loadable, is_wide_loadable as wide_loadable};
-ghost use Rattle.jvms.specs.Reading.{Gives};
+ghost use Rattle.jvms_file.specs.Instructions.{passes, is_loadable as loadable, is_wide_loadable as wide_loadable};
+ghost use Rattle.jvms_file.specs.Reading.{Gives};
 ghost use Rattle.insn.specs.Operands.{push_byte_insn, push_short_insn, narrow_constant_insn, wide_constant_insn, long_constant_insn};
 
-use const_pool::{Pool, u1_at, u2_at, want};
-use jvms::class_file::Constant;
-use jvms::fault::{ClassFault, ReadError};
-use jvms::insn::{Insn, Push, Simple};
+use const_pool::Pool;
+use file_bytes::{u1_at, u2_at, want};
+use jvms_file::class_file::Constant;
+use jvms_file::fault::{ClassFault, ReadError};
+use jvms_file::insn::{Insn, Push, Simple};
 
 /// The first version whose `ldc` pushes classes (JVMS 4.9.1).
 const CLASS_VERSION: u16 = 49;

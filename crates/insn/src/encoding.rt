@@ -1,14 +1,16 @@
 //! The bytes of a method's code (JVMS 4.7.3).
 
-ghost use Rattle.std.specs.Prelude.{◌≡◌, ◌++◌, OnOk};
+ghost use Rattle.std.specs.Prelude.{◌≡◌, ◌++◌, OnOk, OnErr};
 
-use jvms::class_file::Layout;
+use jvms_file::class_file::Layout;
 use std::alloc::AllocError;
 
 /// Puts the bytes that spell a method's instructions behind others, as its layout has them. They spell the
 /// instructions of the code that the layout was made of: `layout_spells` in the crate spelling.
+/// Without memory for all of them nothing changes.
 pub fn encode(out: &mut Vec<u8>, layout: &Layout) -> Result<(), AllocError>
-    ensures { OnOk result (out.new.items ≡ out.old.items ++ layout.now.bytes) }
+    ensures ok { OnOk result (out.new.items ≡ out.old.items ++ layout.now.bytes) }
+    ensures kept { OnErr result (out.new.items ≡ out.old.items) }
 {
     out.extend_from_slice(layout.bytes.as_slice())
 }

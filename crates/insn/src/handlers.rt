@@ -1,10 +1,10 @@
 //! Exception handlers (JVMS 4.7.3).
 
 ghost use Rattle.std.specs.Prelude.{◌≡◌};
-ghost use Rattle.jvms.specs.Code.{end_place_of as end_place, handler_places};
+ghost use Rattle.jvms_file.specs.Code.{end_place_of as end_place, handler_places};
 
 use crate::starts::Starts;
-use jvms::class_file::Handler;
+use jvms_file::class_file::Handler;
 
 /// The place of a range's end: of an instruction, or behind the last.
 fn end_place_of(starts: &Starts, code_length: usize, pc: u32) -> Option<u32>

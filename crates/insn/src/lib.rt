@@ -18,13 +18,11 @@ mod room;
 mod starts;
 mod switches;
 mod targets;
-#[cfg(test)]
-mod tests;
 
 pub use code::{Decoded, decode};
 pub use encoding::encode;
 pub use handlers::handler;
-pub use jvms::insn::{Insn, Opcode};
+pub use jvms_file::insn::{Insn, Opcode};
 pub use operands::insn_at;
 pub use pads::layout;
 pub use starts::Starts;

@@ -1,14 +1,14 @@
 //! The instructions that name a local variable (JVMS 6.5 iload, istore, ret, iinc, wide).
 
 ghost use Rattle.std.specs.Prelude.{◌≡◌};
-ghost use Rattle.jvms.specs.Instructions.{wide_form as wide_form_at, wide_insn};
-ghost use Rattle.jvms.specs.Reading.{Gives};
+ghost use Rattle.jvms_file.specs.Instructions.{wide_form as wide_form_at, wide_insn};
+ghost use Rattle.jvms_file.specs.Reading.{Gives};
 ghost use Rattle.insn.specs.Operands.{local_insn, increment_insn};
 
 use crate::opcodes::form_of;
-use const_pool::{u1_at, u2_at};
-use jvms::fault::{ClassFault, ReadError};
-use jvms::insn::{Insn, LocalUse, Opcode, Simple};
+use file_bytes::{u1_at, u2_at};
+use jvms_file::fault::{ClassFault, ReadError};
+use jvms_file::insn::{Insn, LocalUse, Opcode, Simple};
 
 /// A load, a store or ret, with a local's number of one byte.
 pub(crate) fn local(
@@ -58,7 +58,7 @@ fn wide_form(
 }
 
 /// JVMS 6.5 wide.
-#[tactic(auto, unfolding(jvms::specs::Instructions::wide_insn))]
+#[tactic(auto, unfolding(jvms_file::specs::Instructions::wide_insn))]
 pub(crate) fn wide(cut: ClassFault, bytes: &[u8]) -> Result<(Insn, &[u8]), ReadError>
     ensures { Gives (λ x. (x.0, x.1.now)) result (wide_insn cut bytes.now) }
 {

@@ -1,6 +1,6 @@
 //! An instruction with its byte.
 
-use jvms::insn::Insn;
+use jvms_file::insn::Insn;
 
 /// An instruction with the byte at which it starts. Its targets are bytes.
 #[derive(Debug, Drop)]

@@ -2,16 +2,17 @@
 
 ghost use Rattle.std.specs.Prelude.{◌≡◌};
 ghost use Rattle.std.specs.Option.{option_copied, option_map, option_and_then};
-ghost use Rattle.jvms.specs.Instructions.{passes, is_field as field_entry, field_insn, method_numbers as numbers_of, invoked as method_of, is_invocable_name as name_invocable, is_invocable as invocable, interface_count as units_with_object, interface_operands as interface_rest, behind_invoke as rest_behind, invoke_insn, is_usable_class as usable_class, names_usable as usable_name, class_insn};
-ghost use Rattle.jvms.specs.declared.insn.Invoke.TheVariants.{Interface};
-ghost use Rattle.jvms.specs.Names.{begins_with};
-ghost use Rattle.jvms.specs.Reading.{Gives};
+ghost use Rattle.jvms_file.specs.Instructions.{passes, is_field as field_entry, field_insn, method_numbers as numbers_of, invoked as method_of, is_invocable_name as name_invocable, is_invocable as invocable, interface_count as units_with_object, interface_operands as interface_rest, behind_invoke as rest_behind, invoke_insn, is_usable_class as usable_class, names_usable as usable_name, class_insn};
+ghost use Rattle.jvms_file.specs.declared.insn.Invoke.TheVariants.{Interface};
+ghost use Rattle.jvms_file.specs.Names.{begins_with};
+ghost use Rattle.jvms_file.specs.Reading.{Gives};
 
-use const_pool::{Pool, ScannedPool, u1_at, u2_at, want};
+use const_pool::{Pool, ScannedPool};
 use descriptor::{dimensions_of, is_array_name, is_constructor_name};
-use jvms::class_file::Constant;
-use jvms::fault::{ClassFault, ReadError};
-use jvms::insn::{ClassUse, FieldUse, Insn, Invoke};
+use file_bytes::{u1_at, u2_at, want};
+use jvms_file::class_file::Constant;
+use jvms_file::fault::{ClassFault, ReadError};
+use jvms_file::insn::{ClassUse, FieldUse, Insn, Invoke};
 
 /// Whether what is found is a field's entry.
 fn is_field(found: Option<&Constant>) -> bool
@@ -112,11 +113,14 @@ fn invoked(pool: &Pool, how: Invoke, number: u16) -> Option<(&[u16], &[u16])>
     }
 }
 
+/// What `<init>` and `<clinit>` begin with (JVMS 2.9).
+const ANGLE: u16 = b'<' as u16;
+
 /// Whether a name begins with an angle bracket.
 fn is_special_name(text: &[u16]) -> bool
     ensures { result ≡ begins_with 60 text.now }
 {
-    matches!(text, [60, ..])
+    matches!(text, [ANGLE, ..])
 }
 
 /// Whether a method of this name may be called so (JVMS 4.9.1).

@@ -1,9 +1,9 @@
 //! The table of opcodes (JVMS 7).
 
 ghost use Rattle.std.specs.Prelude.{◌≡◌, slice_get};
-ghost use Rattle.jvms.specs.declared.insn.TheConstants.{OPCODES as table};
+ghost use Rattle.jvms_file.specs.declared.insn.TheConstants.{OPCODES as table};
 
-use jvms::insn::{OPCODES, Opcode};
+use jvms_file::insn::{OPCODES, Opcode};
 
 /// The entry of a code, if there is one.
 fn entry_of(entries: &[Opcode], code: u8) -> Option<Opcode>

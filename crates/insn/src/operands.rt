@@ -1,8 +1,8 @@
 //! One instruction from bytes.
 
 ghost use Rattle.std.specs.Prelude.{◌≡◌};
-ghost use Rattle.jvms.specs.Instructions.{operands_at as operands_read, insn_at as insn_read};
-ghost use Rattle.jvms.specs.Reading.{Gives};
+ghost use Rattle.jvms_file.specs.Instructions.{operands_at as operands_read, insn_at as insn_read};
+ghost use Rattle.jvms_file.specs.Reading.{Gives};
 
 use crate::arrays::{multi_new_array, new_array};
 use crate::branches::{branch, branch_wide};
@@ -11,13 +11,14 @@ use crate::locals::{increment, local, wide};
 use crate::members::{class, field, invoke};
 use crate::opcodes::form_of;
 use crate::switches::{lookup_switch, table_switch};
-use const_pool::{ScannedPool, u1_at};
-use jvms::fault::{ClassFault, ReadError};
-use jvms::insn::{Insn, Opcode};
+use const_pool::ScannedPool;
+use file_bytes::u1_at;
+use jvms_file::fault::{ClassFault, ReadError};
+use jvms_file::insn::{Insn, Opcode};
 use std::alloc::Global;
 
 /// The instruction of an opcode, by the operands behind it.
-#[tactic(auto, unfolding(jvms::specs::Instructions::operands_at))]
+#[tactic(auto, unfolding(jvms_file::specs::Instructions::operands_at))]
 fn operands_at<'a>(
     alloc: Global,
     pool: &ScannedPool,
@@ -54,7 +55,7 @@ fn operands_at<'a>(
 
 /// The instruction at byte `pc` of a method, from its bytes from there on, and the bytes behind it. Its
 /// targets are bytes of the method.
-#[tactic(auto, unfolding(jvms::specs::Instructions::insn_at))]
+#[tactic(auto, unfolding(jvms_file::specs::Instructions::insn_at))]
 pub fn insn_at<'a>(
     alloc: Global,
     pool: &ScannedPool,

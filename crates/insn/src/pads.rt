@@ -2,14 +2,14 @@
 //! instruction starts.
 
 ghost use Rattle.std.specs.Prelude.{◌≡◌, ◌+◌, ◌≤◌, IfOk, slice_set, suc, if◌then◌else◌};
-ghost use Rattle.jvms.specs.Code.{is_switch as is_switch_insn, zeroed, with_zero_pads, layout_of};
-ghost use Rattle.jvms.specs.Instructions.{pad_length as pads_at};
+ghost use Rattle.jvms_file.specs.Code.{is_switch as is_switch_insn, zeroed, with_zero_pads, layout_of};
+ghost use Rattle.jvms_file.specs.Instructions.{pad_length as pads_at};
 
 use crate::starts::Starts;
 use crate::switches::pad_length;
-use jvms::class_file::Layout;
-use jvms::insn::Insn;
-use jvms::items::Items;
+use held::items::Items;
+use jvms_file::class_file::Layout;
+use jvms_file::insn::Insn;
 use std::alloc::{AllocError, Global};
 
 /// Sets the byte at a place to 0. Outside the bytes nothing happens.
@@ -22,7 +22,7 @@ fn set_zero(bytes: &mut [u8], place: usize)
 }
 
 /// Sets so many bytes from a place on to 0.
-#[tactic(auto, unfolding(jvms::specs::Code::zeroed))]
+#[tactic(auto, unfolding(jvms_file::specs::Code::zeroed))]
 fn zero(bytes: &mut [u8], count: usize, place: usize)
     requires { place + count ≤ usize.MAX }
     ensures { bytes.new ≡ zeroed count place bytes.old }
@@ -54,7 +54,7 @@ fn zero_pads_of(bytes: &mut [u8], pc: u32, insn: &Insn)
 }
 
 /// Sets the pads of all instructions to 0; `starts` are the bytes at which they start.
-#[tactic(auto, unfolding(jvms::specs::Code::with_zero_pads))]
+#[tactic(auto, unfolding(jvms_file::specs::Code::with_zero_pads))]
 fn zero_pads(bytes: &mut [u8], starts: &[u32], insns: &[Insn])
     ensures { bytes.new ≡ with_zero_pads starts.now insns.now bytes.old }
 {

@@ -1,16 +1,16 @@
 //! Targets as places.
 
 ghost use Rattle.std.specs.Prelude.{◌≡◌};
-ghost use Rattle.jvms.specs.Results.{collected};
-ghost use Rattle.jvms.specs.Reading.{Gives};
+ghost use Rattle.jvms_file.specs.Results.{collected};
+ghost use Rattle.jvms_file.specs.Reading.{Gives};
 ghost use Rattle.insn.specs.Places.{place_found, case_found, table_found, lookup_found, insn_found};
 
 use crate::room::with_room;
 use crate::starts::Starts;
-use jvms::boxed::Boxed;
-use jvms::fault::{ClassFault, ReadError};
-use jvms::insn::{Insn, LookupSwitch, SwitchCase, TableSwitch};
-use jvms::items::Items;
+use held::boxed::Boxed;
+use held::items::Items;
+use jvms_file::fault::{ClassFault, ReadError};
+use jvms_file::insn::{Insn, LookupSwitch, SwitchCase, TableSwitch};
 use std::alloc::Global;
 
 /// The place of a target.

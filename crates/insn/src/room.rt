@@ -2,7 +2,7 @@
 
 ghost use Rattle.std.specs.Prelude.{◌≡◌, [], IfOk};
 
-use jvms::items::Items;
+use held::items::Items;
 use std::alloc::{AllocError, Global};
 
 /// A list with no items and with room for so many: a list that is filled and then kept takes no more memory

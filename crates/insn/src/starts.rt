@@ -1,10 +1,10 @@
 //! The bytes at which instructions start.
 
 ghost use Rattle.std.specs.Prelude.{◌≡◌, length};
-ghost use Rattle.jvms.specs.Code.{place_of as place_in};
+ghost use Rattle.jvms_file.specs.Code.{place_of as place_in};
 ghost use Rattle.insn.specs.Places.{IsStarts};
 
-use jvms::items::Items;
+use held::items::Items;
 use std::marker::Model;
 
 /// The bytes at which the instructions of a method start, rising. Contracts see the list of them.

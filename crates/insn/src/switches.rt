@@ -1,16 +1,16 @@
 //! The instructions with many targets (JVMS 6.5 tableswitch, lookupswitch).
 
 ghost use Rattle.std.specs.Prelude.{◌≡◌, ◌+◌, ◌≤ℤ◌, ◌-ℤ◌, unsigned_abs, None, Some};
-ghost use Rattle.jvms.specs.Instructions.{pad_length as pads_at, targets_at as targets_from, cases_at as cases_from, is_above as lies_above, table_switch_insn, lookup_switch_insn};
-ghost use Rattle.jvms.specs.Reading.{Gives};
+ghost use Rattle.jvms_file.specs.Instructions.{pad_length as pads_at, targets_at as targets_from, cases_at as cases_from, is_above as lies_above, table_switch_insn, lookup_switch_insn};
+ghost use Rattle.jvms_file.specs.Reading.{Gives};
 ghost use Rattle.insn.specs.Operands.{target_at as target_from, case_at as case_from};
 
 use crate::targets::target_of;
-use const_pool::{bytes_at, u4_at, want};
-use jvms::boxed::Boxed;
-use jvms::fault::{ClassFault, ReadError};
-use jvms::insn::{Insn, LookupSwitch, SwitchCase, TableSwitch};
-use jvms::items::Items;
+use file_bytes::{Part, bytes_at, parts_of, u4_at, want};
+use held::boxed::Boxed;
+use held::items::Items;
+use jvms_file::fault::{ClassFault, ReadError};
+use jvms_file::insn::{Insn, LookupSwitch, SwitchCase, TableSwitch};
 use std::alloc::Global;
 
 /// How many bytes stand before the next multiple of 4.
@@ -20,13 +20,26 @@ pub(crate) fn pad_length(pc: usize) -> usize
     3 - pc % 4
 }
 
-/// One target.
+/// Targets of the switch at byte `pc`; `cut` is the fault of bytes that aren't there.
+#[derive(Clone, Copy)]
+struct Targets {
+    cut: ClassFault,
+    pc: usize,
+}
+
 #[tactic(auto, unfolding(crate::specs::Operands::target_at))]
-fn target_at(cut: ClassFault, pc: usize, bytes: &[u8]) -> Result<(u32, &[u8]), ReadError>
-    ensures { Gives (λ x. (x.0, x.1.now)) result (target_from cut pc bytes.now) }
-{
-    let (offset, rest) = u4_at(cut, bytes)?;
-    Ok((target_of(pc, offset.cast_signed()), rest))
+impl Part<u32> for Targets {
+    ghost at = { λ t _. target_from t.cut t.pc };
+
+    fn part_at<'a>(
+        &self,
+        _alloc: Global,
+        _seen: &[u32],
+        bytes: &'a [u8],
+    ) -> Result<(u32, &'a [u8]), ReadError> {
+        let (offset, rest) = u4_at(self.cut, bytes)?;
+        Ok((target_of(self.pc, offset.cast_signed()), rest))
+    }
 }
 
 /// So many targets. No room is made before their bytes are seen.
@@ -39,14 +52,7 @@ fn targets_at(
 ) -> Result<(Items<u32>, &[u8]), ReadError>
     ensures { Gives (λ x. (x.0, x.1.now)) result (targets_from cut pc count bytes.now) }
 {
-    let mut targets = Items::new(alloc);
-    let mut rest = bytes;
-    for _ in 0..count {
-        let (target, behind) = target_at(cut, pc, rest)?;
-        targets.push(target)?;
-        rest = behind;
-    }
-    Ok((targets, rest))
+    parts_of(alloc, &Targets { cut, pc }, count, bytes)
 }
 
 /// How many values there are from one to another.
@@ -58,7 +64,7 @@ fn count_of(low: i32, high: i32) -> usize
 }
 
 /// JVMS 6.5 tableswitch.
-#[tactic(auto, unfolding(jvms::specs::Instructions::table_switch_insn))]
+#[tactic(auto, unfolding(jvms_file::specs::Instructions::table_switch_insn))]
 pub(crate) fn table_switch(
     alloc: Global,
     cut: ClassFault,
@@ -144,7 +150,7 @@ fn cases_at(
 }
 
 /// JVMS 6.5 lookupswitch.
-#[tactic(auto, unfolding(jvms::specs::Instructions::lookup_switch_insn))]
+#[tactic(auto, unfolding(jvms_file::specs::Instructions::lookup_switch_insn))]
 pub(crate) fn lookup_switch(
     alloc: Global,
     cut: ClassFault,

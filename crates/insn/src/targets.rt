@@ -1,7 +1,7 @@
 //! Where offsets lead.
 
 ghost use Rattle.std.specs.Prelude.{◌≡◌};
-ghost use Rattle.jvms.specs.Instructions.{target_of as led_to};
+ghost use Rattle.jvms_file.specs.Instructions.{target_of as led_to};
 
 /// Targets are counted modulo this.
 const BYTES: usize = 4_294_967_296;

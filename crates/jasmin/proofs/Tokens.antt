@@ -5,7 +5,7 @@ use Rattle.std.proofs.lemmas.List.{length-append}
 use Rattle.std.proofs.lemmas.Option.{none-some, same_Some}
 use Rattle.std.specs.List.{list_all}
 use Rattle.std.specs.Option.{option_and_then, option_map}
-use Rattle.jvms.specs.Names.{begins_with}
+use Rattle.jvms_file.specs.Names.{begins_with}
 use Rattle.jasmin.specs.declared.token.Token.{Token}
 use Rattle.jasmin.specs.declared.token.Token.TheVariants as token
 use Rattle.jasmin.specs.Lexing.{is_space, ends_word, is_word_end, is_empty, begins_comment, SpellsToken, SpellsUnits, Lexes, word_from, text_from, token_from, begin_from, tokens_from, tokens_of}

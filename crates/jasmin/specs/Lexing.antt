@@ -2,7 +2,7 @@
 use Rattle.std.specs.Prelude.{IsTrue, ◌≡◌, ◌⊎◌, ℕ, ◌+◌, ◌-◌, ◌*◌, zero, suc, Bool, true, false, not, ◌&&◌, ◌||◌, ◌==◌, nat_le, if◌then◌else◌, List, [], ◌∷◌, ◌++◌, length, Option, Some, None}
 use Rattle.std.specs.Option.{option_and_then, option_map, unwrap_or}
 use Rattle.std.specs.List.{list_all}
-use Rattle.jvms.specs.Names.{begins_with}
+use Rattle.jvms_file.specs.Names.{begins_with}
 use Rattle.jasmin.specs.declared.token.Token.{Token}
 use Rattle.jasmin.specs.declared.token.Token.TheVariants as token
 

@@ -1,6 +1,6 @@
 //! What a line of a source is made of.
 
-use jvms::items::Items;
+use held::items::Items;
 
 /// A token of a line.
 #[derive(Debug, PartialEq, Eq, Drop)]

@@ -7,7 +7,7 @@ ghost use Rattle.jasmin_lex.specs.Lexed.{IsLexed};
 
 use crate::fault::LexFault;
 use crate::word::QUOTE;
-use jvms::items::Items;
+use held::items::Items;
 use std::alloc::{AllocError, Global};
 
 const BACKSLASH: u16 = 92;

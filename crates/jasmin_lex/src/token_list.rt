@@ -11,8 +11,8 @@ use crate::space::begin;
 use crate::text::text_at;
 use crate::units::units_of;
 use crate::word::{COLON, EQUALS, QUOTE, word_at};
+use held::items::Items;
 use jasmin::token::Token;
-use jvms::items::Items;
 use std::alloc::{AllocError, Global};
 
 /// A word of these units.

@@ -5,7 +5,7 @@ use Rattle.std.specs.Int.{w32, int_wrap, int_rem_euclid, cast_signed, cast_unsig
 use Rattle.std.specs.Int.RustNames.{FitsSigned}
 use Rattle.std.proofs.lemmas.Int.{ints, to_z-of_z, int_wrap-mul_left}
 use Rattle.std.proofs.Math.Nat.{div-le_self}
-use Rattle.jvms.specs.Numbers.{distance, unsigned_of, quotient, shifted_left, shifted_right_unsigned}
+use Rattle.jvms_file.specs.Numbers.{distance, unsigned_of, quotient, shifted_left, shifted_right_unsigned}
 
 -- The bits of a small number are its remainder modulo 2^32.
 bits_are_remainder : (z : ℤ) → unsigned_abs z < 2 ^ 32 → cast_unsigned w32 z ≡ unsigned_abs (int_rem_euclid z (pos (2 ^ 32)))

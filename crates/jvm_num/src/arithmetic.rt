@@ -1,7 +1,7 @@
 //! Sums, differences, products and quotients of ints.
 
 ghost use Rattle.std.specs.Prelude.{◌≡◌};
-ghost use Rattle.jvms.specs.Numbers.{wrap as wrapped, sum, difference, product, negation, quotient, remainder};
+ghost use Rattle.jvms_file.specs.Numbers.{wrap as wrapped, sum, difference, product, negation, quotient, remainder};
 
 /// The one int that is congruent to `n` modulo 2^32 (JVMS 2.11.3).
 pub fn wrap(n: i64) -> i32

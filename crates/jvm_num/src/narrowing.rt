@@ -1,9 +1,9 @@
 //! Ints taken into the range of a smaller type.
 
 ghost use Rattle.std.specs.Prelude.{◌≡◌};
-ghost use Rattle.jvms.specs.Numbers.{narrowed};
+ghost use Rattle.jvms_file.specs.Numbers.{narrowed};
 
-use jvms::insn;
+use jvms_file::insn;
 
 /// JVMS 2.11.4 and 6.5 i2b, i2c, i2s; a boolean keeps the lowest bit.
 pub fn narrow(to: insn::Narrow, n: i32) -> i32

@@ -1,12 +1,12 @@
 //! The operations on two ints, by the instruction's kind.
 
 ghost use Rattle.std.specs.Prelude.{◌≡◌};
-ghost use Rattle.jvms.specs.Numbers.{binary_result, division_result};
+ghost use Rattle.jvms_file.specs.Numbers.{binary_result, division_result};
 
 use crate::arithmetic::{add, div, mul, rem, sub};
 use crate::bits::{and, or, xor};
 use crate::shift::{shl, shr, ushr};
-use jvms::insn;
+use jvms_file::insn;
 
 /// What two ints give, always (JVMS 6.5 iadd, isub, imul, ishl, ishr, iushr, iand, ior, ixor).
 pub fn binary(op: insn::Binary, a: i32, b: i32) -> i32

@@ -1,7 +1,7 @@
 //! Shifts of ints, by the low five bits of a distance.
 
 ghost use Rattle.std.specs.Prelude.{◌≡◌};
-ghost use Rattle.jvms.specs.Numbers.{shifted_left, shifted_right, shifted_right_unsigned};
+ghost use Rattle.jvms_file.specs.Numbers.{shifted_left, shifted_right, shifted_right_unsigned};
 
 /// JVMS 6.5 ishl.
 pub fn shl(a: i32, distance: i32) -> i32

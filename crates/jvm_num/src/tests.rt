@@ -3,7 +3,7 @@
 use crate::{
     add, and, binary, div, divide, mul, narrow, neg, or, rem, shl, shr, sub, ushr, wrap, xor,
 };
-use jvms::insn;
+use jvms_file::insn;
 
 #[test]
 fn results_wrap(rt: HostRuntime) {

@@ -1,21 +1,21 @@
 -- What a static method gives when it runs by itself: class files are read and linked, and thread 0 takes
 -- turns while it can.
-use Rattle.std.specs.Prelude.{◌≡◌, ℕ, zero, suc, if◌then◌else◌, List, [], ◌∷◌, ◌++◌, length, Option, Some, None, codes, Result, Ok, Err}
+use Rattle.std.specs.Prelude.{◌≡◌, ◌<◌, ℕ, zero, suc, if◌then◌else◌, List, [], ◌∷◌, ◌++◌, length, Option, Some, None, codes, Result, Ok, Err}
 use Rattle.std.specs.Fmt.{decimal, signed_decimal}
-use Rattle.jvms.specs.declared.value.Value.{Value}
-use Rattle.jvms.specs.declared.value.Value.TheVariants as value
-use Rattle.jvms.specs.declared.fault.ClassFault.{ClassFault}
-use Rattle.jvms.specs.declared.fault.ReadError.{ReadError}
-use Rattle.jvms.specs.declared.fault.ReadError.TheVariants as read_error
-use Rattle.jvms.specs.declared.class_file.ClassFile.{ClassFile}
-use Rattle.jvms.specs.declared.machine.Entry.{Entry}
-use Rattle.jvms.specs.declared.machine.Limits.{Limits}
-use Rattle.jvms.specs.declared.program.Class.{Class}
-use Rattle.jvms.specs.Results.{◌>>=◌}
-use Rattle.jvms.specs.ClassFile.{read}
-use Rattle.jvms.specs.State.{State}
-use Rattle.jvms.specs.Turn.{Start, turn}
-use Rattle.jvms.specs.Run.{NotMade, no_entry, no_limits, made, opening, is_enabled, run, status_of}
+use Rattle.jvms_machine.specs.declared.value.Value.{Value}
+use Rattle.jvms_machine.specs.declared.value.Value.TheVariants as value
+use Rattle.jvms_file.specs.declared.fault.ClassFault.{ClassFault}
+use Rattle.jvms_file.specs.declared.fault.ReadError.{ReadError}
+use Rattle.jvms_file.specs.declared.fault.ReadError.TheVariants as read_error
+use Rattle.jvms_file.specs.declared.class_file.ClassFile.{ClassFile}
+use Rattle.jvms_machine.specs.declared.machine.Entry.{Entry}
+use Rattle.jvms_machine.specs.declared.machine.Limits.{Limits}
+use Rattle.jvms_program.specs.declared.program.Class.{Class}
+use Rattle.jvms_file.specs.Results.{◌>>=◌}
+use Rattle.jvms_file.specs.ClassFile.{read}
+use Rattle.jvms_machine.specs.State.{State}
+use Rattle.jvms_machine.specs.Turn.{Start, turn}
+use Rattle.jvms_machine.specs.Run.{NotMade, no_entry, no_limits, made, opening, is_enabled, run, status_of}
 use Rattle.linker.specs.declared.fault.LinkFault.{LinkFault}
 use Rattle.linker.specs.declared.fault.LinkFault.TheVariants as link_fault
 use Rattle.linker.specs.Linking.{linked}
@@ -116,6 +116,14 @@ WroteBeginning said old new = (e : Evaluated) × (said ≡ Ok e) × AppendsBegin
 abbrev pub IsClassFault : {A : Type 0} → ℕ → ReadError → Result A NotEvaluated → Type 0
 IsClassFault file (read_error.Fault fault) said = said ≡ Err (no_class file fault)
 IsClassFault file read_error.Memory said = Unit {0}
+
+-- A fault of a class file names one of so many files.
+abbrev pub NamesFile : ℕ → EvalFault → Type 0
+NamesFile files (eval_fault.Class file error) = file < files
+NamesFile files (eval_fault.Link fault) = Unit {0}
+NamesFile files (eval_fault.Machine fault) = Unit {0}
+NamesFile files eval_fault.Memory = Unit {0}
+NamesFile files eval_fault.Output = Unit {0}
 
 -- Why the classes weren't read, unless memory ran out.
 abbrev pub IsClassesFault : EvalFault → Result (List ClassFile) NotEvaluated → Type 0

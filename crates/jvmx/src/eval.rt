@@ -2,18 +2,18 @@
 
 ghost use Rattle.std.specs.Prelude.{◌≡◌, ◌≢◌, ◌+◌, ◌++◌, ◌∷◌, [], IfOk, IfErr, OnOk, IsErrOf, map, length, string_bytes};
 ghost use Rattle.std.specs.Io.KnownBytes.{Appends};
-ghost use Rattle.jvms.specs.ClassFile.{read as file_read};
-ghost use Rattle.jvms.specs.Reading.{Gives};
-ghost use Rattle.jvms.specs.Run.{run_from};
+ghost use Rattle.jvms_file.specs.ClassFile.{read as file_read};
+ghost use Rattle.jvms_file.specs.Reading.{Gives};
+ghost use Rattle.jvms_machine.specs.Run.{run_from};
 ghost use Rattle.machine.specs.Machine.{with_state};
 ghost use Rattle.trace.specs.Bytes.{AppendsBeginning};
-ghost use Rattle.jvmx.specs.Evaluation.{IsFault, evaluated as said_of, evaluated_program as program_said, classes_from, result_text, value_text, zeros_from, IsClassesFault, WroteBeginning};
+ghost use Rattle.jvmx.specs.Evaluation.{IsFault, NamesFile, evaluated as said_of, evaluated_program as program_said, classes_from, result_text, value_text, zeros_from, IsClassesFault, WroteBeginning};
 ghost use Rattle.jvmx.specs.declared.eval.EvalFault.TheVariants.{Link, Machine as NoMachine, Memory, Output};
 
 use class_file::{ReadError, read};
-use jvms::class_file::ClassFile;
-use jvms::machine::{Entry, Limits, Status};
-use jvms::value::Value;
+use jvms_file::class_file::ClassFile;
+use jvms_machine::machine::{Entry, Limits, Status};
+use jvms_machine::value::Value;
 use linker::{LinkFault, link};
 use machine::{Machine, MachineFault, is_enabled};
 use program::Program;
@@ -114,15 +114,13 @@ fn read_class(alloc: Global, bytes: &[u8]) -> Result<ClassFile, ReadError>
 fn read_all(alloc: Global, files: &[Vec<u8>]) -> Result<Vec<ClassFile>, EvalFault>
     ensures classes { IfOk result (λ classes. classes_from 0 (map (λ f. f.items) files.now) ≡ Ok classes.items) }
     ensures fault { IfErr result (λ fault. IsClassesFault fault (classes_from 0 (map (λ f. f.items) files.now))) }
+    ensures named { IfErr result (λ fault. NamesFile (length files.now) fault) }
 {
     let mut classes = Vec::new(alloc);
-    for bytes in files {
+    for (file, bytes) in files.iter().enumerate() {
         match read_class(alloc, bytes.as_slice()) {
             Ok(class) => classes.push(class)?,
-            Err(error) => {
-                let file = classes.len();
-                return Err(EvalFault::Class { file, error });
-            }
+            Err(error) => return Err(EvalFault::Class { file, error }),
         }
     }
     Ok(classes)
@@ -151,6 +149,7 @@ fn take_turns(alloc: Global, machine: &mut Machine<'_>, most: u64) -> Result<u64
 fn run_entry(alloc: Global, program: &Program, entry: &Entry) -> Result<Evaluated, EvalFault>
     ensures ok { IfOk result (λ e. program_said program.now entry.now ≡ Ok e) }
     ensures fault { IfErr result (λ fault. IsFault fault (program_said program.now entry.now)) }
+    ensures named { IfErr result (λ fault. NamesFile 0 fault) }
     ensures quiet { IfErr result (λ fault. fault ≢ EvalFault.Output) }
 {
     let mut machine = Machine::new(alloc, program, DEFAULT_LIMITS, entry)?;
@@ -185,6 +184,7 @@ fn write_result<W: ByteOut>(
     ensures count { OnOk result (W.failures output.new ≡ W.failures output.old) }
     ensures beginning { IsErrOf result EvalFault.Output → AppendsBeginning (W.written output.old) (W.written output.new) (result_text value) }
     ensures failed { IsErrOf result EvalFault.Output → W.failures output.new ≡ W.failures output.old + 1 }
+    ensures named { IfErr result (λ fault. NamesFile 0 fault) }
     ensures untouched { IfErr result (λ fault. fault ≢ EvalFault.Output → (fault ≡ EvalFault.Memory) × (output.new ≡ output.old)) }
 {
     let Some(value) = value else {
@@ -209,8 +209,9 @@ pub fn eval<W: ByteOut>(
     // The result's line was written, or nothing where there is none.
     ensures written { IfOk result (λ e. Appends (W.written output.old) (W.written output.new) (result_text e.result)) }
     ensures count { OnOk result (W.failures output.new ≡ W.failures output.old) }
-    // A fault comes only where its condition stands.
+    // A fault comes only where its condition stands, and that of a class file names one of these.
     ensures fault { IfErr result (λ fault. IsFault fault (said_of (map (λ f. f.items) classes.now) entry.now)) }
+    ensures named { IfErr result (λ fault. NamesFile (length classes.now) fault) }
     ensures untouched { IfErr result (λ fault. fault ≢ EvalFault.Output → output.new ≡ output.old) }
     // Output comes only where the writer failed; then a beginning of the line was written.
     ensures failed { IsErrOf result EvalFault.Output → W.failures output.new ≡ W.failures output.old + 1 }

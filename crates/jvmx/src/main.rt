@@ -1,21 +1,18 @@
 //! The program `jvmx`: runs Java class files, one turn of one thread at a time.
 #![tactic(auto)]
 
-mod entry;
 mod eval;
 mod files;
-mod help;
 mod perform;
 mod refusal;
 #[cfg(test)]
 mod tests;
-mod words;
 
 ghost use Rattle.std.specs.Prelude.{◌≡◌, ◌<◌};
 
 use crate::files::SystemFiles;
 use crate::perform::perform;
-use crate::words::WordsFault;
+use command_line::WordsFault;
 use std::env;
 use std::marker::Brand;
 use std::process::ExitCode;

@@ -2,10 +2,9 @@
 
 use crate::eval::eval;
 use crate::files::Files;
-use crate::help::VERSION;
 use crate::refusal::Refusal;
-use crate::words::{Command, EvalWords, command_of};
-use jvms::machine::Status;
+use command_line::{Command, EvalWords, VERSION, command_of};
+use jvms_machine::machine::Status;
 use std::alloc::Global;
 use trace::{ByteIn, ByteOut};
 

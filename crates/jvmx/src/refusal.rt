@@ -2,8 +2,8 @@
 
 use crate::eval::EvalFault;
 use crate::files::FileFault;
-use crate::words::{EvalWords, WordsFault};
 use class_file::{ClassFault, ReadError};
+use command_line::{EvalWords, WordsFault};
 use linker::LinkFault;
 use machine::MachineFault;
 use std::alloc::{AllocError, AllocFailed};

@@ -11,10 +11,10 @@ use Rattle.std.proofs.lemmas.List.Folds.{list_any-append}
 use Rattle.std.proofs.lemmas.List.Sums.{fails_before_first}
 use Rattle.std.proofs.lemmas.Map.Keys.{IsDistinct-push}
 use Rattle.std.proofs.lemmas.Map.Made.{IsDistinct-from_count}
-use Rattle.jvms.specs.declared.program.Class.{Class}
-use Rattle.jvms.specs.Names.{same_text}
-use Rattle.jvms.specs.Results.{◌>>=◌}
-use Rattle.jvms.specs.BuiltIn.{built_in_classes, is_built_in}
+use Rattle.jvms_program.specs.declared.program.Class.{Class}
+use Rattle.jvms_file.specs.Names.{same_text}
+use Rattle.jvms_file.specs.Results.{◌>>=◌}
+use Rattle.jvms_program.specs.BuiltIn.{built_in_classes, is_built_in}
 use Rattle.linker.specs.declared.fault.LinkFault.{LinkFault}
 use Rattle.linker.specs.Linking.{names_of, repeats, repeated_name, built_in_name, later, refused, refusal, HaveDistinctNames}
 

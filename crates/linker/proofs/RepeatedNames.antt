@@ -5,8 +5,11 @@ use Rattle.std.proofs.lemmas.Bool.{cases_eq}
 use Rattle.std.proofs.lemmas.Cmp.{nat_list_eq_equiv}
 use Rattle.std.proofs.lemmas.List.{get_or-map, take_more, length-map}
 use Rattle.std.proofs.lemmas.List.Folds.{list_any-append}
-use Rattle.jvms.specs.declared.program.Class.{Class}
-use Rattle.jvms.specs.Names.{same_text}
+use Rattle.std.proofs.lemmas.Map.Text.{is_eq-slice_cmp}
+use Rattle.std.specs.Cmp.Lexicographic.{slice_cmp}
+use Rattle.std.specs.Ordering.{nat_cmp, is_eq}
+use Rattle.jvms_program.specs.declared.program.Class.{Class}
+use Rattle.jvms_file.specs.Names.{same_text}
 use Rattle.linker.specs.Linking.{names_of, repeats, repeated_name}
 
 -- ---- The first number of a range that passes a test
@@ -44,13 +47,14 @@ or_last false false = refl
 pub names_within : (classes : List Class) (i : ℕ) → i < length classes → i < length (names_of classes)
 names_within classes i within = rw (length-map classes (λ (x : Class). x.name)) within
 
-pub seen_more : (names : List (List ℕ)) (i : ℕ) (name q : List ℕ) (seen : Bool) → i < length names → get_or names i [] ≡ name → seen ≡ list_any (same_text q) (take i names) → cond (same_text name q) true seen ≡ list_any (same_text q) (take (i + 1) names)
+pub seen_more : (names : List (List ℕ)) (i : ℕ) (name q : List ℕ) (seen : Bool) → i < length names → get_or names i [] ≡ name → seen ≡ list_any (same_text q) (take i names) → cond (is_eq (slice_cmp nat_cmp name q)) true seen ≡ list_any (same_text q) (take (i + 1) names)
 seen_more names i name q seen within is when =
-    rw (take_more names i [] within)
+    rw (is_eq-slice_cmp name q)
+    (rw (take_more names i [] within)
     (rw (list_any-append (same_text q) (take i names) (get_or names i [] ∷ []))
     (rw is
     (rw (← when)
-    (rw (nat_list_eq_equiv.symm name q) (or_last (same_text q name) seen)))))
+    (rw (nat_list_eq_equiv.symm name q) (or_last (same_text q name) seen))))))
 
 -- ---- The first place
 

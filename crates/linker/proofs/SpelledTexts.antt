@@ -3,12 +3,12 @@ use Rattle.std.proofs.Common.{◌≡◌, ℕ, zero, suc, ◌-◌, ◌<◌, List,
 use Rattle.std.proofs.lemmas.Option.{none-some, same_Some, slice_get-map}
 use Rattle.std.specs.Option.{option_and_then, option_map, unwrap_or}
 use Rattle.std.specs.Prelude.{slice_get}
-use Rattle.jvms.specs.declared.class_file.Constant.{Constant}
-use Rattle.jvms.specs.declared.descriptor.FieldType.{FieldType}
-use Rattle.jvms.specs.declared.descriptor.MethodType.{MethodType}
-use Rattle.jvms.specs.ConstantPool.{entry, utf8_of, utf8_at}
-use Rattle.jvms.specs.Descriptors.{field_type_of, field_type_from, method_type_of}
-use Rattle.jvms.specs.Meaning.{field_type, method_type}
+use Rattle.jvms_file.specs.declared.class_file.Constant.{Constant}
+use Rattle.jvms_file.specs.declared.descriptor.FieldType.{FieldType}
+use Rattle.jvms_file.specs.declared.descriptor.MethodType.{MethodType}
+use Rattle.jvms_file.specs.ConstantPool.{entry, utf8_of, utf8_at}
+use Rattle.jvms_file.specs.Descriptors.{field_type_of, field_type_from, method_type_of}
+use Rattle.jvms_file.specs.Descriptors.{field_type, method_type}
 use Rattle.linker.specs.declared.spelled.Spelled.{Spelled}
 use Rattle.linker.specs.Spelled.{spelled, spelled_of}
 

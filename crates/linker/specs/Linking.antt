@@ -2,13 +2,13 @@
 -- test is made of all classes, in order, before the next.
 use Rattle.std.specs.Prelude.{◌≡◌, ℕ, Bool, true, false, not, ◌||◌, List, [], ◌∷◌, map, length, take, Option, Some, None, Result, Ok, Err, slice_index_or}
 use Rattle.std.specs.List.{find, list_any, position, range_with_len, IsDistinct}
-use Rattle.jvms.specs.declared.class_file.ClassFile.{ClassFile}
-use Rattle.jvms.specs.declared.program.Class.{Class}
-use Rattle.jvms.specs.Results.{◌>>=◌}
-use Rattle.jvms.specs.Names.{same_text}
-use Rattle.jvms.specs.BuiltIn.{object, is_built_in}
-use Rattle.jvms.specs.Meaning.{meaning}
-use Rattle.jvms.specs.Program.{program_of}
+use Rattle.jvms_file.specs.declared.class_file.ClassFile.{ClassFile}
+use Rattle.jvms_program.specs.declared.program.Class.{Class}
+use Rattle.jvms_file.specs.Results.{◌>>=◌}
+use Rattle.jvms_file.specs.Names.{same_text}
+use Rattle.jvms_program.specs.BuiltIn.{object, is_built_in}
+use Rattle.jvms_program.specs.Meaning.{meaning}
+use Rattle.jvms_program.specs.Program.{program_of}
 use Rattle.linker.specs.declared.fault.LinkFault.{LinkFault}
 use Rattle.linker.specs.declared.fault.LinkFault.TheVariants as fault
 

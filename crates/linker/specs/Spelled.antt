@@ -1,9 +1,9 @@
 -- What a text of a constant pool gives: itself, and the types that it is the descriptor of.
 use Rattle.std.specs.Prelude.{ℕ, List, Option}
 use Rattle.std.specs.Option.{option_map}
-use Rattle.jvms.specs.declared.class_file.Constant.{Constant}
-use Rattle.jvms.specs.ConstantPool.{utf8_of}
-use Rattle.jvms.specs.Meaning.{field_type, method_type}
+use Rattle.jvms_file.specs.declared.class_file.Constant.{Constant}
+use Rattle.jvms_file.specs.ConstantPool.{utf8_of}
+use Rattle.jvms_file.specs.Descriptors.{field_type, method_type}
 use Rattle.linker.specs.declared.spelled.Spelled.{Spelled}
 
 abbrev pub spelled : List ℕ → Spelled

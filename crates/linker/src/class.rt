@@ -1,16 +1,16 @@
 //! What a class file means: a class of a program (JVMS 4.1).
 
 ghost use Rattle.std.specs.Prelude.{◌≡◌, ◌==◌, None, Some, IfOk, if◌then◌else◌, map};
-ghost use Rattle.jvms.specs.Meaning.{class_text, kind_of, meaning};
+ghost use Rattle.jvms_program.specs.Meaning.{class_text, kind_of, meaning};
 
 use crate::field::fields_of;
 use crate::method::methods_of;
 use crate::texts::Texts;
 use const_pool::Pool;
 use descriptor::Flags;
-use jvms::class_file::ClassFile;
-use jvms::program::{Class, ClassKind};
-use jvms::shared::Text;
+use held::shared::Text;
+use jvms_file::class_file::ClassFile;
+use jvms_program::program::{Class, ClassKind};
 use std::alloc::{AllocError, Global};
 
 /// Which sort of class these access flags say (JVMS table 4.1-A).
@@ -39,7 +39,7 @@ fn superclass_of(texts: &Texts, number: u16) -> Result<Option<Text>, AllocError>
 }
 
 /// The class of a program that a class file means: itself, with texts in place of pool numbers.
-#[tactic(auto, unfolding(jvms::specs::Meaning::meaning))]
+#[tactic(auto, unfolding(jvms_program::specs::Meaning::meaning))]
 pub fn meaning(alloc: Global, file: ClassFile) -> Result<Class, AllocError>
     ensures { IfOk result (λ c. c ≡ meaning file) }
 {

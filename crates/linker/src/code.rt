@@ -2,13 +2,13 @@
 
 ghost use Rattle.std.specs.Prelude.{◌≡◌, IfOk, map};
 ghost use Rattle.std.specs.Option.{option_map};
-ghost use Rattle.jvms.specs.Meaning.{catch_of, handler_of, body_of, code_of};
+ghost use Rattle.jvms_program.specs.Meaning.{catch_of, handler_of, body_of, code_of};
 
 use crate::instruction::instructions_of;
 use crate::texts::Texts;
-use jvms::class_file::{Code, Handler, MethodAttribute};
-use jvms::items::Items;
-use jvms::program::{Body, Catch, ExceptionHandler};
+use held::items::Items;
+use jvms_file::class_file::{Code, Handler, MethodAttribute};
+use jvms_program::program::{Body, Catch, ExceptionHandler};
 use std::alloc::{AllocError, Global};
 
 /// What a handler of this catch_type catches: all for 0.

@@ -1,14 +1,14 @@
 //! Fields (JVMS 4.5).
 
 ghost use Rattle.std.specs.Prelude.{◌≡◌, IfOk, map};
-ghost use Rattle.jvms.specs.Meaning.{constant_of, field_of};
+ghost use Rattle.jvms_program.specs.Meaning.{constant_of, field_of};
 
 use crate::loadable::loadable_of;
 use crate::texts::Texts;
 use descriptor::Flags;
-use jvms::class_file::{FieldAttribute, FieldInfo};
-use jvms::items::Items;
-use jvms::program::{Field, Loadable};
+use held::items::Items;
+use jvms_file::class_file::{FieldAttribute, FieldInfo};
+use jvms_program::program::{Field, Loadable};
 use std::alloc::{AllocError, Global};
 
 /// What the first ConstantValue among attributes names (JVMS 4.7.2), if there is one.

@@ -1,15 +1,15 @@
 //! Instructions with what they name in place of pool entries (JVMS 6.5).
 
 ghost use Rattle.std.specs.Prelude.{◌≡◌, IfOk, map};
-ghost use Rattle.jvms.specs.Meaning.{instruction_of};
+ghost use Rattle.jvms_program.specs.Meaning.{instruction_of};
 
 use crate::loadable::loadable_of;
 use crate::reference::{field_reference_of, method_reference_of};
 use crate::texts::{Texts, copied};
-use jvms::boxed::Boxed;
-use jvms::insn::{Insn, LookupSwitch, TableSwitch};
-use jvms::items::Items;
-use jvms::program::Instruction;
+use held::boxed::Boxed;
+use held::items::Items;
+use jvms_file::insn::{Insn, LookupSwitch, TableSwitch};
+use jvms_program::program::Instruction;
 use std::alloc::{AllocError, Global};
 
 /// The same cases of a tableswitch.

@@ -12,12 +12,10 @@ mod method;
 mod reference;
 mod refusals;
 mod spelled;
-#[cfg(test)]
-mod tests;
 mod texts;
 
 pub use class::meaning;
 pub use fault::LinkFault;
-pub use jvms::class_file::ClassFile;
+pub use jvms_file::class_file::ClassFile;
 pub use linking::link;
 pub use program::Program;

@@ -1,14 +1,14 @@
 //! Linking (JVMS 5.3).
 
 ghost use Rattle.std.specs.Prelude.{◌≡◌, IfOk, map};
-ghost use Rattle.jvms.specs.Meaning.{meaning};
+ghost use Rattle.jvms_program.specs.Meaning.{meaning};
 ghost use Rattle.linker.specs.Linking.{Answers, HaveDistinctNames, linked, refusal};
 
 use crate::class::meaning;
 use crate::fault::LinkFault;
 use crate::refusals::{built_in_name, later, repeated_name};
-use jvms::class_file::ClassFile;
-use jvms::program::Class;
+use jvms_file::class_file::ClassFile;
+use jvms_program::program::Class;
 use program::Program;
 use std::alloc::{AllocError, Global};
 
@@ -42,7 +42,7 @@ fn check(alloc: Global, classes: &[Class]) -> Result<(), LinkFault>
 
 /// The program of class files with the built-in classes (JVMS 5.3), or the first test that one of their
 /// classes fails, want of memory aside.
-#[tactic(auto, unfolding(crate::specs::Linking::linked, jvms::specs::Program::program_of))]
+#[tactic(auto, unfolding(crate::specs::Linking::linked, jvms_program::specs::Program::program_of))]
 pub fn link(alloc: Global, files: Vec<ClassFile>) -> Result<Program, LinkFault>
     // The built-in classes and those of the files in order, or the first test that fails.
     ensures exact { Answers result (linked files.items) }

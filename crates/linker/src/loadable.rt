@@ -1,12 +1,12 @@
 //! What instructions load from the constant pool (JVMS 6.5 ldc, ldc2_w) and fields begin with (JVMS 4.7.2).
 
 ghost use Rattle.std.specs.Prelude.{◌≡◌, IfOk};
-ghost use Rattle.jvms.specs.ConstantPool.{entry};
-ghost use Rattle.jvms.specs.Meaning.{loadable_of};
+ghost use Rattle.jvms_file.specs.ConstantPool.{entry};
+ghost use Rattle.jvms_program.specs.Meaning.{loadable_of};
 
 use crate::texts::Texts;
 use const_pool::Constant;
-use jvms::program::Loadable;
+use jvms_program::program::Loadable;
 use std::alloc::AllocError;
 
 /// What an entry gives that is loaded; where a number names no such entry, the int 0.

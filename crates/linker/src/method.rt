@@ -1,17 +1,17 @@
 //! Methods (JVMS 4.6).
 
 ghost use Rattle.std.specs.Prelude.{◌≡◌, IfOk, map};
-ghost use Rattle.jvms.specs.Members.{is_initializer};
-ghost use Rattle.jvms.specs.Meaning.{throws_of, flags_of, method_of};
+ghost use Rattle.jvms_file.specs.Members.{is_initializer};
+ghost use Rattle.jvms_program.specs.Meaning.{throws_of, flags_of, method_of};
 
 use crate::code::body_among;
 use crate::texts::Texts;
 use const_pool::Pool;
 use descriptor::{Flags, is_initializer_name};
-use jvms::class_file::{MethodAttribute, MethodInfo};
-use jvms::items::Items;
-use jvms::program::{Method, MethodFlags};
-use jvms::shared::Text;
+use held::items::Items;
+use held::shared::Text;
+use jvms_file::class_file::{MethodAttribute, MethodInfo};
+use jvms_program::program::{Method, MethodFlags};
 use std::alloc::{AllocError, Global};
 
 /// The classes that the first Exceptions among attributes lists (JVMS 4.7.5).

@@ -1,12 +1,12 @@
 //! Fields and methods that instructions name (JVMS 5.1).
 
 ghost use Rattle.std.specs.Prelude.{◌≡◌, IfOk};
-ghost use Rattle.jvms.specs.ConstantPool.{entry};
-ghost use Rattle.jvms.specs.Meaning.{field_reference, field_reference_of, method_reference, method_reference_of};
+ghost use Rattle.jvms_file.specs.ConstantPool.{entry};
+ghost use Rattle.jvms_program.specs.Meaning.{field_reference, field_reference_of, method_reference, method_reference_of};
 
 use crate::texts::Texts;
 use const_pool::Constant;
-use jvms::program::{FieldReference, MethodReference};
+use jvms_program::program::{FieldReference, MethodReference};
 use std::alloc::AllocError;
 
 /// The field of a class, by a NameAndType entry.

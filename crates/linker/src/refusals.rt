@@ -3,11 +3,11 @@
 ghost use Rattle.std.specs.Prelude.{◌≡◌, IfOk};
 ghost use Rattle.linker.specs.Linking.{built_in_name, extends_object, is_later, later, names_of, repeated_name};
 
-use jvms::program::Class;
-use jvms::shared::Text;
+use held::shared::Text;
+use jvms_program::program::Class;
 use program::{OBJECT, is_built_in, same_text};
 use std::alloc::{AllocError, Global};
-use std::collections::HashSet;
+use std::collections::BTreeSet;
 
 /// The first class with the name of a built-in class.
 pub(crate) fn built_in_name(classes: &[Class]) -> Option<usize>
@@ -44,11 +44,12 @@ pub(crate) fn later(classes: &[Class]) -> Option<usize>
     classes.iter().position(|class| is_later(class))
 }
 
-/// The first class with the name of one before it.
+/// The first class with the name of one before it. The names stand in a tree, so that none can be chosen that
+/// are found slowly.
 pub(crate) fn repeated_name(alloc: Global, classes: &[Class]) -> Result<Option<usize>, AllocError>
     ensures { IfOk result (λ place. place ≡ repeated_name (names_of classes.now)) }
 {
-    let mut names = HashSet::new(alloc);
+    let mut names = BTreeSet::new(alloc);
     for (place, class) in classes.iter().enumerate() {
         if !names.insert(class.name.as_slice())? {
             return Ok(Some(place));

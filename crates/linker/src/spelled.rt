@@ -3,15 +3,15 @@
 
 ghost use Rattle.std.specs.Prelude.{◌≡◌, [], map, IfOk};
 ghost use Rattle.std.specs.Option.{option_map};
-ghost use Rattle.jvms.specs.ConstantPool.{utf8_of};
-ghost use Rattle.jvms.specs.Meaning.{field_type as field_type_or_int, method_type as method_type_or_none};
+ghost use Rattle.jvms_file.specs.ConstantPool.{utf8_of};
+ghost use Rattle.jvms_file.specs.Descriptors.{field_type as field_type_or_int, method_type as method_type_or_none};
 ghost use Rattle.linker.specs.Spelled.{spelled, spelled_of as spelled_of_entry};
 
 use const_pool::Constant;
 use descriptor::{DescriptorFault, field_type, method_type, parse_field, parse_method};
-use jvms::descriptor::{FieldType, MethodType};
-use jvms::items::Items;
-use jvms::shared::{Shared, Text};
+use held::items::Items;
+use held::shared::{Shared, Text};
+use jvms_file::descriptor::{FieldType, MethodType};
 use std::alloc::{AllocError, Global};
 
 /// A text and its types; those of a text that is no descriptor are those of the empty text.

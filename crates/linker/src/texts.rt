@@ -2,14 +2,14 @@
 
 ghost use Rattle.std.specs.Prelude.{◌≡◌, IfOk, map, slice_get};
 ghost use Rattle.std.specs.Option.{option_and_then, option_copied, option_map};
-ghost use Rattle.jvms.specs.ConstantPool.{utf8_at};
-ghost use Rattle.jvms.specs.Meaning.{text_of, class_text, name_and_type};
+ghost use Rattle.jvms_file.specs.ConstantPool.{utf8_at};
+ghost use Rattle.jvms_program.specs.Meaning.{text_of, class_text, name_and_type};
 ghost use Rattle.linker.specs.Spelled.{spelled};
 
 use crate::spelled::{Spelled, all_spelled, spelled_by_nothing};
 use const_pool::{Constant, Pool};
-use jvms::items::Items;
-use jvms::shared::Text;
+use held::items::Items;
+use held::shared::Text;
 use std::alloc::{AllocError, Global};
 use std::marker::Model;
 
@@ -25,7 +25,7 @@ pub(crate) struct Texts {
 
 impl Model for Texts {
     ghost use Rattle.std.specs.Prelude.{List, [], ◌≡◌, map};
-    ghost use Rattle.jvms.specs.declared.class_file.Constant.{Constant};
+    ghost use Rattle.jvms_file.specs.declared.class_file.Constant.{Constant};
     ghost use Rattle.linker.specs.Spelled.{spelled as spelled_text, spelled_of};
 
     ghost Value = { List Constant };

@@ -5,18 +5,18 @@ use Rattle.std.specs.List.{list_all}
 use Rattle.std.proofs.lemmas.Bool.{ne_eqb, eq-eqb, eqb-true}
 use Rattle.std.proofs.lemmas.List.{append_assoc}
 use Rattle.std.proofs.lemmas.List.Concat.{flat_map-cons}
-use Rattle.jvms.specs.declared.descriptor.Primitive.TheVariants as primitive
-use Rattle.jvms.specs.declared.descriptor.Element.{Element}
-use Rattle.jvms.specs.declared.descriptor.Element.TheVariants as element
-use Rattle.jvms.specs.declared.descriptor.FieldType.{FieldType}
-use Rattle.jvms.specs.declared.descriptor.ResultType.TheVariants as result_type
-use Rattle.jvms.specs.declared.descriptor.MethodType.{MethodType}
-use Rattle.jvms.specs.Descriptors.{field_text, element_text, result_text, method_type_of}
-use Rattle.jvms.specs.Meaning.{method_type}
-use Rattle.jvms.specs.declared.machine.Entry.{Entry}
-use Rattle.jvms.specs.declared.machine.Entry.TheVariants as entry
-use Rattle.jvms.specs.Run.{is_int_type, takes_arguments}
-use Rattle.jvms.proofs.DescriptorLaws.{method_is_spelled}
+use Rattle.jvms_file.specs.declared.descriptor.Primitive.TheVariants as primitive
+use Rattle.jvms_file.specs.declared.descriptor.Element.{Element}
+use Rattle.jvms_file.specs.declared.descriptor.Element.TheVariants as element
+use Rattle.jvms_file.specs.declared.descriptor.FieldType.{FieldType}
+use Rattle.jvms_file.specs.declared.descriptor.ResultType.TheVariants as result_type
+use Rattle.jvms_file.specs.declared.descriptor.MethodType.{MethodType}
+use Rattle.jvms_file.specs.Descriptors.{field_text, element_text, result_text, method_type_of}
+use Rattle.jvms_file.specs.Descriptors.{method_type}
+use Rattle.jvms_machine.specs.declared.machine.Entry.{Entry}
+use Rattle.jvms_machine.specs.declared.machine.Entry.TheVariants as entry
+use Rattle.jvms_machine.specs.Start.{is_int_type, takes_arguments}
+use Rattle.jvms_file.proofs.DescriptorLaws.{method_is_spelled}
 use Rattle.machine.specs.Entries.{is_int_letter, has_letters, takes_ints}
 
 suc_is_not_zero : (n : ℕ) → (suc n == 0) ≡ false

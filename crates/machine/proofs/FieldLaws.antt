@@ -7,16 +7,16 @@ use Rattle.std.specs.Cmp.Lexicographic.{same_text as texts_are_same}
 use Rattle.std.proofs.lemmas.Bool.{and_parts}
 use Rattle.std.proofs.lemmas.List.{drop_all, reverse-append}
 use Rattle.std.proofs.lemmas.List.Concat.{flat_map-append}
-use Rattle.jvms.specs.declared.value.Value.{Value}
-use Rattle.jvms.specs.declared.value.Value.TheVariants as value
-use Rattle.jvms.specs.declared.program.Class.{Class}
-use Rattle.jvms.specs.declared.program.Field.{Field}
-use Rattle.jvms.specs.declared.trace.FieldKey.{FieldKey}
-use Rattle.jvms.specs.Names.{same_text}
-use Rattle.jvms.specs.Program.{class_named}
-use Rattle.jvms.specs.Resolution.{chain, names_class}
-use Rattle.jvms.specs.State.{default_value, field_key, fields_where, instance_fields, static_fields}
-use Rattle.jvms.specs.Run.{is_system_out, opening_static}
+use Rattle.jvms_machine.specs.declared.value.Value.{Value}
+use Rattle.jvms_machine.specs.declared.value.Value.TheVariants as value
+use Rattle.jvms_program.specs.declared.program.Class.{Class}
+use Rattle.jvms_program.specs.declared.program.Field.{Field}
+use Rattle.jvms_program.specs.declared.key.FieldKey.{FieldKey}
+use Rattle.jvms_file.specs.Names.{same_text}
+use Rattle.jvms_program.specs.Program.{class_named}
+use Rattle.jvms_program.specs.Resolution.{chain, names_class}
+use Rattle.jvms_machine.specs.State.{default_value, field_key, fields_where, instance_fields, static_fields}
+use Rattle.jvms_machine.specs.Opening.{is_system_out, opening_static}
 use Rattle.program.proofs.PlaceLaws.{IsNamed, chain_named}
 use Rattle.machine.specs.Views.{same_key, value_of, is_static_or_not, is_declared}
 

@@ -2,12 +2,12 @@
 use Rattle.std.proofs.Common.{◌≡◌, ◌≢◌, ℕ, zero, suc, ◌<◌, ◌≤◌, List, Option, Some, None, refl, sym, ap, ◌∙◌, arith}
 use Rattle.std.specs.Option.{option_and_then, option_map}
 use Rattle.std.proofs.lemmas.Option.{none-some, same_Some}
-use Rattle.jvms.specs.declared.program.Class.{Class}
-use Rattle.jvms.specs.declared.trace.FieldKey.{FieldKey}
-use Rattle.jvms.specs.declared.value.Value.{Value}
-use Rattle.jvms.specs.State.{Object, object_at, class_of, instance_fields}
-use Rattle.jvms.specs.Run.{opening_heap}
-use Rattle.machine.specs.Views.{class_at, value_of, field_of, length_of, element_of, units_of, named_by, monitor_at}
+use Rattle.jvms_program.specs.declared.program.Class.{Class}
+use Rattle.jvms_program.specs.declared.key.FieldKey.{FieldKey}
+use Rattle.jvms_machine.specs.declared.value.Value.{Value}
+use Rattle.jvms_machine.specs.State.{Object, object_at, class_of, instance_fields}
+use Rattle.jvms_machine.specs.Opening.{opening_heap}
+use Rattle.machine.specs.Views.{class_at, value_of, field_of, length_of, element_of, units_of, named_by}
 
 -- References 1 to 3 lead to instances.
 pub no_instance : (program : List Class) (r : ℕ) (key : FieldKey) → 3 < r → None ≡ option_and_then (field_of key) (object_at (opening_heap program) r)
@@ -66,11 +66,3 @@ no_class_object program (suc (suc zero)) = refl
 no_class_object program (suc (suc (suc zero))) = refl
 no_class_object program (suc (suc (suc (suc zero)))) = refl
 no_class_object program (suc (suc (suc (suc (suc r))))) = refl
-
-pub no_monitor : (program : List Class) (r : ℕ) → None ≡ monitor_at (opening_heap program) r
-no_monitor program zero = refl
-no_monitor program (suc zero) = refl
-no_monitor program (suc (suc zero)) = refl
-no_monitor program (suc (suc (suc zero))) = refl
-no_monitor program (suc (suc (suc (suc zero)))) = refl
-no_monitor program (suc (suc (suc (suc (suc r))))) = refl

@@ -1,6 +1,6 @@
 -- What an entry asks of a descriptor, told from its text.
 use Rattle.std.specs.Prelude.{ℕ, zero, suc, Bool, false, ◌==◌, ◌&&◌, ◌||◌, List, [], ◌∷◌, is_some}
-use Rattle.jvms.specs.Descriptors.{method_type_of}
+use Rattle.jvms_file.specs.Descriptors.{method_type_of}
 
 -- I, B, C, S or Z.
 abbrev pub is_int_letter : ℕ → Bool

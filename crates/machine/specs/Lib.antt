@@ -1,9 +1,9 @@
-pub mod Kept
-pub mod Threads
-pub mod Plans
-pub mod Machine
+pub mod Decided
 pub mod Entries
+pub mod Machine
+pub mod Marks
+pub mod Runs
 pub mod Started
 pub mod Statuses
-pub mod Runs
+pub mod Tops
 pub mod Views

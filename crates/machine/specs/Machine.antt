@@ -1,21 +1,17 @@
 -- What contracts see of a machine.
-use Rattle.std.specs.Prelude.{◌≡◌, ℕ, ◌≤◌, ◌++◌, List, [], length, map, Option, Some, None, IsTrue, slice_get}
-use Rattle.std.specs.List.{AllByRecursion}
-use Rattle.jvms.specs.declared.machine.Limits.{Limits}
-use Rattle.jvms.specs.declared.machine.Outcome.{Outcome}
-use Rattle.jvms.specs.declared.program.Class.{Class}
-use Rattle.jvms.specs.declared.trace.Item.{Item}
-use Rattle.jvms.specs.State.{State, Thread, Frame, not_begun, in_progress, done, erroneous, body_at, static_fields, Sound}
-use Rattle.jvms.specs.State as state
-use Rattle.jvms.specs.Rows.{Row}
-use Rattle.jvms.specs.Turn.{Start, IsStart, turn}
-use Rattle.jvms.specs.Run.{are_limits, opening_heap, opening_static}
-use Rattle.machine.specs.declared.thread.StackFrame.{StackFrame}
-use Rattle.machine.specs.declared.thread.StackFrame.TheVariants as stack_frame
-use Rattle.machine.specs.declared.initialisation.Initialisation.{Initialisation}
-use Rattle.machine.specs.declared.initialisation.Initialisation.TheVariants as initialisation
-use Rattle.machine.specs.Threads.{thread_of}
-use Rattle.machine.specs.Plans.{KeptMachine}
+use Rattle.std.specs.Prelude.{◌≡◌, ℕ, ◌≤◌, ◌++◌, List, [], length, Option, Some, None, IsTrue, slice_get}
+use Rattle.jvms_machine.specs.declared.machine.Limits.{Limits}
+use Rattle.jvms_machine.specs.declared.machine.Outcome.{Outcome}
+use Rattle.jvms_machine.specs.declared.action.Action.{Action}
+use Rattle.jvms_machine.specs.declared.action.Decision.{Decision}
+use Rattle.jvms_program.specs.declared.program.Body.{Body}
+use Rattle.jvms_program.specs.declared.program.Class.{Class}
+use Rattle.jvms_machine.specs.declared.trace.Item.{Item}
+use Rattle.jvms_machine.specs.State.{State, Thread, Sound}
+use Rattle.jvms_machine.specs.Start.{Start, IsStart}
+use Rattle.jvms_machine.specs.Limits.{are_limits}
+use Rattle.jvms_machine.specs.Actions.{applied_to}
+use Rattle.jvms_machine.specs.Turn.{Row, decide, turn}
 
 -- A machine: its program, the limits, where it starts, and its state.
 pub record Machine : Type 0 where
@@ -24,43 +20,17 @@ pub record Machine : Type 0 where
   pub start : Start
   pub state : State
 
-abbrev pub initialisation_of : Initialisation → state.Initialisation
-initialisation_of initialisation.NotBegun = not_begun
-initialisation_of (initialisation.InProgress thread) = in_progress thread
-initialisation_of initialisation.Done = done
-initialisation_of initialisation.Erroneous = erroneous
-
-abbrev pub state_of : KeptMachine → State
-state_of m =
-    record {
-      heap = opening_heap m.program;
-      statics = map opening_static (static_fields m.program);
-      initialisations = map initialisation_of m.initialisations;
-      threads = map thread_of m.threads;
-      elements = 0;
-      output = [];
-      result = m.result;
-    }
-
-abbrev pub machine_of : KeptMachine → Machine
-machine_of m = record { program = m.program; limits = m.limits; start = m.start; state = state_of m }
-
--- Each call's code is its method's.
-abbrev pub IsCoded : List Class → StackFrame → Type 0
-IsCoded program (stack_frame.Call c) = body_at program c.frame.method ≡ Some c.body
-IsCoded program (stack_frame.Initialisation class called) = Unit {0}
-
-abbrev pub AreCoded : KeptMachine → Type 0
-AreCoded m = AllByRecursion (λ t. AllByRecursion (IsCoded m.program) t.frames) m.threads
-
 -- What holds of every machine.
-pub record IsMachine (m : KeptMachine) : Type 0 where
-  pub coded : AreCoded m
+pub record IsMachine (m : Machine) : Type 0 where
   pub limits : IsTrue (are_limits m.limits)
   pub start : IsStart m.start
-  pub sound : Sound m.program m.limits (state_of m)
+  pub sound : Sound m.program m.limits m.state
 
 -- ---- Turns
+
+-- What a thread's turn comes to.
+abbrev pub decision_of : Machine → ℕ → Decision Body
+decision_of m t = decide m.program m.limits m.start m.state t
 
 -- The row of a thread's turn.
 abbrev pub row_of : Machine → ℕ → Row
@@ -69,10 +39,9 @@ row_of m t = turn m.program m.limits m.start m.state t
 abbrev pub with_state : Machine → State → Machine
 with_state m s = record m { state = s }
 
--- The turn was made by its row: the outcome, the machine after it, and the items behind those before.
-abbrev pub IsTurn : Machine → ℕ → Outcome → Machine → List Item → List Item → Type 0
-IsTurn m t o after items_before items_after =
-    (o ≡ (row_of m t).outcome) × (after ≡ with_state m (row_of m t).state) × (items_after ≡ items_before ++ (row_of m t).items)
+-- The machine after an action of a thread's turn.
+abbrev pub after : Machine → ℕ → Action Body → Machine
+after m t act = with_state m (applied_to m.start m.state t act)
 
 -- How many frames a thread has.
 abbrev pub height : Option Thread → ℕ

@@ -1,11 +1,11 @@
 -- The start of a machine, as its entry says.
-use Rattle.std.specs.Prelude.{◌≡◌, MatchResult, Result, Ok, Err, List}
-use Rattle.jvms.specs.declared.machine.Entry.{Entry}
-use Rattle.jvms.specs.declared.machine.Limits.{Limits}
-use Rattle.jvms.specs.declared.machine.MethodNumber.{MethodNumber}
-use Rattle.jvms.specs.declared.program.Class.{Class}
-use Rattle.jvms.specs.Turn.{Start}
-use Rattle.jvms.specs.Run.{entry_arguments, made, opening, no_entry, no_limits}
+use Rattle.std.specs.Prelude.{◌≡◌, MatchResult, Result, Ok, Err, List, IsTrue, is_ok}
+use Rattle.jvms_machine.specs.declared.machine.Entry.{Entry}
+use Rattle.jvms_machine.specs.declared.machine.Limits.{Limits}
+use Rattle.jvms_program.specs.declared.number.MethodNumber.{MethodNumber}
+use Rattle.jvms_program.specs.declared.program.Class.{Class}
+use Rattle.jvms_machine.specs.Start.{Start, entry_arguments}
+use Rattle.jvms_machine.specs.Opening.{made, opening, no_entry, no_limits}
 use Rattle.machine.specs.declared.fault.MachineFault.{MachineFault}
 use Rattle.machine.specs.declared.fault.MachineFault.TheVariants as fault
 use Rattle.machine.specs.Machine.{Machine}
@@ -17,12 +17,11 @@ with_arguments e n = record { method = n; arguments = entry_arguments e }
 abbrev pub opened : List Class → Limits → Start → Machine
 opened program limits start = record { program = program; limits = limits; start = start; state = opening program }
 
--- What a machine that isn't made says: the entry is looked at first, then the limits. Without memory there
--- may be a start all the same.
+-- What a machine that isn't made says: the entry is looked at first, then the limits, then there is no memory.
 abbrev pub IsNotMade : List Class → Limits → Entry → MachineFault → Type 0
 IsNotMade program limits e fault.NoEntry = made program limits e ≡ Err no_entry
 IsNotMade program limits e fault.Limits = made program limits e ≡ Err no_limits
-IsNotMade program limits e fault.Memory = Unit {0}
+IsNotMade program limits e fault.Memory = IsTrue (is_ok (made program limits e))
 
 -- A machine is made at its opening, where it starts as the entry says.
 abbrev pub IsNew : List Class → Limits → Entry → Result Machine MachineFault → Type 0

@@ -2,16 +2,14 @@
 use Rattle.std.specs.Prelude.{ℕ, zero, suc, Bool, true, false, not, ◌&&◌, List, length, Option, Some, None, slice_get}
 use Rattle.std.specs.Option.{option_and_then, option_map}
 use Rattle.std.specs.Map.{lookup}
-use Rattle.jvms.specs.declared.value.Value.{Value}
-use Rattle.jvms.specs.declared.program.Field.{Field}
-use Rattle.jvms.specs.declared.trace.FieldKey.{FieldKey}
-use Rattle.jvms.specs.Names.{same_text}
-use Rattle.jvms.specs.State.{Cell, Object, instance, array, text, class_object, Thread, Frame, call, initialisation, object_at, class_of}
-use Rattle.jvms.specs.State as state
-use Rattle.machine.specs.declared.state.objects.Hold.{Hold}
+use Rattle.jvms_machine.specs.declared.value.Value.{Value}
+use Rattle.jvms_program.specs.declared.program.Field.{Field}
+use Rattle.jvms_program.specs.declared.key.FieldKey.{FieldKey}
+use Rattle.jvms_file.specs.Names.{same_text}
+use Rattle.jvms_machine.specs.declared.state.StackFrame.TheVariants as stack_frame
+use Rattle.jvms_machine.specs.State.{Object, instance, array, text, class_object, Thread, Frame, object_at, class_of}
 use Rattle.machine.specs.declared.state.threads.FrameView.{FrameView}
 use Rattle.machine.specs.declared.state.threads.FrameView.TheVariants as frame_view
-use Rattle.machine.specs.Kept.{method_frame}
 use Rattle.machine.specs.Machine.{Machine}
 
 -- ---- Threads
@@ -26,8 +24,8 @@ frame_at m t depth = option_and_then (λ x. slice_get x.frames depth) (thread_at
 
 -- The frame that a view shows.
 abbrev pub shown : FrameView → Frame
-shown (frame_view.Call frame) = call (method_frame frame.now)
-shown (frame_view.Initialisation class called) = initialisation class called
+shown (frame_view.Call frame) = stack_frame.Call frame.now
+shown (frame_view.Initialisation class called) = stack_frame.Initialisation class called
 
 -- ---- Objects
 
@@ -36,7 +34,7 @@ abbrev pub asked : {A : Type 0} → (Object → Option A) → Machine → ℕ �
 asked {A} part m r = option_and_then part (object_at m.state.heap r)
 
 -- The class of the object of a reference.
-abbrev pub class_at : List Cell → ℕ → Option (List ℕ)
+abbrev pub class_at : List Object → ℕ → Option (List ℕ)
 class_at heap r = option_map class_of (object_at heap r)
 
 abbrev pub same_key : FieldKey → FieldKey → Bool
@@ -71,17 +69,6 @@ abbrev pub named_by : Object → Option (List ℕ)
 named_by (class_object name) = Some name
 named_by _ = None
 
-abbrev pub cell_at : List Cell → ℕ → Option Cell
-cell_at heap zero = None
-cell_at heap (suc i) = slice_get heap i
-
--- How the monitor of the object of a reference is held, if it is.
-abbrev pub monitor_at : List Cell → ℕ → Option state.Hold
-monitor_at heap r = option_and_then (λ c. c.monitor) (cell_at heap r)
-
-abbrev pub hold_of : Hold → state.Hold
-hold_of h = record { owner = h.owner; count = h.count }
-
 -- ---- What a class declares
 
 -- Whether a field is static, or whether it isn't.
@@ -95,7 +82,7 @@ is_declared static key f = is_static_or_not static f && (same_text f.name key.na
 
 -- ---- Ends of threads
 
-abbrev pub uncaught_in : List Cell → Bool → Option ℕ → Option (List ℕ)
+abbrev pub uncaught_in : List Object → Bool → Option ℕ → Option (List ℕ)
 uncaught_in heap true (Some exception) = class_at heap exception
 uncaught_in heap _ _ = None
 

@@ -1,23 +1,22 @@
-//! What calls and returns ask of a method, and initialisation of a class (JVMS 2.6.4, 5.5; 6.5 ireturn).
+//! Calls (JVMS 2.6.1, 2.6.4): so far the first call of thread 0, which is the entry's.
 
-ghost use Rattle.std.specs.Prelude.{◌≡◌, option_copied};
+ghost use Rattle.std.specs.Prelude.{◌≡◌, Some, option_copied};
 ghost use Rattle.std.specs.List.{list_any};
-ghost use Rattle.jvms.specs.RowsCalls.{is_outside_element, is_outside_result, is_outside as outside, enterable_body as enterable, has_static_constant as static_constant, has_initializer as initializer, asked_superclass as asked, kind_of_element as element_kind, kind_of_type as type_kind, gives_kind as gives, gives_nothing as nothing};
+ghost use Rattle.jvms_program.specs.Program.{method_at};
+ghost use Rattle.jvms_machine.specs.Calls.{is_outside_element as outside_element, is_outside_result as outside_result, is_outside as outside, enterable_body as enterable, enter_decision as enters, entry_decision as enters_entry, first_call_decision as calls_first};
+ghost use Rattle.machine.specs.Decided.{seen};
 
-use jvms::descriptor::{Element, FieldType, MethodType, Primitive, ResultType};
-use jvms::insn::Kind;
-use jvms::program::{Body, Class, ClassKind, Method};
-use program::{Program, declared_number};
-
-/// The name of the method that initialises a class, `<clinit>`.
-const INITIALIZER: [u16; 8] = [60, 99, 108, 105, 110, 105, 116, 62];
-
-/// Its descriptor, `()V`.
-const INITIALIZER_DESCRIPTOR: [u16; 3] = [40, 41, 86];
+use crate::decision::{bad, never_seen};
+use crate::parts::Parts;
+use crate::thread::Thread;
+use jvms_file::descriptor::{Element, FieldType, MethodType, Primitive, ResultType};
+use jvms_machine::action::{Action, Decision};
+use jvms_machine::machine::BadCause;
+use jvms_program::program::{Body, Method};
 
 /// A float, double or long, or an array of them.
 fn is_outside_element(element: &Element) -> bool
-    ensures { result ≡ is_outside_element element.now }
+    ensures { result ≡ outside_element element.now }
 {
     matches!(
         element,
@@ -26,7 +25,7 @@ fn is_outside_element(element: &Element) -> bool
 }
 
 fn is_outside_result(given: &ResultType) -> bool
-    ensures { result ≡ is_outside_result given.now }
+    ensures { result ≡ outside_result given.now }
 {
     match given {
         ResultType::Void => false,
@@ -35,7 +34,7 @@ fn is_outside_result(given: &ResultType) -> bool
 }
 
 fn has_outside_parameter(parameters: &[FieldType]) -> bool
-    ensures { result ≡ list_any (λ p. is_outside_element p.element) parameters.now }
+    ensures { result ≡ list_any (λ p. outside_element p.element) parameters.now }
 {
     parameters
         .iter()
@@ -43,14 +42,14 @@ fn has_outside_parameter(parameters: &[FieldType]) -> bool
 }
 
 /// Whether a method's descriptor names a float, a double or a long anywhere.
-pub(crate) fn is_outside(t: &MethodType) -> bool
+fn is_outside(t: &MethodType) -> bool
     ensures { result ≡ outside t.now }
 {
     has_outside_parameter(t.parameters.as_slice()) || is_outside_result(&t.result)
 }
 
 /// The code of a method that can be entered: one that is neither native nor synchronized.
-pub(crate) fn enterable_body(method: &Method) -> Option<&Body>
+fn enterable_body(method: &Method) -> Option<&Body>
     ensures { option_copied result ≡ enterable method.now }
 {
     if method.flags.is_synchronized || method.flags.is_native {
@@ -59,71 +58,44 @@ pub(crate) fn enterable_body(method: &Method) -> Option<&Body>
     method.body.as_ref()
 }
 
-/// Whether a static field of a class has a constant.
-pub(crate) fn has_static_constant(class: &Class) -> bool
-    ensures { result ≡ static_constant class.now }
-{
-    class
-        .fields
-        .as_slice()
-        .iter()
-        .any(|field| field.is_static && field.constant.is_some())
-}
-
-/// Whether a class has a `<clinit>()V`.
-pub(crate) fn has_initializer(class: &Class) -> bool
-    ensures { result ≡ initializer class.now }
-{
-    declared_number(class, &INITIALIZER, &INITIALIZER_DESCRIPTOR).is_some()
-}
-
-/// The number of the superclass that initialisation asks for: an interface asks for none.
-pub(crate) fn asked_superclass(program: &Program, class: &Class) -> Option<usize>
-    ensures { result ≡ asked program.now class.now }
-{
-    if matches!(class.kind, ClassKind::Interface) {
-        return None;
+impl<'p> Parts<'p> {
+    /// The entry's method is entered, if its locals have room for the arguments.
+    fn enter_decision(&self, body: Option<&'p Body>) -> Decision<&'p Body>
+        ensures { seen result ≡ enters self.now.start (option_copied body.entry) }
+    {
+        let Some(code) = body else {
+            return Decision::Later;
+        };
+        if usize::from(code.max_locals) < self.arguments.len() {
+            return bad(BadCause::Local);
+        }
+        Decision::Makes(Action::Enters {
+            method: self.method,
+            code,
+        })
     }
-    let superclass = class.superclass.as_ref()?;
-    program.class_number(superclass.as_slice())
-}
 
-fn kind_of_element(element: &Element) -> Kind
-    ensures { result ≡ element_kind element.now }
-{
-    match element {
-        Element::Object(_) => Kind::Reference,
-        Element::Primitive(Primitive::Long) => Kind::Long,
-        Element::Primitive(Primitive::Float) => Kind::Float,
-        Element::Primitive(Primitive::Double) => Kind::Double,
-        Element::Primitive(_) => Kind::Int,
+    /// The entry's method is called.
+    fn entry_decision(&self, t: usize, thread: &Thread, method: &'p Method) -> Decision<&'p Body>
+        ensures { seen result ≡ enters_entry self.now.program self.now.limits self.now.start self.now.state t thread.now (Some method.now) }
+    {
+        if is_outside(method.method_type.get()) {
+            return bad(BadCause::OutOfProfile);
+        }
+        let entered = self.enter_decision(enterable_body(method));
+        self.asking(t, thread, self.method.class, entered)
     }
-}
 
-/// The kind of value that a type's values are on the stack.
-fn kind_of_type(t: &FieldType) -> Kind
-    ensures { result ≡ type_kind t.now }
-{
-    if t.dimensions == 0 {
-        kind_of_element(&t.element)
-    } else {
-        Kind::Reference
+    /// The first call of a thread.
+    pub(crate) fn first_call_decision(&self, t: usize, thread: &Thread) -> Decision<&'p Body>
+        ensures { seen result ≡ calls_first self.now.program self.now.limits self.now.start self.now.state t thread.now }
+    {
+        if t != 0 {
+            return Decision::Later;
+        }
+        match self.program.method(self.method) {
+            None => never_seen(),
+            Some(method) => self.entry_decision(t, thread, method),
+        }
     }
-}
-
-/// Whether a method gives such a value.
-pub(crate) fn gives_kind(given: &ResultType, kind: Kind) -> bool
-    ensures { result ≡ gives given.now kind }
-{
-    match given {
-        ResultType::Void => false,
-        ResultType::Value(t) => kind_of_type(t) == kind,
-    }
-}
-
-/// Whether a method gives no value.
-pub(crate) fn gives_nothing(given: &ResultType) -> bool
-    ensures { result ≡ nothing given.now }
-{
-    matches!(given, ResultType::Void)
 }

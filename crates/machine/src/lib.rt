@@ -2,29 +2,27 @@
 //! table.
 #![tactic(auto)]
 
-mod call_frame;
+mod actions;
 mod calls;
-mod entry;
+mod decision;
 mod fault;
 mod initialisation;
 mod limits;
 mod machine;
-mod making;
 mod opening;
 mod parts;
-mod plan;
-mod planning;
+mod returns;
 mod run;
+mod start;
 mod state;
 mod status;
-#[cfg(test)]
-mod tests;
 mod thread;
+mod turn;
 
 pub use fault::MachineFault;
-pub use initialisation::Initialisation;
-pub use jvms::machine::{Entry, Limits, Outcome, Status, ThreadId};
+pub use jvms_machine::machine::{Entry, Limits, Outcome, Status, ThreadId};
+pub use jvms_machine::state::{Hold, Initialisation};
 pub use machine::{Machine, admits};
 pub use run::RunStop;
-pub use state::{FrameView, Hold};
+pub use state::FrameView;
 pub use status::is_enabled;

@@ -1,9 +1,9 @@
 //! The limits of a run.
 
 ghost use Rattle.std.specs.Prelude.{◌≡◌};
-ghost use Rattle.jvms.specs.Run.{are_limits as in_range};
+ghost use Rattle.jvms_machine.specs.Limits.{are_limits as in_range};
 
-use jvms::machine::Limits;
+use jvms_machine::machine::Limits;
 
 /// The most objects, elements, threads and frames.
 const MOST: Limits = Limits {

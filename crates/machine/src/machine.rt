@@ -1,16 +1,17 @@
 //! The machine.
 
 ghost use Rattle.std.specs.Prelude.{◌≡◌, ◌++◌, length, IsOk, IfOk, OnOk, OnErr, is_ok};
-ghost use Rattle.jvms.specs.Run.{made as made_by};
+ghost use Rattle.jvms_machine.specs.Opening.{made as made_by};
+ghost use Rattle.jvms_machine.specs.State.{Sound};
 ghost use Rattle.machine.specs.Machine.{row_of, with_state, TakesNone};
 ghost use Rattle.machine.specs.Started.{IsNew};
 
-use crate::entry::start_of;
 use crate::fault::MachineFault;
 use crate::limits::are_limits;
 use crate::parts::Parts;
-use jvms::machine::{Entry, Limits, Outcome, ThreadId};
-use jvms::value::Value;
+use crate::start::start_of;
+use jvms_machine::machine::{Entry, Limits, Outcome, ThreadId};
+use jvms_machine::value::Value;
 use program::Program;
 use std::alloc::{AllocError, Global};
 use std::marker::Model;
@@ -33,18 +34,18 @@ pub struct Machine<'p> {
 }
 
 impl<'p> Model for Machine<'p> {
-    ghost use Rattle.machine.specs.Machine.{Machine as Seen, machine_of, IsMachine};
+    ghost use Rattle.machine.specs.Machine.{Machine as Seen, IsMachine};
 
     ghost Value = { Seen };
 
-    ghost view = { λ m. machine_of m.parts };
+    ghost view = { λ m. m.parts };
 
     ghost invariant = { λ m. IsMachine m.parts };
 }
 
 impl<'p> Machine<'p> {
-    /// A machine at the opening of a run. `NoEntry` comes before `Limits`, and without memory there is
-    /// `Memory`.
+    /// A machine at the opening of a run. `NoEntry` comes before `Limits`, and `Memory` only where neither of
+    /// them stands.
     pub fn new(
         alloc: Global,
         program: &'p Program,
@@ -81,15 +82,21 @@ impl<'p> Machine<'p> {
     pub fn peek(&self, t: ThreadId) -> Outcome
         ensures { result ≡ (row_of self.now t).outcome }
     {
-        self.parts.plan(t as usize).outcome()
+        self.parts.peek(t as usize)
+    }
+
+    /// The state of every machine is sound. Nothing is done.
+    pub fn state_is_sound(&self)
+        ensures { Sound self.now.program self.now.limits self.now.state }
+    {
+        let _ = &self.parts;
     }
 
     /// The bytes that were written so far.
     pub fn output(&self) -> &[u8]
         ensures { result.now ≡ self.now.state.output }
     {
-        let _ = &self.parts;
-        &[]
+        self.parts.output()
     }
 
     /// What thread 0's entry method returned, if it has returned a value.

@@ -1,17 +1,18 @@
 //! The opening of a machine.
 
 ghost use Rattle.std.specs.Prelude.{◌≡◌, ◌++◌, ◌∷◌, [], map, IfOk};
-ghost use Rattle.jvms.specs.declared.value.Value.TheVariants as value;
-ghost use Rattle.jvms.specs.Run.{entry_arguments};
-ghost use Rattle.machine.specs.Plans.{first_initialisation as first, opened_machine};
-ghost use Rattle.machine.specs.Started.{with_arguments};
+ghost use Rattle.jvms_machine.specs.declared.value.Value.TheVariants as value;
+ghost use Rattle.jvms_machine.specs.Start.{entry_arguments};
+ghost use Rattle.jvms_machine.specs.Opening.{opening_initialisation};
+ghost use Rattle.machine.specs.Started.{with_arguments, opened};
 
-use crate::initialisation::Initialisation;
 use crate::parts::Parts;
 use crate::thread::Thread;
-use jvms::machine::{Entry, Limits, MethodNumber};
-use jvms::program::Class;
-use jvms::value::Value;
+use jvms_machine::machine::{Entry, Limits};
+use jvms_machine::state::Initialisation;
+use jvms_machine::value::Value;
+use jvms_program::number::MethodNumber;
+use jvms_program::program::Class;
 use program::{Program, is_built_in};
 use std::alloc::{AllocError, Global};
 
@@ -40,8 +41,8 @@ fn arguments(alloc: Global, entry: &Entry) -> Result<Vec<Value>, AllocError>
 }
 
 /// Built-in classes are initialised, and no other is.
-fn first_initialisation(class: &Class) -> Initialisation
-    ensures { result ≡ first class.now }
+fn initialisation(class: &Class) -> Initialisation
+    ensures { result ≡ opening_initialisation class.now }
 {
     if is_built_in(class.name.as_slice()) {
         Initialisation::Done
@@ -52,17 +53,18 @@ fn first_initialisation(class: &Class) -> Initialisation
 
 /// How far the initialisation of each class has come at the opening.
 fn initialisations(alloc: Global, classes: &[Class]) -> Result<Vec<Initialisation>, AllocError>
-    ensures { IfOk result (λ marks. marks.items ≡ map first classes.now) }
+    ensures { IfOk result (λ marks. marks.items ≡ map opening_initialisation classes.now) }
 {
     let mut marks = Vec::new(alloc);
     for class in classes {
-        marks.push(first_initialisation(class))?;
+        marks.push(initialisation(class))?;
     }
     Ok(marks)
 }
 
 impl<'p> Parts<'p> {
     /// The parts of a machine at its opening: thread 0 has no frame yet.
+    #[tactic(auto, unfolding(jvms_machine::specs::Opening::opening))]
     pub(crate) fn open(
         alloc: Global,
         program: &'p Program,
@@ -70,7 +72,7 @@ impl<'p> Parts<'p> {
         method: MethodNumber,
         entry: &Entry,
     ) -> Result<Parts<'p>, AllocError>
-        ensures { IfOk result (λ m. m ≡ opened_machine program.now limits (with_arguments entry.now method)) }
+        ensures { IfOk result (λ m. m ≡ opened program.now limits (with_arguments entry.now method)) }
     {
         let arguments = arguments(alloc, entry)?;
         let initialisations = initialisations(alloc, program.classes())?;

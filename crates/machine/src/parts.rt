@@ -2,16 +2,17 @@
 
 ghost use Rattle.std.specs.Prelude.{◌≡◌};
 
-use crate::initialisation::Initialisation;
 use crate::thread::Thread;
-use jvms::machine::{Limits, MethodNumber};
-use jvms::value::Value;
+use jvms_machine::machine::Limits;
+use jvms_machine::state::Initialisation;
+use jvms_machine::value::Value;
+use jvms_program::number::MethodNumber;
 use program::Program;
 use std::alloc::Global;
 use std::marker::Model;
 
-/// The parts of a machine. The heap, the static fields and the output are those of the opening until a row
-/// changes them.
+/// The parts of a machine, also in the middle of a turn. The heap, the static fields and the output are those of the
+/// opening until a row changes them.
 #[derive(Drop)]
 pub(crate) struct Parts<'p> {
     pub(crate) alloc: Global,
@@ -25,16 +26,26 @@ pub(crate) struct Parts<'p> {
 }
 
 impl<'p> Model for Parts<'p> {
-    ghost use Rattle.machine.specs.Plans.{KeptMachine};
+    ghost use Rattle.std.specs.Prelude.{map, []};
+    ghost use Rattle.jvms_machine.specs.State.{static_fields};
+    ghost use Rattle.jvms_machine.specs.Opening.{opening_heap, opening_static};
+    ghost use Rattle.machine.specs.Machine.{Machine as Seen};
 
-    ghost Value = { KeptMachine };
+    ghost Value = { Seen };
 
     ghost view = { λ m. record {
       program = m.program.now;
       limits = m.limits;
       start = record { method = m.method; arguments = m.arguments.items };
-      initialisations = m.initialisations.items;
-      threads = m.threads.items;
-      result = m.result;
+      state = record {
+        heap = opening_heap m.program.now;
+        monitors = [];
+        statics = map opening_static (static_fields m.program.now);
+        initialisations = m.initialisations.items;
+        threads = m.threads.items;
+        elements = 0;
+        output = [];
+        result = m.result;
+      };
     } };
 }

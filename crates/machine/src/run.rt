@@ -1,10 +1,10 @@
 //! Runs: the turns of a list of choices, one after another.
 
-ghost use Rattle.std.specs.Prelude.{◌≡◌, take, length, IfOk, IfErr};
+ghost use Rattle.std.specs.Prelude.{◌≡◌, ◌<◌, take, length, IfOk, IfErr};
 ghost use Rattle.machine.specs.Runs.{IsRun};
 
 use crate::machine::Machine;
-use jvms::machine::{Outcome, ThreadId};
+use jvms_machine::machine::{Outcome, ThreadId};
 use trace::Trace;
 
 /// Memory ran out in a run: as many turns were made as there are outcomes, and no more.
@@ -20,6 +20,7 @@ impl Machine<'_> {
     /// many choices as the `RunStop` has outcomes.
     pub fn run(&mut self, choices: &[ThreadId], trace: &mut Trace) -> Result<Vec<Outcome>, RunStop>
         ensures run { IfOk result (λ v. IsRun self.old choices.now v.items self.new trace.old trace.new) }
+        ensures fewer { IfErr result (λ s. length s.outcomes.items < length choices.now) }
         ensures stop { IfErr result (λ s. IsRun self.old (take (length s.outcomes.items) choices.now) s.outcomes.items self.new trace.old trace.new) }
     {
         let mut outcomes = Vec::new(self.parts.alloc);

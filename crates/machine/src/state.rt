@@ -1,8 +1,6 @@
 //! The parts of a machine's state.
 
 ghost use Rattle.std.specs.Prelude.{◌≡◌, slice_get};
-ghost use Rattle.std.specs.Option.{option_map};
-ghost use Rattle.machine.specs.Machine.{initialisation_of};
 ghost use Rattle.machine.specs.Views.{value_of};
 
 mod declared;
@@ -10,12 +8,11 @@ mod objects;
 mod opening;
 mod threads;
 
-use crate::initialisation::Initialisation;
 use crate::machine::Machine;
-use jvms::machine::Limits;
-use jvms::trace::FieldKey;
-use jvms::value::Value;
-pub use objects::Hold;
+use jvms_machine::machine::Limits;
+use jvms_machine::state::Initialisation;
+use jvms_machine::value::Value;
+use jvms_program::key::FieldKey;
 use program::Program;
 pub use threads::FrameView;
 
@@ -36,7 +33,7 @@ impl<'p> Machine<'p> {
 
     /// How far the initialisation of the class of a number has come (JVMS 5.5).
     pub fn initialisation(&self, class: usize) -> Option<Initialisation>
-        ensures { option_map initialisation_of result ≡ slice_get self.now.state.initialisations class }
+        ensures { result ≡ slice_get self.now.state.initialisations class }
     {
         self.parts.initialisations.as_slice().get(class).copied()
     }

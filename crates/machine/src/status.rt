@@ -2,12 +2,12 @@
 
 ghost use Rattle.std.specs.Prelude.{◌≡◌, drop};
 ghost use Rattle.std.specs.List.{list_all};
-ghost use Rattle.jvms.specs.Run.{is_enabled as enabled, is_bad as bad, status_of};
-ghost use Rattle.machine.specs.Statuses.{any_thread, status_by};
+ghost use Rattle.jvms_machine.specs.Status.{is_enabled as enabled, is_bad as bad, status_of};
+ghost use Rattle.machine.specs.Statuses.{any_thread};
 
 use crate::machine::Machine;
 use crate::parts::Parts;
-use jvms::machine::{Outcome, Status};
+use jvms_machine::machine::{Outcome, Status};
 
 /// Whether a thread whose next turn comes to this is enabled: the turn can be made.
 #[inline]
@@ -30,7 +30,7 @@ fn is_bad(outcome: Outcome) -> bool
 impl Parts<'_> {
     /// Whether all threads have ended.
     fn all_ended(&self) -> bool
-        ensures { result ≡ list_all (λ x. x.ended) self.now.threads }
+        ensures { result ≡ list_all (λ x. x.ended) self.now.state.threads }
     {
         self.threads
             .as_slice()
@@ -40,26 +40,28 @@ impl Parts<'_> {
 
     /// Whether a thread from number `t` on is enabled.
     fn any_enabled(&self, t: usize) -> bool
-        ensures { result ≡ any_thread enabled self.now t (drop t self.now.threads) }
+        ensures { result ≡ any_thread enabled self.now t (drop t self.now.state.threads) }
     {
         if t >= self.threads.len() {
             return false;
         }
-        is_enabled(self.plan(t).outcome()) || self.any_enabled(t + 1)
+        is_enabled(self.peek(t)) || self.any_enabled(t + 1)
     }
 
     /// Whether a thread from number `t` on can't go on.
     fn any_bad(&self, t: usize) -> bool
-        ensures { result ≡ any_thread bad self.now t (drop t self.now.threads) }
+        ensures { result ≡ any_thread bad self.now t (drop t self.now.state.threads) }
     {
         if t >= self.threads.len() {
             return false;
         }
-        is_bad(self.plan(t).outcome()) || self.any_bad(t + 1)
+        is_bad(self.peek(t)) || self.any_bad(t + 1)
     }
 
-    fn stands(&self) -> Status
-        ensures { result ≡ status_by self.now }
+    /// How the machine stands.
+    #[tactic(auto, using(crate::proofs::StatusLaws::any_is), unfolding(jvms_machine::specs::Status::status_of))]
+    fn status(&self) -> Status
+        ensures { result ≡ status_of self.now.program self.now.limits self.now.start self.now.state }
     {
         if self.all_ended() {
             Status::Finished
@@ -76,10 +78,9 @@ impl Parts<'_> {
 impl Machine<'_> {
     /// How the machine stands: finished, if all threads have ended; running, if one is enabled; stalled, if
     /// one can't go on; else deadlocked. It takes no memory.
-    #[tactic(auto, unfolding(jvms::specs::Run::status_of))]
     pub fn status(&self) -> Status
         ensures { result ≡ status_of self.now.program self.now.limits self.now.start self.now.state }
     {
-        self.parts.stands()
+        self.parts.status()
     }
 }

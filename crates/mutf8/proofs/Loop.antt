@@ -1,9 +1,9 @@
 -- Decoding unit after unit, as a loop does.
 use Rattle.std.proofs.Common.{◌≡◌, ℕ, suc, ◌+◌, ◌-◌, ◌<◌, ◌≤◌, List, [], ◌∷◌, ◌++◌, length, Some, None, Result, Ok, Err, refl, sym, ap, ◌∙◌, append_assoc, arith}
 use Rattle.std.proofs.lemmas.List.{append-nil, length-append}
-use Rattle.jvms.specs.Results.{◌>>=◌}
-use Rattle.jvms.specs.Texts.{unit_at, decoded_from}
-use Rattle.jvms.proofs.TextLaws.{decoded_from-unit, decoded_from-bad, decoded_from-nil, shorter_behind}
+use Rattle.jvms_file.specs.Results.{◌>>=◌}
+use Rattle.jvms_file.specs.Texts.{unit_at, decoded_from}
+use Rattle.jvms_file.proofs.TextLaws.{decoded_from-unit, decoded_from-bad, decoded_from-nil, shorter_behind}
 
 -- The units that were read before, and those that are still to be read.
 abbrev pub with_front : List ℕ → Result (List ℕ) ℕ → Result (List ℕ) ℕ

@@ -1,8 +1,8 @@
 -- What a reading that gives what decoding gives says of the spelling.
 use Rattle.std.proofs.Common.{ℕ, List, Result, Ok, Err}
 use Rattle.std.specs.Prelude.{IfOk, IfErr}
-use Rattle.jvms.specs.Texts.{Codes, decoded}
-use Rattle.jvms.proofs.TextLaws.{decoded_is_encoded, fault_is_first}
+use Rattle.jvms_file.specs.Texts.{Codes, decoded}
+use Rattle.jvms_file.proofs.TextLaws.{decoded_is_encoded, fault_is_first}
 use Rattle.mutf8.specs.declared.fault.Fault.{Fault}
 use Rattle.mutf8.specs.declared.fault.Fault.TheVariants.{BadUtf8, Memory}
 use Rattle.mutf8.specs.Reading.{Gives, Places}

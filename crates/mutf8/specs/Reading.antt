@@ -1,6 +1,6 @@
 -- What reading a text promises, apart from want of memory.
 use Rattle.std.specs.Prelude.{◌≡◌, ◌≢◌, ℕ, ◌<◌, List, ◌++◌, length, take, drop, Result, Ok, Err}
-use Rattle.jvms.specs.Texts.{unit_bytes, Codes}
+use Rattle.jvms_file.specs.Texts.{unit_bytes, Codes}
 use Rattle.mutf8.specs.declared.fault.Fault.{Fault}
 use Rattle.mutf8.specs.declared.fault.Fault.TheVariants.{BadUtf8, Memory}
 

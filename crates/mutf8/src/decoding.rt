@@ -1,7 +1,7 @@
 //! Reading a text from its bytes.
 
 ghost use Rattle.std.specs.Prelude.{◌≡◌, ◌≤◌, ◌<◌, ℕ, List, Ok, option_map, IfOk, IfErr};
-ghost use Rattle.jvms.specs.Texts.{Codes, is_continuation, after_lead_of_two, after_lead_of_three, unit_at, decoded};
+ghost use Rattle.jvms_file.specs.Texts.{Codes, is_continuation, after_lead_of_two, after_lead_of_three, unit_at, decoded};
 ghost use Rattle.mutf8.specs.Reading.{Gives, Places};
 
 use crate::Units;
@@ -57,7 +57,7 @@ fn unit_of_three(lead: u8, rest: &[u8]) -> Option<(u16, &[u8])>
 }
 
 /// The unit that the bytes begin with, and the bytes behind it.
-#[tactic(auto, unfolding(jvms::specs::Texts::unit_at))]
+#[tactic(auto, unfolding(jvms_file::specs::Texts::unit_at))]
 fn front_unit(bytes: &[u8]) -> Option<(u16, &[u8])>
     ensures { option_map (λ x. (x.0, x.1.now)) result ≡ unit_at bytes.now }
 {

@@ -1,7 +1,7 @@
 //! Writing the bytes of a text.
 
 ghost use Rattle.std.specs.Prelude.{◌≡◌, ◌++◌, OnOk, IfOk};
-ghost use Rattle.jvms.specs.Texts.{unit_bytes, encoded};
+ghost use Rattle.jvms_file.specs.Texts.{unit_bytes, encoded};
 
 use std::alloc::{AllocError, Global};
 
@@ -24,7 +24,7 @@ fn push_unit(bytes: &mut Vec<u8>, unit: u16) -> Result<(), AllocError>
 }
 
 /// The bytes of a text. Any units have some, so only memory can be wanting.
-#[tactic(auto, unfolding(jvms::specs::Texts::encoded))]
+#[tactic(auto, unfolding(jvms_file::specs::Texts::encoded))]
 pub fn encode(alloc: Global, units: &[u16]) -> Result<Vec<u8>, AllocError>
     ensures { IfOk result (λ v. v.items ≡ encoded units.now) }
 {

@@ -9,7 +9,7 @@ mod fault;
 pub use decoding::decode;
 pub use encoding::encode;
 pub use fault::Fault;
-use jvms::items::Items;
+use held::items::Items;
 
 /// A text: its 16-bit units in order.
 pub type Units = Items<u16>;

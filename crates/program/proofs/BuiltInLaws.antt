@@ -1,9 +1,9 @@
 -- The built-in classes by their names.
 use Rattle.std.proofs.Common.{◌≡◌, ℕ, Bool, true, false, ◌||◌, List, [], ◌∷◌, ◌++◌, drop, refl, sym, ◌∙◌}
 use Rattle.std.specs.List.{list_any}
-use Rattle.jvms.specs.declared.program.Class.{Class}
-use Rattle.jvms.specs.Names.{same_text}
-use Rattle.jvms.specs.BuiltIn.{throwable_classes, built_in_classes, is_built_in}
+use Rattle.jvms_program.specs.declared.program.Class.{Class}
+use Rattle.jvms_file.specs.Names.{same_text}
+use Rattle.jvms_program.specs.BuiltIn.{throwable_classes, built_in_classes, is_built_in}
 use Rattle.program.specs.Ordinary.{ordinary_classes}
 
 any_append : {X : Type 0} (p : X → Bool) (xs ys : List X) → list_any p (xs ++ ys) ≡ (list_any p xs || list_any p ys)

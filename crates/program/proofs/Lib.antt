@@ -3,3 +3,4 @@ pub mod MethodLaws
 mod NamedLaws
 pub mod PlaceLaws
 pub mod WalkLaws
+pub mod SearchLaws

@@ -1,10 +1,10 @@
 -- The method that a reference finds is located where the search for it ends.
 use Rattle.std.proofs.Common.{◌≡◌, ℕ, true, false, List, Option, Some}
-use Rattle.jvms.specs.declared.program.Class.{Class}
-use Rattle.jvms.specs.declared.program.MethodReference.{MethodReference}
-use Rattle.jvms.specs.Names.{is_constructor_name}
-use Rattle.jvms.specs.Program.{class_named}
-use Rattle.jvms.specs.Resolution.{first_in, class_method_order, interface_method_order, members_class, found_in_order, found_method}
+use Rattle.jvms_program.specs.declared.program.Class.{Class}
+use Rattle.jvms_program.specs.declared.program.MethodReference.{MethodReference}
+use Rattle.jvms_file.specs.Names.{is_constructor_name}
+use Rattle.jvms_program.specs.Program.{class_named}
+use Rattle.jvms_program.specs.Resolution.{first_in, class_method_order, interface_method_order, members_class, found_in_order, found_method}
 use Rattle.program.specs.Places.{IsMethodAt, Locates, method_place}
 use Rattle.program.proofs.PlaceLaws.{methods_located, method_located, interface_order_named, class_order_named, named_is}
 

@@ -1,11 +1,11 @@
 -- Resolution doesn't ask what a descriptor spells.
 use Rattle.std.proofs.Common.{◌≡◌, ℕ, Bool, List, ap, ◌∙◌}
-use Rattle.jvms.specs.declared.program.Class.{Class}
-use Rattle.jvms.specs.declared.program.MethodReference.{MethodReference}
-use Rattle.jvms.specs.declared.machine.Thrown.{Thrown}
+use Rattle.jvms_program.specs.declared.program.Class.{Class}
+use Rattle.jvms_program.specs.declared.program.MethodReference.{MethodReference}
+use Rattle.jvms_program.specs.declared.thrown.Thrown.{Thrown}
 use Rattle.std.specs.Prelude.{Result}
-use Rattle.jvms.specs.Meaning.{method_type}
-use Rattle.jvms.specs.Resolution.{MethodFound, resolved_method}
+use Rattle.jvms_file.specs.Descriptors.{method_type}
+use Rattle.jvms_program.specs.Resolution.{MethodFound, resolved_method}
 use Rattle.program.specs.declared.methods.Named.{Named}
 use Rattle.program.specs.Named.{reference}
 

@@ -3,10 +3,10 @@ use Rattle.std.proofs.Common.{◌≡◌, ℕ, zero, suc, Bool, true, false, cond
 use Rattle.std.proofs.lemmas.List.{drop_all}
 use Rattle.std.specs.Prelude.{is_some}
 use Rattle.std.specs.List.{flat_map, list_any}
-use Rattle.jvms.specs.Names.{same_text}
-use Rattle.jvms.specs.declared.program.Class.{Class}
-use Rattle.jvms.specs.Program.{class_named}
-use Rattle.jvms.specs.Resolution.{chain_within, ancestry_within, first_in}
+use Rattle.jvms_file.specs.Names.{same_text}
+use Rattle.jvms_program.specs.declared.program.Class.{Class}
+use Rattle.jvms_program.specs.Program.{class_named}
+use Rattle.jvms_program.specs.Resolution.{chain_within, ancestry_within, first_in}
 
 module _ {A : Type 0} (look : Class → Option A) where
   -- ---- One list behind another

@@ -1,3 +1,4 @@
 pub mod Named
 pub mod Ordinary
 pub mod Places
+pub mod Searches

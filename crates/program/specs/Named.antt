@@ -1,6 +1,6 @@
 -- A reference by its names.
-use Rattle.jvms.specs.declared.program.MethodReference.{MethodReference}
-use Rattle.jvms.specs.Meaning.{method_type}
+use Rattle.jvms_program.specs.declared.program.MethodReference.{MethodReference}
+use Rattle.jvms_file.specs.Descriptors.{method_type}
 use Rattle.program.specs.declared.methods.Named.{Named}
 
 -- The reference of these names.

@@ -1,7 +1,7 @@
 -- The built-in classes but for those below Throwable.
 use Rattle.std.specs.Prelude.{true, List, [], ◌∷◌, codes}
-use Rattle.jvms.specs.declared.program.Class.{Class}
-use Rattle.jvms.specs.BuiltIn.{object, object_class, class_with, interface_with, field, print_stream_class, thread_class, runnable_class, throwable_class}
+use Rattle.jvms_program.specs.declared.program.Class.{Class}
+use Rattle.jvms_program.specs.BuiltIn.{object, object_class, class_with, interface_with, field, print_stream_class, thread_class, runnable_class, throwable_class}
 
 abbrev pub ordinary_classes : List Class
 ordinary_classes =

@@ -2,8 +2,8 @@
 
 ghost use Rattle.std.specs.Prelude.{◌≡◌, IfOk};
 ghost use Rattle.std.specs.List.{list_any};
-ghost use Rattle.jvms.specs.Names.{same_text};
-ghost use Rattle.jvms.specs.BuiltIn.{built_in_classes, is_built_in};
+ghost use Rattle.jvms_file.specs.Names.{same_text};
+ghost use Rattle.jvms_program.specs.BuiltIn.{built_in_classes, is_built_in};
 ghost use Rattle.program.specs.Ordinary.{ordinary_classes};
 
 use crate::built_in::{
@@ -12,7 +12,7 @@ use crate::built_in::{
 };
 use crate::text::is_text;
 use crate::throwables::{BELOW, push_below, throwable_class};
-use jvms::program::Class;
+use jvms_program::program::Class;
 use std::alloc::{AllocError, Global};
 
 /// The names of the built-in classes but for those below Throwable.

@@ -1,15 +1,15 @@
 //! The classes that every program has.
 
 ghost use Rattle.std.specs.Prelude.{◌≡◌, ◌∷◌, [], codes, true, IfOk};
-ghost use Rattle.jvms.specs.BuiltIn.{object, class_with, interface_with, object_class, runnable_class, thread_class, print_stream_class, coded, field, load, return_void, target_field, call_run};
+ghost use Rattle.jvms_program.specs.BuiltIn.{object, class_with, interface_with, object_class, runnable_class, thread_class, print_stream_class, coded, field, load, return_void, target_field, call_run};
 
 use crate::code::{call_run, load, return_void, target_field};
 use crate::members::{abstracted, coded, field, native};
 use crate::text::text;
-use jvms::insn::{Branch, FieldUse};
-use jvms::items::Items;
-use jvms::program::{Class, ClassKind, Field, Instruction, Method};
-use jvms::shared::Text;
+use held::items::Items;
+use held::shared::Text;
+use jvms_file::insn::{Branch, FieldUse};
+use jvms_program::program::{Class, ClassKind, Field, Instruction, Method};
 use std::alloc::{AllocError, Global};
 
 /// The name of the class above all others.

@@ -2,7 +2,7 @@
 
 ghost use Rattle.std.specs.Prelude.{◌≡◌};
 ghost use Rattle.std.specs.Option.{option_map};
-ghost use Rattle.jvms.specs.Resolution.{class_type};
+ghost use Rattle.jvms_program.specs.Resolution.{class_type};
 ghost use Rattle.descriptor.specs.Scanning.{type_of};
 
 use descriptor::{Innermost, Spelled, field_in, is_array_name};

@@ -1,14 +1,14 @@
 //! Instructions of the built-in classes' methods.
 
 ghost use Rattle.std.specs.Prelude.{◌≡◌, IfOk};
-ghost use Rattle.jvms.specs.BuiltIn.{load, return_void, return_reference, field_insn, target_field, call_run, message_field};
+ghost use Rattle.jvms_program.specs.BuiltIn.{load, return_void, return_reference, field_insn, target_field, call_run, message_field};
 
 use crate::text::text;
 use descriptor::{field_type, method_type};
-use jvms::boxed::Boxed;
-use jvms::insn::{FieldUse, Invoke, Kind, LocalUse, ReturnInsn, Simple};
-use jvms::program::{FieldReference, Instruction, MethodReference};
-use jvms::shared::Shared;
+use held::boxed::Boxed;
+use held::shared::Shared;
+use jvms_file::insn::{FieldUse, Invoke, Kind, LocalUse, ReturnInsn, Simple};
+use jvms_program::program::{FieldReference, Instruction, MethodReference};
 use std::alloc::{AllocError, Global};
 
 /// Pushes the reference in a local.

@@ -1,13 +1,13 @@
 //! Whether a class is there.
 
 ghost use Rattle.std.specs.Prelude.{◌≡◌, is_some};
-ghost use Rattle.jvms.specs.Program.{class_named};
-ghost use Rattle.jvms.specs.Resolution.{class_exists};
+ghost use Rattle.jvms_program.specs.Program.{class_named};
+ghost use Rattle.jvms_program.specs.Resolution.{class_exists};
 
 use crate::class_type::class_type;
 use crate::lookup::named;
 use descriptor::Innermost;
-use jvms::program::Class;
+use jvms_program::program::Class;
 
 /// Whether there is a class of a name, which is no array's.
 fn is_there(classes: &[Class], name: &[u16]) -> bool

@@ -1,7 +1,7 @@
 //! Resolution of fields (JVMS 5.4.3.2).
 
 ghost use Rattle.std.specs.Prelude.{◌≡◌};
-ghost use Rattle.jvms.specs.Resolution.{found_field, resolved_field};
+ghost use Rattle.jvms_program.specs.Resolution.{found_field, resolved_field};
 ghost use Rattle.program.specs.Places.{IsFieldAt, Locates, Resolves};
 
 use crate::exists::class_exists;
@@ -10,15 +10,14 @@ use crate::look::DeclaredField;
 use crate::lookup::field_at;
 use crate::names::members_class;
 use crate::walk::first_in_ancestry;
-use jvms::machine::Thrown;
-use jvms::program::{Class, FieldReference};
+use jvms_program::program::{Class, FieldReference};
+use jvms_program::thrown::Thrown;
 
 /// The field that a reference finds.
 fn found_field(classes: &[Class], r: &FieldReference) -> Option<(usize, usize)>
     ensures { Locates (IsFieldAt classes.now) (found_field classes.now r.now) result }
 {
     let look = DeclaredField {
-        classes,
         name: r.name.as_slice(),
         descriptor: r.descriptor.as_slice(),
     };

@@ -18,8 +18,6 @@ mod order;
 mod resolve;
 mod select;
 mod subtypes;
-#[cfg(test)]
-mod tests;
 mod text;
 mod throwables;
 mod walk;

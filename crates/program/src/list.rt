@@ -1,15 +1,16 @@
 //! The list of a program's classes.
 
-ghost use Rattle.std.specs.Prelude.{◌≡◌, ◌++◌, IfOk, IsOk, None, option_copied, slice_get};
-ghost use Rattle.jvms.specs.BuiltIn.{built_in_classes};
-ghost use Rattle.jvms.specs.Program.{class_named, class_number, method_at, key_of};
+ghost use Rattle.std.specs.Prelude.{◌≡◌, ◌++◌, IfOk, IsOk, None, false, map, option_copied, slice_get};
+ghost use Rattle.std.specs.Option.{option_map, unwrap_or};
+ghost use Rattle.jvms_program.specs.BuiltIn.{built_in_classes, is_built_in};
+ghost use Rattle.jvms_program.specs.Program.{class_named, class_number, method_at, key_of};
 
-use crate::all::built_in_classes;
+use crate::all::{built_in_classes, is_built_in};
 use crate::lookup::{method_of, named, number_of};
-use jvms::items::Items;
-use jvms::machine::MethodNumber;
-use jvms::program::{Class, Method};
-use jvms::trace::MethodKey;
+use held::items::Items;
+use jvms_program::key::MethodKey;
+use jvms_program::number::MethodNumber;
+use jvms_program::program::{Class, Method};
 use std::alloc::{AllocError, Global};
 use std::marker::Model;
 
@@ -17,15 +18,31 @@ use std::marker::Model;
 #[derive(Debug, Drop)]
 pub struct Program {
     classes: Vec<Class>,
+    /// Whether each class is built in.
+    built_in: Vec<bool>,
 }
 
 impl Model for Program {
-    ghost use Rattle.std.specs.Prelude.{List};
-    ghost use Rattle.jvms.specs.declared.program.Class.{Class};
+    ghost use Rattle.std.specs.Prelude.{List, ◌≡◌, map};
+    ghost use Rattle.jvms_program.specs.declared.program.Class.{Class};
+    ghost use Rattle.jvms_program.specs.BuiltIn.{is_built_in};
 
     ghost Value = { List Class };
 
     ghost view = { λ p. p.classes.items };
+
+    ghost invariant = { λ p. p.built_in.items ≡ map (λ c. is_built_in c.name) p.classes.items };
+}
+
+/// Whether each of these classes is built in.
+fn built_in_marks(alloc: Global, classes: &[Class]) -> Result<Vec<bool>, AllocError>
+    ensures { IfOk result (λ marks. marks.items ≡ map (λ c. is_built_in c.name) classes.now) }
+{
+    let mut marks = Vec::with_capacity(alloc, classes.len())?;
+    for class in classes {
+        marks.push(is_built_in(class.name.as_slice()))?;
+    }
+    Ok(marks)
 }
 
 impl Program {
@@ -36,7 +53,8 @@ impl Program {
         let mut own = own;
         let mut classes = built_in_classes(alloc)?;
         classes.append(&mut own)?;
-        Ok(Program { classes })
+        let built_in = built_in_marks(alloc, classes.as_slice())?;
+        Ok(Program { classes, built_in })
     }
 
     /// The classes in order.
@@ -51,6 +69,13 @@ impl Program {
         ensures { option_copied result ≡ slice_get self.now number }
     {
         self.classes().get(number)
+    }
+
+    /// Whether the class of a number is built in; false where there is no such class.
+    pub fn is_built_in(&self, number: usize) -> bool
+        ensures { result ≡ unwrap_or (option_map (λ c. is_built_in c.name) (slice_get self.now number)) false }
+    {
+        self.built_in.get(number).copied().unwrap_or(false)
     }
 
     /// The class of a name.

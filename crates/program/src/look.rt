@@ -2,75 +2,65 @@
 
 ghost use Rattle.std.specs.Prelude.{◌≡◌, ℕ, List, Option, Some, None, if◌then◌else◌};
 ghost use Rattle.std.specs.List.{flat_map};
-ghost use Rattle.jvms.specs.declared.program.Class.{Class};
-ghost use Rattle.jvms.specs.Names.{same_text};
-ghost use Rattle.jvms.specs.Resolution.{ancestry, first_in};
-ghost use Rattle.program.specs.Places.{class_place, field_place, method_place, selectable_place};
+ghost use Rattle.jvms_program.specs.declared.program.Class.{Class};
+ghost use Rattle.jvms_file.specs.Names.{same_text};
+ghost use Rattle.jvms_program.specs.Resolution.{ancestry, first_in};
+ghost use Rattle.program.specs.Places.{field_in, method_in, placed, selectable_in};
 
-use crate::lookup::{declared_field_number, declared_number, number_of};
+use crate::lookup::{declared_field_number, declared_number};
 use crate::walk::{Look, first_in_ancestries};
 use descriptor::same_text;
-use jvms::program::Class;
-
-/// The number of a class of the program.
-fn place_of(classes: &[Class], class: &Class) -> usize
-    ensures { result ≡ class_place classes.now class.now }
-{
-    number_of(classes, class.name.as_slice()).unwrap_or(0)
-}
+use jvms_program::program::Class;
 
 /// A method of this name and descriptor.
 #[derive(Clone, Copy)]
 pub(crate) struct DeclaredMethod<'a> {
-    pub(crate) classes: &'a [Class],
     pub(crate) name: &'a [u16],
     pub(crate) descriptor: &'a [u16],
 }
 
 impl Look for DeclaredMethod<'_> {
-    ghost gives = { λ s c. method_place s.classes.now s.name.now s.descriptor.now c };
+    ghost gives = { λ s class c. method_in class s.name.now s.descriptor.now c };
 
-    fn look(&self, class: &Class) -> Option<(usize, usize)> {
-        let number = declared_number(class, self.name, self.descriptor)?;
-        Some((place_of(self.classes, class), number))
+    fn look(&self, number: usize, class: &Class) -> Option<(usize, usize)> {
+        let member = declared_number(class, self.name, self.descriptor)?;
+        Some((number, member))
     }
 }
 
 /// A method of this name and descriptor that is neither static nor private.
 #[derive(Clone, Copy)]
 pub(crate) struct Selectable<'a> {
-    pub(crate) classes: &'a [Class],
     pub(crate) name: &'a [u16],
     pub(crate) descriptor: &'a [u16],
 }
 
 impl Look for Selectable<'_> {
-    ghost gives = { λ s c. selectable_place s.classes.now s.name.now s.descriptor.now c };
+    ghost gives = { λ s class c. selectable_in class s.name.now s.descriptor.now c };
 
-    fn look(&self, class: &Class) -> Option<(usize, usize)> {
-        let number = declared_number(class, self.name, self.descriptor)?;
-        let method = class.methods.as_slice().get(number)?;
+    fn look(&self, number: usize, class: &Class) -> Option<(usize, usize)> {
+        let member = declared_number(class, self.name, self.descriptor)?;
+        let method = class.methods.as_slice().get(member)?;
         if method.flags.is_static || method.flags.is_private {
             return None;
         }
-        Some((place_of(self.classes, class), number))
+        Some((number, member))
     }
 }
 
 /// A field of this name and descriptor.
 #[derive(Clone, Copy)]
 pub(crate) struct DeclaredField<'a> {
-    pub(crate) classes: &'a [Class],
     pub(crate) name: &'a [u16],
     pub(crate) descriptor: &'a [u16],
 }
 
 impl Look for DeclaredField<'_> {
-    ghost gives = { λ s c. field_place s.classes.now s.name.now s.descriptor.now c };
+    ghost gives = { λ s class c. field_in class s.name.now s.descriptor.now c };
 
-    fn look(&self, class: &Class) -> Option<(usize, usize)> {
-        let number = declared_field_number(class, self.name, self.descriptor)?;
-        Some((place_of(self.classes, class), number))
+    fn look(&self, number: usize, class: &Class) -> Option<(usize, usize)> {
+        let member = declared_field_number(class, self.name, self.descriptor)?;
+        Some((number, member))
     }
 }
 
@@ -81,9 +71,9 @@ pub(crate) struct Named<'a> {
 }
 
 impl Look for Named<'_> {
-    ghost gives = { λ s c. if same_text c.name s.name.now then Some (0, 0) else None };
+    ghost gives = { λ s class c. if same_text c.name s.name.now then Some (0, 0) else None };
 
-    fn look(&self, class: &Class) -> Option<(usize, usize)> {
+    fn look(&self, _number: usize, class: &Class) -> Option<(usize, usize)> {
         if same_text(class.name.as_slice(), self.name) {
             Some((0, 0))
         } else {
@@ -100,9 +90,9 @@ pub(crate) struct InInterfaces<'a, L> {
 }
 
 impl<L: Look> Look for InInterfaces<'_, L> {
-    ghost gives = { λ s c. first_in (L.gives s.look.now) (flat_map (ancestry s.classes.now) c.interfaces) };
+    ghost gives = { λ s class c. first_in (placed s.classes.now (L.gives s.look.now)) (flat_map (ancestry s.classes.now) c.interfaces) };
 
-    fn look(&self, class: &Class) -> Option<(usize, usize)> {
+    fn look(&self, _number: usize, class: &Class) -> Option<(usize, usize)> {
         first_in_ancestries(self.classes, class.interfaces.as_slice(), self.look)
     }
 }

@@ -1,12 +1,13 @@
 //! Classes and members by their names.
 
-ghost use Rattle.std.specs.Prelude.{◌≡◌, option_copied, slice_get};
-ghost use Rattle.jvms.specs.Program.{class_named, class_number, declared_number, method_at};
-ghost use Rattle.program.specs.Places.{declared_field_number, field_at};
+ghost use Rattle.std.specs.Prelude.{◌≡◌, IfSome, option_copied, slice_get};
+ghost use Rattle.std.specs.Option.{option_map};
+ghost use Rattle.jvms_program.specs.Program.{class_named, class_number, declared_number, method_at};
+ghost use Rattle.program.specs.Places.{class_place, declared_field_number, field_at};
 
 use descriptor::same_text;
-use jvms::machine::MethodNumber;
-use jvms::program::{Class, Field, Method};
+use jvms_program::number::MethodNumber;
+use jvms_program::program::{Class, Field, Method};
 
 /// The number of a class's method of this name and descriptor: its place in the class's list.
 pub fn declared_number(class: &Class, name: &[u16], descriptor: &[u16]) -> Option<usize>
@@ -38,6 +39,18 @@ pub(crate) fn number_of(classes: &[Class], name: &[u16]) -> Option<usize>
     classes
         .iter()
         .position(|class| same_text(class.name.as_slice(), name))
+}
+
+/// The class of a name, with its number.
+#[tactic(auto, using(crate::proofs::PlaceLaws::found_by_number))]
+pub(crate) fn numbered<'a>(classes: &'a [Class], name: &[u16]) -> Option<(usize, &'a Class)>
+    ensures class { option_map (λ found. found.1.now) result ≡ class_named classes.now name.now }
+    ensures number { option_map (λ found. found.0) result ≡ class_number classes.now name.now }
+    ensures place { IfSome result (λ found. found.0 ≡ class_place classes.now found.1.now) }
+{
+    let number = number_of(classes, name)?;
+    let class = classes.get(number)?;
+    Some((number, class))
 }
 
 /// The class of a name.

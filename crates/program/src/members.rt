@@ -1,13 +1,13 @@
 //! Members of the built-in classes.
 
 ghost use Rattle.std.specs.Prelude.{◌≡◌, IfOk};
-ghost use Rattle.jvms.specs.BuiltIn.{method, coded, native, abstracted, field, no_flags};
+ghost use Rattle.jvms_program.specs.BuiltIn.{method, coded, native, abstracted, field, no_flags};
 
 use crate::text::text;
 use descriptor::{field_type, method_type};
-use jvms::items::Items;
-use jvms::program::{Body, Field, Instruction, Method, MethodFlags};
-use jvms::shared::Shared;
+use held::items::Items;
+use held::shared::Shared;
+use jvms_program::program::{Body, Field, Instruction, Method, MethodFlags};
 use std::alloc::{AllocError, Global};
 
 /// The flags of a method that has none.

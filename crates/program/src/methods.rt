@@ -1,18 +1,18 @@
 //! Resolution of methods (JVMS 5.4.3.3, 5.4.3.4).
 
 ghost use Rattle.std.specs.Prelude.{◌≡◌};
-ghost use Rattle.jvms.specs.Names.{is_constructor_name};
-ghost use Rattle.jvms.specs.Resolution.{names_interface, members_class, found_in_order, found_method};
+ghost use Rattle.jvms_file.specs.Names.{is_constructor_name};
+ghost use Rattle.jvms_program.specs.Resolution.{names_interface, members_class, found_in_order, found_method};
 ghost use Rattle.program.specs.Named.{reference};
 ghost use Rattle.program.specs.Places.{IsMethodAt, Locates};
 
 use crate::look::DeclaredMethod;
-use crate::lookup::named;
+use crate::lookup::{named, numbered};
 use crate::names::members_class;
 use crate::order::{first_for_class, first_for_interface};
 use crate::walk::Look;
 use descriptor::is_constructor_name;
-use jvms::program::{Class, ClassKind};
+use jvms_program::program::{Class, ClassKind};
 
 /// A method by its names: what resolution asks of a reference.
 #[derive(Clone, Copy)]
@@ -39,7 +39,6 @@ fn found_in_order(classes: &[Class], r: Named) -> Option<(usize, usize)>
     ensures { Locates (IsMethodAt classes.now) (found_in_order classes.now (reference r.entry)) result }
 {
     let look = DeclaredMethod {
-        classes,
         name: r.name,
         descriptor: r.descriptor,
     };
@@ -57,11 +56,10 @@ pub(crate) fn found_method(classes: &[Class], r: Named) -> Option<(usize, usize)
     if !is_constructor_name(r.name) {
         return found_in_order(classes, r);
     }
-    let class = named(classes, r.class)?;
+    let (number, class) = numbered(classes, r.class)?;
     let look = DeclaredMethod {
-        classes,
         name: r.name,
         descriptor: r.descriptor,
     };
-    look.look(class)
+    look.look(number, class)
 }

@@ -1,7 +1,7 @@
 //! Names as texts.
 
 ghost use Rattle.std.specs.Prelude.{◌≡◌};
-ghost use Rattle.jvms.specs.Resolution.{members_class};
+ghost use Rattle.jvms_program.specs.Resolution.{members_class};
 
 use descriptor::is_array_name;
 

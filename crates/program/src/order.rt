@@ -1,13 +1,14 @@
 //! The classes that method resolution passes, in order (JVMS 5.4.3.3, 5.4.3.4).
 
 ghost use Rattle.std.specs.Prelude.{◌≡◌};
-ghost use Rattle.jvms.specs.Resolution.{class_method_order, interface_method_order, first_in};
+ghost use Rattle.jvms_program.specs.Resolution.{class_method_order, interface_method_order, first_in};
+ghost use Rattle.program.specs.Places.{placed};
 
 use crate::look::InInterfaces;
-use crate::lookup::named;
+use crate::lookup::numbered;
 use crate::names::OBJECT;
 use crate::walk::{Look, first_in_ancestries, first_up};
-use jvms::program::Class;
+use jvms_program::program::Class;
 
 /// What is found first where a method of a class is looked for (JVMS 5.4.3.3).
 #[tactic(auto, using(crate::proofs::WalkLaws::appended))]
@@ -16,7 +17,7 @@ pub(crate) fn first_for_class<L: Look>(
     name: &[u16],
     look: &L,
 ) -> Option<(usize, usize)>
-    ensures { result ≡ first_in (L.gives look.now) (class_method_order classes.now name.now) }
+    ensures { result ≡ first_in (placed classes.now (L.gives look.now)) (class_method_order classes.now name.now) }
 {
     if let Some(found) = first_up(classes, name, look) {
         return Some(found);
@@ -30,14 +31,14 @@ pub(crate) fn first_for_interface<L: Look>(
     name: &[u16],
     look: &L,
 ) -> Option<(usize, usize)>
-    ensures { result ≡ first_in (L.gives look.now) (interface_method_order classes.now name.now) }
+    ensures { result ≡ first_in (placed classes.now (L.gives look.now)) (interface_method_order classes.now name.now) }
 {
-    let interface = named(classes, name)?;
-    if let Some(found) = look.look(interface) {
+    let (number, interface) = numbered(classes, name)?;
+    if let Some(found) = look.look(number, interface) {
         return Some(found);
     }
-    if let Some(object) = named(classes, &OBJECT) {
-        if let Some(found) = look.look(object) {
+    if let Some((number, object)) = numbered(classes, &OBJECT) {
+        if let Some(found) = look.look(number, object) {
             return Some(found);
         }
     }

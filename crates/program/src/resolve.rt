@@ -1,6 +1,6 @@
 //! Resolution of what instructions name (JVMS 5.4.3).
 
-ghost use Rattle.jvms.specs.Resolution.{resolved_method};
+ghost use Rattle.jvms_program.specs.Resolution.{resolved_method};
 ghost use Rattle.program.specs.Named.{reference};
 ghost use Rattle.program.specs.Places.{IsMethodAt, Resolves};
 
@@ -8,8 +8,9 @@ use crate::exists::class_exists;
 use crate::list::Program;
 use crate::lookup::method_of;
 use crate::methods::{Named, found_method, names_interface};
-use jvms::machine::{MethodNumber, Thrown};
-use jvms::program::MethodReference;
+use jvms_program::number::MethodNumber;
+use jvms_program::program::MethodReference;
+use jvms_program::thrown::Thrown;
 
 impl Program {
     /// The method of these names (JVMS 5.4.3.3, 5.4.3.4): the numbers of its class and of it there. It takes

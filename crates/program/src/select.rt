@@ -1,7 +1,7 @@
 //! Selection of methods (JVMS 6.5 invokevirtual, invokeinterface, invokespecial).
 
 ghost use Rattle.std.specs.Prelude.{◌≡◌};
-ghost use Rattle.jvms.specs.Resolution.{MethodFound, chain, is_superclass, names_class, selected_from, selected_special};
+ghost use Rattle.jvms_program.specs.Resolution.{MethodFound, chain, is_superclass, names_class, selected_from, selected_special};
 ghost use Rattle.program.specs.Places.{IsMethodAt, Locates};
 
 use crate::list::Program;
@@ -10,8 +10,8 @@ use crate::lookup::method_of;
 use crate::names::members_class;
 use crate::walk::{first_up, superclass_name};
 use descriptor::{is_constructor_name, same_text};
-use jvms::machine::MethodNumber;
-use jvms::program::{Class, MethodReference};
+use jvms_program::number::MethodNumber;
+use jvms_program::program::{Class, MethodReference};
 
 /// Whether a class is a proper superclass of another.
 fn is_superclass(classes: &[Class], above: &[u16], class: &[u16]) -> bool
@@ -50,7 +50,6 @@ impl Program {
             return Some(place);
         }
         let look = Selectable {
-            classes,
             name: method.name.as_slice(),
             descriptor: method.descriptor.as_slice(),
         };

@@ -1,8 +1,8 @@
 //! Which classes fit which (JVMS 4.10.1.2, 6.5 checkcast).
 
 ghost use Rattle.std.specs.Prelude.{◌≡◌, codes};
-ghost use Rattle.jvms.specs.Descriptors.{letter_of};
-ghost use Rattle.jvms.specs.Resolution.{ancestry, names_class, is_array_ancestor, is_array_ancestor_element, element_fits, type_fits, fits};
+ghost use Rattle.jvms_file.specs.Descriptors.{letter_of};
+ghost use Rattle.jvms_program.specs.Resolution.{ancestry, names_class, is_array_ancestor, is_array_ancestor_element, element_fits, type_fits, fits};
 ghost use Rattle.descriptor.specs.Scanning.{element_of, type_of};
 
 use crate::class_type::class_type;
@@ -11,8 +11,8 @@ use crate::look::Named;
 use crate::text::is_named;
 use crate::walk::first_in_ancestry;
 use descriptor::{Innermost, Spelled};
-use jvms::descriptor::Primitive;
-use jvms::program::Class;
+use jvms_file::descriptor::Primitive;
+use jvms_program::program::Class;
 
 /// The letter of a primitive type (JVMS table 4.3-A).
 fn letter_of(primitive: Primitive) -> u16
@@ -87,7 +87,7 @@ fn type_fits(classes: &[Class], a: Spelled<'_>, b: Spelled<'_>) -> bool
 
 impl Program {
     /// Whether the class of the first name fits that of the second.
-    #[tactic(auto, unfolding(jvms::specs::Resolution::fits))]
+    #[tactic(auto, unfolding(jvms_program::specs::Resolution::fits))]
     pub fn fits(&self, a: &[u16], b: &[u16]) -> bool
         ensures { result ≡ fits self.now a.now b.now }
     {

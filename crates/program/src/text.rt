@@ -1,10 +1,10 @@
 //! Texts of a program's data.
 
 ghost use Rattle.std.specs.Prelude.{◌≡◌, IfOk};
-ghost use Rattle.jvms.specs.Names.{same_text};
+ghost use Rattle.jvms_file.specs.Names.{same_text};
 
-use jvms::items::Items;
-use jvms::shared::{Shared, Text};
+use held::items::Items;
+use held::shared::{Shared, Text};
 use std::alloc::{AllocError, Global};
 
 /// The units of an ASCII text.

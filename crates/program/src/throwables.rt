@@ -1,14 +1,14 @@
 //! The classes of what is thrown: Throwable and the built-in ones below it.
 
 ghost use Rattle.std.specs.Prelude.{◌≡◌, ◌∷◌, ◌++◌, [], codes, map, IfOk, OnOk};
-ghost use Rattle.jvms.specs.BuiltIn.{coded, field, load, return_void, return_reference, message_field, throwable_constructors, throwable_class, throwable_below};
+ghost use Rattle.jvms_program.specs.BuiltIn.{coded, field, load, return_void, return_reference, message_field, throwable_constructors, throwable_class, throwable_below};
 
 use crate::built_in::{OBJECT, class_with, plain_constructor};
 use crate::code::{load, message_field, return_reference, return_void};
 use crate::members::{coded, field};
 use crate::text::text;
-use jvms::insn::FieldUse;
-use jvms::program::{Class, Method};
+use jvms_file::insn::FieldUse;
+use jvms_program::program::{Class, Method};
 use std::alloc::{AllocError, Global};
 
 /// The built-in classes below Throwable: the superclass of each, and its name.

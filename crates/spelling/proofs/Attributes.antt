@@ -4,15 +4,15 @@ use Rattle.std.proofs.Common.{◌≡◌, ℕ, Bool, true, false, List, [], ◌�
 use Rattle.std.proofs.lemmas.Bool.{le-leb, leb-true}
 use Rattle.std.proofs.lemmas.List.{length-append, length-take-le, take-append-drop}
 use Rattle.std.proofs.Math.Seq.{take-append_seam, drop-append_seam}
-use Rattle.jvms.specs.declared.class_file.Constant.{Constant}
-use Rattle.jvms.specs.declared.class_file.KeptAttribute.{KeptAttribute}
-use Rattle.jvms.specs.declared.fault.ClassFault.{ClassFault}
-use Rattle.jvms.specs.declared.fault.ClassFault.TheVariants as fault
-use Rattle.jvms.specs.Results.{◌>>=◌}
-use Rattle.jvms.specs.Names.{same_text}
-use Rattle.jvms.specs.ConstantPool.{utf8_at, is_utf8, is_class}
-use Rattle.jvms.specs.Members.{Framed, framed, frame_at, want_all, kept_content_at, kept_at, kept_attributes_at, is_named, is_text_with, class_number_at}
-use Rattle.jvms.specs.Spelling.{u2, u4, IsU2, IsU4, Counted, SpellsKept, SpellsFramed, SpellsClassNumber}
+use Rattle.jvms_file.specs.declared.class_file.Constant.{Constant}
+use Rattle.jvms_file.specs.declared.class_file.KeptAttribute.{KeptAttribute}
+use Rattle.jvms_file.specs.declared.fault.ClassFault.{ClassFault}
+use Rattle.jvms_file.specs.declared.fault.ClassFault.TheVariants as fault
+use Rattle.jvms_file.specs.Results.{◌>>=◌}
+use Rattle.jvms_file.specs.Names.{same_text}
+use Rattle.jvms_file.specs.ConstantPool.{utf8_at, is_utf8, is_class}
+use Rattle.jvms_file.specs.Members.{Framed, framed, frame_at, want_all, kept_content_at, kept_at, kept_attributes_at, is_named, is_text_with, class_number_at}
+use Rattle.jvms_file.specs.Spelling.{u2, u4, IsU2, IsU4, Counted, SpellsKept, SpellsFramed, SpellsClassNumber}
 use Rattle.spelling.proofs.Numbers.{IsBytes, bytes_of_parts, u2_again, u4_again, bytes_again}
 use Rattle.spelling.proofs.Steps.{Found, answered, joined, step, want_step, u2_step, u4_step, bytes_step}
 use Rattle.spelling.proofs.Lists.{Any, counted_again, counted_found}

@@ -3,15 +3,15 @@ use Rattle.std.proofs.Common.{◌≡◌, ℕ, zero, suc, ◌<◌, ◌≤◌, tru
 use Rattle.std.specs.Prelude.{◌==◌, ◌||◌, nat_le}
 use Rattle.std.proofs.lemmas.Bool.{and_parts, leb-true, eqb-true}
 use Rattle.std.proofs.lemmas.List.{append-nil}
-use Rattle.jvms.specs.declared.class_file.Constant.{Constant}
-use Rattle.jvms.specs.declared.class_file.ClassFile.{ClassFile}
-use Rattle.jvms.specs.declared.fault.ClassFault.{ClassFault}
-use Rattle.jvms.specs.declared.fault.ClassFault.TheVariants as fault
-use Rattle.jvms.specs.Results.{◌>>=◌, want}
-use Rattle.jvms.specs.ConstantPool.{pool_at, entries_fault}
-use Rattle.jvms.specs.Members.{fields_at, methods_at, kept_attributes_at}
-use Rattle.jvms.specs.ClassFile.{is_proper_class, is_version, interface_at, interfaces_at, is_empty, class_at, read}
-use Rattle.jvms.specs.Spelling.{u2, u4, IsU2, Counted, SpellsKept, SpellsInterface, Spells}
+use Rattle.jvms_file.specs.declared.class_file.Constant.{Constant}
+use Rattle.jvms_file.specs.declared.class_file.ClassFile.{ClassFile}
+use Rattle.jvms_file.specs.declared.fault.ClassFault.{ClassFault}
+use Rattle.jvms_file.specs.declared.fault.ClassFault.TheVariants as fault
+use Rattle.jvms_file.specs.Results.{◌>>=◌, want}
+use Rattle.jvms_file.specs.ConstantPool.{pool_at, entries_fault}
+use Rattle.jvms_file.specs.Members.{fields_at, methods_at, kept_attributes_at}
+use Rattle.jvms_file.specs.ClassFile.{is_proper_class, is_version, interface_at, interfaces_at, is_empty, class_at, read}
+use Rattle.jvms_file.specs.Spelling.{u2, u4, IsU2, Counted, SpellsKept, SpellsInterface, Spells}
 use Rattle.spelling.proofs.Numbers.{IsBytes, u2_again, u4_again}
 use Rattle.spelling.proofs.Steps.{Found, answered, joined, step, want_step, u2_step, u4_step, found_step}
 use Rattle.spelling.proofs.Lists.{Any, counted_again, counted_found}

@@ -3,15 +3,15 @@ use Rattle.std.proofs.Common.{◌≡◌, ℕ, ◌≤◌, true, List, [], ◌++�
 use Rattle.std.specs.Prelude.{nat_lt, nat_le}
 use Rattle.std.proofs.lemmas.Bool.{and_parts, leb-true}
 use Rattle.std.proofs.lemmas.List.{append-nil}
-use Rattle.jvms.specs.declared.class_file.Constant.{Constant}
-use Rattle.jvms.specs.declared.class_file.KeptAttribute.{KeptAttribute}
-use Rattle.jvms.specs.declared.class_file.Layout.{Layout}
-use Rattle.jvms.specs.declared.class_file.Code.{Code}
-use Rattle.jvms.specs.declared.fault.ClassFault.{ClassFault}
-use Rattle.jvms.specs.declared.fault.ClassFault.TheVariants as fault
-use Rattle.jvms.specs.Code.{insns_of, layout_of, handlers_of}
-use Rattle.jvms.specs.Members.{Framed, handler_at, kept_attributes_at, is_code_length, code_at}
-use Rattle.jvms.specs.Spelling.{u2, u4, IsU2, IsU4, Counted, SpellsKept, SpellsHandler, SpellsCode}
+use Rattle.jvms_file.specs.declared.class_file.Constant.{Constant}
+use Rattle.jvms_file.specs.declared.class_file.KeptAttribute.{KeptAttribute}
+use Rattle.jvms_file.specs.declared.class_file.Layout.{Layout}
+use Rattle.jvms_file.specs.declared.class_file.Code.{Code}
+use Rattle.jvms_file.specs.declared.fault.ClassFault.{ClassFault}
+use Rattle.jvms_file.specs.declared.fault.ClassFault.TheVariants as fault
+use Rattle.jvms_file.specs.Code.{insns_of, layout_of, handlers_of}
+use Rattle.jvms_file.specs.Members.{Framed, handler_at, kept_attributes_at, is_code_length, code_at}
+use Rattle.jvms_file.specs.Spelling.{u2, u4, IsU2, IsU4, Counted, SpellsKept, SpellsHandler, SpellsCode}
 use Rattle.spelling.proofs.Numbers.{IsBytes, u2_again, u4_again, bytes_again}
 use Rattle.spelling.proofs.Steps.{answered, step, want_step, u2_step, u4_step, bytes_step, found_step}
 use Rattle.spelling.proofs.Lists.{Any, counted_then, counted_step}

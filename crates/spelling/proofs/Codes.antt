@@ -1,14 +1,14 @@
 -- The code of a method: its bytes spell instructions, and these are read from them, both ways.
 use Rattle.std.proofs.Common.{◌≡◌, ℕ, zero, suc, ◌+◌, ◌-◌, ◌≤◌, ◌<◌, List, [], ◌∷◌, length, Result, Ok, refl, sym, ap, subst, ◌∙◌, arith}
 use Rattle.std.proofs.lemmas.List.{length-append}
-use Rattle.jvms.specs.declared.class_file.Constant.{Constant}
-use Rattle.jvms.specs.declared.fault.ClassFault.{ClassFault}
-use Rattle.jvms.specs.declared.fault.ClassFault.TheVariants as fault
-use Rattle.jvms.specs.declared.insn.Insn.{Insn}
-use Rattle.jvms.specs.Results.{present}
-use Rattle.jvms.specs.Instructions.{insn_at}
-use Rattle.jvms.specs.Code.{Placed, placed_from, placed, starts, with_places, resolved, insns_of}
-use Rattle.jvms.specs.Spelling.{SpellsFrom, SpellsInsns}
+use Rattle.jvms_file.specs.declared.class_file.Constant.{Constant}
+use Rattle.jvms_file.specs.declared.fault.ClassFault.{ClassFault}
+use Rattle.jvms_file.specs.declared.fault.ClassFault.TheVariants as fault
+use Rattle.jvms_file.specs.declared.insn.Insn.{Insn}
+use Rattle.jvms_file.specs.Results.{present}
+use Rattle.jvms_file.specs.Instructions.{insn_at}
+use Rattle.jvms_file.specs.Code.{Placed, placed_from, placed, starts, with_places, resolved, insns_of}
+use Rattle.jvms_file.specs.Spelling.{SpellsFrom, SpellsInsns}
 use Rattle.spelling.proofs.Numbers.{IsBytes}
 use Rattle.spelling.proofs.InsnStarts.{AreStarts, insn_takes, starts_of}
 use Rattle.spelling.proofs.InsnAgain.{InsnAgain, insn_again}

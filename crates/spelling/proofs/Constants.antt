@@ -2,16 +2,16 @@
 use Rattle.std.proofs.Common.{◌≡◌, ℕ, ◌^◌, ◌<◌, true, ◌==◌, List, ◌∷◌, ◌++◌, length, Result, Ok, Err, refl, sym, ap, subst, ◌∙◌, append_assoc}
 use Rattle.std.specs.Int.{w32, w64}
 use Rattle.std.proofs.lemmas.Bool.{eqb-true}
-use Rattle.jvms.specs.declared.class_file.Constant.{Constant}
-use Rattle.jvms.specs.declared.class_file.Constant.TheVariants as constant
-use Rattle.jvms.specs.declared.fault.ClassFault.{ClassFault}
-use Rattle.jvms.specs.declared.fault.ClassFault.TheVariants as fault
-use Rattle.jvms.specs.Results.{◌>>=◌}
-use Rattle.jvms.specs.Bytes.{signed}
-use Rattle.jvms.specs.Texts.{encoded, decoded}
-use Rattle.jvms.specs.ConstantPool.{utf8_constant_at, one_number_at, two_numbers_at, four_bytes_at, eight_bytes_at, tagged_at, constant_at}
-use Rattle.jvms.specs.Spelling.{u2, u4, u8, IsU2, IsU4, SpellsConstant}
-use Rattle.jvms.proofs.TextLaws.{decoded_is_encoded, encoded_is_decoded}
+use Rattle.jvms_file.specs.declared.class_file.Constant.{Constant}
+use Rattle.jvms_file.specs.declared.class_file.Constant.TheVariants as constant
+use Rattle.jvms_file.specs.declared.fault.ClassFault.{ClassFault}
+use Rattle.jvms_file.specs.declared.fault.ClassFault.TheVariants as fault
+use Rattle.jvms_file.specs.Results.{◌>>=◌}
+use Rattle.jvms_file.specs.Bytes.{signed}
+use Rattle.jvms_file.specs.Texts.{encoded, decoded}
+use Rattle.jvms_file.specs.ConstantPool.{utf8_constant_at, one_number_at, two_numbers_at, four_bytes_at, eight_bytes_at, tagged_at, constant_at}
+use Rattle.jvms_file.specs.Spelling.{u2, u4, u8, IsU2, IsU4, SpellsConstant}
+use Rattle.jvms_file.proofs.TextLaws.{decoded_is_encoded, encoded_is_decoded}
 use Rattle.spelling.proofs.Numbers.{IsBytes, u1_again, u2_again, u4_again, u8_again, bytes_again}
 use Rattle.spelling.proofs.Steps.{Found, answered, choose, u1_step, u2_step, u4_step, u8_step, bytes_step}
 

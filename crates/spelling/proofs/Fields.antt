@@ -4,17 +4,17 @@ use Rattle.std.specs.Prelude.{codes}
 use Rattle.std.specs.List.{list_any}
 use Rattle.std.proofs.lemmas.Bool.{not-true}
 use Rattle.std.proofs.lemmas.List.{append-nil}
-use Rattle.jvms.specs.declared.class_file.Constant.{Constant}
-use Rattle.jvms.specs.declared.class_file.FieldAttribute.{FieldAttribute}
-use Rattle.jvms.specs.declared.class_file.FieldAttribute.TheVariants as field_attribute
-use Rattle.jvms.specs.declared.class_file.FieldInfo.{FieldInfo}
-use Rattle.jvms.specs.declared.fault.ClassFault.{ClassFault}
-use Rattle.jvms.specs.declared.fault.ClassFault.TheVariants as fault
-use Rattle.jvms.specs.Names.{is_name}
-use Rattle.jvms.specs.Descriptors.{field_type_of}
-use Rattle.jvms.specs.ConstantPool.{entry, utf8_at, is_utf8}
-use Rattle.jvms.specs.Members.{kept_content_at, is_named, is_constant_of, constant_value_at, is_constant_value, field_attribute_at, is_text_with, is_same_field, field_at, fields_at}
-use Rattle.jvms.specs.Spelling.{u2, u4, IsU2, Counted, AtMostOne, IsDistinctBy, SpellsFieldAttribute, SpellsField}
+use Rattle.jvms_file.specs.declared.class_file.Constant.{Constant}
+use Rattle.jvms_file.specs.declared.class_file.FieldAttribute.{FieldAttribute}
+use Rattle.jvms_file.specs.declared.class_file.FieldAttribute.TheVariants as field_attribute
+use Rattle.jvms_file.specs.declared.class_file.FieldInfo.{FieldInfo}
+use Rattle.jvms_file.specs.declared.fault.ClassFault.{ClassFault}
+use Rattle.jvms_file.specs.declared.fault.ClassFault.TheVariants as fault
+use Rattle.jvms_file.specs.Names.{is_name}
+use Rattle.jvms_file.specs.Descriptors.{field_type_of}
+use Rattle.jvms_file.specs.ConstantPool.{entry, utf8_at, is_utf8}
+use Rattle.jvms_file.specs.Members.{kept_content_at, is_named, is_constant_of, constant_value_at, is_constant_value, field_attribute_at, is_text_with, is_same_field, field_at, fields_at}
+use Rattle.jvms_file.specs.Spelling.{u2, u4, IsU2, Counted, AtMostOne, IsDistinctBy, SpellsFieldAttribute, SpellsField}
 use Rattle.spelling.proofs.Numbers.{IsBytes, u2_again}
 use Rattle.spelling.proofs.Steps.{Found, answered, choose, joined, step, want_step, u2_step}
 use Rattle.spelling.proofs.Lists.{ReadsEach, FindsEach, counted_again, counted_then, counted_found, counted_step, none_before, one_more, distinct_before, one_more_distinct}

@@ -4,15 +4,15 @@ use Rattle.std.proofs.Common.{◌≡◌, ℕ, zero, suc, ◌⊎◌, true, false,
 use Rattle.std.specs.Prelude.{◌==◌, ◌||◌, nat_lt, slice_get}
 use Rattle.std.specs.Option.{option_and_then, option_map}
 use Rattle.std.proofs.lemmas.Bool.{lt-ltb, ltb-true, eqb-true, eq-eqb, ne_eqb}
-use Rattle.jvms.specs.declared.class_file.Constant.{Constant}
-use Rattle.jvms.specs.declared.class_file.Handler.{Handler}
-use Rattle.jvms.specs.declared.fault.ClassFault.{ClassFault}
-use Rattle.jvms.specs.declared.fault.ClassFault.TheVariants as fault
-use Rattle.jvms.specs.Results.{◌>>=◌, present}
-use Rattle.jvms.specs.ConstantPool.{is_class}
-use Rattle.jvms.specs.Code.{place_of, end_place_of, handler_places, handlers_of}
-use Rattle.jvms.specs.Members.{handler_at}
-use Rattle.jvms.specs.Spelling.{u2, IsU2, InOrder, SpellsHandler}
+use Rattle.jvms_file.specs.declared.class_file.Constant.{Constant}
+use Rattle.jvms_file.specs.declared.class_file.Handler.{Handler}
+use Rattle.jvms_file.specs.declared.fault.ClassFault.{ClassFault}
+use Rattle.jvms_file.specs.declared.fault.ClassFault.TheVariants as fault
+use Rattle.jvms_file.specs.Results.{◌>>=◌, present}
+use Rattle.jvms_file.specs.ConstantPool.{is_class}
+use Rattle.jvms_file.specs.Code.{place_of, end_place_of, handler_places, handlers_of}
+use Rattle.jvms_file.specs.Members.{handler_at}
+use Rattle.jvms_file.specs.Spelling.{u2, IsU2, InOrder, SpellsHandler}
 use Rattle.spelling.proofs.Numbers.{IsBytes, u2_again}
 use Rattle.spelling.proofs.Steps.{Found, answered, choose, joined, step, want_step, u2_step}
 use Rattle.spelling.proofs.InsnStarts.{AreStarts, start_below, place_of_start, start_at_place}

@@ -3,25 +3,25 @@ use Rattle.std.proofs.Common.{◌≡◌, ℕ, ◌+◌, ◌<◌, true, List, [], 
 use Rattle.std.specs.Prelude.{IsTrue, nat_lt, ◌==◌, ◌^◌, ◌-ℤ◌, int_le, unsigned_abs}
 use Rattle.std.specs.Int.{w8, w16, w32}
 use Rattle.std.proofs.lemmas.Bool.{eq-eqb, lt-ltb}
-use Rattle.jvms.specs.declared.class_file.Constant.{Constant}
-use Rattle.jvms.specs.declared.fault.ClassFault.{ClassFault}
-use Rattle.jvms.specs.declared.fault.ClassFault.TheVariants as fault
-use Rattle.jvms.specs.declared.insn.Opcode.{Opcode}
-use Rattle.jvms.specs.declared.insn.Opcode.TheVariants as opcode
-use Rattle.jvms.specs.declared.insn.Insn.{Insn}
-use Rattle.jvms.specs.declared.insn.Insn.TheVariants as insn
-use Rattle.jvms.specs.declared.insn.Simple.TheVariants as simple
-use Rattle.jvms.specs.declared.insn.Push.TheVariants as push
-use Rattle.jvms.specs.declared.insn.Invoke.{Invoke}
-use Rattle.jvms.specs.declared.insn.Invoke.TheVariants as invoke
-use Rattle.jvms.specs.declared.insn.ArrayInsn.TheVariants as array_insn
-use Rattle.jvms.specs.declared.insn.SwitchCase.{SwitchCase}
-use Rattle.jvms.specs.declared.insn.TableSwitch.{TableSwitch}
-use Rattle.jvms.specs.declared.insn.LookupSwitch.{LookupSwitch}
-use Rattle.jvms.specs.Bytes.{bytes_at, signed}
-use Rattle.jvms.specs.Instructions.{target_of, is_above, pad_length, interface_count, interface_operands, behind_invoke, targets_at, table_switch_insn, cases_at, lookup_switch_insn, wide_insn, operands_at, insn_at}
-use Rattle.jvms.specs.Code.{place_of, places_of, case_places, with_places}
-use Rattle.jvms.specs.Spelling.{IsU4, u2, u4, IsOpcode, InOrder, LeadsTo, SpellsTarget, SpellsCase, IsRising, SpellsBehindInvoke, SpellsInsn}
+use Rattle.jvms_file.specs.declared.class_file.Constant.{Constant}
+use Rattle.jvms_file.specs.declared.fault.ClassFault.{ClassFault}
+use Rattle.jvms_file.specs.declared.fault.ClassFault.TheVariants as fault
+use Rattle.jvms_file.specs.declared.insn.Opcode.{Opcode}
+use Rattle.jvms_file.specs.declared.insn.Opcode.TheVariants as opcode
+use Rattle.jvms_file.specs.declared.insn.Insn.{Insn}
+use Rattle.jvms_file.specs.declared.insn.Insn.TheVariants as insn
+use Rattle.jvms_file.specs.declared.insn.Simple.TheVariants as simple
+use Rattle.jvms_file.specs.declared.insn.Push.TheVariants as push
+use Rattle.jvms_file.specs.declared.insn.Invoke.{Invoke}
+use Rattle.jvms_file.specs.declared.insn.Invoke.TheVariants as invoke
+use Rattle.jvms_file.specs.declared.insn.ArrayInsn.TheVariants as array_insn
+use Rattle.jvms_file.specs.declared.insn.SwitchCase.{SwitchCase}
+use Rattle.jvms_file.specs.declared.insn.TableSwitch.{TableSwitch}
+use Rattle.jvms_file.specs.declared.insn.LookupSwitch.{LookupSwitch}
+use Rattle.jvms_file.specs.Bytes.{bytes_at, signed}
+use Rattle.jvms_file.specs.Instructions.{target_of, is_above, pad_length, interface_count, interface_operands, behind_invoke, targets_at, table_switch_insn, cases_at, lookup_switch_insn, wide_insn, operands_at, insn_at}
+use Rattle.jvms_file.specs.Code.{place_of, places_of, case_places, with_places}
+use Rattle.jvms_file.specs.Spelling.{IsU4, u2, u4, IsOpcode, InOrder, LeadsTo, SpellsTarget, SpellsCase, IsRising, SpellsBehindInvoke, SpellsInsn}
 use Rattle.spelling.proofs.Numbers.{u1_again, u2_again, u4_again, bytes_again}
 use Rattle.spelling.proofs.InsnForms.{Behind, alone, push_byte, push_short, load, load_wide, load_long, local, increment, wide_local, wide_increment, new_array, branch, branch_wide, table, lookup, field, invoke, class, multi_new_array, formed}
 use Rattle.spelling.proofs.InsnStarts.{AreStarts, place_of_start}

@@ -3,27 +3,27 @@
 use Rattle.std.proofs.Common.{◌≡◌, ℕ, ◌+◌, ◌<◌, List, [], ◌∷◌, ◌++◌, length, Some, None, ℤ, refl, inl, inr}
 use Rattle.std.specs.Prelude.{IsTrue, slice_get, ◌^◌, ◌-ℤ◌, int_le, unsigned_abs}
 use Rattle.std.specs.Int.{w8, w16, w32}
-use Rattle.jvms.specs.declared.class_file.Constant.{Constant}
-use Rattle.jvms.specs.declared.insn.Opcode.{Opcode}
-use Rattle.jvms.specs.declared.insn.Opcode.TheVariants as opcode
-use Rattle.jvms.specs.declared.insn.Insn.{Insn}
-use Rattle.jvms.specs.declared.insn.Insn.TheVariants as insn
-use Rattle.jvms.specs.declared.insn.Simple.{Simple}
-use Rattle.jvms.specs.declared.insn.Simple.TheVariants as simple
-use Rattle.jvms.specs.declared.insn.Push.TheVariants as push
-use Rattle.jvms.specs.declared.insn.LocalUse.{LocalUse}
-use Rattle.jvms.specs.declared.insn.Branch.{Branch}
-use Rattle.jvms.specs.declared.insn.FieldUse.{FieldUse}
-use Rattle.jvms.specs.declared.insn.Invoke.{Invoke}
-use Rattle.jvms.specs.declared.insn.ClassUse.{ClassUse}
-use Rattle.jvms.specs.declared.insn.ArrayInsn.TheVariants as array_insn
-use Rattle.jvms.specs.declared.insn.ArrayType.{ArrayType}
-use Rattle.jvms.specs.declared.insn.TableSwitch.{TableSwitch}
-use Rattle.jvms.specs.declared.insn.LookupSwitch.{LookupSwitch}
-use Rattle.jvms.specs.Bytes.{signed}
-use Rattle.jvms.specs.ConstantPool.{entry, class_name_at}
-use Rattle.jvms.specs.Instructions.{target_of, array_type_of, is_loadable, is_wide_loadable, passes, is_field, invoked, is_invocable, names_usable, is_dimensions, pad_length}
-use Rattle.jvms.specs.Spelling.{IsU1, IsU2, IsU4, u2, u4, IsOpcode, InOrder, LeadsTo, SpellsTarget, SpellsCase, IsRising, SpellsBehindInvoke, SpellsSimple, SpellsWithOperands, SpellsInsn}
+use Rattle.jvms_file.specs.declared.class_file.Constant.{Constant}
+use Rattle.jvms_file.specs.declared.insn.Opcode.{Opcode}
+use Rattle.jvms_file.specs.declared.insn.Opcode.TheVariants as opcode
+use Rattle.jvms_file.specs.declared.insn.Insn.{Insn}
+use Rattle.jvms_file.specs.declared.insn.Insn.TheVariants as insn
+use Rattle.jvms_file.specs.declared.insn.Simple.{Simple}
+use Rattle.jvms_file.specs.declared.insn.Simple.TheVariants as simple
+use Rattle.jvms_file.specs.declared.insn.Push.TheVariants as push
+use Rattle.jvms_file.specs.declared.insn.LocalUse.{LocalUse}
+use Rattle.jvms_file.specs.declared.insn.Branch.{Branch}
+use Rattle.jvms_file.specs.declared.insn.FieldUse.{FieldUse}
+use Rattle.jvms_file.specs.declared.insn.Invoke.{Invoke}
+use Rattle.jvms_file.specs.declared.insn.ClassUse.{ClassUse}
+use Rattle.jvms_file.specs.declared.insn.ArrayInsn.TheVariants as array_insn
+use Rattle.jvms_file.specs.declared.insn.ArrayType.{ArrayType}
+use Rattle.jvms_file.specs.declared.insn.TableSwitch.{TableSwitch}
+use Rattle.jvms_file.specs.declared.insn.LookupSwitch.{LookupSwitch}
+use Rattle.jvms_file.specs.Bytes.{signed}
+use Rattle.jvms_file.specs.ConstantPool.{entry, class_name_at}
+use Rattle.jvms_file.specs.Instructions.{target_of, array_type_of, is_loadable, is_wide_loadable, passes, is_field, invoked, is_invocable, names_usable, is_dimensions, pad_length}
+use Rattle.jvms_file.specs.Spelling.{IsU1, IsU2, IsU4, u2, u4, IsOpcode, InOrder, LeadsTo, SpellsTarget, SpellsCase, IsRising, SpellsBehindInvoke, SpellsSimple, SpellsWithOperands, SpellsInsn}
 
 -- The bytes behind an opcode.
 pub data Behind (pool : List Constant) (major : ℕ) (pcs : List ℕ) (pc : ℕ) : Opcode → List ℕ → Insn → Type 0 where

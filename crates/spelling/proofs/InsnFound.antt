@@ -4,29 +4,29 @@ use Rattle.std.specs.Prelude.{IsTrue, slice_get, nat_lt, ◌==◌, ◌&&◌, ◌
 use Rattle.std.specs.Int.{w8, w16, w32}
 use Rattle.std.proofs.lemmas.Bool.{eqb-true, ltb-true}
 use Rattle.std.proofs.lemmas.Option.{same_Some}
-use Rattle.jvms.specs.declared.class_file.Constant.{Constant}
-use Rattle.jvms.specs.declared.fault.ClassFault.{ClassFault}
-use Rattle.jvms.specs.declared.fault.ClassFault.TheVariants as fault
-use Rattle.jvms.specs.declared.insn.TheConstants.{OPCODES}
-use Rattle.jvms.specs.declared.insn.Opcode.{Opcode}
-use Rattle.jvms.specs.declared.insn.Opcode.TheVariants as opcode
-use Rattle.jvms.specs.declared.insn.Insn.{Insn}
-use Rattle.jvms.specs.declared.insn.Insn.TheVariants as insn
-use Rattle.jvms.specs.declared.insn.Simple.TheVariants as simple
-use Rattle.jvms.specs.declared.insn.Push.TheVariants as push
-use Rattle.jvms.specs.declared.insn.Branch.{Branch}
-use Rattle.jvms.specs.declared.insn.Invoke.{Invoke}
-use Rattle.jvms.specs.declared.insn.Invoke.TheVariants as invoke
-use Rattle.jvms.specs.declared.insn.ArrayInsn.TheVariants as array_insn
-use Rattle.jvms.specs.declared.insn.SwitchCase.{SwitchCase}
-use Rattle.jvms.specs.declared.insn.TableSwitch.{TableSwitch}
-use Rattle.jvms.specs.declared.insn.LookupSwitch.{LookupSwitch}
-use Rattle.jvms.specs.Results.{◌>>=◌, want}
-use Rattle.jvms.specs.Bytes.{u1_at, u2_at, u4_at, bytes_at, signed}
-use Rattle.jvms.specs.ConstantPool.{entry, class_name_at}
-use Rattle.jvms.specs.Instructions.{Read, target_of, array_type_of, is_loadable, is_wide_loadable, passes, is_field, invoked, is_invocable, names_usable, is_dimensions, invoke_insn, new_array_insn, branch_insn, wide_branch_insn, multi_new_array_insn, is_above, pad_length, interface_count, interface_operands, behind_invoke, targets_at, table_switch_insn, cases_at, lookup_switch_insn, wide_form, wide_insn, operands_at, insn_at}
-use Rattle.jvms.specs.Code.{place_of, places_of, case_places, table_places, lookup_places, with_places}
-use Rattle.jvms.specs.Spelling.{IsU1, IsU2, IsU4, u2, u4, IsOpcode, InOrder, SpellsTarget, SpellsCase, IsRising, SpellsBehindInvoke, SpellsInsn}
+use Rattle.jvms_file.specs.declared.class_file.Constant.{Constant}
+use Rattle.jvms_file.specs.declared.fault.ClassFault.{ClassFault}
+use Rattle.jvms_file.specs.declared.fault.ClassFault.TheVariants as fault
+use Rattle.jvms_file.specs.declared.insn.TheConstants.{OPCODES}
+use Rattle.jvms_file.specs.declared.insn.Opcode.{Opcode}
+use Rattle.jvms_file.specs.declared.insn.Opcode.TheVariants as opcode
+use Rattle.jvms_file.specs.declared.insn.Insn.{Insn}
+use Rattle.jvms_file.specs.declared.insn.Insn.TheVariants as insn
+use Rattle.jvms_file.specs.declared.insn.Simple.TheVariants as simple
+use Rattle.jvms_file.specs.declared.insn.Push.TheVariants as push
+use Rattle.jvms_file.specs.declared.insn.Branch.{Branch}
+use Rattle.jvms_file.specs.declared.insn.Invoke.{Invoke}
+use Rattle.jvms_file.specs.declared.insn.Invoke.TheVariants as invoke
+use Rattle.jvms_file.specs.declared.insn.ArrayInsn.TheVariants as array_insn
+use Rattle.jvms_file.specs.declared.insn.SwitchCase.{SwitchCase}
+use Rattle.jvms_file.specs.declared.insn.TableSwitch.{TableSwitch}
+use Rattle.jvms_file.specs.declared.insn.LookupSwitch.{LookupSwitch}
+use Rattle.jvms_file.specs.Results.{◌>>=◌, want}
+use Rattle.jvms_file.specs.Bytes.{u1_at, u2_at, u4_at, bytes_at, signed}
+use Rattle.jvms_file.specs.ConstantPool.{entry, class_name_at}
+use Rattle.jvms_file.specs.Instructions.{Read, target_of, array_type_of, is_loadable, is_wide_loadable, passes, is_field, invoked, is_invocable, names_usable, is_dimensions, invoke_insn, new_array_insn, branch_insn, wide_branch_insn, multi_new_array_insn, is_above, pad_length, interface_count, interface_operands, behind_invoke, targets_at, table_switch_insn, cases_at, lookup_switch_insn, wide_form, wide_insn, operands_at, insn_at}
+use Rattle.jvms_file.specs.Code.{place_of, places_of, case_places, table_places, lookup_places, with_places}
+use Rattle.jvms_file.specs.Spelling.{IsU1, IsU2, IsU4, u2, u4, IsOpcode, InOrder, SpellsTarget, SpellsCase, IsRising, SpellsBehindInvoke, SpellsInsn}
 use Rattle.spelling.proofs.Numbers.{IsBytes, u1_found, u2_found, u4_found, bytes_found}
 use Rattle.spelling.proofs.InsnSteps.{step, tested, there, read_parts, mapped, chained}
 use Rattle.spelling.proofs.InsnForms.{Behind, alone, push_byte, push_short, load, load_wide, load_long, local, increment, wide_local, wide_increment, new_array, branch, branch_wide, table, lookup, field, invoke, class, multi_new_array, spelt}

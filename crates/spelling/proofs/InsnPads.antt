@@ -2,12 +2,12 @@
 use Rattle.std.proofs.Common.{◌≡◌, ℕ, suc, ◌+◌, true, false, cond, List, [], ◌∷◌, ◌++◌, length, replicate, refl, sym, ap, subst, ◌∙◌, append_assoc, arith}
 use Rattle.std.proofs.lemmas.List.{length-append, length-replicate}
 use Rattle.std.proofs.Math.Seq.{set-append_seam}
-use Rattle.jvms.specs.declared.class_file.Constant.{Constant}
-use Rattle.jvms.specs.declared.insn.Insn.{Insn}
-use Rattle.jvms.specs.declared.insn.Insn.TheVariants as insn
-use Rattle.jvms.specs.Instructions.{pad_length}
-use Rattle.jvms.specs.Code.{is_switch, zeroed, with_zero_pads}
-use Rattle.jvms.specs.Spelling.{u4, SpellsInsn, SpellsFrom, SpellsInsns}
+use Rattle.jvms_file.specs.declared.class_file.Constant.{Constant}
+use Rattle.jvms_file.specs.declared.insn.Insn.{Insn}
+use Rattle.jvms_file.specs.declared.insn.Insn.TheVariants as insn
+use Rattle.jvms_file.specs.Instructions.{pad_length}
+use Rattle.jvms_file.specs.Code.{is_switch, zeroed, with_zero_pads}
+use Rattle.jvms_file.specs.Spelling.{u4, SpellsInsn, SpellsFrom, SpellsInsns}
 
 -- ---- Bytes that are made 0
 

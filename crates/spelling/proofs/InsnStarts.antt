@@ -7,10 +7,10 @@ use Rattle.std.proofs.lemmas.List.Sums.{position_or_len_is}
 use Rattle.std.proofs.lemmas.List.Quantifiers.{position-Some}
 use Rattle.std.proofs.lemmas.Option.{none-some, same_Some, slice_get-get_or, get_or_from_slice_get, slice_get_within}
 use Rattle.std.proofs.lemmas.Bool.{ne_eqb, eq-eqb, lt-ltb, eqb-true}
-use Rattle.jvms.specs.declared.class_file.Constant.{Constant}
-use Rattle.jvms.specs.declared.insn.Insn.{Insn}
-use Rattle.jvms.specs.Code.{place_of}
-use Rattle.jvms.specs.Spelling.{SpellsInsn, SpellsFrom, SpellsInsns}
+use Rattle.jvms_file.specs.declared.class_file.Constant.{Constant}
+use Rattle.jvms_file.specs.declared.insn.Insn.{Insn}
+use Rattle.jvms_file.specs.Code.{place_of}
+use Rattle.jvms_file.specs.Spelling.{SpellsInsn, SpellsFrom, SpellsInsns}
 use Rattle.spelling.proofs.InsnForms.{formed}
 
 -- Starts from `low` on and below `end`, each above the one before it.

@@ -2,7 +2,7 @@
 use Rattle.std.proofs.Common.{◌≡◌, Bool, true, false, List, ◌∷◌, Option, Some, None, Result, Ok, Err, refl, ap}
 use Rattle.std.specs.Option.{option_and_then, option_map}
 use Rattle.std.proofs.lemmas.Option.{same_Some}
-use Rattle.jvms.specs.Results.{◌>>=◌, want, present}
+use Rattle.jvms_file.specs.Results.{◌>>=◌, want, present}
 
 -- What was read in one step, and went on from there.
 pub record Step {A B E : Type 0} (r : Result A E) (f : A → Result B E) (y : B) : Type 0 where

@@ -3,6 +3,10 @@ pub mod Classes
 pub mod CodeContent
 pub mod Codes
 pub mod Constants
+pub mod CutClasses
+pub mod CutMembers
+pub mod CutPools
+pub mod CutSteps
 pub mod Fields
 pub mod Handlers
 pub mod InsnAgain
@@ -16,3 +20,4 @@ pub mod Methods
 pub mod Numbers
 pub mod Pools
 pub mod Steps
+pub mod Switches

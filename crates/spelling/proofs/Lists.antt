@@ -5,10 +5,10 @@ use Rattle.std.specs.List.{list_any}
 use Rattle.std.proofs.lemmas.Bool.{true≢false, cases_Bool, or_parts, or_from, or_right}
 use Rattle.std.proofs.lemmas.List.{append-nil}
 use Rattle.std.proofs.lemmas.List.Folds.{list_any-append}
-use Rattle.jvms.specs.Results.{◌>>=◌, counted_onto}
-use Rattle.jvms.specs.Bytes.{u2_at}
-use Rattle.jvms.specs.Spelling.{u2, IsU2, InOrder, Counted, AtMostOne, IsDistinctBy}
-use Rattle.jvms.specs.declared.fault.ClassFault.{ClassFault}
+use Rattle.jvms_file.specs.Results.{◌>>=◌, counted_onto}
+use Rattle.jvms_file.specs.Bytes.{u2_at}
+use Rattle.jvms_file.specs.Spelling.{u2, IsU2, InOrder, Counted, AtMostOne, IsDistinctBy}
+use Rattle.jvms_file.specs.declared.fault.ClassFault.{ClassFault}
 use Rattle.spelling.proofs.Numbers.{IsBytes, u2_again}
 use Rattle.spelling.proofs.Steps.{Found, answered, step, u2_step}
 

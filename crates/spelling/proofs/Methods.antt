@@ -6,16 +6,16 @@ use Rattle.std.specs.Cmp.Lexicographic.{same_text as text_of_test}
 use Rattle.std.proofs.lemmas.Bool.{not-true, true≢false, cases_Bool, or_from}
 use Rattle.std.proofs.lemmas.List.{append-nil}
 use Rattle.std.proofs.lemmas.List.Folds.{list_any-append}
-use Rattle.jvms.specs.declared.class_file.Constant.{Constant}
-use Rattle.jvms.specs.declared.class_file.MethodAttribute.{MethodAttribute}
-use Rattle.jvms.specs.declared.class_file.MethodAttribute.TheVariants as method_attribute
-use Rattle.jvms.specs.declared.class_file.MethodInfo.{MethodInfo}
-use Rattle.jvms.specs.declared.fault.ClassFault.{ClassFault}
-use Rattle.jvms.specs.declared.fault.ClassFault.TheVariants as fault
-use Rattle.jvms.specs.Names.{same_text, is_method_name}
-use Rattle.jvms.specs.ConstantPool.{utf8_at, is_utf8}
-use Rattle.jvms.specs.Members.{Framed, is_abstract, is_interface, is_static, kept_content_at, is_named, class_number_at, code_at, exceptions_at, is_code, is_exceptions, asks_code, method_attribute_at, is_text_with, is_initializer, is_method_descriptor_for, is_same_method, method_at, methods_at}
-use Rattle.jvms.specs.Spelling.{u2, u4, Counted, AtMostOne, IsDistinctBy, SpellsCode, SpellsClassNumber, SpellsMethodAttribute, SpellsMethod}
+use Rattle.jvms_file.specs.declared.class_file.Constant.{Constant}
+use Rattle.jvms_file.specs.declared.class_file.MethodAttribute.{MethodAttribute}
+use Rattle.jvms_file.specs.declared.class_file.MethodAttribute.TheVariants as method_attribute
+use Rattle.jvms_file.specs.declared.class_file.MethodInfo.{MethodInfo}
+use Rattle.jvms_file.specs.declared.fault.ClassFault.{ClassFault}
+use Rattle.jvms_file.specs.declared.fault.ClassFault.TheVariants as fault
+use Rattle.jvms_file.specs.Names.{same_text, is_method_name}
+use Rattle.jvms_file.specs.ConstantPool.{utf8_at, is_utf8}
+use Rattle.jvms_file.specs.Members.{Framed, is_abstract, is_interface, is_static, kept_content_at, is_named, class_number_at, code_at, exceptions_at, is_code, is_exceptions, asks_code, method_attribute_at, is_text_with, is_initializer, is_method_descriptor_for, is_same_method, method_at, methods_at}
+use Rattle.jvms_file.specs.Spelling.{u2, u4, Counted, AtMostOne, IsDistinctBy, SpellsCode, SpellsClassNumber, SpellsMethodAttribute, SpellsMethod}
 use Rattle.spelling.proofs.Numbers.{IsBytes, u2_again}
 use Rattle.spelling.proofs.Steps.{Found, answered, choose, joined, step, want_step, u2_step}
 use Rattle.spelling.proofs.Lists.{Any, ReadsEach, FindsEach, any_here, counted_again, counted_then, counted_found, counted_step, none_before, one_more, distinct_before, one_more_distinct}

@@ -8,8 +8,8 @@ use Rattle.std.proofs.Math.Seq.{take-append_seam, drop-append_seam}
 use Rattle.std.proofs.Math.Nat.{div-eq_of_lt, mul_assoc, mul-add-div_right, mul-add-mod_self_right, pow-succ', one-le-pow, mul-le-mul_right}
 use Rattle.byteorder.specs.Endian.{big_from, big_bytes}
 use Rattle.byteorder.specs.Numbers.{big_from-cons, length-bytes_high_first, big_number-reads_back}
-use Rattle.jvms.specs.Bytes.{number, number_at, u1_at, u2_at, u4_at, u8_at, bytes_at}
-use Rattle.jvms.specs.Spelling.{u2, u4, u8, IsU1, IsU2, IsU4}
+use Rattle.jvms_file.specs.Bytes.{number, number_at, u1_at, u2_at, u4_at, u8_at, bytes_at}
+use Rattle.jvms_file.specs.Spelling.{u2, u4, u8, IsU1, IsU2, IsU4}
 
 -- Bytes are numbers below 256.
 abbrev pub IsBytes : List ℕ → Type 0

@@ -1,11 +1,11 @@
 -- The constant pool (JVMS 4.4): what is spelled is read, and what is read is spelled so.
 use Rattle.std.proofs.Common.{◌≡◌, ℕ, zero, suc, ◌+◌, ◌-◌, ◌<◌, Bool, true, false, List, [], ◌∷◌, ◌++◌, length, Ok, refl, sym, ap, subst, ◌∙◌, append_assoc, arith, inl, inr, append-nil}
 use Rattle.std.proofs.lemmas.Bool.{cases_Bool}
-use Rattle.jvms.specs.declared.class_file.Constant.{Constant}
-use Rattle.jvms.specs.declared.class_file.Constant.TheVariants as constant
-use Rattle.jvms.specs.declared.fault.ClassFault.{ClassFault}
-use Rattle.jvms.specs.ConstantPool.{takes_two, constant_at, entries_at, pool_at, entry_fault, entries_fault}
-use Rattle.jvms.specs.Spelling.{u2, IsU2, InOrder, IsNumbered, SpellsConstant, SpellsPool}
+use Rattle.jvms_file.specs.declared.class_file.Constant.{Constant}
+use Rattle.jvms_file.specs.declared.class_file.Constant.TheVariants as constant
+use Rattle.jvms_file.specs.declared.fault.ClassFault.{ClassFault}
+use Rattle.jvms_file.specs.ConstantPool.{takes_two, constant_at, entries_at, pool_at, entry_fault, entries_fault}
+use Rattle.jvms_file.specs.Spelling.{u2, IsU2, InOrder, IsNumbered, SpellsConstant, SpellsPool}
 use Rattle.spelling.proofs.Numbers.{IsBytes, u2_again}
 use Rattle.spelling.proofs.Steps.{Found, answered, joined, step, choose, u2_step}
 use Rattle.spelling.proofs.Constants.{IsUsable, constant_again, constant_found}

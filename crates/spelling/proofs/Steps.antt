@@ -1,9 +1,9 @@
 -- Steps that may fail, one after another: what an answer that is no fault says of each of them. Each lemma hands
 -- on what one step says, so that it is read in the order of the steps.
 use Rattle.std.proofs.Common.{◌≡◌, ℕ, ◌^◌, ◌<◌, Bool, true, false, cond, List, ◌∷◌, ◌++◌, length, Result, Ok, Err, refl, sym, ap, ◌∙◌, append_assoc}
-use Rattle.jvms.specs.Results.{◌>>=◌, want}
-use Rattle.jvms.specs.Bytes.{u1_at, u2_at, u4_at, u8_at, bytes_at}
-use Rattle.jvms.specs.Spelling.{u2, u4, u8, IsU1, IsU2, IsU4}
+use Rattle.jvms_file.specs.Results.{◌>>=◌, want}
+use Rattle.jvms_file.specs.Bytes.{u1_at, u2_at, u4_at, u8_at, bytes_at}
+use Rattle.jvms_file.specs.Spelling.{u2, u4, u8, IsU1, IsU2, IsU4}
 use Rattle.spelling.proofs.Numbers.{IsBytes, u1_found, u2_found, u4_found, u8_found, bytes_found}
 
 -- A step that gave a value, and what comes behind it.

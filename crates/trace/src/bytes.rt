@@ -93,6 +93,26 @@ fn write_whole<W: Write>(writer: &mut W, bytes: &[u8]) -> Result<(), DeviceFailu
     Err(DeviceFailure)
 }
 
+/// Reads some bytes; a read that a signal interrupts is made again.
+fn read_some<R: Read>(reader: &mut R, buffer: &mut [u8]) -> Result<usize, DeviceFailure>
+    ensures within { IfOk result (λ n. n ≤ length buffer.new) }
+    ensures bytes { IfOk result (λ n. Consumes (R.remaining reader.old) (R.remaining reader.new) (take n buffer.new)) }
+    ensures end { IfOk result (λ n. n ≡ 0 → 0 < length buffer.new → IsAtEnd (R.remaining reader.new)) }
+    ensures kept { OnErr result (Keeps (R.remaining reader.old) (R.remaining reader.new)) }
+{
+    for _ in 0..u64::MAX {
+        match reader.read(buffer) {
+            Ok(count) => return Ok(count),
+            Err(error) => {
+                if error.kind() != ErrorKind::Interrupted {
+                    return Err(DeviceFailure);
+                }
+            }
+        }
+    }
+    Err(DeviceFailure)
+}
+
 impl<T: Write, L: Ledger> ByteOut for Counted<T, L> {
     ghost written = { λ c. T.contents c.inner };
 
@@ -115,11 +135,11 @@ impl<T: Read, L: Ledger> ByteIn for Counted<T, L> {
     ghost failures = { λ c. c.failures };
 
     fn read(&mut self, buffer: &mut [u8]) -> Result<usize, DeviceFailure> {
-        match self.inner.read(buffer) {
+        match read_some(&mut self.inner, buffer) {
             Ok(count) => Ok(count),
-            Err(_) => {
+            Err(failure) => {
                 self.failures.count();
-                Err(DeviceFailure)
+                Err(failure)
             }
         }
     }

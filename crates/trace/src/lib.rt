@@ -9,5 +9,6 @@ mod tests;
 
 pub use bytes::{ByteIn, ByteOut, Counted, DeviceFailure};
 pub use failures::Failures;
-pub use jvms::trace::{FieldKey, Item, MethodKey, Variable};
+pub use jvms_machine::trace::{Item, Variable};
+pub use jvms_program::key::{FieldKey, MethodKey};
 pub use list::Trace;

@@ -2,7 +2,7 @@
 
 ghost use Rattle.std.specs.Prelude.{◌≡◌, ◌++◌, ◌∷◌, [], length, IsTrue, ◌↔◌, OnOk, OnErr};
 
-use jvms::trace::Item;
+use jvms_machine::trace::Item;
 use std::alloc::{AllocError, Global};
 use std::marker::Model;
 
@@ -14,7 +14,7 @@ pub struct Trace {
 
 impl Model for Trace {
     ghost use Rattle.std.specs.Prelude.{List};
-    ghost use Rattle.jvms.specs.declared.trace.Item.{Item};
+    ghost use Rattle.jvms_machine.specs.declared.trace.Item.{Item};
 
     ghost Value = { List Item };
 

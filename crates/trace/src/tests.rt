@@ -1,6 +1,6 @@
 use super::*;
-use jvms::items::Items;
-use jvms::shared::{Shared, Text};
+use held::items::Items;
+use held::shared::{Shared, Text};
 use std::alloc::{AllocError, Global};
 use std::test::Fail;
 

@@ -3,9 +3,9 @@
 #![tactic(auto)]
 
 use class_file::read;
-use jvms::items::Items;
-use jvms::machine::{Entry, Limits, Status};
-use jvms::value::Value;
+use held::items::Items;
+use jvms_machine::machine::{Entry, Limits, Status};
+use jvms_machine::value::Value;
 use linker::link;
 use machine::{Machine, is_enabled};
 use program::Program;

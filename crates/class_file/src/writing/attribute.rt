@@ -1,11 +1,11 @@
 //! Attributes (JVMS 4.7).
 
 ghost use Rattle.std.specs.Prelude.{◌≡◌, ◌++◌, OnOk};
-ghost use Rattle.jvms.specs.Spelling.{u2};
+ghost use Rattle.jvms_file.specs.Spelling.{u2};
 ghost use Rattle.class_file.specs.Writing.{counted_bytes, framed_bytes, kept_bytes};
 
-use const_pool::{write_count, write_length, write_u2};
-use jvms::class_file::KeptAttribute;
+use file_bytes::{write_count, write_length, write_u2};
+use jvms_file::class_file::KeptAttribute;
 use std::alloc::AllocError;
 
 /// Puts an attribute behind the bytes: its name, the length of its content, and the content.

@@ -6,8 +6,9 @@ ghost use Rattle.class_file.specs.Writing.{header_bytes, names_bytes, members_by
 use crate::class::MAGIC;
 use crate::writing::attribute::{write_kept_attributes, write_numbers};
 use crate::writing::member::{write_fields, write_methods};
-use const_pool::{write_pool, write_u2, write_u4};
-use jvms::class_file::ClassFile;
+use const_pool::write_pool;
+use file_bytes::{write_u2, write_u4};
+use jvms_file::class_file::ClassFile;
 use std::alloc::{AllocError, Global};
 
 /// Puts the magic number and the versions behind the bytes.

@@ -4,9 +4,9 @@ ghost use Rattle.std.specs.Prelude.{◌≡◌, ◌++◌, OnOk};
 ghost use Rattle.class_file.specs.Writing.{counted_bytes, code_bytes, handler_bytes, pc_of as pc_at};
 
 use crate::writing::attribute::write_kept_attributes;
-use const_pool::{write_count, write_length, write_u2};
+use file_bytes::{write_count, write_length, write_u2};
 use insn::encode;
-use jvms::class_file::{Code, Handler, Layout};
+use jvms_file::class_file::{Code, Handler, Layout};
 use std::alloc::AllocError;
 
 /// The byte at which the instruction at a place starts; behind the last instruction, the code's length.

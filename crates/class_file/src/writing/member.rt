@@ -5,8 +5,8 @@ ghost use Rattle.class_file.specs.Writing.{counted_bytes, member_bytes, field_at
 
 use crate::writing::attribute::{write_framed, write_kept, write_numbers};
 use crate::writing::code::write_code;
-use const_pool::{write_count, write_u2};
-use jvms::class_file::{FieldAttribute, FieldInfo, MethodAttribute, MethodInfo};
+use file_bytes::{write_count, write_u2};
+use jvms_file::class_file::{FieldAttribute, FieldInfo, MethodAttribute, MethodInfo};
 use std::alloc::{AllocError, Global};
 
 /// Puts the access flags, the name and the descriptor of a member behind the bytes.
@@ -24,7 +24,7 @@ fn write_member(
 }
 
 /// Puts an attribute of a field behind the bytes.
-#[tactic(auto, unfolding(crate::specs::Writing::field_attribute_bytes, jvms::specs::Spelling::u2))]
+#[tactic(auto, unfolding(crate::specs::Writing::field_attribute_bytes, jvms_file::specs::Spelling::u2))]
 fn write_field_attribute(out: &mut Vec<u8>, attribute: &FieldAttribute) -> Result<(), AllocError>
     ensures { OnOk result (out.new.items ≡ out.old.items ++ field_attribute_bytes attribute.now) }
 {

@@ -2,13 +2,13 @@
 
 ghost use Rattle.std.specs.Prelude.{◌≡◌, ◌&&◌, option_copied, map};
 ghost use Rattle.std.specs.List.{find};
-ghost use Rattle.jvms.specs.State.{default_of_element, default_value, fields_where, instance_fields, static_fields};
+ghost use Rattle.jvms_machine.specs.State.{default_of_element, default_value, fields_where, instance_fields, static_fields};
 ghost use Rattle.machine.specs.Views.{value_of, is_declared, is_static_or_not};
 
-use jvms::descriptor::{Element, FieldType, Primitive};
-use jvms::program::{Class, Field};
-use jvms::trace::FieldKey;
-use jvms::value::Value;
+use jvms_file::descriptor::{Element, FieldType, Primitive};
+use jvms_machine::value::Value;
+use jvms_program::key::FieldKey;
+use jvms_program::program::{Class, Field};
 use program::{Program, same_text};
 
 /// The value of a field that nothing was stored in and that is no array's (JVMS 2.3, 2.4).

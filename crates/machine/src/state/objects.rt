@@ -2,42 +2,27 @@
 
 ghost use Rattle.std.specs.Prelude.{◌≡◌, length};
 ghost use Rattle.std.specs.Option.{option_map};
-ghost use Rattle.machine.specs.Views.{asked, class_at, field_of, length_of, element_of, units_of, named_by, monitor_at, hold_of};
+ghost use Rattle.jvms_machine.specs.State.{monitor_at};
+ghost use Rattle.machine.specs.Views.{asked, class_at, field_of, length_of, element_of, units_of, named_by};
 
 use crate::machine::Machine;
-use jvms::machine::ThreadId;
-use jvms::trace::FieldKey;
-use jvms::value::Value;
-
-/// How many objects there are at the opening.
-const OPENING_OBJECTS: usize = 4;
-
-/// How many elements their arrays have.
-const OPENING_ELEMENTS: u32 = 0;
-
-/// How a monitor is held.
-#[derive(Clone, Copy, Debug, PartialEq, Eq)]
-pub struct Hold {
-    pub owner: ThreadId,
-    /// How often the owner has entered it and not left it.
-    pub count: u32,
-}
+use jvms_machine::state::Hold;
+use jvms_machine::value::Value;
+use jvms_program::key::FieldKey;
 
 impl Machine<'_> {
     /// How many references were ever made.
     pub fn object_count(&self) -> usize
         ensures { result ≡ length self.now.state.heap }
     {
-        let _ = &self.parts;
-        OPENING_OBJECTS
+        self.parts.object_count()
     }
 
     /// How many elements all arrays that were ever made have.
     pub fn element_count(&self) -> u32
         ensures { result ≡ self.now.state.elements }
     {
-        let _ = &self.parts;
-        OPENING_ELEMENTS
+        self.parts.element_count()
     }
 
     /// The class of the object of a reference.
@@ -87,7 +72,7 @@ impl Machine<'_> {
     /// How the monitor of an object is held. There is no answer where it is free, or the reference leads
     /// to nothing.
     pub fn monitor(&self, reference: u32) -> Option<Hold>
-        ensures { option_map hold_of result ≡ monitor_at self.now.state.heap reference }
+        ensures { result ≡ monitor_at self.now.state.monitors reference }
     {
         self.parts.monitor(reference)
     }

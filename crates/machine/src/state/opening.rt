@@ -1,16 +1,16 @@
 //! The objects and the static fields of the opening, which no row changes yet.
 
-ghost use Rattle.std.specs.Prelude.{◌≡◌, map};
+ghost use Rattle.std.specs.Prelude.{◌≡◌, length};
 ghost use Rattle.std.specs.Option.{option_and_then, option_map};
-ghost use Rattle.jvms.specs.State.{object_at, static_fields};
-ghost use Rattle.jvms.specs.Run.{opening_heap, opening_static, is_system_out};
-ghost use Rattle.machine.specs.Views.{class_at, field_of, length_of, element_of, units_of, named_by, monitor_at, hold_of, value_of};
+ghost use Rattle.jvms_machine.specs.State.{object_at, monitor_at};
+ghost use Rattle.jvms_machine.specs.Opening.{is_system_out};
+ghost use Rattle.machine.specs.Views.{class_at, field_of, length_of, element_of, units_of, named_by, value_of};
 
 use crate::parts::Parts;
 use crate::state::declared;
-use crate::state::objects::Hold;
-use jvms::trace::FieldKey;
-use jvms::value::Value;
+use jvms_machine::state::Hold;
+use jvms_machine::value::Value;
+use jvms_program::key::FieldKey;
 use program::same_text;
 
 /// `java/lang/OutOfMemoryError`, the class of reference 1.
@@ -35,6 +35,9 @@ const STRINGS: [u16; 19] = [
     91, 76, 106, 97, 118, 97, 47, 108, 97, 110, 103, 47, 83, 116, 114, 105, 110, 103, 59,
 ];
 
+/// How many objects there are at the opening.
+const OPENING_OBJECTS: usize = 4;
+
 /// The last reference that leads to an instance.
 const LAST_INSTANCE: u32 = 3;
 
@@ -57,10 +60,44 @@ fn is_system_out(key: &FieldKey) -> bool
 }
 
 impl Parts<'_> {
+    /// How many references were ever made: those of the opening.
+    pub(super) fn object_count(&self) -> usize
+        ensures { result ≡ length self.now.state.heap }
+    {
+        let _ = &self.program;
+        OPENING_OBJECTS
+    }
+
+    /// How many elements their arrays have.
+    pub(super) fn element_count(&self) -> u32
+        ensures { result ≡ self.now.state.elements }
+    {
+        let _ = &self.program;
+        0
+    }
+
+    /// How a monitor is held: none is.
+    pub(super) fn monitor(&self, reference: u32) -> Option<Hold>
+        ensures { result ≡ monitor_at self.now.state.monitors reference }
+    {
+        let _ = &self.program;
+        let _ = reference;
+        None
+    }
+
+    /// The bytes that were written: none were.
+    pub(crate) fn output(&self) -> &[u8]
+        ensures { result.now ≡ self.now.state.output }
+    {
+        let _ = &self.program;
+        &[]
+    }
+
     /// The class of the object of a reference.
     pub(super) fn class_of(&self, reference: u32) -> Option<&[u16]>
-        ensures { option_map (λ c. c.now) result ≡ class_at (opening_heap self.now.program) reference }
+        ensures { option_map (λ c. c.now) result ≡ class_at self.now.state.heap reference }
     {
+        let _ = &self.program;
         match reference {
             1 => Some(&OUT_OF_MEMORY_ERROR),
             2 => Some(&STACK_OVERFLOW_ERROR),
@@ -73,8 +110,9 @@ impl Parts<'_> {
     /// The value of a field of an instance. None was stored in yet.
     #[tactic(auto, using(crate::proofs::OpeningLaws::no_instance, crate::proofs::OpeningLaws::no_object, crate::proofs::OpeningLaws::field_of_class))]
     pub(super) fn field(&self, reference: u32, key: &FieldKey) -> Option<Value>
-        ensures { result ≡ option_and_then (field_of key.now) (object_at (opening_heap self.now.program) reference) }
+        ensures { result ≡ option_and_then (field_of key.now) (object_at self.now.state.heap reference) }
     {
+        let _ = &self.program;
         if reference > LAST_INSTANCE {
             return None;
         }
@@ -85,7 +123,7 @@ impl Parts<'_> {
     /// How many elements an array has: the one that there is has none.
     #[tactic(auto, using(crate::proofs::OpeningLaws::no_other_array))]
     pub(super) fn array_length(&self, reference: u32) -> Option<usize>
-        ensures { result ≡ option_and_then length_of (object_at (opening_heap self.now.program) reference) }
+        ensures { result ≡ option_and_then length_of (object_at self.now.state.heap reference) }
     {
         let _ = &self.program;
         if reference == 4 { Some(0) } else { None }
@@ -94,7 +132,7 @@ impl Parts<'_> {
     /// An element of an array: there is none.
     #[tactic(auto, using(crate::proofs::OpeningLaws::no_element))]
     pub(super) fn element(&self, reference: u32, index: usize) -> Option<Value>
-        ensures { result ≡ option_and_then (element_of index) (object_at (opening_heap self.now.program) reference) }
+        ensures { result ≡ option_and_then (element_of index) (object_at self.now.state.heap reference) }
     {
         let _ = &self.program;
         let _ = (reference, index);
@@ -104,7 +142,7 @@ impl Parts<'_> {
     /// The units of a string: there is none.
     #[tactic(auto, using(crate::proofs::OpeningLaws::no_text))]
     pub(super) fn text(&self, reference: u32) -> Option<&[u16]>
-        ensures { option_map (λ units. units.now) result ≡ option_and_then units_of (object_at (opening_heap self.now.program) reference) }
+        ensures { option_map (λ units. units.now) result ≡ option_and_then units_of (object_at self.now.state.heap reference) }
     {
         let _ = &self.program;
         let _ = reference;
@@ -114,17 +152,7 @@ impl Parts<'_> {
     /// The name of the class of a class object: there is none.
     #[tactic(auto, using(crate::proofs::OpeningLaws::no_class_object))]
     pub(super) fn class_object(&self, reference: u32) -> Option<&[u16]>
-        ensures { option_map (λ name. name.now) result ≡ option_and_then named_by (object_at (opening_heap self.now.program) reference) }
-    {
-        let _ = &self.program;
-        let _ = reference;
-        None
-    }
-
-    /// How the monitor of an object is held: none is.
-    #[tactic(auto, using(crate::proofs::OpeningLaws::no_monitor))]
-    pub(super) fn monitor(&self, reference: u32) -> Option<Hold>
-        ensures { option_map hold_of result ≡ monitor_at (opening_heap self.now.program) reference }
+        ensures { option_map (λ name. name.now) result ≡ option_and_then named_by (object_at self.now.state.heap reference) }
     {
         let _ = &self.program;
         let _ = reference;
@@ -134,7 +162,7 @@ impl Parts<'_> {
     /// The value of a static field. Nothing was stored in any but `System.out`.
     #[tactic(auto, using(crate::proofs::FieldLaws::nothing_opened, crate::proofs::FieldLaws::out_opened, crate::proofs::FieldLaws::other_opened))]
     pub(super) fn static_value(&self, key: &FieldKey) -> Option<Value>
-        ensures { result ≡ value_of key.now (map opening_static (static_fields self.now.program)) }
+        ensures { result ≡ value_of key.now (self.now.state.statics) }
     {
         let value = declared::static_value(self.program.classes(), key)?;
         if is_system_out(key) {

@@ -2,30 +2,30 @@
 
 ghost use Rattle.std.specs.Prelude.{◌≡◌, length, option_copied};
 ghost use Rattle.std.specs.Option.{option_and_then, option_map};
-ghost use Rattle.machine.specs.Threads.{frame_of, thread_of};
 ghost use Rattle.machine.specs.Views.{thread_at, frame_at, shown, uncaught};
 
 use crate::machine::Machine;
-use crate::thread::{StackFrame, Thread};
+use crate::thread::Thread;
 use frames::Frame;
-use jvms::machine::ThreadId;
+use jvms_machine::machine::ThreadId;
+use jvms_machine::state::StackFrame;
 
 /// What stands on a thread's stack.
 #[derive(Clone, Copy)]
-pub enum FrameView<'m> {
+pub enum FrameView<'m, 'p> {
     /// A call: its method, the place of the next instruction, the local variables, the operands, and the
     /// object whose monitor it entered. `Frame::operand` counts from 0 at the top.
-    Call(&'m Frame),
+    Call(&'m Frame<'p>),
     /// The initialisation of the class of a number, and whether its `<clinit>` was called.
     Initialisation { class: usize, called: bool },
 }
 
 /// What a frame shows.
-fn view<'m>(frame: &'m StackFrame<'_>) -> FrameView<'m>
-    ensures { shown result ≡ frame_of frame.now }
+fn view<'m, 'p>(frame: &'m StackFrame<Frame<'p>>) -> FrameView<'m, 'p>
+    ensures { shown result ≡ frame.now }
 {
     match frame {
-        StackFrame::Call(call) => FrameView::Call(call.frame()),
+        StackFrame::Call(frame) => FrameView::Call(frame),
         StackFrame::Initialisation { class, called } => FrameView::Initialisation {
             class: *class,
             called: *called,
@@ -36,7 +36,7 @@ fn view<'m>(frame: &'m StackFrame<'_>) -> FrameView<'m>
 impl<'p> Machine<'p> {
     /// The thread of a number, if it was started.
     fn thread(&self, t: ThreadId) -> Option<&Thread<'p>>
-        ensures { option_map thread_of (option_copied result) ≡ thread_at self.now t }
+        ensures { option_copied result ≡ thread_at self.now t }
     {
         self.parts.threads.as_slice().get(t as usize)
     }
@@ -84,7 +84,7 @@ impl<'p> Machine<'p> {
     }
 
     /// The frame of a thread at a depth, from 0 at the top (JVMS 2.6).
-    pub fn frame(&self, t: ThreadId, depth: usize) -> Option<FrameView<'_>>
+    pub fn frame(&self, t: ThreadId, depth: usize) -> Option<FrameView<'_, 'p>>
         ensures { option_map shown result ≡ frame_at self.now t depth }
     {
         let thread = self.thread(t)?;

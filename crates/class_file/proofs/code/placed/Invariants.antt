@@ -1,6 +1,6 @@
 use Rattle.std.proofs.Common.{◌≡◌, length}
-use Rattle.jvms.specs.Results.{collected}
-use Rattle.jvms.specs.Code.{handlers_of}
+use Rattle.jvms_file.specs.Results.{collected}
+use Rattle.jvms_file.specs.Code.{handlers_of}
 use Rattle.class_file.specs.Wanted.{handler_placed}
 use Rattle.class_file.proofs.Handlers.{with_items}
 use Rattle.class_file.proofs.code.placed.Given as goal

@@ -1,6 +1,6 @@
 -- What is left to read stands behind what was read.
-use Rattle.jvms.specs.Members.{field_at}
-use Rattle.jvms.proofs.CountedLaws.{counted_more, counted_all, counted_fails}
+use Rattle.jvms_file.specs.Members.{field_at}
+use Rattle.jvms_file.proofs.CountedLaws.{counted_more, counted_all, counted_fails}
 use Rattle.class_file.proofs.field.fields_of.Goals as goal
 
 pub returns-in-Err : goal.returns-in-Err

@@ -1,6 +1,6 @@
 use Rattle.std.proofs.Common.{◌≡◌, []}
-use Rattle.jvms.specs.Results.{counted_onto}
-use Rattle.jvms.specs.Members.{field_at}
+use Rattle.jvms_file.specs.Results.{counted_onto}
+use Rattle.jvms_file.specs.Members.{field_at}
 use Rattle.class_file.specs.Seen.{AreFields}
 use Rattle.class_file.proofs.field.fields_of.Given as goal
 

@@ -1,6 +1,6 @@
 use Rattle.std.proofs.Common.{◌≡◌, []}
-use Rattle.jvms.specs.Results.{counted_onto}
-use Rattle.jvms.specs.Members.{method_at}
+use Rattle.jvms_file.specs.Results.{counted_onto}
+use Rattle.jvms_file.specs.Members.{method_at}
 use Rattle.class_file.specs.Seen.{AreMethods}
 use Rattle.class_file.proofs.method.methods_of.Given as goal
 

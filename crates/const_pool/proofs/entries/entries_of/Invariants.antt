@@ -1,6 +1,6 @@
 use Rattle.std.proofs.Common.{◌≡◌}
-use Rattle.jvms.specs.ConstantPool.{entries_at}
-use Rattle.jvms.proofs.FrontLaws.{with_front}
+use Rattle.jvms_file.specs.ConstantPool.{entries_at}
+use Rattle.jvms_file.proofs.FrontLaws.{with_front}
 use Rattle.const_pool.proofs.entries.entries_of.Given as goal
 
 abbrev pub invariant-loop-left : goal.invariant-loop-left

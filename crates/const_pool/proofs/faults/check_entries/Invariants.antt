@@ -1,5 +1,5 @@
 use Rattle.std.proofs.Common.{◌≡◌, length}
-use Rattle.jvms.specs.ConstantPool.{entries_fault}
+use Rattle.jvms_file.specs.ConstantPool.{entries_fault}
 use Rattle.const_pool.proofs.faults.check_entries.Given as goal
 
 abbrev pub invariant-loop-rest : goal.invariant-loop-rest

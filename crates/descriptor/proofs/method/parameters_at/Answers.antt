@@ -1,5 +1,5 @@
 use Rattle.std.proofs.Common.{List, [], ◌∷◌, ◌++◌, ap, ◌∙◌}
-use Rattle.jvms.specs.declared.descriptor.FieldType.{FieldType}
+use Rattle.jvms_file.specs.declared.descriptor.FieldType.{FieldType}
 use Rattle.descriptor.specs.Scanning.{type_of, parameters_behind}
 use Rattle.descriptor.proofs.Parameters.{parameters_end_at, parameters_next, parameters_stop_at, parameters_cut_at}
 use Rattle.descriptor.proofs.method.parameters_at.Goals as goal

@@ -1,7 +1,7 @@
 use Rattle.std.proofs.Common.{◌==◌, rules, tests}
 use Rattle.std.proofs.lemmas.Iterator.Search.{all_from_yields_List}
 use Rattle.std.proofs.lemmas.Iterator.Splits.{YieldsList-from_slice_split}
-use Rattle.jvms.specs.Names.{is_name}
+use Rattle.jvms_file.specs.Names.{is_name}
 use Rattle.descriptor.proofs.names.is_class_name.Goals as goal
 
 pub returns : goal.returns

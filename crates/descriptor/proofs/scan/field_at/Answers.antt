@@ -1,6 +1,6 @@
 use Rattle.std.proofs.Common.{◌≡◌, Some, sym, arith}
-use Rattle.jvms.specs.Descriptors.{field_type_from}
-use Rattle.jvms.proofs.DescriptorLaws.{rest_is_shorter}
+use Rattle.jvms_file.specs.Descriptors.{field_type_from}
+use Rattle.jvms_file.proofs.DescriptorLaws.{rest_is_shorter}
 use Rattle.descriptor.specs.Scanning.{element_of, with_dimensions}
 use Rattle.descriptor.proofs.Scanning.{front_none, front_many, front_some}
 use Rattle.descriptor.proofs.scan.field_at.Goals as goal

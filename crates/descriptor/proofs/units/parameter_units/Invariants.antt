@@ -1,6 +1,6 @@
 use Rattle.std.proofs.Common.{◌≡◌, ◌*◌, ◌≤◌, take}
 use Rattle.std.specs.Prelude.{sum_by}
-use Rattle.jvms.specs.Descriptors.{units_of}
+use Rattle.jvms_file.specs.Descriptors.{units_of}
 use Rattle.descriptor.proofs.units.parameter_units.Given as goal
 
 abbrev pub invariant-loop-parameter : goal.invariant-loop-parameter

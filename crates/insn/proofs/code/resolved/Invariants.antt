@@ -1,6 +1,6 @@
 use Rattle.std.proofs.Common.{◌≡◌, drop}
-use Rattle.jvms.specs.Code.{resolved}
-use Rattle.jvms.specs.Results.{collected}
+use Rattle.jvms_file.specs.Code.{resolved}
+use Rattle.jvms_file.specs.Results.{collected}
 use Rattle.insn.specs.Locating.{all_placed, resolved_one}
 use Rattle.insn.proofs.Collecting.{with_items}
 use Rattle.insn.proofs.code.resolved.Given as goal

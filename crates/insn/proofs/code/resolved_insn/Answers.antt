@@ -1,7 +1,7 @@
 use Rattle.std.proofs.Common.{subst, Result}
-use Rattle.jvms.specs.declared.fault.ClassFault.{ClassFault}
-use Rattle.jvms.specs.declared.insn.Insn.{Insn}
-use Rattle.jvms.specs.Reading.{Gives}
+use Rattle.jvms_file.specs.declared.fault.ClassFault.{ClassFault}
+use Rattle.jvms_file.specs.declared.insn.Insn.{Insn}
+use Rattle.jvms_file.specs.Reading.{Gives}
 use Rattle.insn.proofs.Collecting.{insn_is}
 use Rattle.insn.proofs.code.resolved_insn.Goals as goal
 

@@ -1,5 +1,5 @@
 use Rattle.std.proofs.Common.{◌≡◌, ◌+◌}
-use Rattle.jvms.specs.Code.{zeroed}
+use Rattle.jvms_file.specs.Code.{zeroed}
 use Rattle.insn.proofs.pads.zero.Given as goal
 
 abbrev pub invariant-loop-left : goal.invariant-loop-left

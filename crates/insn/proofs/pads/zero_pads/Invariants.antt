@@ -1,5 +1,5 @@
 use Rattle.std.proofs.Common.{◌≡◌, length}
-use Rattle.jvms.specs.Code.{with_zero_pads}
+use Rattle.jvms_file.specs.Code.{with_zero_pads}
 use Rattle.insn.proofs.pads.zero_pads.Given as goal
 
 abbrev pub invariant-loop-pcs : goal.invariant-loop-pcs

@@ -1,6 +1,6 @@
 use Rattle.std.proofs.Common.{◌+◌, drop}
 use Rattle.std.proofs.lemmas.Result.{err_from_is_err_and}
-use Rattle.jvms.specs.Results.{collected}
+use Rattle.jvms_file.specs.Results.{collected}
 use Rattle.insn.specs.Places.{place_found}
 use Rattle.insn.proofs.Collecting.{items_go_on, items_stop, drop_next}
 use Rattle.insn.proofs.places.places.Goals as goal

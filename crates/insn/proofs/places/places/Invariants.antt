@@ -1,5 +1,5 @@
 use Rattle.std.proofs.Common.{◌≡◌, drop}
-use Rattle.jvms.specs.Results.{collected}
+use Rattle.jvms_file.specs.Results.{collected}
 use Rattle.insn.specs.Places.{place_found}
 use Rattle.insn.proofs.Collecting.{with_items}
 use Rattle.insn.proofs.places.places.Given as goal

@@ -1,6 +1,6 @@
 use Rattle.std.proofs.Common.{None}
 use Rattle.std.proofs.lemmas.Result.{err_from_is_err_and}
-use Rattle.jvms.specs.Instructions.{cases_at}
+use Rattle.jvms_file.specs.Instructions.{cases_at}
 use Rattle.insn.proofs.SwitchLists.{cases_go_on, cases_stop, cases_done}
 use Rattle.insn.proofs.switches.cases_at.Goals as goal
 

@@ -1,5 +1,5 @@
 use Rattle.std.proofs.Common.{◌≡◌, ◌-◌, None}
-use Rattle.jvms.specs.Instructions.{cases_at}
+use Rattle.jvms_file.specs.Instructions.{cases_at}
 use Rattle.insn.proofs.SwitchLists.{with_front}
 use Rattle.insn.proofs.switches.cases_at.Given as goal
 

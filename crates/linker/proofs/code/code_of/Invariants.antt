@@ -1,5 +1,5 @@
 use Rattle.std.proofs.Common.{◌≡◌, length}
-use Rattle.jvms.specs.Meaning.{code_of}
+use Rattle.jvms_program.specs.Meaning.{code_of}
 use Rattle.linker.proofs.code.code_of.Given as goal
 
 abbrev pub invariant-loop-rest : goal.invariant-loop-rest

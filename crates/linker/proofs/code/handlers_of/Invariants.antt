@@ -1,5 +1,5 @@
 use Rattle.std.proofs.Common.{◌≡◌, take, map}
-use Rattle.jvms.specs.Meaning.{handler_of}
+use Rattle.jvms_program.specs.Meaning.{handler_of}
 use Rattle.linker.proofs.code.handlers_of.Given as goal
 
 abbrev pub invariant-loop-handler : goal.invariant-loop-handler

@@ -1,5 +1,5 @@
 use Rattle.std.proofs.Common.{◌≡◌, take, map}
-use Rattle.jvms.specs.Meaning.{field_of}
+use Rattle.jvms_program.specs.Meaning.{field_of}
 use Rattle.linker.proofs.field.fields_of.Given as goal
 
 abbrev pub invariant-loop-info : goal.invariant-loop-info

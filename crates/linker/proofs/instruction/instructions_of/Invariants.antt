@@ -1,5 +1,5 @@
 use Rattle.std.proofs.Common.{◌≡◌, take, map}
-use Rattle.jvms.specs.Meaning.{instruction_of}
+use Rattle.jvms_program.specs.Meaning.{instruction_of}
 use Rattle.linker.proofs.instruction.instructions_of.Given as goal
 
 abbrev pub invariant-loop-insn : goal.invariant-loop-insn

@@ -1,5 +1,5 @@
 use Rattle.std.proofs.Common.{◌≡◌, map}
-use Rattle.jvms.specs.Meaning.{meaning}
+use Rattle.jvms_program.specs.Meaning.{meaning}
 use Rattle.linker.proofs.linking.classes_of.Given as goal
 
 abbrev pub invariant-loop-file : goal.invariant-loop-file

@@ -1,5 +1,5 @@
 use Rattle.std.proofs.Common.{◌≡◌, take, map}
-use Rattle.jvms.specs.Meaning.{method_of}
+use Rattle.jvms_program.specs.Meaning.{method_of}
 use Rattle.linker.proofs.method.methods_of.Given as goal
 
 abbrev pub invariant-loop-info : goal.invariant-loop-info

@@ -1,5 +1,5 @@
 use Rattle.std.proofs.Common.{◌≡◌, length}
-use Rattle.jvms.specs.Meaning.{throws_of}
+use Rattle.jvms_program.specs.Meaning.{throws_of}
 use Rattle.linker.proofs.method.throws_of.Given as goal
 
 abbrev pub invariant-loop-rest : goal.invariant-loop-rest

@@ -1,5 +1,5 @@
 use Rattle.std.proofs.Common.{◌≡◌, ◌++◌, map, drop}
-use Rattle.jvms.specs.declared.value.Value.TheVariants as value
+use Rattle.jvms_machine.specs.declared.value.Value.TheVariants as value
 use Rattle.machine.proofs.opening.ints.Given as goal
 
 abbrev pub invariant-loop-number : goal.invariant-loop-number

@@ -2,8 +2,8 @@
 use Rattle.std.proofs.Common.{◌+◌, ◌<◌, ◌≡◌, [], ◌++◌, ◌∷◌, length, sym, arith}
 use Rattle.std.proofs.lemmas.Bool.{eqb-true, eqb-false}
 use Rattle.std.proofs.lemmas.List.{length-append, nil_from_length}
-use Rattle.jvms.specs.Texts.{decoded}
-use Rattle.jvms.proofs.TextLaws.{shorter_behind}
+use Rattle.jvms_file.specs.Texts.{decoded}
+use Rattle.jvms_file.proofs.TextLaws.{shorter_behind}
 use Rattle.mutf8.proofs.Loop.{goes_on, ends_badly, ends_well}
 use Rattle.mutf8.proofs.decoding.all_units.Goals as goal
 

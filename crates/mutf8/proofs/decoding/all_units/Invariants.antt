@@ -1,6 +1,6 @@
 -- What is still to be decoded completes what was read, and no byte gives two units.
 use Rattle.std.proofs.Common.{◌≡◌, ◌+◌, ◌≤◌, length}
-use Rattle.jvms.specs.Texts.{decoded}
+use Rattle.jvms_file.specs.Texts.{decoded}
 use Rattle.mutf8.proofs.Loop.{still}
 use Rattle.mutf8.proofs.decoding.all_units.Given as goal
 

@@ -1,7 +1,7 @@
 -- What the exact clause says, in the words of the spelling.
 use Rattle.std.proofs.Common.{ap, subst, ◌∙◌}
-use Rattle.jvms.specs.Texts.{decoded}
-use Rattle.jvms.proofs.TextLaws.{encoded_is_decoded}
+use Rattle.jvms_file.specs.Texts.{decoded}
+use Rattle.jvms_file.proofs.TextLaws.{encoded_is_decoded}
 use Rattle.mutf8.specs.Reading.{Gives}
 use Rattle.mutf8.proofs.Readings.{found_from, bad_from}
 use Rattle.mutf8.proofs.decoding.decode.Goals as goal

@@ -1,6 +1,6 @@
 -- The units so far have their bytes.
 use Rattle.std.proofs.Common.{◌≡◌, take}
-use Rattle.jvms.specs.Texts.{encoded}
+use Rattle.jvms_file.specs.Texts.{encoded}
 use Rattle.mutf8.proofs.encoding.encode.Given as goal
 
 abbrev pub invariant-loop-unit : goal.invariant-loop-unit

@@ -1,5 +1,5 @@
 use Rattle.std.proofs.Common.{refl}
-use Rattle.jvms.specs.BuiltIn.{built_in_classes}
+use Rattle.jvms_program.specs.BuiltIn.{built_in_classes}
 use Rattle.program.proofs.all.built_in_classes.Goals as goal
 
 pub returns : goal.returns

@@ -1,8 +1,10 @@
-use Rattle.std.proofs.Common.{rules, refl}
+use Rattle.std.proofs.Common.{rules, refl, sym, ap, ◌∙◌}
 use Rattle.program.specs.Named.{reference}
+use Rattle.program.specs.Places.{method_in}
 use Rattle.program.proofs.MethodLaws.{constructor_located}
 use Rattle.program.proofs.methods.found_method.Goals as goal
 
 pub returns : goal.returns
 returns c =
-    constructor_located c.args.classes.now (reference c.args.r) _ _ c.in_ok-class.class.now _ refl refl (search rules) (search rules) c.look.ensures
+    constructor_located c.args.classes.now (reference c.args.r) _ _ c.in_ok-number.class.now _ refl refl (search rules) (sym c.in_ok-number.ensures.class)
+    (c.look.ensures ∙ ap (λ n. method_in n c.args.r.name.now c.args.r.descriptor.now c.in_ok-number.class.now) c.in_ok-number.ensures.place)

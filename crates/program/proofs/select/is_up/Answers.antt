@@ -1,6 +1,6 @@
 use Rattle.std.proofs.Common.{ℕ, ap, ◌∙◌}
 use Rattle.std.specs.Prelude.{is_some}
-use Rattle.jvms.specs.Resolution.{chain}
+use Rattle.jvms_program.specs.Resolution.{chain}
 use Rattle.program.proofs.WalkLaws.{first_in_named}
 use Rattle.program.proofs.select.is_up.Goals as goal
 

@@ -1,5 +1,5 @@
 use Rattle.std.proofs.Common.{◌≡◌, ◌++◌, take, map}
-use Rattle.jvms.specs.BuiltIn.{throwable_below}
+use Rattle.jvms_program.specs.BuiltIn.{throwable_below}
 use Rattle.program.proofs.throwables.push_below.Given as goal
 
 -- the classes so far

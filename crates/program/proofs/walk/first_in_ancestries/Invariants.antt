@@ -1,10 +1,15 @@
 use Rattle.std.proofs.Common.{◌≡◌, drop}
 use Rattle.std.specs.List.{flat_map}
-use Rattle.jvms.specs.Resolution.{ancestry, first_in}
+use Rattle.jvms_program.specs.Resolution.{ancestry, first_in}
+use Rattle.program.specs.Places.{placed}
+use Rattle.program.specs.Searches.{AreMarkedVain}
 use Rattle.program.proofs.walk.first_in_ancestries.Given as goal
 
 -- what the names so far gave: nothing
 abbrev pub invariant-loop-name : goal.invariant-loop-name
-invariant-loop-name g l =
-    first_in (g.L.Look.gives l.look) (flat_map (ancestry l.classes) l.names)
-    ≡ first_in (g.L.Look.gives l.look) (flat_map (ancestry l.classes) (drop l.name-index l.names))
+invariant-loop-name g l = record {
+  nothing :
+      first_in (placed l.classes (g.L.Look.gives l.look)) (flat_map (ancestry l.classes) l.names)
+      ≡ first_in (placed l.classes (g.L.Look.gives l.look)) (flat_map (ancestry l.classes) (drop l.name-index l.names));
+  marked : AreMarkedVain l.classes (placed l.classes (g.L.Look.gives l.look)) l.marks;
+}

@@ -1,5 +1,6 @@
 use Rattle.std.proofs.Common.{◌≡◌}
-use Rattle.jvms.specs.Resolution.{chain, chain_within, first_in}
+use Rattle.jvms_program.specs.Resolution.{chain, chain_within, first_in}
+use Rattle.program.specs.Places.{placed}
 use Rattle.program.proofs.walk.first_up.Given as goal
 
 abbrev pub decreases-loop-most : goal.decreases-loop-most
@@ -8,5 +9,5 @@ decreases-loop-most g l = l.most
 -- what is left to search
 abbrev pub invariant-loop-most : goal.invariant-loop-most
 invariant-loop-most g l =
-    first_in (g.L.Look.gives l.look) (chain l.classes l.fn.name)
-    ≡ first_in (g.L.Look.gives l.look) (chain_within l.most l.classes l.name)
+    first_in (placed l.classes (g.L.Look.gives l.look)) (chain l.classes l.fn.name)
+    ≡ first_in (placed l.classes (g.L.Look.gives l.look)) (chain_within l.most l.classes l.name)

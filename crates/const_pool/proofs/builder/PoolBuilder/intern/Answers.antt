@@ -2,7 +2,7 @@ use Rattle.std.proofs.Common.{◌≡◌, ◌<◌, ◌++◌, ◌∷◌, [], None,
 use Rattle.indexmap.specs.IndexMap.{get}
 use Rattle.indexmap.proofs.CallerLemmas.{insert_entry-new}
 use Rattle.std.specs.Map.{keys_of}
-use Rattle.jvms.specs.ConstantPool.{entry as entry_at}
+use Rattle.jvms_file.specs.ConstantPool.{entry as entry_at}
 use Rattle.const_pool.specs.Interning.{pool_of}
 use Rattle.const_pool.proofs.Interned.{same, width-some, found_number, keys_of-push, one_more, interned-known, interned-full, interned-new, next_names, names_kept}
 use Rattle.const_pool.proofs.builder.PoolBuilder.intern.Goals as goal

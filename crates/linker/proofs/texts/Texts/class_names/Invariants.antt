@@ -1,5 +1,5 @@
 use Rattle.std.proofs.Common.{◌≡◌, take, map}
-use Rattle.jvms.specs.Meaning.{class_text}
+use Rattle.jvms_program.specs.Meaning.{class_text}
 use Rattle.linker.proofs.texts.Texts.class_names.Given as goal
 
 abbrev pub invariant-loop-number : goal.invariant-loop-number

@@ -1,6 +1,6 @@
 use Rattle.std.proofs.Common.{rules, [], length, sym, ap, subst}
 use Rattle.std.proofs.lemmas.Option.{gets}
-use Rattle.jvms.specs.declared.machine.Outcome.TheVariants as outcome
+use Rattle.jvms_machine.specs.declared.machine.Outcome.TheVariants as outcome
 use Rattle.machine.specs.Runs.{IsRun}
 use Rattle.machine.proofs.RunLaws.{run_none, run_on, set_last}
 use Rattle.machine.proofs.machine.Machine.run.Goals as goal

@@ -2,4 +2,4 @@ use Rattle.std.proofs.Common.{◌-◌, length}
 use Rattle.machine.proofs.parts.Parts.+any_enabled.Given as goal
 
 abbrev pub decreases-any_enabled : goal.decreases-any_enabled
-decreases-any_enabled l = length l.self.now.threads - l.t
+decreases-any_enabled l = length l.self.now.state.threads - l.t

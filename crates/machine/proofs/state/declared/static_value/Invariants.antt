@@ -1,5 +1,5 @@
 use Rattle.std.proofs.Common.{◌≡◌, drop}
-use Rattle.jvms.specs.State.{static_fields}
+use Rattle.jvms_machine.specs.State.{static_fields}
 use Rattle.machine.specs.Views.{value_of}
 use Rattle.machine.proofs.state.declared.static_value.Given as goal
 

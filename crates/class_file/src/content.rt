@@ -1,0 +1,61 @@
+//! The length of an attribute's content, and the content within it.
+
+ghost use Rattle.std.specs.Prelude.{◌≡◌};
+ghost use Rattle.file_bytes.specs.Reading.{Finds};
+ghost use Rattle.jvms_file.specs.Members.{framed, frame_at as frame_read, want_all as all_wanted};
+ghost use Rattle.class_file.specs.Contents.{framed_by};
+
+use file_bytes::{u4_at, want};
+use jvms_file::fault::ClassFault;
+
+/// An attribute's content. What would pass its end is missing from the input where the end is behind the
+/// input's, else from the attribute.
+#[derive(Clone, Copy)]
+pub(crate) struct Content<'a> {
+    /// Whether all bytes of the content are there.
+    pub(crate) whole: bool,
+    /// The fault of bytes that aren't there.
+    pub(crate) cut: ClassFault,
+    pub(crate) bytes: &'a [u8],
+    pub(crate) behind: &'a [u8],
+}
+
+/// The content of so many bytes.
+fn content_of(cut: ClassFault, count: usize, bytes: &[u8]) -> Content<'_>
+    ensures { framed_by result ≡ framed cut count bytes.now }
+{
+    if count <= bytes.len() {
+        let (content, behind) = bytes.split_at(count);
+        Content {
+            whole: true,
+            cut: ClassFault::AttributeLength,
+            bytes: content,
+            behind,
+        }
+    } else {
+        Content {
+            whole: false,
+            cut,
+            bytes,
+            behind: &bytes[bytes.len()..],
+        }
+    }
+}
+
+/// The length of an attribute's content, and the content.
+pub(crate) fn content_at(cut: ClassFault, bytes: &[u8]) -> Result<Content<'_>, ClassFault>
+    ensures { Finds framed_by result (frame_read cut bytes.now) }
+{
+    let (count, rest) = u4_at(cut, bytes)?;
+    Ok(content_of(cut, count as usize, rest))
+}
+
+/// What was read of an attribute's content, up to these bytes, is all of it.
+pub(crate) fn want_all(content: Content<'_>, rest: &[u8]) -> Result<(), ClassFault>
+    ensures { Finds (λ x. x) result (all_wanted (framed_by content.entry) rest.now) }
+{
+    match rest {
+        [] => want(content.whole, content.cut),
+        [_, ..] => Err(content.cut),
+    }
+}

@@ -1,0 +1,64 @@
+//! The texts of help and of the version. No line has more than 80 columns.
+
+/// `jvmx --help`
+pub const HELP: &str = "\
+jvmx: runs Java class files, one turn of one thread at a time
+
+Usage: jvmx COMMAND WORDS
+
+  eval           runs a static method on int arguments and prints what it gives
+  help           prints this text; help COMMAND, how that command is used
+  -h, --help     prints this text; behind a command, how that command is used
+  -V, --version  prints the program's name and version
+
+Exit status: 0; 1 where a run didn't finish; 2 where words or inputs are
+refused; 3 where memory ran out or a file, standard output or standard error
+failed.
+
+A refusal is one line on standard error, jvmx: FILE: CODE NAME. docs/REFUSALS.md
+says what each code means and what usually causes it.
+
+Example: jvmx eval --entry 'G.gcd.(II)I' --args 48,36 examples/G.class
+";
+
+/// `jvmx eval --help`
+pub const EVAL_HELP: &str = "\
+jvmx eval: runs a static method on int arguments and prints what it gives
+
+Usage: jvmx eval --entry C.m.D [--args N,N] FILE...
+
+  --entry C.m.D  the method (required): its class, its name and its descriptor,
+                 as the class file has them, parted by dots. A 16-bit unit
+                 outside 33 to 126, and the backslash, is written \\u and four
+                 lower case hexadecimal digits
+                 examples: --entry 'G.gcd.(II)I', --entry 'a/b/C.f.()V'
+  --args N,N     its arguments: decimal numbers from -2147483648 to 2147483647,
+                 parted by commas (default: none). A negative first one is
+                 joined to the option
+                 examples: --args 48,36, --args=-7,2
+  FILE...        the class files of the program, each of at most 67108864 bytes
+                 (at least one)
+
+Options and FILEs stand in any order. --args=48,36 is --args 48,36, and behind
+-- all words are FILEs.
+
+The method runs by itself, as thread 0, for at most 1000000 turns, with at most
+1000000 objects, 10000000 elements of arrays, 64 threads and 1024 frames a
+thread. Today the instructions of ints, locals, the stack, jumps and switches
+run, and the return from the method. Calls, objects, fields, arrays, exceptions,
+long, float and double don't run yet: the run stands still before such an
+instruction, with status Stalled.
+
+Standard output: the result and a line end, an int in decimal, a reference as
+null or R:n. Where there is no result, standard error: status S turns N, with S
+one of Finished, Running, Stalled, Deadlocked.
+
+Exit status: 0 where the status is Finished, else 1; 2 and 3 as jvmx --help
+says. docs/REFUSALS.md explains the codes of refusals.
+
+Example: jvmx eval --entry 'G.gcd.(II)I' --args 48,36 examples/G.class
+prints 12
+";
+
+/// `jvmx --version`
+pub const VERSION: &str = "jvmx 0.1.0\n";

@@ -1,0 +1,49 @@
+//! The options and FILEs of each command, as the parser of words has them.
+
+use clap::{Arg, ArgAction, Command};
+use std::alloc::{AllocError, Global};
+
+/// The option `--entry`.
+pub(crate) const ENTRY: &str = "entry";
+
+/// The option `--args`.
+pub(crate) const ARGUMENTS: &str = "args";
+
+/// FILE...
+pub(crate) const FILES: &str = "files";
+
+/// A command with neither help nor version of the parser's own.
+fn bare<'a>(alloc: Global, name: &'a str) -> Command<'a> {
+    Command::new(alloc, name)
+        .no_binary_name(true)
+        .disable_help_flag(true)
+        .disable_help_subcommand(true)
+        .disable_version_flag(true)
+}
+
+/// An option with a value.
+fn option<'a>(alloc: Global, name: &'a str) -> Arg<'a> {
+    Arg::new(alloc, name).long(name).action(ArgAction::Set)
+}
+
+/// At least one FILE.
+fn files<'a>(alloc: Global) -> Arg<'a> {
+    Arg::new(alloc, FILES)
+        .required(true)
+        .num_args(1..)
+        .action(ArgAction::Append)
+}
+
+/// `eval --entry C.m.D [--args N,N] FILE...`
+fn eval_syntax<'a>(alloc: Global) -> Result<Command<'a>, AllocError> {
+    let entry = option(alloc, ENTRY).required(true);
+    bare(alloc, "eval")
+        .arg(entry)?
+        .arg(option(alloc, ARGUMENTS))?
+        .arg(files(alloc))
+}
+
+/// All commands.
+pub(crate) fn syntax<'a>(alloc: Global) -> Result<Command<'a>, AllocError> {
+    bare(alloc, "jvmx").subcommand(eval_syntax(alloc)?)
+}

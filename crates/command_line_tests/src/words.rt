@@ -1,0 +1,184 @@
+//! Words: what they ask for, as the program's manual says.
+
+use command_line::{Command, EVAL_HELP, HELP, VERSION, WordsFault, command_of};
+use fixtures::texts::units;
+use held::items::Items;
+use jvms_machine::machine::Entry;
+use std::alloc::{AllocError, Global};
+use std::test::Fail;
+
+const GCD: &str = "G.gcd.(II)I";
+
+fn owned(alloc: Global, words: &[&str]) -> Result<Vec<String>, AllocError> {
+    let mut owned = Vec::new(alloc);
+    for word in words {
+        owned.push(String::from_str(alloc, *word)?)?;
+    }
+    Ok(owned)
+}
+
+/// Whether words are no command line.
+fn is_refused(alloc: Global, words: &[&str]) -> Result<bool, AllocError> {
+    let words = owned(alloc, words)?;
+    let command = command_of(alloc, words.as_slice());
+    Ok(matches!(command, Err(WordsFault::Words)))
+}
+
+/// The text that words ask for.
+fn text_of(alloc: Global, words: &[&str]) -> Result<Option<&'static str>, AllocError> {
+    let words = owned(alloc, words)?;
+    match command_of(alloc, words.as_slice()) {
+        Ok(Command::Help(text)) => Ok(Some(text)),
+        Ok(Command::Version) => Ok(Some(VERSION)),
+        _ => Ok(None),
+    }
+}
+
+/// The method gcd on these arguments.
+fn gcd_on(alloc: Global, arguments: &[i32]) -> Result<Entry, AllocError> {
+    Ok(Entry::Static {
+        class: units(alloc, "G")?,
+        name: units(alloc, "gcd")?,
+        descriptor: units(alloc, "(II)I")?,
+        arguments: Items::from_vec(arguments.to_vec(alloc)?),
+    })
+}
+
+/// Whether a command evaluates an entry in the program of one file.
+fn evaluates(command: &Command<'_>, entry: &Entry, file: &str) -> bool {
+    match command {
+        Command::Eval(eval) => {
+            eval.entry == *entry
+                && eval.entry_text == GCD
+                && eval.files.len() == 1
+                && eval.file(0) == file
+        }
+        _ => false,
+    }
+}
+
+/// Whether words ask for gcd on these arguments in the program of one file.
+fn is_gcd(
+    alloc: Global,
+    words: &[&str],
+    arguments: &[i32],
+    file: &str,
+) -> Result<bool, AllocError> {
+    let entry = gcd_on(alloc, arguments)?;
+    let words = owned(alloc, words)?;
+    match command_of(alloc, words.as_slice()) {
+        Ok(command) => Ok(evaluates(&command, &entry, file)),
+        Err(_) => Ok(false),
+    }
+}
+
+#[test]
+fn refuses_other_words(rt: HostRuntime) -> Result<(), Fail> {
+    let refused: [&[&str]; 25] = [
+        &[],
+        &["run"],
+        &["--version", "eval"],
+        &["help", "run"],
+        &["help", "eval", "F"],
+        &["-h", "eval"],
+        &["--entry", GCD, "eval", "F"],
+        &["eval"],
+        &["eval", "F"],
+        &["eval", "--entry", GCD],
+        &["eval", "--entry"],
+        &["eval", "--entry", GCD, "--entry", GCD, "F"],
+        &[
+            "eval", "--entry", GCD, "--args", "1,2", "--args", "1,2", "F",
+        ],
+        &["eval", "--entry", GCD, "--args", "-7,2", "F"],
+        &["eval", "--entry", GCD, "--args", "+7,2", "F"],
+        &["eval", "--entry", GCD, "--args", "", "F"],
+        &["eval", "--entry", GCD, "--args", "7,,2", "F"],
+        &["eval", "--entry", GCD, "--args", "7, 2", "F"],
+        &["eval", "--entry", GCD, "--args", "2147483648,1", "F"],
+        &["eval", "--entry", GCD, "--args=-2147483649,1", "F"],
+        &["eval", "--entry", GCD, "--stop", "F"],
+        &["eval", "--help=1", "--entry", GCD, "F"],
+        &["eval", "--entry", GCD, "-x"],
+        &["eval", "--entry", GCD, "G.j"],
+        &["eval", "--entry", GCD, "--args", "48,36", "F", "G.j"],
+    ];
+    for words in refused {
+        assert!(rt; is_refused(rt.alloc(), words)?, "{words:?}");
+    }
+    Ok(())
+}
+
+#[test]
+fn refuses_entries_out_of_form(rt: HostRuntime) -> Result<(), Fail> {
+    let refused = [
+        "G",
+        "G.gcd",
+        "G.gcd.(II)I.x",
+        ".gcd.(II)I",
+        "G..(II)I",
+        "G.gcd.",
+        "G.gcd.(II)",
+        "a//G.gcd.(II)I",
+        "G;.gcd.(II)I",
+        "G.<gcd>.(II)I",
+        "G.g cd.(II)I",
+        "G.g\u{e9}.(II)I",
+        "G.g\\.(II)I",
+        "G.\\u0067cd.(II)I",
+        "G.g\\u00E9.(II)I",
+        "G.g\\u00e.(II)I",
+    ];
+    for entry in refused {
+        assert!(rt;
+            is_refused(rt.alloc(), &["eval", "--entry", entry, "F"])?,
+            "{entry}"
+        );
+    }
+    Ok(())
+}
+
+#[test]
+fn takes_words_in_any_order(rt: HostRuntime) -> Result<(), Fail> {
+    let taken: [&[&str]; 4] = [
+        &["eval", "--entry", GCD, "--args", "48,36", "F"],
+        &["eval", "F", "--args=48,036", "--entry=G.gcd.(II)I"],
+        &["eval", "--args", "48,36", "F", "--entry", GCD],
+        &["eval", "--args=48,36", "--entry", GCD, "--", "F"],
+    ];
+    for words in taken {
+        assert!(rt; is_gcd(rt.alloc(), words, &[48, 36], "F")?, "{words:?}");
+    }
+    let negative = ["eval", "--args=-48,-36", "--entry", GCD, "--", "--F"];
+    assert!(rt; is_gcd(rt.alloc(), &negative, &[-48, -36], "--F")?);
+    Ok(())
+}
+
+#[test]
+fn gives_texts(rt: HostRuntime) -> Result<(), Fail> {
+    let asked: [(&[&str], &str); 8] = [
+        (&["--help"], HELP),
+        (&["-h"], HELP),
+        (&["help"], HELP),
+        (&["help", "eval"], EVAL_HELP),
+        (&["eval", "--help"], EVAL_HELP),
+        (&["eval", "-h"], EVAL_HELP),
+        (&["--version"], VERSION),
+        (&["-V"], VERSION),
+    ];
+    for (words, text) in asked {
+        assert!(rt; text_of(rt.alloc(), words)? == Some(text), "{words:?}");
+    }
+    Ok(())
+}
+
+#[test]
+fn keeps_texts_to_eighty_columns(rt: HostRuntime) -> Result<(), Fail> {
+    for text in [HELP, EVAL_HELP, VERSION] {
+        assert!(rt; text.ends_with("\n"));
+        for line in text.split('\n') {
+            assert!(rt; line.len() <= 80, "{line}");
+        }
+    }
+    Ok(())
+}

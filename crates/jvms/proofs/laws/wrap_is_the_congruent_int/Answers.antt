@@ -1,6 +1,0 @@
-use Rattle.jvms.proofs.NumberLaws.{wrap_is_int, wrap_is_congruent, one_int}
-use Rattle.jvms.specs.Numbers.{wrap}
-use Rattle.jvms.proofs.laws.wrap_is_the_congruent_int.Goals as goal
-
-pub returns : goal.returns
-returns c = λ n. (wrap_is_int n, wrap_is_congruent n, λ m int congruent. one_int n m (wrap n) int (wrap_is_int n) congruent (wrap_is_congruent n))

@@ -1,5 +1,0 @@
-use Rattle.jvms.proofs.TurnSoundness.{turn_keeps}
-use Rattle.jvms.proofs.soundness.a_turn_keeps_a_state_sound.Goals as goal
-
-pub returns : goal.returns
-returns c = turn_keeps

@@ -1,0 +1,14 @@
+pub mod Bytes
+pub mod ClassFile
+pub mod Code
+pub mod ConstantPool
+pub mod Descriptors
+pub mod Examples
+pub mod Instructions
+pub mod Members
+pub mod Names
+pub mod Numbers
+pub mod Reading
+pub mod Results
+pub mod Spelling
+pub mod Texts

@@ -1,0 +1,31 @@
+-- What limits leave room for.
+use Rattle.std.proofs.Common.{◌≡◌, ℕ, ◌≤◌, true, ◌&&◌, nat_le, IsTrue, leb-true}
+use Rattle.std.proofs.lemmas.Bool.{and_parts}
+use Rattle.jvms_machine.specs.declared.machine.Limits.{Limits}
+use Rattle.jvms_machine.specs.Limits.{is_between, are_limits}
+
+-- The opening's objects fit, and so do a thread and a frame.
+pub record HasRoom (limits : Limits) : Type 0 where
+  pub objects : 4 ≤ limits.objects
+  pub threads : 1 ≤ limits.threads
+  pub frames : 1 ≤ limits.frames
+
+-- A number between two is at least the lower.
+between_least : (least most n : ℕ) → is_between least most n ≡ true → least ≤ n
+between_least least most n is = leb-true least n (and_parts (nat_le least n) (nat_le n most) is).0
+
+-- Limits that are such have room.
+pub limits_have_room : (limits : Limits) → IsTrue (are_limits limits) → HasRoom limits
+limits_have_room limits are =
+    let objects = is_between 4 16777216 limits.objects in
+    let elements = is_between 0 268435456 limits.elements in
+    let threads = is_between 1 1024 limits.threads in
+    let frames = is_between 1 65536 limits.frames in
+    let all_four = and_parts (objects && elements && threads) frames are in
+    let first_three = and_parts (objects && elements) threads all_four.0 in
+    let first_two = and_parts objects elements first_three.0 in
+    record {
+      objects = between_least 4 16777216 limits.objects first_two.0;
+      threads = between_least 1 1024 limits.threads first_three.1;
+      frames = between_least 1 65536 limits.frames all_four.1;
+    }

@@ -1,0 +1,50 @@
+-- What an entry starts with.
+use Rattle.std.proofs.Common.{◌≡◌, Bool, true, false, List, [], ◌∷◌, subst, arith, cond}
+use Rattle.std.specs.Prelude.{Option, Some, None, ℤ, map}
+use Rattle.std.specs.Option.{option_map}
+use Rattle.std.specs.List.{AllByRecursion}
+use Rattle.jvms_machine.specs.declared.value.Value.TheVariants as value
+use Rattle.jvms_program.specs.declared.program.Class.{Class}
+use Rattle.jvms_machine.specs.declared.machine.Entry.{Entry}
+use Rattle.jvms_machine.specs.declared.machine.Entry.TheVariants as entry
+use Rattle.jvms_program.specs.declared.number.MethodNumber.{MethodNumber}
+use Rattle.jvms_file.specs.Names.{is_initializer_name}
+use Rattle.jvms_program.specs.Resolution.{MethodFound, method_number}
+use Rattle.jvms_machine.specs.Start.{Start, IsStart, IsArgument, start_of, found_start, entry_arguments, resolved_entry, takes_arguments}
+
+-- Ints are arguments.
+ints_are_arguments : (ns : List ℤ) → AllByRecursion IsArgument (map value.Int ns)
+ints_are_arguments [] = tt
+ints_are_arguments (n ∷ ns) = (tt, ints_are_arguments ns)
+
+-- So are an entry's.
+arguments_of_entry : (e : Entry) → AllByRecursion IsArgument (entry_arguments e)
+arguments_of_entry (entry.Main class) = ((omega arith, omega arith), tt)
+arguments_of_entry (entry.Static class name descriptor arguments) = ints_are_arguments arguments
+
+-- A start that is given for an entry has its arguments.
+given : (e : Entry) (start : Start) (o : Option MethodNumber) → option_map (λ n. record { method = n; arguments = entry_arguments e }) o ≡ Some start → IsStart start
+given e start None is = absurd (cc)
+given e start (Some n) is =
+    let begun : Start = record { method = n; arguments = entry_arguments e } in
+    let same : begun ≡ start = cc in
+    subst IsStart same (arguments_of_entry e)
+
+-- The same through a test that gives none.
+unless : (b : Bool) (o : Option Start) (start : Start) → (o ≡ Some start → IsStart start) → cond b None o ≡ Some start → IsStart start
+unless true o start there is = absurd (cc)
+unless false o start there is = there is
+
+only_if : (b : Bool) (o : Option Start) (start : Start) → (o ≡ Some start → IsStart start) → cond b o None ≡ Some start → IsStart start
+only_if true o start there is = there is
+only_if false o start there is = absurd (cc)
+
+found_is_start : (program : List Class) (e : Entry) (start : Start) (m : Option MethodFound) → found_start program e m ≡ Some start → IsStart start
+found_is_start program e start None is = absurd (cc)
+found_is_start program e start (Some m) is =
+    unless (is_initializer_name m.method.name) _ start (given e start (method_number program m)) is
+
+pub entry_is_start : (program : List Class) (e : Entry) (start : Start) → start_of program e ≡ Some start → IsStart start
+unfolding start_of
+entry_is_start program e start is =
+    only_if (takes_arguments e) _ start (found_is_start program e start (resolved_entry program e)) is

@@ -1,0 +1,74 @@
+-- The initialisation of classes (JVMS 5.5).
+use Rattle.std.specs.Prelude.{ℕ, Bool, true, false, ◌==◌, ◌&&◌, ◌||◌, nat_le, if◌then◌else◌, List, length, Option, Some, None, is_some, slice_get, codes}
+use Rattle.std.specs.Option.{option_and_then}
+use Rattle.std.specs.List.{list_any}
+use Rattle.jvms_machine.specs.declared.machine.Outcome.TheVariants as outcome
+use Rattle.jvms_machine.specs.declared.machine.BlockedOn.TheVariants as blocked
+use Rattle.jvms_machine.specs.declared.machine.Limits.{Limits}
+use Rattle.jvms_machine.specs.declared.state.Initialisation.{Initialisation}
+use Rattle.jvms_machine.specs.declared.state.Initialisation.TheVariants as initialisation
+use Rattle.jvms_program.specs.declared.program.Class.{Class}
+use Rattle.jvms_program.specs.declared.program.Body.{Body}
+use Rattle.jvms_machine.specs.declared.action.Decision.{Decision}
+use Rattle.jvms_machine.specs.declared.action.Decision.TheVariants as decision
+use Rattle.jvms_machine.specs.declared.action.Action.TheVariants as action
+use Rattle.jvms_program.specs.Program.{class_number, declared_number}
+use Rattle.jvms_program.specs.Resolution.{is_interface_kind}
+use Rattle.jvms_machine.specs.State.{State, Thread}
+use Rattle.jvms_machine.specs.Decisions.{never_seen}
+
+-- ---- A class is asked for
+
+-- Whether a static field of a class has a constant.
+abbrev pub has_static_constant : Class → Bool
+has_static_constant c = list_any (λ f. f.is_static && is_some f.constant) c.fields
+
+-- The initialisation begins: the class is marked, and its frame pushed; the instruction is run again later.
+-- Constants of static fields, and the errors of the limits, are yet to come.
+abbrev pub begin_decision : Limits → Thread → ℕ → Option Class → Decision Body
+begin_decision limits thread class None = never_seen
+begin_decision limits thread class (Some c) =
+    if has_static_constant c || nat_le limits.frames (length thread.frames) then decision.Later
+    else decision.Makes (action.Begins class)
+
+-- What a turn that asks for the initialisation of a class does first: `go_on` where it is done or in progress by
+-- the turn's own thread.
+abbrev pub asking_at : List Class → Limits → ℕ → Thread → ℕ → Option Initialisation → Decision Body → Decision Body
+asking_at program limits t thread class None go_on = never_seen
+asking_at program limits t thread class (Some initialisation.NotBegun) go_on =
+    begin_decision limits thread class (slice_get program class)
+asking_at program limits t thread class (Some (initialisation.InProgress u)) go_on =
+    if u == t then go_on else decision.Unmade (outcome.Blocked (blocked.Initialisation class u))
+asking_at program limits t thread class (Some initialisation.Done) go_on = go_on
+asking_at program limits t thread class (Some initialisation.Erroneous) go_on = decision.Later
+
+abbrev pub asking : List Class → Limits → State → ℕ → Thread → ℕ → Decision Body → Decision Body
+asking program limits s t thread class go_on =
+    asking_at program limits t thread class (slice_get s.initialisations class) go_on
+
+-- ---- An initialisation frame is on top
+
+abbrev pub has_initializer : Class → Bool
+has_initializer c = is_some (declared_number c (codes "<clinit>") (codes "()V"))
+
+-- The number of the superclass that is asked for: an interface asks for none.
+abbrev pub asked_superclass : List Class → Class → Option ℕ
+asked_superclass program c =
+    if is_interface_kind c.kind then None else option_and_then (class_number program) c.superclass
+
+-- Where no superclass is left to wait for: a <clinit>()V is called, which is yet to come, or the class is done.
+abbrev pub initializer_decision : Class → ℕ → Decision Body
+initializer_decision c class = if has_initializer c then decision.Later else decision.Makes (action.Finishes class)
+
+-- The superclass is asked for first.
+abbrev pub superclass_decision : List Class → Limits → State → ℕ → Thread → Option ℕ → Decision Body → Decision Body
+superclass_decision program limits s t thread None go_on = go_on
+superclass_decision program limits s t thread (Some super) go_on = asking program limits s t thread super go_on
+
+-- The superclass is asked for; then <clinit> is called, or, where there is none or it has returned, the class is
+-- done.
+abbrev pub initialisation_decision : List Class → Limits → State → ℕ → Thread → ℕ → Bool → Option Class → Decision Body
+initialisation_decision program limits s t thread class called None = never_seen
+initialisation_decision program limits s t thread class true (Some c) = decision.Makes (action.Finishes class)
+initialisation_decision program limits s t thread class false (Some c) =
+    superclass_decision program limits s t thread (asked_superclass program c) (initializer_decision c class)

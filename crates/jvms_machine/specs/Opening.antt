@@ -1,0 +1,71 @@
+-- A machine at its opening, or why there is none.
+use Rattle.std.specs.Prelude.{ℕ, Bool, false, ◌&&◌, if◌then◌else◌, List, [], ◌∷◌, map, Option, Some, None, codes, Result, Ok, Err}
+use Rattle.jvms_machine.specs.declared.value.Value.{Value}
+use Rattle.jvms_machine.specs.declared.value.Value.TheVariants as value
+use Rattle.jvms_machine.specs.declared.machine.Entry.{Entry}
+use Rattle.jvms_machine.specs.declared.machine.Limits.{Limits}
+use Rattle.jvms_machine.specs.declared.state.Initialisation.{Initialisation}
+use Rattle.jvms_machine.specs.declared.state.Initialisation.TheVariants as initialisation
+use Rattle.jvms_program.specs.declared.program.Class.{Class}
+use Rattle.jvms_program.specs.declared.key.FieldKey.{FieldKey}
+use Rattle.jvms_file.specs.Names.{same_text}
+use Rattle.jvms_program.specs.BuiltIn.{is_built_in}
+use Rattle.jvms_machine.specs.State.{State, Object, instance, array, Thread, instance_fields, static_fields}
+use Rattle.jvms_machine.specs.Start.{Start, start_of}
+use Rattle.jvms_machine.specs.Limits.{are_limits}
+
+-- Why a machine isn't made: the entry is looked at first, then the limits.
+pub data NotMade : Type 0 where
+  no_entry : NotMade
+  no_limits : NotMade
+
+abbrev pub within : Limits → Start → Result Start NotMade
+within limits start = if are_limits limits then Ok start else Err no_limits
+
+abbrev pub start_within : Limits → Option Start → Result Start NotMade
+start_within limits None = Err no_entry
+start_within limits (Some start) = within limits start
+
+-- Where a machine of a program starts, with these limits and this entry.
+abbrev pub made : List Class → Limits → Entry → Result Start NotMade
+made program limits e = start_within limits (start_of program e)
+
+-- ---- The opening state
+
+abbrev pub opening_object : List Class → List ℕ → Object
+opening_object program class = instance class (instance_fields program class)
+
+-- References 1 to 4: the error of too many objects, that of too many frames, System.out, and main's argument.
+abbrev pub opening_heap : List Class → List Object
+opening_heap program =
+    opening_object program (codes "java/lang/OutOfMemoryError")
+    ∷ opening_object program (codes "java/lang/StackOverflowError")
+    ∷ opening_object program (codes "java/io/PrintStream")
+    ∷ array (codes "[Ljava/lang/String;") []
+    ∷ []
+
+abbrev pub is_system_out : FieldKey → Bool
+is_system_out key = same_text key.class (codes "java/lang/System") && same_text key.name (codes "out")
+
+-- System.out is reference 3; all other static fields have their first value.
+abbrev pub opening_static : FieldKey × Value → FieldKey × Value
+opening_static f = (f.0, if is_system_out f.0 then value.Reference 3 else f.1)
+
+abbrev pub opening_initialisation : Class → Initialisation
+opening_initialisation c = if is_built_in c.name then initialisation.Done else initialisation.NotBegun
+
+abbrev pub new_thread : Thread
+new_thread = record { object = None; frames = []; pending = None; first_call_made = false; ended = false }
+
+unfoldable pub opening : List Class → State
+opening program =
+    record {
+      heap = opening_heap program;
+      monitors = [];
+      statics = map opening_static (static_fields program);
+      initialisations = map opening_initialisation program;
+      threads = new_thread ∷ [];
+      elements = 0;
+      output = [];
+      result = None;
+    }

@@ -1,0 +1,70 @@
+//! What a turn comes to: decided first, with nothing changed, and then made.
+
+use crate::machine::{BadCause, Outcome};
+use crate::value::Value;
+use jvms_file::insn::StackForm;
+use jvms_program::number::MethodNumber;
+use jvms_program::thrown::Thrown;
+
+/// What an instruction does that touches its frame alone (JVMS 6.5). What it takes it takes off the top of the
+/// operands.
+#[derive(Clone, Copy, Debug, PartialEq, Eq)]
+pub enum FrameAction {
+    /// Takes so many operands, puts a value on top, and goes on to the next instruction.
+    Push { takes: u8, value: Value },
+    /// Takes so many operands, stores a value in a local variable, and goes on to the next instruction.
+    Store { takes: u8, local: u16, value: Value },
+    /// Takes so many operands, and goes on at a place.
+    Jump { takes: u8, target: usize },
+    /// Rearranges the top operands, and goes on to the next instruction.
+    Rearrange(StackForm),
+    /// Puts the return address of the next instruction on top, and goes on at a place.
+    Subroutine { target: usize },
+}
+
+/// What an instruction comes to, as far as its frame tells.
+#[derive(Clone, Copy, Debug, PartialEq, Eq)]
+pub enum FrameDecision {
+    Does(FrameAction),
+    /// An exception of this class is thrown, and the frame stays as it is.
+    Throws(Thrown),
+    /// The turn can't be made.
+    Stops(BadCause),
+    /// The instruction touches more than its frame, or is one of a later version of the instruction table.
+    Later,
+}
+
+/// How a turn changes the state, with what its making needs. `C` is a method's code, or what leads to it.
+#[derive(Clone, Copy)]
+pub enum Action<C> {
+    /// The call on top goes on by an instruction that touches its frame alone.
+    Goes(FrameAction),
+    /// The initialisation of a class begins, and its frame is pushed.
+    Begins {
+        class: usize,
+    },
+    /// The initialisation of a class is done, and its frame popped.
+    Finishes {
+        class: usize,
+    },
+    /// The entry's method, which has this code, is called.
+    Enters {
+        method: MethodNumber,
+        code: C,
+    },
+    /// The first call, of this method, returns, and the thread ends.
+    Ends {
+        method: MethodNumber,
+        result: Option<Value>,
+    },
+}
+
+/// What a turn comes to.
+#[derive(Clone, Copy)]
+pub enum Decision<C> {
+    /// It isn't made: nothing changes.
+    Unmade(Outcome),
+    /// A later version of the instruction table makes it; this one says that it is out of the profile.
+    Later,
+    Makes(Action<C>),
+}

@@ -1,0 +1,11 @@
+//! The machine (JVMS 2, 6.5): what it is handed and what it answers, and in `specs/` its state, the rows of the
+//! instruction table, turns and runs.
+#![tactic(auto)]
+
+pub mod action;
+pub mod laws;
+pub mod machine;
+pub mod soundness;
+pub mod state;
+pub mod trace;
+pub mod value;

@@ -1,0 +1,36 @@
+//! Laws about turns, owed to the gate: the opening state is sound, a turn keeps a state sound, an entry gives
+//! arguments, and the turn of a thread that isn't enabled changes nothing. That a state and a thread have one
+//! row is that `turn` is a function.
+
+ghost use Rattle.std.specs.Prelude.{◌≡◌, ℕ, List, [], IsTrue, false, Some};
+ghost use Rattle.jvms_machine.specs.declared.machine.Entry.{Entry};
+ghost use Rattle.jvms_machine.specs.declared.machine.Limits.{Limits};
+ghost use Rattle.jvms_program.specs.declared.program.Class.{Class};
+ghost use Rattle.jvms_machine.specs.State.{State, Sound};
+ghost use Rattle.jvms_machine.specs.Start.{Start, IsStart, start_of};
+ghost use Rattle.jvms_machine.specs.Limits.{are_limits};
+ghost use Rattle.jvms_machine.specs.Opening.{opening};
+ghost use Rattle.jvms_machine.specs.Status.{is_enabled};
+ghost use Rattle.jvms_machine.specs.Turn.{turn};
+
+/// The state after a turn of any thread is sound, if the state before it is.
+pub fn a_turn_keeps_a_state_sound()
+    ensures { (program : List Class) (limits : Limits) (start : Start) (s : State) (t : ℕ) → IsTrue (are_limits limits) → IsStart start → Sound program limits s → Sound program limits (turn program limits start s t).state }
+{}
+
+/// The opening state is sound.
+pub fn the_opening_state_is_sound()
+    ensures { (program : List Class) (limits : Limits) → IsTrue (are_limits limits) → Sound program limits (opening program) }
+{}
+
+/// What an entry starts with are arguments: ints, or references that are there from the opening on.
+pub fn an_entry_gives_a_start()
+    ensures { (program : List Class) (entry : Entry) (start : Start) → start_of program entry ≡ Some start → IsStart start }
+{}
+
+/// The turn of a thread that isn't enabled changes nothing: the state is the one before it, and no item is
+/// added to the trace.
+pub fn an_unmade_turn_changes_nothing()
+    ensures state { (program : List Class) (limits : Limits) (start : Start) (s : State) (t : ℕ) → is_enabled (turn program limits start s t).outcome ≡ false → (turn program limits start s t).state ≡ s }
+    ensures items { (program : List Class) (limits : Limits) (start : Start) (s : State) (t : ℕ) → is_enabled (turn program limits start s t).outcome ≡ false → (turn program limits start s t).items ≡ [] }
+{}

@@ -1,0 +1,27 @@
+//! Parts of the machine's state (JVMS 2.5, 2.6, 5.5).
+
+use crate::machine::ThreadId;
+
+/// How far the initialisation of a class has come (JVMS 5.5).
+#[derive(Clone, Copy, Debug, PartialEq, Eq)]
+pub enum Initialisation {
+    NotBegun,
+    InProgress { thread: ThreadId },
+    Done,
+    Erroneous,
+}
+
+/// A monitor that is held: by which thread, entered how often (JVMS 2.11.10).
+#[derive(Clone, Copy, Debug, PartialEq, Eq)]
+pub struct Hold {
+    pub owner: ThreadId,
+    pub count: u32,
+}
+
+/// What stands on a thread's stack (JVMS 2.5.2): the frame of a call, or the initialisation of the class of a
+/// number and whether its `<clinit>` was called.
+#[derive(Drop)]
+pub enum StackFrame<F> {
+    Call(F),
+    Initialisation { class: usize, called: bool },
+}

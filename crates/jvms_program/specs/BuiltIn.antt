@@ -1,0 +1,178 @@
+-- The classes that every program has, with their members and their code, which runs as any other.
+use Rattle.std.specs.Prelude.{ℕ, Bool, true, false, List, [], ◌∷◌, ◌++◌, Option, Some, None, codes}
+use Rattle.std.specs.List.{list_any}
+use Rattle.jvms_file.specs.declared.insn.Kind.TheVariants as value_kind
+use Rattle.jvms_file.specs.declared.insn.LocalUse.TheVariants as local
+use Rattle.jvms_file.specs.declared.insn.Branch.TheVariants as branch
+use Rattle.jvms_file.specs.declared.insn.FieldUse.{FieldUse}
+use Rattle.jvms_file.specs.declared.insn.FieldUse.TheVariants as field_use
+use Rattle.jvms_file.specs.declared.insn.Invoke.TheVariants as invoke
+use Rattle.jvms_file.specs.declared.insn.ReturnInsn.TheVariants as returns
+use Rattle.jvms_file.specs.declared.insn.Simple.TheVariants as simple
+use Rattle.jvms_program.specs.declared.program.Instruction.{Instruction}
+use Rattle.jvms_program.specs.declared.program.Instruction.TheVariants as instruction
+use Rattle.jvms_program.specs.declared.program.Body.{Body}
+use Rattle.jvms_program.specs.declared.program.Field.{Field}
+use Rattle.jvms_program.specs.declared.program.MethodFlags.{MethodFlags}
+use Rattle.jvms_program.specs.declared.program.Method.{Method}
+use Rattle.jvms_program.specs.declared.program.ClassKind.TheVariants as kind
+use Rattle.jvms_program.specs.declared.program.Class.{Class}
+use Rattle.jvms_file.specs.Descriptors.{field_type, method_type}
+use Rattle.jvms_file.specs.Names.{same_text}
+
+-- ---- Parts of a member's code
+
+abbrev pub load : ℕ → Instruction
+load n = instruction.Simple (simple.Local (local.Load value_kind.Reference) n)
+
+abbrev pub return_void : Instruction
+return_void = instruction.Simple (simple.Return returns.Void)
+
+abbrev pub return_reference : Instruction
+return_reference = instruction.Simple (simple.Return (returns.Value value_kind.Reference))
+
+abbrev pub field_insn : FieldUse → List ℕ → List ℕ → List ℕ → Instruction
+field_insn how class name descriptor =
+    instruction.Field how (record { class = class; name = name; descriptor = descriptor; field_type = field_type descriptor })
+
+-- ---- Members
+
+abbrev pub no_flags : MethodFlags
+no_flags = record { is_static = false; is_private = false; is_synchronized = false; is_native = false; is_abstract = false }
+
+abbrev pub method : List ℕ → List ℕ → MethodFlags → Option Body → Method
+method name descriptor flags body =
+    record { name = name; descriptor = descriptor; method_type = method_type descriptor; flags = flags; throws = []; body = body }
+
+-- A method with code. Each has two places of stack and two locals.
+abbrev pub coded : List ℕ → List ℕ → List Instruction → Method
+coded name descriptor code =
+    method name descriptor no_flags (Some (record { max_stack = 2; max_locals = 2; instructions = code; handlers = [] }))
+
+abbrev pub native : List ℕ → List ℕ → Method
+native name descriptor = method name descriptor (record no_flags { is_native = true }) None
+
+abbrev pub abstracted : List ℕ → List ℕ → Method
+abstracted name descriptor = method name descriptor (record no_flags { is_abstract = true }) None
+
+abbrev pub field : Bool → List ℕ → List ℕ → Field
+field static name descriptor =
+    record { name = name; descriptor = descriptor; field_type = field_type descriptor; is_static = static; is_private = false; constant = None }
+
+-- ---- Classes
+
+abbrev pub object : List ℕ
+object = codes "java/lang/Object"
+
+abbrev pub class_with : List ℕ → List (List ℕ) → List Field → List Method → List ℕ → Class
+class_with superclass interfaces fields methods name =
+    record { name = name; kind = kind.Neither; superclass = Some superclass; interfaces = interfaces; fields = fields; methods = methods }
+
+abbrev pub interface_with : List Method → List ℕ → Class
+interface_with methods name =
+    record { name = name; kind = kind.Interface; superclass = Some object; interfaces = []; fields = []; methods = methods }
+
+abbrev pub object_class : Class
+object_class =
+    record { name = object; kind = kind.Neither; superclass = None; interfaces = []; fields = []; methods = coded (codes "<init>") (codes "()V") (return_void ∷ []) ∷ [] }
+
+abbrev pub runnable_class : Class
+runnable_class = interface_with (abstracted (codes "run") (codes "()V") ∷ []) (codes "java/lang/Runnable")
+
+abbrev pub target_field : FieldUse → Instruction
+target_field how = field_insn how (codes "java/lang/Thread") (codes "target") (codes "Ljava/lang/Runnable;")
+
+abbrev pub call_run : Instruction
+call_run =
+    instruction.Invoke invoke.Interface (record { is_interface = true; class = codes "java/lang/Runnable"; name = codes "run"; descriptor = codes "()V"; method_type = method_type (codes "()V") })
+
+-- run calls the target's run, if there is a target: else it goes on at its last instruction, number 6.
+abbrev pub thread_class : Class
+thread_class =
+    class_with object (codes "java/lang/Runnable" ∷ []) (field false (codes "target") (codes "Ljava/lang/Runnable;") ∷ [])
+    (coded (codes "<init>") (codes "()V") (return_void ∷ [])
+    ∷ coded (codes "<init>") (codes "(Ljava/lang/Runnable;)V") (load 0 ∷ load 1 ∷ target_field field_use.Put ∷ return_void ∷ [])
+    ∷ coded (codes "run") (codes "()V")
+    (load 0 ∷ target_field field_use.Get ∷ instruction.Branch branch.IfNull 6 ∷ load 0 ∷ target_field field_use.Get ∷ call_run ∷ return_void ∷ [])
+    ∷ native (codes "start") (codes "()V")
+    ∷ native (codes "join") (codes "()V")
+    ∷ [])
+    (codes "java/lang/Thread")
+
+abbrev pub message_field : FieldUse → Instruction
+message_field how = field_insn how (codes "java/lang/Throwable") (codes "message") (codes "Ljava/lang/String;")
+
+-- What Throwable and each class below it have.
+abbrev pub throwable_constructors : List Method
+throwable_constructors =
+    coded (codes "<init>") (codes "()V") (return_void ∷ [])
+    ∷ coded (codes "<init>") (codes "(Ljava/lang/String;)V") (load 0 ∷ load 1 ∷ message_field field_use.Put ∷ return_void ∷ [])
+    ∷ []
+
+abbrev pub throwable_class : Class
+throwable_class =
+    class_with object (codes "java/io/Serializable" ∷ []) (field false (codes "message") (codes "Ljava/lang/String;") ∷ [])
+    (throwable_constructors ++ coded (codes "getMessage") (codes "()Ljava/lang/String;") (load 0 ∷ message_field field_use.Get ∷ return_reference ∷ []) ∷ [])
+    (codes "java/lang/Throwable")
+
+abbrev pub print_stream_class : Class
+print_stream_class =
+    class_with object [] []
+    (native (codes "print") (codes "(I)V") ∷ native (codes "print") (codes "(Ljava/lang/String;)V")
+    ∷ native (codes "println") (codes "(I)V") ∷ native (codes "println") (codes "(Ljava/lang/String;)V")
+    ∷ native (codes "println") (codes "()V") ∷ [])
+    (codes "java/io/PrintStream")
+
+-- A class below Throwable, with its superclass.
+abbrev pub throwable_below : List ℕ → List ℕ → Class
+throwable_below superclass name = class_with superclass [] [] throwable_constructors name
+
+abbrev pub throwable_classes : List Class
+throwable_classes =
+    throwable_class
+    ∷ throwable_below (codes "java/lang/Throwable") (codes "java/lang/Exception")
+    ∷ throwable_below (codes "java/lang/Throwable") (codes "java/lang/Error")
+    ∷ throwable_below (codes "java/lang/Exception") (codes "java/lang/RuntimeException")
+    ∷ throwable_below (codes "java/lang/Exception") (codes "java/lang/InterruptedException")
+    ∷ throwable_below (codes "java/lang/RuntimeException") (codes "java/lang/ArithmeticException")
+    ∷ throwable_below (codes "java/lang/RuntimeException") (codes "java/lang/ArrayStoreException")
+    ∷ throwable_below (codes "java/lang/RuntimeException") (codes "java/lang/ClassCastException")
+    ∷ throwable_below (codes "java/lang/RuntimeException") (codes "java/lang/IllegalMonitorStateException")
+    ∷ throwable_below (codes "java/lang/RuntimeException") (codes "java/lang/IllegalArgumentException")
+    ∷ throwable_below (codes "java/lang/RuntimeException") (codes "java/lang/IllegalStateException")
+    ∷ throwable_below (codes "java/lang/RuntimeException") (codes "java/lang/IndexOutOfBoundsException")
+    ∷ throwable_below (codes "java/lang/RuntimeException") (codes "java/lang/NegativeArraySizeException")
+    ∷ throwable_below (codes "java/lang/RuntimeException") (codes "java/lang/NullPointerException")
+    ∷ throwable_below (codes "java/lang/IndexOutOfBoundsException") (codes "java/lang/ArrayIndexOutOfBoundsException")
+    ∷ throwable_below (codes "java/lang/IllegalArgumentException") (codes "java/lang/IllegalThreadStateException")
+    ∷ throwable_below (codes "java/lang/Error") (codes "java/lang/LinkageError")
+    ∷ throwable_below (codes "java/lang/Error") (codes "java/lang/VirtualMachineError")
+    ∷ throwable_below (codes "java/lang/LinkageError") (codes "java/lang/NoClassDefFoundError")
+    ∷ throwable_below (codes "java/lang/LinkageError") (codes "java/lang/IncompatibleClassChangeError")
+    ∷ throwable_below (codes "java/lang/LinkageError") (codes "java/lang/UnsatisfiedLinkError")
+    ∷ throwable_below (codes "java/lang/LinkageError") (codes "java/lang/ExceptionInInitializerError")
+    ∷ throwable_below (codes "java/lang/IncompatibleClassChangeError") (codes "java/lang/AbstractMethodError")
+    ∷ throwable_below (codes "java/lang/IncompatibleClassChangeError") (codes "java/lang/InstantiationError")
+    ∷ throwable_below (codes "java/lang/IncompatibleClassChangeError") (codes "java/lang/NoSuchFieldError")
+    ∷ throwable_below (codes "java/lang/IncompatibleClassChangeError") (codes "java/lang/NoSuchMethodError")
+    ∷ throwable_below (codes "java/lang/VirtualMachineError") (codes "java/lang/OutOfMemoryError")
+    ∷ throwable_below (codes "java/lang/VirtualMachineError") (codes "java/lang/StackOverflowError")
+    ∷ []
+
+-- The built-in classes.
+unfoldable pub built_in_classes : List Class
+built_in_classes =
+    object_class
+    ∷ class_with object (codes "java/io/Serializable" ∷ []) [] [] (codes "java/lang/String")
+    ∷ class_with object (codes "java/io/Serializable" ∷ []) [] [] (codes "java/lang/Class")
+    ∷ class_with object [] (field true (codes "out") (codes "Ljava/io/PrintStream;") ∷ []) [] (codes "java/lang/System")
+    ∷ print_stream_class
+    ∷ thread_class
+    ∷ runnable_class
+    ∷ interface_with [] (codes "java/lang/Cloneable")
+    ∷ interface_with [] (codes "java/io/Serializable")
+    ∷ throwable_classes
+
+-- Whether a class is built in, by its name.
+unfoldable pub is_built_in : List ℕ → Bool
+is_built_in name = list_any (λ c. same_text c.name name) built_in_classes

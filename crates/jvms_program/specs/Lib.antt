@@ -1,0 +1,4 @@
+pub mod BuiltIn
+pub mod Meaning
+pub mod Program
+pub mod Resolution

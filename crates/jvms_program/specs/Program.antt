@@ -1,0 +1,41 @@
+-- Programs (JVMS 5.3): a map from class name to class, as the list of its classes. No two have one name.
+use Rattle.std.specs.Prelude.{ℕ, ◌&&◌, List, ◌++◌, map, Option, slice_get}
+use Rattle.std.specs.Option.{option_and_then, option_map}
+use Rattle.std.specs.List.{find, position}
+use Rattle.jvms_file.specs.declared.class_file.ClassFile.{ClassFile}
+use Rattle.jvms_program.specs.declared.program.Class.{Class}
+use Rattle.jvms_program.specs.declared.program.Method.{Method}
+use Rattle.jvms_program.specs.declared.number.MethodNumber.{MethodNumber}
+use Rattle.jvms_program.specs.declared.key.MethodKey.{MethodKey}
+use Rattle.jvms_file.specs.Names.{same_text}
+use Rattle.jvms_program.specs.Meaning.{meaning}
+use Rattle.jvms_program.specs.BuiltIn.{built_in_classes}
+
+-- The program of class files: the built-in classes, then theirs in order.
+unfoldable pub program_of : List ClassFile → List Class
+program_of files = built_in_classes ++ map meaning files
+
+-- The class of a name.
+abbrev pub class_named : List Class → List ℕ → Option Class
+class_named program name = find (λ c. same_text c.name name) program
+
+-- The number of the class of a name: its place in the list.
+abbrev pub class_number : List Class → List ℕ → Option ℕ
+class_number program name = position (λ c. same_text c.name name) program
+
+-- The number of a class's method of this name and descriptor.
+abbrev pub declared_number : Class → List ℕ → List ℕ → Option ℕ
+declared_number c name descriptor =
+    position (λ m. same_text m.name name && same_text m.descriptor descriptor) c.methods
+
+-- The method of a number.
+abbrev pub method_at : List Class → MethodNumber → Option Method
+method_at program n = option_and_then (λ c. slice_get c.methods n.method) (slice_get program n.class)
+
+-- A method's key in a trace: with the class that declares it.
+abbrev pub key_in : Class → Method → MethodKey
+key_in c m = record { class = c.name; name = m.name; descriptor = m.descriptor }
+
+abbrev pub key_of : List Class → MethodNumber → Option MethodKey
+key_of program n =
+    option_and_then (λ c. option_map (key_in c) (slice_get c.methods n.method)) (slice_get program n.class)

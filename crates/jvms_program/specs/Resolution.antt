@@ -1,0 +1,248 @@
+-- Resolution and selection by names (JVMS 5.4.3, 6.5 checkcast, invokeinterface, invokespecial,
+-- invokevirtual). A superclass or a superinterface is always there; a class that isn't its own ancestor
+-- has no more ancestors than the program has classes, so a search of that depth is enough.
+use Rattle.std.specs.Prelude.{ℕ, zero, suc, Bool, true, false, not, ◌==◌, ◌&&◌, ◌||◌, nat_lt, if◌then◌else◌, List, [], ◌∷◌, ◌++◌, length, Option, Some, None, is_some, Result, Ok, codes}
+use Rattle.std.specs.Option.{option_and_then, option_map}
+use Rattle.std.specs.List.{find, flat_map, list_any}
+use Rattle.jvms_file.specs.declared.descriptor.Element.{Element}
+use Rattle.jvms_file.specs.declared.descriptor.Element.TheVariants as element
+use Rattle.jvms_file.specs.declared.descriptor.FieldType.{FieldType}
+use Rattle.jvms_program.specs.declared.thrown.Thrown.{Thrown}
+use Rattle.jvms_program.specs.declared.thrown.Thrown.TheVariants as thrown
+use Rattle.jvms_program.specs.declared.program.Class.{Class}
+use Rattle.jvms_program.specs.declared.program.ClassKind.{ClassKind}
+use Rattle.jvms_program.specs.declared.program.ClassKind.TheVariants as kind
+use Rattle.jvms_program.specs.declared.program.Field.{Field}
+use Rattle.jvms_program.specs.declared.program.Method.{Method}
+use Rattle.jvms_program.specs.declared.program.FieldReference.{FieldReference}
+use Rattle.jvms_program.specs.declared.program.MethodReference.{MethodReference}
+use Rattle.jvms_file.specs.Names.{same_text, is_constructor_name}
+use Rattle.jvms_file.specs.Descriptors.{field_type_of, is_array_name, letter_of}
+use Rattle.jvms_file.specs.Results.{◌>>=◌, want, present}
+use Rattle.jvms_program.specs.declared.number.MethodNumber.{MethodNumber}
+use Rattle.jvms_program.specs.Program.{class_named, class_number, declared_number}
+use Rattle.jvms_program.specs.BuiltIn.{object}
+
+-- ---- Ancestors
+
+-- A class, its superclass, and so on, at most so many.
+unfoldable pub chain_within : ℕ → List Class → List ℕ → List Class
+chain_within zero program name = []
+chain_within (suc most) program name = from_class (class_named program name) (λ super. chain_within most program super)
+  where
+    above : Option (List ℕ) → (List ℕ → List Class) → List Class
+    above None next = []
+    above (Some super) next = next super
+
+    from_class : Option Class → (List ℕ → List Class) → List Class
+    from_class None next = []
+    from_class (Some c) next = c ∷ above c.superclass next
+
+abbrev pub chain : List Class → List ℕ → List Class
+chain program name = chain_within (length program) program name
+
+-- A class, then the ancestries of its superinterfaces in order, then that of its superclass.
+unfoldable pub ancestry_within : ℕ → List Class → List ℕ → List Class
+ancestry_within zero program name = []
+ancestry_within (suc most) program name = from_class (class_named program name) (λ super. ancestry_within most program super)
+  where
+    above : Option (List ℕ) → (List ℕ → List Class) → List Class
+    above None next = []
+    above (Some super) next = next super
+
+    from_class : Option Class → (List ℕ → List Class) → List Class
+    from_class None next = []
+    from_class (Some c) next = c ∷ flat_map next c.interfaces ++ above c.superclass next
+
+abbrev pub ancestry : List Class → List ℕ → List Class
+ancestry program name = ancestry_within (length program) program name
+
+abbrev pub names_class : List ℕ → List Class → Bool
+names_class name classes = list_any (λ c. same_text c.name name) classes
+
+-- ---- Subtypes (JVMS 4.10.1.2, 6.5 checkcast)
+
+-- What every array fits.
+abbrev pub is_array_ancestor : List ℕ → Bool
+is_array_ancestor name =
+    same_text name object || same_text name (codes "java/lang/Cloneable") || same_text name (codes "java/io/Serializable")
+
+abbrev pub element_fits : List Class → Element → Element → Bool
+element_fits program (element.Primitive p) (element.Primitive q) = letter_of p == letter_of q
+element_fits program (element.Object a) (element.Object b) = names_class b (ancestry program a)
+element_fits program (element.Primitive p) (element.Object b) = false
+element_fits program (element.Object a) (element.Primitive q) = false
+
+abbrev pub is_array_ancestor_element : Element → Bool
+is_array_ancestor_element (element.Primitive p) = false
+is_array_ancestor_element (element.Object name) = is_array_ancestor name
+
+-- A type with more dimensions than another fits it where that one's elements take arrays; with as many,
+-- where the elements fit.
+abbrev pub type_fits : List Class → FieldType → FieldType → Bool
+type_fits program a b =
+    if nat_lt b.dimensions a.dimensions then is_array_ancestor_element b.element
+    else (if a.dimensions == b.dimensions then element_fits program a.element b.element else false)
+
+-- The type of a class by its name, which may be an array's.
+abbrev pub class_type : List ℕ → Option FieldType
+class_type name = if is_array_name name then field_type_of name else Some (record { dimensions = 0; element = element.Object name })
+
+abbrev pub both_fit : List Class → Option FieldType → Option FieldType → Bool
+both_fit program (Some a) (Some b) = type_fits program a b
+both_fit program _ _ = false
+
+-- Whether the class of the first name fits that of the second.
+unfoldable pub fits : List Class → List ℕ → List ℕ → Bool
+fits program a b = both_fit program (class_type a) (class_type b)
+
+-- ---- Resolution (JVMS 5.4.3)
+
+-- A class is there, and an array's element class.
+abbrev pub type_exists : List Class → FieldType → Bool
+type_exists program t = element_exists t.element
+  where
+    element_exists : Element → Bool
+    element_exists (element.Primitive p) = true
+    element_exists (element.Object name) = is_some (class_named program name)
+
+abbrev pub class_exists : List Class → List ℕ → Bool
+class_exists program name = exists (class_type name)
+  where
+    exists : Option FieldType → Bool
+    exists None = false
+    exists (Some t) = type_exists program t
+
+-- The class whose members a class has: an array's are Object's.
+abbrev pub members_class : List ℕ → List ℕ
+members_class name = if is_array_name name then object else name
+
+-- A field with the class that declares it.
+pub record FieldFound : Type 0 where
+  pub class : Class
+  pub field : Field
+
+-- A method with the class that declares it.
+pub record MethodFound : Type 0 where
+  pub class : Class
+  pub method : Method
+
+abbrev pub declared_field : List ℕ → List ℕ → Class → Option FieldFound
+declared_field name descriptor c =
+    option_map (λ f. record { class = c; field = f })
+    (find (λ f. same_text f.name name && same_text f.descriptor descriptor) c.fields)
+
+abbrev pub declared_method : List ℕ → List ℕ → Class → Option MethodFound
+declared_method name descriptor c =
+    option_map (λ m. record { class = c; method = m })
+    (find (λ m. same_text m.name name && same_text m.descriptor descriptor) c.methods)
+
+-- What the first of a list of classes gives that gives anything.
+abbrev pub first_in : {A : Type 0} → (Class → Option A) → List Class → Option A
+first_in look [] = None
+first_in look (c ∷ cs) = or_else (look c) (first_in look cs)
+  where
+    or_else : {A : Type 0} → Option A → Option A → Option A
+    or_else None other = other
+    or_else (Some x) other = Some x
+
+-- JVMS 5.4.3.2: the first of the class's ancestry that declares the field.
+abbrev pub found_field : List Class → FieldReference → Option FieldFound
+found_field program r = first_in (declared_field r.name r.descriptor) (ancestry program (members_class r.class))
+
+abbrev pub resolved_field : List Class → Bool → FieldReference → Result FieldFound Thrown
+resolved_field program static r = do
+  _ ← want (class_exists program r.class) thrown.NoClassDefFoundError
+  f ← present (found_field program r) thrown.NoSuchFieldError
+  _ ← want (if static then f.field.is_static else not f.field.is_static) thrown.IncompatibleClassChangeError
+  Ok f
+
+abbrev pub is_interface_kind : ClassKind → Bool
+is_interface_kind kind.Interface = true
+is_interface_kind kind.Abstract = false
+is_interface_kind kind.Neither = false
+
+abbrev pub names_interface : List Class → List ℕ → Bool
+names_interface program name = is_it (class_named program name)
+  where
+    is_it : Option Class → Bool
+    is_it None = false
+    is_it (Some c) = is_interface_kind c.kind
+
+-- JVMS 5.4.3.3: the class's chain, then for each of it the ancestries of its superinterfaces.
+abbrev pub class_method_order : List Class → List ℕ → List Class
+class_method_order program name =
+    chain program name ++ flat_map (λ c. flat_map (ancestry program) c.interfaces) (chain program name)
+
+-- JVMS 5.4.3.4: the interface, Object, then the ancestries of the interface's superinterfaces.
+abbrev pub interface_method_order : List Class → List ℕ → List Class
+interface_method_order program name = order (class_named program name)
+  where
+    listed : Option Class → List Class
+    listed None = []
+    listed (Some c) = c ∷ []
+
+    order : Option Class → List Class
+    order None = []
+    order (Some c) = c ∷ listed (class_named program object) ++ flat_map (ancestry program) c.interfaces
+
+abbrev pub found_in_order : List Class → MethodReference → Option MethodFound
+found_in_order program r =
+    first_in (declared_method r.name r.descriptor)
+    (if r.is_interface then interface_method_order program r.class else class_method_order program (members_class r.class))
+
+-- A constructor is looked for in the named class alone.
+abbrev pub found_method : List Class → MethodReference → Option MethodFound
+found_method program r =
+    if is_constructor_name r.name
+    then option_and_then (declared_method r.name r.descriptor) (class_named program r.class)
+    else found_in_order program r
+
+abbrev pub resolved_method : List Class → Bool → MethodReference → Result MethodFound Thrown
+resolved_method program static r = do
+  _ ← want (class_exists program r.class) thrown.NoClassDefFoundError
+  _ ← want (if r.is_interface then names_interface program r.class else not (names_interface program r.class)) thrown.IncompatibleClassChangeError
+  m ← present (found_method program r) thrown.NoSuchMethodError
+  _ ← want (if static then m.method.flags.is_static else not m.method.flags.is_static) thrown.IncompatibleClassChangeError
+  Ok m
+
+-- ---- Selection (JVMS 6.5 invokevirtual)
+
+abbrev pub is_selectable : Method → Bool
+is_selectable m = not m.flags.is_static && not m.flags.is_private
+
+abbrev pub selectable_in : List ℕ → List ℕ → Class → Option MethodFound
+selectable_in name descriptor c = keep (declared_method name descriptor c)
+  where
+    keep : Option MethodFound → Option MethodFound
+    keep None = None
+    keep (Some found) = if is_selectable found.method then Some found else None
+
+-- A private method is itself selected; else the first that is neither static nor private of its name and
+-- descriptor, from a class up its chain.
+abbrev pub selected_from : List Class → List ℕ → MethodFound → Option MethodFound
+selected_from program class m =
+    if m.method.flags.is_private then Some m
+    else first_in (selectable_in m.method.name m.method.descriptor) (chain program (members_class class))
+
+-- Whether a class is a proper superclass of another.
+abbrev pub is_superclass : List Class → List ℕ → List ℕ → Bool
+is_superclass program super class = not (same_text super class) && names_class super (chain program class)
+
+abbrev pub superclass_of : List Class → List ℕ → Option (List ℕ)
+superclass_of program class = option_and_then (λ c. c.superclass) (class_named program class)
+
+-- JVMS 6.5 invokespecial: the resolved method, but where it is no constructor and the named class is a
+-- superclass of the current one, the selection from the current class's superclass on.
+abbrev pub selected_special : List Class → List ℕ → MethodReference → MethodFound → Option MethodFound
+selected_special program current r m =
+    if not (is_constructor_name r.name) && is_superclass program r.class current
+    then option_and_then (λ super. selected_from program super m) (superclass_of program current)
+    else Some m
+
+-- The number of a method that was found.
+abbrev pub method_number : List Class → MethodFound → Option MethodNumber
+method_number program m =
+    option_and_then
+    (λ class. option_map (λ method. record { class = class; method = method }) (declared_number m.class m.method.name m.method.descriptor))
+    (class_number program m.class.name)

@@ -1,0 +1,8 @@
+//! Programs (JVMS 5): classes with their members by name, and in `specs/` what class files mean, the built-in
+//! classes, and how names are resolved.
+#![tactic(auto)]
+
+pub mod key;
+pub mod number;
+pub mod program;
+pub mod thrown;

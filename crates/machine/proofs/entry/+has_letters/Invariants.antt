@@ -1,4 +1,0 @@
-use Rattle.machine.proofs.entry.+has_letters.Given as goal
-
-abbrev pub decreases-has_letters : goal.decreases-has_letters
-decreases-has_letters l = l.count

@@ -1,0 +1,119 @@
+//! Where a run begins.
+
+ghost use Rattle.std.specs.Prelude.{◌≡◌};
+ghost use Rattle.std.specs.Option.{option_map};
+ghost use Rattle.jvms_machine.specs.Start.{start_of, takes_arguments as takes, entry_reference, resolved_entry as resolved};
+ghost use Rattle.program.specs.Named.{reference};
+ghost use Rattle.machine.specs.Entries.{is_int_letter, has_letters, takes_ints};
+ghost use Rattle.machine.specs.Started.{with_arguments};
+
+use descriptor::{is_initializer_name, is_method_descriptor};
+use jvms_machine::machine::Entry;
+use jvms_program::number::MethodNumber;
+use program::{Named, Program};
+
+/// The name of an entry that is a class, `main`.
+const MAIN: [u16; 4] = [109, 97, 105, 110];
+
+/// Its descriptor, `([Ljava/lang/String;)V`.
+const MAIN_DESCRIPTOR: [u16; 22] = [
+    40, 91, 76, 106, 97, 118, 97, 47, 108, 97, 110, 103, 47, 83, 116, 114, 105, 110, 103, 59, 41,
+    86,
+];
+
+/// Whether a unit is the letter of an int, byte, char, short or boolean.
+fn is_int_letter(unit: u16) -> bool
+    ensures { result ≡ is_int_letter unit }
+{
+    matches!(unit, 73 | 66 | 67 | 83 | 90)
+}
+
+/// Whether a text has so many such letters and then a closing parenthesis at its front.
+#[tactic(auto, unfolding(crate::specs::Entries::has_letters))]
+fn has_letters(text: &[u16], count: usize) -> bool
+    ensures { result ≡ has_letters text.now count }
+{
+    match text {
+        [] => false,
+        [unit, rest @ ..] => {
+            if count == 0 {
+                *unit == 41
+            } else {
+                is_int_letter(*unit) && has_letters(rest, count - 1)
+            }
+        }
+    }
+}
+
+/// Whether a descriptor's parameters are so many ints, bytes, chars, shorts and booleans.
+fn takes_ints(descriptor: &[u16], count: usize) -> bool
+    ensures { result ≡ takes_ints descriptor.now count }
+{
+    match descriptor {
+        [] => false,
+        [_, behind @ ..] => is_method_descriptor(descriptor) && has_letters(behind, count),
+    }
+}
+
+/// Whether the method that an entry names takes its arguments.
+fn takes_arguments(entry: &Entry) -> bool
+    ensures { result ≡ takes entry.now }
+{
+    match entry {
+        Entry::Main { .. } => true,
+        Entry::Static {
+            descriptor,
+            arguments,
+            ..
+        } => takes_ints(descriptor.as_slice(), arguments.len()),
+    }
+}
+
+/// The names of an entry's method, as by a Methodref.
+fn names(entry: &Entry) -> Named<'_>
+    ensures { reference result ≡ entry_reference entry.now }
+{
+    match entry {
+        Entry::Main { class } => Named {
+            is_interface: false,
+            class: class.as_slice(),
+            name: &MAIN,
+            descriptor: &MAIN_DESCRIPTOR,
+        },
+        Entry::Static {
+            class,
+            name,
+            descriptor,
+            ..
+        } => Named {
+            is_interface: false,
+            class: class.as_slice(),
+            name: name.as_slice(),
+            descriptor: descriptor.as_slice(),
+        },
+    }
+}
+
+/// Where a run begins: the entry's method resolves, is static and isn't `<clinit>`, and takes the
+/// arguments.
+#[tactic(auto, unfolding(jvms_machine::specs::Start::start_of))]
+pub(crate) fn start_of(program: &Program, entry: &Entry) -> Option<MethodNumber>
+    ensures { option_map (with_arguments entry.now) result ≡ start_of program.now entry.now }
+{
+    if !takes_arguments(entry) {
+        return None;
+    }
+    let Ok(place) = program.resolve_named(true, names(entry)) else {
+        return None;
+    };
+    let number = MethodNumber {
+        class: place.0,
+        method: place.1,
+    };
+    let method = program.method(number)?;
+    if is_initializer_name(method.name.as_slice()) {
+        None
+    } else {
+        Some(number)
+    }
+}

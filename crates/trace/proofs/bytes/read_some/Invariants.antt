@@ -1,0 +1,7 @@
+use Rattle.std.proofs.Common.{List, Option}
+use Rattle.std.specs.Io.KnownBytes.{Keeps}
+use Rattle.trace.proofs.bytes.read_some.Given as goal
+
+-- nothing was read so far
+abbrev pub invariant-loop : goal.invariant-loop
+invariant-loop g l = Keeps (g.R.Read.remaining l.fn.reader) (g.R.Read.remaining l.reader)
