@@ -1,9 +1,9 @@
 -- A turn of any thread leaves a sound state sound, and what it makes is ready to be made.
-use Rattle.std.proofs.Common.{◌≡◌, ℕ, zero, suc, ◌-◌, ◌<◌, ◌≤◌, cond, Bool, true, false, ◌&&◌, ◌||◌, ◌==◌, nat_le, nat_lt, leb-false, ltb-false, List, [], ◌∷◌, ◌++◌, length, replicate, Option, Some, None, IfSome, IsTrue, slice_get, slice_set, count_by, drop, option_and_then, refl, sym, ap, ◌∙◌, subst, arith, length-set}
+use Rattle.std.proofs.Common.{◌≡◌, ℕ, zero, suc, ◌-◌, ◌<◌, ◌≤◌, cond, Bool, true, false, ◌&&◌, ◌||◌, ◌==◌, nat_le, nat_lt, leb-false, ltb-false, List, [], ◌∷◌, ◌++◌, length, replicate, Option, Some, None, IfSome, IsTrue, slice_get, slice_set, count_by, drop, flat_map, take, option_and_then, refl, sym, ap, ◌∙◌, subst, arith, length-set}
 use Rattle.std.specs.List.{AllByRecursion}
 use Rattle.std.proofs.lemmas.Bool.{cond_both, or_parts}
 use Rattle.std.proofs.lemmas.Option.{none-some, same_Some, slice_get_within}
-use Rattle.std.proofs.lemmas.List.{length-append, length-replicate}
+use Rattle.std.proofs.lemmas.List.{append-nil, length-append, length-replicate}
 use Rattle.jvms_machine.specs.declared.value.Value.{Value}
 use Rattle.jvms_machine.specs.declared.value.Value.TheVariants as value
 use Rattle.jvms_machine.specs.declared.machine.Limits.{Limits}
@@ -38,10 +38,11 @@ use Rattle.jvms_machine.specs.Decisions.{of_frame}
 use Rattle.jvms_machine.specs.Initialisation.{has_static_constant, begin_decision, asking_at, asking, has_initializer, asked_superclass, initializer_decision, superclass_decision, initialisation_decision}
 use Rattle.jvms_machine.specs.Calls.{is_outside, entered, enterable_body, enter_decision, entry_decision, first_call_decision}
 use Rattle.jvms_machine.specs.Returns.{gives_kind, gives_nothing, returned_decision, return_top_decision, return_decision, method_return_decision}
-use Rattle.jvms_machine.specs.Actions.{changed_to, call_gone_on, top_gone_on, gone_on, begun, popped, called, ended, applied_to}
-use Rattle.jvms_machine.specs.Turn.{IsReadyToMake, return_of, instruction_decision, call_decision, stack_decision, live_decision, given_out_decision, thread_decision, decide, state_after, turn}
+use Rattle.jvms_machine.specs.Actions.{enter_items, exit_items, items_of, changed_to, call_gone_on, top_gone_on, gone_on, begun, popped, called, ended, with_changed, with_result, applied_to}
+use Rattle.jvms_machine.specs.Marks.{calls, calls_in, calls_of, marks_between}
+use Rattle.jvms_machine.specs.Turn.{items_after, IsReadyToMake, return_of, instruction_decision, call_decision, stack_decision, live_decision, given_out_decision, thread_decision, decide, state_after, turn}
 use Rattle.jvms_machine.proofs.LimitLaws.{limits_have_room}
-use Rattle.jvms_machine.proofs.ListLaws.{all_weaker, all_set, all_at, all_append, all_replicate}
+use Rattle.jvms_machine.proofs.ListLaws.{get_set_same, all_weaker, all_set, all_at, all_append, all_replicate}
 use Rattle.jvms_machine.proofs.InitialisationOrder.{order_with_thread, order_begun, order_done, count_call}
 use Rattle.jvms_machine.proofs.FrameSoundness.{IsFit, Keeps, frame_decision_keeps, applied_is_fit}
 
@@ -106,10 +107,51 @@ enterable_is_body m body is =
 body_of : (program : List Class) (method : MethodNumber) (m : Method) (body : Body) → method_at program method ≡ Some m → m.body ≡ Some body → body_at program method ≡ Some body
 body_of program method m body m_is body_is = ap (option_and_then (λ (n : Method). n.body)) m_is ∙ body_is
 
+-- ---- Marks
+
+-- The items of what is made mark the calls that come and go.
+abbrev pub HasMarks : List Class → Start → State → ℕ → Decision Body → Type 0
+HasMarks program start s t d = items_after program t d ≡ marks_between program t (calls_of s t) (calls_of (state_after start s t d) t)
+
+-- Where none does, there are no marks.
+unmarked : (program : List Class) (t : ℕ) (before : List MethodNumber) → [] ≡ marks_between program t before before
+unmarked program t before =
+    let none : length before - length before ≡ 0 = omega arith in
+    sym (ap (λ n. flat_map (exit_items program t) (take n before) ++ flat_map (enter_items program t) (take n before)) none)
+
+unmarked_by : (program : List Class) (t : ℕ) (before after : List MethodNumber) → after ≡ before → [] ≡ marks_between program t before after
+unmarked_by program t before after same = unmarked program t before ∙ sym (ap (marks_between program t before) same)
+
+-- The calls of a changed thread.
+changed_calls : (threads : List Thread) (t : ℕ) (thread : Thread) (change : Thread → Thread) → slice_get threads t ≡ Some thread → calls_in (slice_get (changed_to threads t change (slice_get threads t)) t) ≡ calls (change thread).frames
+changed_calls threads t thread change given =
+    ap calls_in (ap (λ o. slice_get (changed_to threads t change o) t) given ∙ get_set_same threads t thread (change thread) given)
+
+-- A call that goes on is one of the same method.
+gone_on_calls : (act : FrameAction) (frames : List Frame) → calls (top_gone_on act frames) ≡ calls frames
+gone_on_calls act [] = refl
+gone_on_calls act (stack_frame.Call f ∷ below) = refl
+gone_on_calls act (stack_frame.Initialisation class called ∷ below) = refl
+
+-- A call that comes, where there was none.
+entered_mark : (program : List Class) (t : ℕ) (before after : List MethodNumber) (m : MethodNumber) → before ≡ [] → after ≡ m ∷ [] → enter_items program t m ≡ marks_between program t before after
+entered_mark program t before after m none one =
+    sym (ap (λ b. marks_between program t b after) none ∙ ap (marks_between program t []) one ∙ append-nil (enter_items program t m))
+
+-- The only call, as it goes.
+left_mark : (program : List Class) (t : ℕ) (before after : List MethodNumber) (m : MethodNumber) → before ≡ m ∷ [] → after ≡ [] → exit_items program t m ≡ marks_between program t before after
+left_mark program t before after m one none =
+    sym (ap (λ b. marks_between program t b after) one ∙ ap (marks_between program t (m ∷ [])) none
+    ∙ append-nil (exit_items program t m ++ []) ∙ append-nil (exit_items program t m))
+
+-- The run's result is no thread's.
+result_calls : (s : State) (t : ℕ) (result : Option Value) → calls_of (with_result s t result) t ≡ calls_of s t
+result_calls s t result = cond_both (t == 0) (record s { result = result }) s (λ (r : State). calls_of r t ≡ calls_of s t) (λ _. refl) (λ _. refl)
+
 module _ (program : List Class) (limits : Limits) (start : Start) (s : State) (t : ℕ) where
   -- The state after what is decided is sound.
   abbrev KeepsSound : Decision Body → Type 0
-  KeepsSound d = Sound program limits (state_after start s t d) × IsReadyToMake start s t d
+  KeepsSound d = Sound program limits (state_after start s t d) × IsReadyToMake start s t d × HasMarks program start s t d
 
   -- One of two decisions keeps a state sound if both do.
   either_keeps : (test : Bool) (d other : Decision Body) → KeepsSound d → KeepsSound other → KeepsSound (cond test d other)
@@ -162,7 +204,7 @@ module _ (program : List Class) (limits : Limits) (start : Start) (s : State) (t
 
     -- A class that begins.
     begins_keeps : {frames : List Frame} → Stands frames → (class : ℕ) (c : Class) → slice_get s.initialisations class ≡ Some initialisation.NotBegun → slice_get program class ≡ Some c → length thread.frames < limits.frames → KeepsSound (decision.Makes (action.Begins class))
-    unfolding applied_to
+    unfolding applied_to items_of
     begins_keeps stands class c begins is room =
         let was = thread_is stands in (
           changed_is_sound stands (begun class) (slice_set s.initialisations class (initialisation.InProgress t)) s.result refl
@@ -171,29 +213,30 @@ module _ (program : List Class) (limits : Limits) (start : Start) (s : State) (t
               (order_begun s.threads s.initialisations t thread (begun class thread) stands.given_out stands.sound.initialised class begins refl)
               stands.sound.result,
           tt,
+          unmarked_by program t (calls_of s t) _ (changed_calls s.threads t thread (begun class) stands.given_out ∙ sym (ap calls_in stands.given_out)),
         )
 
     begin_keeps : {frames : List Frame} → Stands frames → (class : ℕ) (o : Option Class) → slice_get s.initialisations class ≡ Some initialisation.NotBegun → slice_get program class ≡ o → KeepsSound (begin_decision limits thread class o)
-    begin_keeps stands class None begins is = (stands.sound, tt)
+    begin_keeps stands class None begins is = (stands.sound, tt, unmarked program t (calls_of s t))
     begin_keeps stands class (Some c) begins is =
         cond_both (has_static_constant c || nat_le limits.frames (length thread.frames)) _ _ KeepsSound
-        (λ _. (stands.sound, tt))
+        (λ _. (stands.sound, tt, unmarked program t (calls_of s t)))
         (λ neither. begins_keeps stands class c begins is (leb-false limits.frames (length thread.frames) (or_parts (has_static_constant c) (nat_le limits.frames (length thread.frames)) neither).1))
 
     -- A turn that asks for the initialisation of a class.
     asking_at_keeps : {frames : List Frame} → Stands frames → (class : ℕ) (o : Option Initialisation) (go_on : Decision Body) → slice_get s.initialisations class ≡ o → KeepsSound go_on → KeepsSound (asking_at program limits t thread class o go_on)
-    asking_at_keeps stands class None go_on is keeps = (stands.sound, tt)
+    asking_at_keeps stands class None go_on is keeps = (stands.sound, tt, unmarked program t (calls_of s t))
     asking_at_keeps stands class (Some initialisation.NotBegun) go_on is keeps = begin_keeps stands class (slice_get program class) is refl
-    asking_at_keeps stands class (Some (initialisation.InProgress u)) go_on is keeps = either_keeps (u == t) go_on _ keeps (stands.sound, tt)
+    asking_at_keeps stands class (Some (initialisation.InProgress u)) go_on is keeps = either_keeps (u == t) go_on _ keeps (stands.sound, tt, unmarked program t (calls_of s t))
     asking_at_keeps stands class (Some initialisation.Done) go_on is keeps = keeps
-    asking_at_keeps stands class (Some initialisation.Erroneous) go_on is keeps = (stands.sound, tt)
+    asking_at_keeps stands class (Some initialisation.Erroneous) go_on is keeps = (stands.sound, tt, unmarked program t (calls_of s t))
 
     asking_keeps : {frames : List Frame} → Stands frames → (class : ℕ) (go_on : Decision Body) → KeepsSound go_on → KeepsSound (asking program limits s t thread class go_on)
     asking_keeps stands class go_on keeps = asking_at_keeps stands class (slice_get s.initialisations class) go_on refl keeps
 
     -- A class that is done.
     finishes_keeps : (class : ℕ) (called : Bool) (below : List Frame) → Stands (stack_frame.Initialisation class called ∷ below) → KeepsSound (decision.Makes (action.Finishes class))
-    unfolding applied_to
+    unfolding applied_to items_of
     finishes_keeps class called below stands =
         let was = thread_is stands in
         let frames = frames_are_stack stands in
@@ -207,6 +250,7 @@ module _ (program : List Class) (limits : Limits) (start : Start) (s : State) (t
               (stands.frames_are ∙ ap (λ (fs : List Frame). stack_frame.Initialisation class called ∷ fs) (sym below_is)))
               stands.sound.result,
           tt,
+          unmarked_by program t (calls_of s t) _ (changed_calls s.threads t thread popped stands.given_out ∙ ap (λ (fs : List Frame). calls (drop 1 fs)) stands.frames_are ∙ sym (ap calls stands.frames_are) ∙ sym (ap calls_in stands.given_out)),
         )
 
     superclass_keeps : {frames : List Frame} → Stands frames → (o : Option ℕ) (go_on : Decision Body) → KeepsSound go_on → KeepsSound (superclass_decision program limits s t thread o go_on)
@@ -215,17 +259,17 @@ module _ (program : List Class) (limits : Limits) (start : Start) (s : State) (t
 
     -- An initialisation frame is on top.
     initialisation_keeps : (class : ℕ) (called : Bool) (below : List Frame) (o : Option Class) → Stands (stack_frame.Initialisation class called ∷ below) → KeepsSound (initialisation_decision program limits s t thread class called o)
-    initialisation_keeps class called below None stands = (stands.sound, tt)
+    initialisation_keeps class called below None stands = (stands.sound, tt, unmarked program t (calls_of s t))
     initialisation_keeps class true below (Some c) stands = finishes_keeps class true below stands
     initialisation_keeps class false below (Some c) stands =
         superclass_keeps stands (asked_superclass program c) (initializer_decision c class)
-        (either_keeps (has_initializer c) _ _ (stands.sound, tt) (finishes_keeps class false below stands))
+        (either_keeps (has_initializer c) _ _ (stands.sound, tt, unmarked program t (calls_of s t)) (finishes_keeps class false below stands))
 
     -- ---- The first call
 
     -- A method is entered.
     enters_keeps : Stands [] → 1 ≤ limits.frames → (body : Body) → IsStart start → length start.arguments ≤ body.max_locals → body_at program start.method ≡ Some body → KeepsSound (decision.Makes (action.Enters start.method body))
-    unfolding applied_to
+    unfolding applied_to items_of
     enters_keeps stands room body starts few body_is =
         let was = thread_is stands in
         let frame = entered start.method body start.arguments in
@@ -239,23 +283,25 @@ module _ (program : List Class) (limits : Limits) (start : Start) (s : State) (t
               (λ c. count_call c frame thread.frames))
               stands.sound.result,
           (slice_get_within s.threads t thread stands.given_out, few),
+          entered_mark program t (calls_of s t) _ start.method (ap calls_in stands.given_out ∙ ap calls stands.frames_are)
+              (changed_calls s.threads t thread (called frame) stands.given_out ∙ ap (λ (fs : List Frame). start.method ∷ calls fs) stands.frames_are),
         )
 
     enter_keeps : Stands [] → 1 ≤ limits.frames → (m : Method) (o : Option Body) → IsStart start → method_at program start.method ≡ Some m → enterable_body m ≡ o → KeepsSound (enter_decision start o)
-    enter_keeps stands room m None starts m_is body_is = (stands.sound, tt)
+    enter_keeps stands room m None starts m_is body_is = (stands.sound, tt, unmarked program t (calls_of s t))
     enter_keeps stands room m (Some body) starts m_is body_is =
         cond_both (nat_lt body.max_locals (length start.arguments)) _ _ KeepsSound
-        (λ _. (stands.sound, tt))
+        (λ _. (stands.sound, tt, unmarked program t (calls_of s t)))
         (λ no. enters_keeps stands room body starts (ltb-false body.max_locals (length start.arguments) no) (body_of program start.method m body m_is (enterable_is_body m body body_is)))
 
     entry_keeps : Stands [] → 1 ≤ limits.frames → (o : Option Method) → IsStart start → method_at program start.method ≡ o → KeepsSound (entry_decision program limits start s t thread o)
-    entry_keeps stands room None starts is = (stands.sound, tt)
+    entry_keeps stands room None starts is = (stands.sound, tt, unmarked program t (calls_of s t))
     entry_keeps stands room (Some m) starts is =
-        either_keeps (is_outside m.method_type) _ _ (stands.sound, tt)
+        either_keeps (is_outside m.method_type) _ _ (stands.sound, tt, unmarked program t (calls_of s t))
         (asking_keeps stands start.method.class (enter_decision start (enterable_body m)) (enter_keeps stands room m (enterable_body m) starts is refl))
 
     first_call_keeps : Stands [] → 1 ≤ limits.frames → IsStart start → KeepsSound (first_call_decision program limits start s t thread)
-    first_call_keeps stands room starts = either_keeps (t == 0) _ _ (entry_keeps stands room (method_at program start.method) starts refl) (stands.sound, tt)
+    first_call_keeps stands room starts = either_keeps (t == 0) _ _ (entry_keeps stands room (method_at program start.method) starts refl) (stands.sound, tt, unmarked program t (calls_of s t))
 
     -- ---- Returns
 
@@ -271,24 +317,26 @@ module _ (program : List Class) (limits : Limits) (start : Start) (s : State) (t
         result_is
 
     returned_keeps : (frame : MethodFrame) (below : List Frame) (result : Option Value) → Stands (stack_frame.Call frame ∷ below) → IfSome result (IsValue s.heap) → KeepsSound (returned_decision frame.method below result)
-    unfolding applied_to
+    unfolding applied_to items_of
     returned_keeps frame [] result stands result_is =
-        (cond_both (t == 0) _ _ (Sound program limits) (λ _. ended_is_sound frame result stands result_is) (λ _. ended_is_sound frame s.result stands stands.sound.result), tt)
-    returned_keeps frame (f ∷ below) result stands result_is = (stands.sound, tt)
+        (cond_both (t == 0) _ _ (Sound program limits) (λ _. ended_is_sound frame result stands result_is) (λ _. ended_is_sound frame s.result stands stands.sound.result), tt,
+        left_mark program t (calls_of s t) _ frame.method (ap calls_in stands.given_out ∙ ap calls stands.frames_are)
+        (result_calls (with_changed s t ended) t result ∙ changed_calls s.threads t thread ended stands.given_out))
+    returned_keeps frame (f ∷ below) result stands result_is = (stands.sound, tt, unmarked program t (calls_of s t))
 
     return_top_keeps : (frame : MethodFrame) (below : List Frame) (type : ResultType) (k : Kind) (operands : List Value) → Stands (stack_frame.Call frame ∷ below) → AllByRecursion (IsValue s.heap) operands → KeepsSound (return_top_decision frame.method below type k operands)
-    return_top_keeps frame below type k [] stands values = (stands.sound, tt)
+    return_top_keeps frame below type k [] stands values = (stands.sound, tt, unmarked program t (calls_of s t))
     return_top_keeps frame below type k (v ∷ vs) stands values =
-        either_keeps (is_loaded k v && gives_kind type k) _ _ (returned_keeps frame below (Some v) stands values.0) (stands.sound, tt)
+        either_keeps (is_loaded k v && gives_kind type k) _ _ (returned_keeps frame below (Some v) stands values.0) (stands.sound, tt, unmarked program t (calls_of s t))
 
     return_keeps : (frame : MethodFrame) (below : List Frame) (operands : List Value) (type : ResultType) (how : ReturnInsn) → Stands (stack_frame.Call frame ∷ below) → AllByRecursion (IsValue s.heap) operands → KeepsSound (return_decision frame.method below operands type how)
-    return_keeps frame below operands type returns.Void stands values = either_keeps (gives_nothing type) _ _ (returned_keeps frame below None stands tt) (stands.sound, tt)
+    return_keeps frame below operands type returns.Void stands values = either_keeps (gives_nothing type) _ _ (returned_keeps frame below None stands tt) (stands.sound, tt, unmarked program t (calls_of s t))
     return_keeps frame below operands type (returns.Value kind.Int) stands values = return_top_keeps frame below type kind.Int operands stands values
     return_keeps frame below operands type (returns.Value kind.Reference) stands values = return_top_keeps frame below type kind.Reference operands stands values
-    return_keeps frame below operands type (returns.Value _) stands values = (stands.sound, tt)
+    return_keeps frame below operands type (returns.Value _) stands values = (stands.sound, tt, unmarked program t (calls_of s t))
 
     method_return_keeps : (frame : MethodFrame) (below : List Frame) (how : ReturnInsn) (o : Option Method) → Stands (stack_frame.Call frame ∷ below) → AllByRecursion (IsValue s.heap) frame.activation.operands → KeepsSound (method_return_decision frame below how o)
-    method_return_keeps frame below how None stands values = (stands.sound, tt)
+    method_return_keeps frame below how None stands values = (stands.sound, tt, unmarked program t (calls_of s t))
     method_return_keeps frame below how (Some m) stands values = return_keeps frame below frame.activation.operands m.method_type.result how stands values
 
     -- ---- Instructions
@@ -301,7 +349,7 @@ module _ (program : List Class) (limits : Limits) (start : Start) (s : State) (t
 
     -- The call on top goes on.
     goes_keeps : (frame : MethodFrame) (below : List Frame) (act : FrameAction) → Stands (stack_frame.Call frame ∷ below) → top_step thread.frames ≡ frame_decision.Does act → Keeps s.heap frame.body frame.activation (frame_decision.Does act) → KeepsSound (decision.Makes (action.Goes act))
-    unfolding applied_to
+    unfolding applied_to items_of
     goes_keeps frame below act stands does keeps =
         let was = thread_is stands in
         let frames = frames_are_stack stands in
@@ -316,13 +364,14 @@ module _ (program : List Class) (limits : Limits) (start : Start) (s : State) (t
               (λ c. ap (count_by (is_initialisation_of c)) are ∙ count_call c (call_gone_on act frame) below ∙ sym (count_call c frame below) ∙ sym (ap (count_by (is_initialisation_of c)) stands.frames_are)))
               stands.sound.result,
           subst (λ o. IfSome o (λ (th : Thread). top_step th.frames ≡ frame_decision.Does act)) (sym stands.given_out) does,
+          unmarked_by program t (calls_of s t) _ (changed_calls s.threads t thread (gone_on act) stands.given_out ∙ gone_on_calls act thread.frames ∙ sym (ap calls_in stands.given_out)),
         )
 
     of_frame_keeps : (frame : MethodFrame) (below : List Frame) (d : FrameDecision) → Stands (stack_frame.Call frame ∷ below) → top_step thread.frames ≡ d → Keeps s.heap frame.body frame.activation d → KeepsSound (of_frame d)
     of_frame_keeps frame below (frame_decision.Does act) stands does keeps = goes_keeps frame below act stands does keeps
-    of_frame_keeps frame below (frame_decision.Throws class) stands does keeps = (stands.sound, tt)
-    of_frame_keeps frame below (frame_decision.Stops why) stands does keeps = (stands.sound, tt)
-    of_frame_keeps frame below frame_decision.Later stands does keeps = (stands.sound, tt)
+    of_frame_keeps frame below (frame_decision.Throws class) stands does keeps = (stands.sound, tt, unmarked program t (calls_of s t))
+    of_frame_keeps frame below (frame_decision.Stops why) stands does keeps = (stands.sound, tt, unmarked program t (calls_of s t))
+    of_frame_keeps frame below frame_decision.Later stands does keeps = (stands.sound, tt, unmarked program t (calls_of s t))
 
     instruction_keeps : (frame : MethodFrame) (below : List Frame) (i : Instruction) (o : Option ReturnInsn) → Stands (stack_frame.Call frame ∷ below) → instruction_at frame ≡ Some i → KeepsSound (instruction_decision program frame below i o)
     instruction_keeps frame below i (Some how) stands at = method_return_keeps frame below how (method_at program frame.method) stands (frame_is_fit frame below stands).operands
@@ -331,7 +380,7 @@ module _ (program : List Class) (limits : Limits) (start : Start) (s : State) (t
         (frame_decision_keeps s.heap frame.body frame.activation (frame_is_fit frame below stands) i)
 
     call_keeps : (frame : MethodFrame) (below : List Frame) (o : Option Instruction) → Stands (stack_frame.Call frame ∷ below) → instruction_at frame ≡ o → KeepsSound (call_decision program frame below o)
-    call_keeps frame below None stands at = (stands.sound, tt)
+    call_keeps frame below None stands at = (stands.sound, tt, unmarked program t (calls_of s t))
     call_keeps frame below (Some i) stands at = instruction_keeps frame below i (return_of i) stands at
 
     -- ---- Turns
@@ -342,15 +391,15 @@ module _ (program : List Class) (limits : Limits) (start : Start) (s : State) (t
     stack_keeps (stack_frame.Call frame ∷ below) room starts stands = call_keeps frame below (instruction_at frame) stands refl
 
     live_keeps : (pending : Option ℕ) → 1 ≤ limits.frames → IsStart start → Stands thread.frames → KeepsSound (live_decision program limits start s t thread pending)
-    live_keeps (Some exception) room starts stands = (stands.sound, tt)
+    live_keeps (Some exception) room starts stands = (stands.sound, tt, unmarked program t (calls_of s t))
     live_keeps None room starts stands = stack_keeps thread.frames room starts stands
 
     given_out_keeps : (has_ended : Bool) → 1 ≤ limits.frames → IsStart start → Stands thread.frames → KeepsSound (given_out_decision program limits start s t thread has_ended)
-    given_out_keeps true room starts stands = (stands.sound, tt)
+    given_out_keeps true room starts stands = (stands.sound, tt, unmarked program t (calls_of s t))
     given_out_keeps false room starts stands = live_keeps thread.pending room starts stands
 
   thread_keeps : (o : Option Thread) → 1 ≤ limits.frames → IsStart start → Sound program limits s → slice_get s.threads t ≡ o → KeepsSound (thread_decision program limits start s t o)
-  thread_keeps None room starts sound is = (sound, tt)
+  thread_keeps None room starts sound is = (sound, tt, unmarked program t (calls_of s t))
   thread_keeps (Some thread) room starts sound is =
       given_out_keeps thread thread.ended room starts (record { sound = sound; given_out = is; frames_are = refl })
 
@@ -366,3 +415,8 @@ turn_keeps program limits start s t are starts sound = (decide_keeps program lim
 -- What is decided in a sound state is ready to be made.
 pub decided_is_ready : (program : List Class) (limits : Limits) (start : Start) (s : State) (t : ℕ) → IsTrue (are_limits limits) → IsStart start → Sound program limits s → IsReadyToMake start s t (decide program limits start s t)
 decided_is_ready program limits start s t are starts sound = (decide_keeps program limits start s t are starts sound).1
+
+-- The items of a turn mark the calls that come and go.
+pub turn_marks : (program : List Class) (limits : Limits) (start : Start) (s : State) (t : ℕ) → IsTrue (are_limits limits) → IsStart start → Sound program limits s → (turn program limits start s t).items ≡ marks_between program t (calls_of s t) (calls_of (turn program limits start s t).state t)
+unfolding turn
+turn_marks program limits start s t are starts sound = (decide_keeps program limits start s t are starts sound).2

@@ -9,6 +9,7 @@ pub mod Examples
 pub mod Initialisation
 pub mod Limits
 pub mod Locals
+pub mod Marks
 pub mod Opening
 pub mod Returns
 pub mod Run

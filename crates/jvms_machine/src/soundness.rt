@@ -11,6 +11,7 @@ ghost use Rattle.jvms_machine.specs.Start.{Start, IsStart, start_of};
 ghost use Rattle.jvms_machine.specs.Limits.{are_limits};
 ghost use Rattle.jvms_machine.specs.Opening.{opening};
 ghost use Rattle.jvms_machine.specs.Status.{is_enabled};
+ghost use Rattle.jvms_machine.specs.Marks.{calls_of, marks_between};
 ghost use Rattle.jvms_machine.specs.Turn.{turn};
 
 /// The state after a turn of any thread is sound, if the state before it is.
@@ -33,4 +34,10 @@ pub fn an_entry_gives_a_start()
 pub fn an_unmade_turn_changes_nothing()
     ensures state { (program : List Class) (limits : Limits) (start : Start) (s : State) (t : ℕ) → is_enabled (turn program limits start s t).outcome ≡ false → (turn program limits start s t).state ≡ s }
     ensures items { (program : List Class) (limits : Limits) (start : Start) (s : State) (t : ℕ) → is_enabled (turn program limits start s t).outcome ≡ false → (turn program limits start s t).items ≡ [] }
+{}
+
+/// The items of a turn mark the calls whose frames come or go: the exits of those that are gone, then the entries of
+/// those that have come, and none of a method of a built-in class.
+pub fn marks_are_those_of_frames()
+    ensures { (program : List Class) (limits : Limits) (start : Start) (s : State) (t : ℕ) → IsTrue (are_limits limits) → IsStart start → Sound program limits s → (turn program limits start s t).items ≡ marks_between program t (calls_of s t) (calls_of (turn program limits start s t).state t) }
 {}

@@ -5,7 +5,7 @@ use Rattle.std.proofs.lemmas.Option.{none-some, same_Some}
 use Rattle.jvms_program.specs.declared.program.Class.{Class}
 use Rattle.jvms_program.specs.declared.key.FieldKey.{FieldKey}
 use Rattle.jvms_machine.specs.declared.value.Value.{Value}
-use Rattle.jvms_machine.specs.State.{Object, object_at, class_of, instance_fields}
+use Rattle.jvms_machine.specs.State.{Object, object_at, class_of, instance_fields, text_reference, class_reference}
 use Rattle.jvms_machine.specs.Opening.{opening_heap}
 use Rattle.machine.specs.Views.{class_at, value_of, field_of, length_of, element_of, units_of, named_by}
 
@@ -66,3 +66,10 @@ no_class_object program (suc (suc zero)) = refl
 no_class_object program (suc (suc (suc zero))) = refl
 no_class_object program (suc (suc (suc (suc zero)))) = refl
 no_class_object program (suc (suc (suc (suc (suc r))))) = refl
+
+-- No string and no class object is there yet.
+pub no_string : (program : List Class) (units : List ℕ) → None ≡ text_reference (opening_heap program) units
+no_string program units = refl
+
+pub no_object_of_class : (program : List Class) (name : List ℕ) → None ≡ class_reference (opening_heap program) name
+no_object_of_class program name = refl

@@ -2,7 +2,7 @@
 
 ghost use Rattle.std.specs.Prelude.{◌≡◌, length};
 ghost use Rattle.std.specs.Option.{option_map};
-ghost use Rattle.jvms_machine.specs.State.{monitor_at};
+ghost use Rattle.jvms_machine.specs.State.{monitor_at, text_reference, class_reference};
 ghost use Rattle.machine.specs.Views.{asked, class_at, field_of, length_of, element_of, units_of, named_by};
 
 use crate::machine::Machine;
@@ -75,5 +75,19 @@ impl Machine<'_> {
         ensures { result ≡ monitor_at self.now.state.monitors reference }
     {
         self.parts.monitor(reference)
+    }
+
+    /// The reference of the string of a text, if one was made: equal texts have one.
+    pub fn text_reference(&self, units: &[u16]) -> Option<u32>
+        ensures { result ≡ text_reference self.now.state.heap units.now }
+    {
+        self.parts.text_reference(units)
+    }
+
+    /// The reference of the object of the class of this name, if one was made.
+    pub fn class_reference(&self, name: &[u16]) -> Option<u32>
+        ensures { result ≡ class_reference self.now.state.heap name.now }
+    {
+        self.parts.class_reference(name)
     }
 }

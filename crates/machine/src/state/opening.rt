@@ -2,7 +2,7 @@
 
 ghost use Rattle.std.specs.Prelude.{◌≡◌, length};
 ghost use Rattle.std.specs.Option.{option_and_then, option_map};
-ghost use Rattle.jvms_machine.specs.State.{object_at, monitor_at};
+ghost use Rattle.jvms_machine.specs.State.{object_at, monitor_at, text_reference, class_reference};
 ghost use Rattle.jvms_machine.specs.Opening.{is_system_out};
 ghost use Rattle.machine.specs.Views.{class_at, field_of, length_of, element_of, units_of, named_by, value_of};
 
@@ -156,6 +156,26 @@ impl Parts<'_> {
     {
         let _ = &self.program;
         let _ = reference;
+        None
+    }
+
+    /// The reference of a text's string: there is none.
+    #[tactic(auto, using(crate::proofs::OpeningLaws::no_string))]
+    pub(super) fn text_reference(&self, units: &[u16]) -> Option<u32>
+        ensures { result ≡ text_reference self.now.state.heap units.now }
+    {
+        let _ = &self.program;
+        let _ = units;
+        None
+    }
+
+    /// The reference of a class's object: there is none.
+    #[tactic(auto, using(crate::proofs::OpeningLaws::no_object_of_class))]
+    pub(super) fn class_reference(&self, name: &[u16]) -> Option<u32>
+        ensures { result ≡ class_reference self.now.state.heap name.now }
+    {
+        let _ = &self.program;
+        let _ = name;
         None
     }
 

@@ -38,6 +38,8 @@ fn assert_opening(rt: &impl Abort, machine: &Machine) {
     assert!(rt; machine.monitor(1).is_none());
     assert!(rt; machine.text(1).is_none());
     assert!(rt; machine.class_of(5).is_none());
+    assert!(rt; machine.text_reference(&[97]).is_none());
+    assert!(rt; machine.class_reference(&[71]).is_none());
 }
 
 #[test]

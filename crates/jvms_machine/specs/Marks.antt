@@ -1,0 +1,28 @@
+-- The marks of a turn told from the states before and after it: a call is marked as its frame comes or goes.
+use Rattle.std.specs.Prelude.{ℕ, ◌-◌, List, [], ◌∷◌, ◌++◌, length, take, Option, Some, None, slice_get}
+use Rattle.std.specs.List.{flat_map}
+use Rattle.jvms_program.specs.declared.program.Class.{Class}
+use Rattle.jvms_program.specs.declared.number.MethodNumber.{MethodNumber}
+use Rattle.jvms_machine.specs.declared.trace.Item.{Item}
+use Rattle.jvms_machine.specs.declared.state.StackFrame.TheVariants as stack_frame
+use Rattle.jvms_machine.specs.State.{State, Thread, Frame}
+use Rattle.jvms_machine.specs.Actions.{enter_items, exit_items}
+
+-- The methods of the calls on a stack, the top first.
+abbrev pub calls : List Frame → List MethodNumber
+calls [] = []
+calls (stack_frame.Call f ∷ below) = f.method ∷ calls below
+calls (stack_frame.Initialisation class called ∷ below) = calls below
+
+abbrev pub calls_in : Option Thread → List MethodNumber
+calls_in None = []
+calls_in (Some thread) = calls thread.frames
+
+abbrev pub calls_of : State → ℕ → List MethodNumber
+calls_of s t = calls_in (slice_get s.threads t)
+
+-- The exits of the calls that were there and are gone, then the entries of those that have come.
+abbrev pub marks_between : List Class → ℕ → List MethodNumber → List MethodNumber → List Item
+marks_between program t before after =
+    flat_map (exit_items program t) (take (length before - length after) before)
+    ++ flat_map (enter_items program t) (take (length after - length before) after)
