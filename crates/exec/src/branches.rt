@@ -2,7 +2,7 @@
 
 ghost use Rattle.std.specs.Prelude.{◌≡◌, ◌≤◌, ◌<◌, ◌^◌, ◌+◌, length};
 ghost use Rattle.jvms_file.specs.declared.insn.Branch.TheVariants as branches;
-ghost use Rattle.jvms_machine.specs.Activations.{HasRoom, IfDoes, reference_of as reference_in};
+ghost use Rattle.jvms_machine.specs.Activations.{HasRoom, IfDoes, reference_in};
 ghost use Rattle.jvms_machine.specs.Branches.{branch_decision, compares as comparison_holds, is_same_reference as same_reference, is_null as null_reference, jumps_if};
 
 use crate::decisions::{has_depth, jumps};

@@ -40,7 +40,7 @@ use Rattle.jvms_machine.specs.Calls.{is_outside, entered, enterable_body, enter_
 use Rattle.jvms_machine.specs.Returns.{gives_kind, gives_nothing, returned_decision, return_top_decision, return_decision, method_return_decision}
 use Rattle.jvms_machine.specs.Actions.{enter_items, exit_items, items_of, changed_to, call_gone_on, top_gone_on, gone_on, begun, popped, called, ended, with_changed, with_result, applied_to}
 use Rattle.jvms_machine.specs.Marks.{calls, calls_in, calls_of, marks_between}
-use Rattle.jvms_machine.specs.Turn.{items_after, IsReadyToMake, return_of, instruction_decision, call_decision, stack_decision, live_decision, given_out_decision, thread_decision, decide, state_after, turn}
+use Rattle.jvms_machine.specs.Turn.{items_after, IsReadyToMake, return_of, instruction_decision, call_decision, frames_decision, live_decision, given_out_decision, thread_decision, decide, state_after, turn}
 use Rattle.jvms_machine.proofs.LimitLaws.{limits_have_room}
 use Rattle.jvms_machine.proofs.ListLaws.{get_set_same, all_weaker, all_set, all_at, all_append, all_replicate}
 use Rattle.jvms_machine.proofs.InitialisationOrder.{order_with_thread, order_begun, order_done, count_call}
@@ -318,10 +318,12 @@ module _ (program : List Class) (limits : Limits) (start : Start) (s : State) (t
 
     returned_keeps : (frame : MethodFrame) (below : List Frame) (result : Option Value) → Stands (stack_frame.Call frame ∷ below) → IfSome result (IsValue s.heap) → KeepsSound (returned_decision frame.method below result)
     unfolding applied_to items_of
-    returned_keeps frame [] result stands result_is =
-        (cond_both (t == 0) _ _ (Sound program limits) (λ _. ended_is_sound frame result stands result_is) (λ _. ended_is_sound frame s.result stands stands.sound.result), tt,
-        left_mark program t (calls_of s t) _ frame.method (ap calls_in stands.given_out ∙ ap calls stands.frames_are)
-        (result_calls (with_changed s t ended) t result ∙ changed_calls s.threads t thread ended stands.given_out))
+    returned_keeps frame [] result stands result_is = (
+      cond_both (t == 0) _ _ (Sound program limits) (λ _. ended_is_sound frame result stands result_is) (λ _. ended_is_sound frame s.result stands stands.sound.result),
+      tt,
+      left_mark program t (calls_of s t) _ frame.method (ap calls_in stands.given_out ∙ ap calls stands.frames_are)
+          (result_calls (with_changed s t ended) t result ∙ changed_calls s.threads t thread ended stands.given_out),
+    )
     returned_keeps frame (f ∷ below) result stands result_is = (stands.sound, tt, unmarked program t (calls_of s t))
 
     return_top_keeps : (frame : MethodFrame) (below : List Frame) (type : ResultType) (k : Kind) (operands : List Value) → Stands (stack_frame.Call frame ∷ below) → AllByRecursion (IsValue s.heap) operands → KeepsSound (return_top_decision frame.method below type k operands)
@@ -385,7 +387,7 @@ module _ (program : List Class) (limits : Limits) (start : Start) (s : State) (t
 
     -- ---- Turns
 
-    stack_keeps : (frames : List Frame) → 1 ≤ limits.frames → IsStart start → Stands frames → KeepsSound (stack_decision program limits start s t thread frames)
+    stack_keeps : (frames : List Frame) → 1 ≤ limits.frames → IsStart start → Stands frames → KeepsSound (frames_decision program limits start s t thread frames)
     stack_keeps [] room starts stands = first_call_keeps stands room starts
     stack_keeps (stack_frame.Initialisation class called ∷ below) room starts stands = initialisation_keeps class called below (slice_get program class) stands
     stack_keeps (stack_frame.Call frame ∷ below) room starts stands = call_keeps frame below (instruction_at frame) stands refl

@@ -1,4 +1,5 @@
--- The marks of a turn told from the states before and after it: a call is marked as its frame comes or goes.
+-- The marks of a turn told from the states before and after it: a call is marked as its frame comes or goes. So far a
+-- turn has no other items, and changes no other thread's frames.
 use Rattle.std.specs.Prelude.{ℕ, ◌-◌, List, [], ◌∷◌, ◌++◌, length, take, Option, Some, None, slice_get}
 use Rattle.std.specs.List.{flat_map}
 use Rattle.jvms_program.specs.declared.program.Class.{Class}

@@ -28,7 +28,7 @@ abbrev pub next_outcomes : List Class → Limits → Start → State → List Ou
 next_outcomes program limits start s =
     map (λ numbered. (turn program limits start s numbered.0).outcome) (enumerate_from 0 s.threads)
 
--- Finished: all threads have ended; running: one is enabled; stalled: one can't go on; else deadlocked.
+-- Finished: all threads have ended; running: one is enabled; stalled: the next turn of one is Bad; else deadlocked.
 unfoldable pub status_of : List Class → Limits → Start → State → Status
 status_of program limits start s =
     if list_all (λ thread. thread.ended) s.threads then status.Finished

@@ -30,7 +30,8 @@ pub enum FrameDecision {
     Throws(Thrown),
     /// The turn can't be made.
     Stops(BadCause),
-    /// The instruction touches more than its frame, or is one of a later version of the instruction table.
+    /// The frame alone doesn't tell: the instruction touches more than it, as a return does, or is one of a later
+    /// version of the instruction table.
     Later,
 }
 

@@ -49,7 +49,7 @@ pub enum BlockedOn {
 pub enum BadCause {
     /// No instruction stands there.
     FellOff,
-    /// The instruction is outside the profile.
+    /// The instruction, or the entry's descriptor, is outside the profile, or is made by a later version.
     OutOfProfile,
     /// Too few operands, or no room for the result.
     Depth,

@@ -1,6 +1,6 @@
 //! Laws about turns, owed to the gate: the opening state is sound, a turn keeps a state sound, an entry gives
-//! arguments, and the turn of a thread that isn't enabled changes nothing. That a state and a thread have one
-//! row is that `turn` is a function.
+//! arguments, the turn of a thread that isn't enabled changes nothing, and a turn's items mark the calls that come
+//! and go. That a state and a thread have one row is that `turn` is a function.
 
 ghost use Rattle.std.specs.Prelude.{◌≡◌, ℕ, List, [], IsTrue, false, Some};
 ghost use Rattle.jvms_machine.specs.declared.machine.Entry.{Entry};

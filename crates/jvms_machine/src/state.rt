@@ -18,7 +18,7 @@ pub struct Hold {
     pub count: u32,
 }
 
-/// What stands on a thread's stack (JVMS 2.5.2): the frame of a call, or the initialisation of the class of a
+/// What stands on a thread's stack (JVMS 2.5.2): the frame `F` of a call, or the initialisation of the class of a
 /// number and whether its `<clinit>` was called.
 #[derive(Drop)]
 pub enum StackFrame<F> {

@@ -1,7 +1,8 @@
 -- Turns of thread 0, one after another.
 use Rattle.std.proofs.Common.{◌≡◌, ℕ, zero, suc, ◌+◌, ◌-◌, ◌<◌, ◌≤◌, true, false, List, [], ◌∷◌, length, refl, ap, sym, ◌∙◌, arith}
 use Rattle.jvms_machine.specs.State.{State}
-use Rattle.jvms_machine.specs.Run.{is_enabled, run_from}
+use Rattle.jvms_machine.specs.Status.{is_enabled}
+use Rattle.jvms_machine.specs.Run.{run_from}
 use Rattle.jvms_machine.proofs.UnmadeTurns.{unmade_turn_keeps}
 use Rattle.machine.specs.Machine.{Machine, row_of, with_state}
 use Rattle.jvmx.specs.Evaluation.{zeros_from}

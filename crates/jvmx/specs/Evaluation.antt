@@ -14,8 +14,11 @@ use Rattle.jvms_program.specs.declared.program.Class.{Class}
 use Rattle.jvms_file.specs.Results.{◌>>=◌}
 use Rattle.jvms_file.specs.ClassFile.{read}
 use Rattle.jvms_machine.specs.State.{State}
-use Rattle.jvms_machine.specs.Turn.{Start, turn}
-use Rattle.jvms_machine.specs.Run.{NotMade, no_entry, no_limits, made, opening, is_enabled, run, status_of}
+use Rattle.jvms_machine.specs.Start.{Start}
+use Rattle.jvms_machine.specs.Turn.{turn}
+use Rattle.jvms_machine.specs.Opening.{NotMade, no_entry, no_limits, made, opening}
+use Rattle.jvms_machine.specs.Run.{run}
+use Rattle.jvms_machine.specs.Status.{is_enabled, status_of}
 use Rattle.linker.specs.declared.fault.LinkFault.{LinkFault}
 use Rattle.linker.specs.declared.fault.LinkFault.TheVariants as link_fault
 use Rattle.linker.specs.Linking.{linked}

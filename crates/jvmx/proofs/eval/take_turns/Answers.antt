@@ -1,6 +1,6 @@
 -- Each turn is the first of those that are left; at the end none is.
 use Rattle.std.proofs.Common.{rules, ◌≡◌, true, false, ◌-◌, ap, sym, ◌∙◌, arith}
-use Rattle.jvms_machine.specs.Run.{is_enabled}
+use Rattle.jvms_machine.specs.Status.{is_enabled}
 use Rattle.jvmx.proofs.Turns.{turn_made, turn_unmade, machine_at_end, ends_used}
 use Rattle.jvmx.proofs.eval.take_turns.Goals as goal
 
