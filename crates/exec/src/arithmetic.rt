@@ -13,7 +13,7 @@ use jvms_machine::machine::BadCause;
 use jvms_machine::value::Value;
 use jvms_program::thrown::Thrown;
 
-#[inline]
+#[inline(always)]
 fn binary(op: insn::Binary, frame: &Frame) -> FrameDecision
     ensures decision { result ≡ int_decision frame.now.body (int_insn.Binary op) frame.now.activation }
     ensures room { IfDoes result (HasRoom frame.now.body frame.now.activation) }
@@ -27,7 +27,7 @@ fn binary(op: insn::Binary, frame: &Frame) -> FrameDecision
     pushes(2, Value::Int(jvm_num::binary(op, a, b)))
 }
 
-#[inline]
+#[inline(always)]
 fn division(op: insn::Division, frame: &Frame) -> FrameDecision
     ensures decision { result ≡ int_decision frame.now.body (int_insn.Division op) frame.now.activation }
     ensures room { IfDoes result (HasRoom frame.now.body frame.now.activation) }
@@ -44,7 +44,7 @@ fn division(op: insn::Division, frame: &Frame) -> FrameDecision
     }
 }
 
-#[inline]
+#[inline(always)]
 fn negate(frame: &Frame) -> FrameDecision
     ensures decision { result ≡ int_decision frame.now.body int_insn.Negate frame.now.activation }
     ensures room { IfDoes result (HasRoom frame.now.body frame.now.activation) }
@@ -58,7 +58,7 @@ fn negate(frame: &Frame) -> FrameDecision
     }
 }
 
-#[inline]
+#[inline(always)]
 fn convert(to: insn::Conversion, n: i32) -> i32
     ensures { result ≡ converted to n }
 {
@@ -69,7 +69,7 @@ fn convert(to: insn::Conversion, n: i32) -> i32
     }
 }
 
-#[inline]
+#[inline(always)]
 fn conversion(to: insn::Conversion, frame: &Frame) -> FrameDecision
     ensures decision { result ≡ int_decision frame.now.body (int_insn.Conversion to) frame.now.activation }
     ensures room { IfDoes result (HasRoom frame.now.body frame.now.activation) }
@@ -83,7 +83,7 @@ fn conversion(to: insn::Conversion, frame: &Frame) -> FrameDecision
     }
 }
 
-#[inline]
+#[inline(always)]
 pub(crate) fn int(what: insn::IntInsn, frame: &Frame) -> FrameDecision
     ensures decision { result ≡ int_decision frame.now.body what frame.now.activation }
     ensures room { IfDoes result (HasRoom frame.now.body frame.now.activation) }

@@ -12,7 +12,7 @@ use jvms_machine::action::{FrameAction, FrameDecision};
 use jvms_machine::machine::BadCause;
 use jvms_machine::value::Value;
 
-#[inline]
+#[inline(always)]
 fn compares(how: Comparison, m: i32, n: i32) -> bool
     ensures { result ≡ comparison_holds how m n }
 {
@@ -27,7 +27,7 @@ fn compares(how: Comparison, m: i32, n: i32) -> bool
 }
 
 // A reference, or null: the number of what it leads to, and none for null.
-#[inline]
+#[inline(always)]
 fn reference_of(value: Value) -> Option<Option<u32>>
     ensures { result ≡ reference_in value }
 {
@@ -38,7 +38,7 @@ fn reference_of(value: Value) -> Option<Option<u32>>
     }
 }
 
-#[inline]
+#[inline(always)]
 fn is_same(r: Option<u32>, q: Option<u32>) -> bool
     ensures { result ≡ same_reference r q }
 {
@@ -49,7 +49,7 @@ fn is_same(r: Option<u32>, q: Option<u32>) -> bool
     }
 }
 
-#[inline]
+#[inline(always)]
 fn is_null(r: Option<u32>) -> bool
     ensures { result ≡ null_reference r }
 {
@@ -57,7 +57,7 @@ fn is_null(r: Option<u32>) -> bool
 }
 
 // To the target where the test holds, else to the next instruction.
-#[inline]
+#[inline(always)]
 fn jump_if(holds: bool, takes: u8, frame: &Frame, target: u32) -> FrameDecision
     requires place { frame.now.activation.place + 1 < 2 ^ 64 }
     requires there { takes ≤ length frame.now.activation.operands }
@@ -68,7 +68,7 @@ fn jump_if(holds: bool, takes: u8, frame: &Frame, target: u32) -> FrameDecision
     jumps(takes, if holds { target as usize } else { next })
 }
 
-#[inline]
+#[inline(always)]
 fn if_zero(how: Comparison, target: u32, frame: &Frame) -> FrameDecision
     requires { frame.now.activation.place + 1 < 2 ^ 64 }
     ensures decision { result ≡ branch_decision frame.now.body (branches.IfZero how) target frame.now.activation }
@@ -83,7 +83,7 @@ fn if_zero(how: Comparison, target: u32, frame: &Frame) -> FrameDecision
     }
 }
 
-#[inline]
+#[inline(always)]
 fn if_ints(how: Comparison, target: u32, frame: &Frame) -> FrameDecision
     requires { frame.now.activation.place + 1 < 2 ^ 64 }
     ensures decision { result ≡ branch_decision frame.now.body (branches.IfInts how) target frame.now.activation }
@@ -128,7 +128,7 @@ fn if_different(target: u32, frame: &Frame) -> FrameDecision
     }
 }
 
-#[inline]
+#[inline(always)]
 fn if_null(target: u32, frame: &Frame) -> FrameDecision
     requires { frame.now.activation.place + 1 < 2 ^ 64 }
     ensures decision { result ≡ branch_decision frame.now.body branches.IfNull target frame.now.activation }
@@ -143,7 +143,7 @@ fn if_null(target: u32, frame: &Frame) -> FrameDecision
     }
 }
 
-#[inline]
+#[inline(always)]
 fn if_non_null(target: u32, frame: &Frame) -> FrameDecision
     requires { frame.now.activation.place + 1 < 2 ^ 64 }
     ensures decision { result ≡ branch_decision frame.now.body branches.IfNonNull target frame.now.activation }
@@ -171,7 +171,7 @@ fn subroutine(target: u32, frame: &Frame) -> FrameDecision
     })
 }
 
-#[inline]
+#[inline(always)]
 pub(crate) fn branch(how: Branch, target: u32, frame: &Frame) -> FrameDecision
     requires { frame.now.activation.place + 1 < 2 ^ 64 }
     ensures decision { result ≡ branch_decision frame.now.body how target frame.now.activation }

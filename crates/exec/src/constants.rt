@@ -12,7 +12,7 @@ use jvms_machine::machine::BadCause;
 use jvms_machine::value::Value;
 use jvms_program::program::Loadable;
 
-#[inline]
+#[inline(always)]
 fn push_value(value: Value, frame: &Frame) -> FrameDecision
     ensures decision { result ≡ pushed frame.now.body frame.now.activation value }
     ensures room { IfDoes result (HasRoom frame.now.body frame.now.activation) }
@@ -24,7 +24,7 @@ fn push_value(value: Value, frame: &Frame) -> FrameDecision
     }
 }
 
-#[inline]
+#[inline(always)]
 pub(crate) fn push(what: insn::Push, frame: &Frame) -> FrameDecision
     ensures decision { result ≡ push_decision frame.now.body what frame.now.activation }
     ensures room { IfDoes result (HasRoom frame.now.body frame.now.activation) }
@@ -38,7 +38,7 @@ pub(crate) fn push(what: insn::Push, frame: &Frame) -> FrameDecision
     }
 }
 
-#[inline]
+#[inline(always)]
 pub(crate) fn constant(what: &Loadable, frame: &Frame) -> FrameDecision
     ensures decision { result ≡ constant_decision frame.now.body what.now frame.now.activation }
     ensures room { IfDoes result (HasRoom frame.now.body frame.now.activation) }

@@ -8,7 +8,7 @@ use jvms_machine::action::{FrameAction, FrameDecision};
 use jvms_machine::value::Value;
 
 /// Whether so many operands are there to take, and those after success fit `max_stack`.
-#[inline]
+#[inline(always)]
 pub(crate) fn has_depth(frame: &Frame, takes: u8, gives: u8) -> bool
     ensures { result ≡ (nat_le takes (length frame.now.activation.operands)
         && nat_le (length frame.now.activation.operands - takes + gives) frame.now.body.max_stack) }
@@ -19,7 +19,7 @@ pub(crate) fn has_depth(frame: &Frame, takes: u8, gives: u8) -> bool
 }
 
 /// A value in place of the operands that are taken.
-#[inline]
+#[inline(always)]
 pub(crate) fn pushes(takes: u8, value: Value) -> FrameDecision
     ensures { result ≡ pushing takes value }
 {
@@ -27,7 +27,7 @@ pub(crate) fn pushes(takes: u8, value: Value) -> FrameDecision
 }
 
 /// On at a place, with the operands taken.
-#[inline]
+#[inline(always)]
 pub(crate) fn jumps(takes: u8, target: usize) -> FrameDecision
     ensures { result ≡ jumping takes target }
 {

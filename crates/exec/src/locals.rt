@@ -12,7 +12,7 @@ use jvms_machine::action::{FrameAction, FrameDecision};
 use jvms_machine::machine::BadCause;
 use jvms_machine::value::Value;
 
-#[inline]
+#[inline(always)]
 fn is_profile_kind(kind: Kind) -> bool
     ensures { result ≡ in_profile kind }
 {
@@ -23,7 +23,7 @@ fn is_profile_kind(kind: Kind) -> bool
 }
 
 /// Whether a value is of the kind that a load or a return takes.
-#[inline]
+#[inline(always)]
 pub fn is_loaded(kind: Kind, value: Value) -> bool
     ensures { result ≡ loads kind value }
 {
@@ -34,7 +34,7 @@ pub fn is_loaded(kind: Kind, value: Value) -> bool
     }
 }
 
-#[inline]
+#[inline(always)]
 fn is_stored(kind: Kind, value: Value) -> bool
     ensures { result ≡ stores kind value }
 {
@@ -45,7 +45,7 @@ fn is_stored(kind: Kind, value: Value) -> bool
     }
 }
 
-#[inline]
+#[inline(always)]
 fn load(kind: Kind, n: u16, frame: &Frame) -> FrameDecision
     ensures decision { result ≡ load_decision frame.now.body kind n frame.now.activation }
     ensures room { IfDoes result (HasRoom frame.now.body frame.now.activation) }
@@ -66,7 +66,7 @@ fn load(kind: Kind, n: u16, frame: &Frame) -> FrameDecision
     pushes(0, value)
 }
 
-#[inline]
+#[inline(always)]
 fn store(kind: Kind, n: u16, frame: &Frame) -> FrameDecision
     ensures decision { result ≡ store_decision frame.now.body kind n frame.now.activation }
     ensures room { IfDoes result (HasRoom frame.now.body frame.now.activation) }
@@ -92,7 +92,7 @@ fn store(kind: Kind, n: u16, frame: &Frame) -> FrameDecision
 }
 
 // JVMS 6.5 ret.
-#[inline]
+#[inline(always)]
 fn return_to(n: u16, frame: &Frame) -> FrameDecision
     ensures decision { result ≡ local_decision frame.now.body local_use.Return n frame.now.activation }
     ensures room { IfDoes result (HasRoom frame.now.body frame.now.activation) }
@@ -106,7 +106,7 @@ fn return_to(n: u16, frame: &Frame) -> FrameDecision
     }
 }
 
-#[inline]
+#[inline(always)]
 pub(crate) fn local(how: LocalUse, n: u16, frame: &Frame) -> FrameDecision
     ensures decision { result ≡ local_decision frame.now.body how n frame.now.activation }
     ensures room { IfDoes result (HasRoom frame.now.body frame.now.activation) }
@@ -119,7 +119,7 @@ pub(crate) fn local(how: LocalUse, n: u16, frame: &Frame) -> FrameDecision
 }
 
 // JVMS 6.5 iinc.
-#[inline]
+#[inline(always)]
 pub(crate) fn increment(n: u16, by: i16, frame: &Frame) -> FrameDecision
     ensures decision { result ≡ increment_decision frame.now.body n by frame.now.activation }
     ensures room { IfDoes result (HasRoom frame.now.body frame.now.activation) }
