@@ -1,7 +1,0 @@
-//! Tests of programs and of linking, on programs that they build.
-#![tactic(auto)]
-
-#[cfg(test)]
-mod linking;
-#[cfg(test)]
-mod lookup;
