@@ -1,14 +1,14 @@
 -- Tokens of a line: what is read is spelled so, and what is spelled so is read.
-use Rattle.std.proofs.Common.{◌≡◌, ◌⊎◌, ℕ, zero, suc, ◌<◌, ◌≤◌, ◌+◌, ◌&&◌, ◌||◌, Bool, true, false, not, cond, eqb, List, [], ◌∷◌, ◌++◌, length, Option, Some, None, refl, sym, ap, subst, ◌∙◌, append_assoc, arith, inl, inr}
-use Rattle.std.proofs.lemmas.Bool.{eqb-true, eqb-false, not-true, and_parts, and_from, or_cases}
+use Rattle.std.proofs.Common.{◌≡◌, ◌⊎◌, ℕ, zero, suc, ◌<◌, ◌≤◌, ◌+◌, ◌-◌, ◌&&◌, ◌||◌, Bool, true, false, not, cond, eqb, List, [], ◌∷◌, ◌++◌, length, Some, refl, sym, ap, subst, ◌∙◌, append_assoc, arith, inl, inr}
+use Rattle.std.proofs.lemmas.Bool.{eqb-true, not-true, and_parts}
 use Rattle.std.proofs.lemmas.List.{length-append}
 use Rattle.std.proofs.lemmas.Option.{none-some, same_Some}
 use Rattle.std.specs.List.{list_all}
-use Rattle.std.specs.Option.{option_and_then, option_map}
-use Rattle.jvms_file.specs.Names.{begins_with}
+use Rattle.std.specs.Option.{option_map}
+use Rattle.jasmin.specs.declared.token.Lexeme.{Lexeme}
+use Rattle.jasmin.specs.declared.token.Lexeme.TheVariants as lexeme
 use Rattle.jasmin.specs.declared.token.Token.{Token}
-use Rattle.jasmin.specs.declared.token.Token.TheVariants as token
-use Rattle.jasmin.specs.Lexing.{is_space, ends_word, is_word_end, is_empty, begins_comment, SpellsToken, SpellsUnits, Lexes, word_from, text_from, token_from, begin_from, tokens_from, tokens_of}
+use Rattle.jasmin.specs.Lexing.{is_space, ends_word, is_word_end, is_empty, begins_comment, SpellsToken, Lexes, word_from, text_from, lexeme_from, at_its_place, token_from, begin_from, tokens_from, tokens_of}
 use Rattle.jasmin.proofs.Steps.{choose, mapped, before}
 use Rattle.jasmin.proofs.Texts.{text_found, text_again}
 
@@ -44,56 +44,81 @@ word_again (u ∷ w) behind units ends =
     let both = and_parts (goes_on u) (list_all goes_on w) units in
     rw (not-true (ends_word u) both.0, word_again w behind both.1 ends) refl
 
--- ---- A token
+-- ---- What a token is
 
 abbrev pub begins_space : List ℕ → Bool
 begins_space [] = false
 begins_space (u ∷ us) = is_space u
 
--- A token that was read, and what stands behind it.
-record TokenFound (us : List ℕ) (t : Token) (behind : List ℕ) : Type 0 where
+-- What was read, and what stands behind it.
+record LexemeFound (us : List ℕ) (l : Lexeme) (behind : List ℕ) : Type 0 where
   pub spelled : List ℕ
   pub parts : us ≡ spelled ++ behind
-  pub spells : SpellsToken spelled t behind
+  pub spells : SpellsToken spelled l behind
   pub some : is_empty spelled ≡ false
 
 -- A unit that is none of four sorts ends no word.
 no_end : (u : ℕ) → is_space u ≡ false → eqb u 34 ≡ false → eqb u 58 ≡ false → eqb u 61 ≡ false → ends_word u ≡ false
 no_end u a b c d = rw (a, b, c, d) refl
 
-word_token : (u : ℕ) (us behind : List ℕ) (t : Token) (read : List ℕ × List ℕ) → WordFound (u ∷ us) read → ends_word u ≡ false → ◌≡◌ {A = Token × List ℕ} (token.Word read.0, read.1) (t, behind) → TokenFound (u ∷ us) t behind
-word_token u us behind t ([], left) f runs e =
+word_lexeme : (u : ℕ) (us behind : List ℕ) (l : Lexeme) (read : List ℕ × List ℕ) → WordFound (u ∷ us) read → ends_word u ≡ false → ◌≡◌ {A = Lexeme × List ℕ} (lexeme.Word read.0, read.1) (l, behind) → LexemeFound (u ∷ us) l behind
+word_lexeme u us behind l ([], left) f runs e =
     let bad : ends_word u ≡ true = subst (λ (w : List ℕ). is_word_end w ≡ true) (sym f.parts) f.ends in
     absurd cc
-word_token u us behind t (v ∷ vs, left) f runs e =
-    subst (λ (p : Token × List ℕ). TokenFound (u ∷ us) p.0 p.1) e
+word_lexeme u us behind l (v ∷ vs, left) f runs e =
+    subst (λ (p : Lexeme × List ℕ). LexemeFound (u ∷ us) p.0 p.1) e
     (record { spelled = v ∷ vs; parts = f.parts; spells = (refl, refl, f.units, f.ends); some = refl })
 
-token_found : (us : List ℕ) (t : Token) (behind : List ℕ) → begins_space us ≡ false → token_from us ≡ Some (t, behind) → TokenFound us t behind
-unfolding token_from
-token_found [] t behind apart e = absurd (none-some _ e)
-token_found (u ∷ us) t behind apart e =
-    choose (eqb u 34) (option_map (λ t. (token.Text t.0, t.1)) (text_from us)) (cond (eqb u 58) (Some (token.Colon, us)) (cond (eqb u 61) (Some (token.Equals, us)) (Some (token.Word (word_from (u ∷ us)).0, (word_from (u ∷ us)).1)))) (Some (t, behind)) e
-    (λ quote read. mapped (λ t. (token.Text t.0, t.1)) (text_from us) (t, behind) read (λ x is same.
+lexeme_found : (us : List ℕ) (l : Lexeme) (behind : List ℕ) → begins_space us ≡ false → lexeme_from us ≡ Some (l, behind) → LexemeFound us l behind
+unfolding lexeme_from
+lexeme_found [] l behind apart e = absurd (none-some _ e)
+lexeme_found (u ∷ us) l behind apart e =
+    choose (eqb u 34) (option_map (λ t. (lexeme.Text t.0, t.1)) (text_from us)) (cond (eqb u 58) (Some (lexeme.Colon, us)) (cond (eqb u 61) (Some (lexeme.Equals, us)) (Some (lexeme.Word (word_from (u ∷ us)).0, (word_from (u ∷ us)).1)))) (Some (l, behind)) e
+    (λ quote read. mapped (λ t. (lexeme.Text t.0, t.1)) (text_from us) (l, behind) read (λ x is same.
     let f = text_found us x.0 x.1 is in
-    subst (λ (p : Token × List ℕ). TokenFound (u ∷ us) p.0 p.1) same
+    subst (λ (p : Lexeme × List ℕ). LexemeFound (u ∷ us) p.0 p.1) same
     (record {
       spelled = 34 ∷ f.inside ++ 34 ∷ [];
       parts = rw (eqb-true u 34 quote) (ap (λ (w : List ℕ). 34 ∷ w) (f.parts ∙ sym (append_assoc f.inside (34 ∷ []) x.1)));
       spells = (f.inside, refl, f.spells);
       some = refl;
     })))
-    (λ no_quote read. choose (eqb u 58) (Some (token.Colon, us)) (cond (eqb u 61) (Some (token.Equals, us)) (Some (token.Word (word_from (u ∷ us)).0, (word_from (u ∷ us)).1))) (Some (t, behind)) read
-    (λ colon is. subst (λ (p : Token × List ℕ). TokenFound (u ∷ us) p.0 p.1) (same_Some _ _ is)
+    (λ no_quote read. choose (eqb u 58) (Some (lexeme.Colon, us)) (cond (eqb u 61) (Some (lexeme.Equals, us)) (Some (lexeme.Word (word_from (u ∷ us)).0, (word_from (u ∷ us)).1))) (Some (l, behind)) read
+    (λ colon is. subst (λ (p : Lexeme × List ℕ). LexemeFound (u ∷ us) p.0 p.1) (same_Some _ _ is)
     (record { spelled = 58 ∷ []; parts = ap (λ (n : ℕ). n ∷ us) (eqb-true u 58 colon); spells = refl; some = refl }))
-    (λ no_colon read. choose (eqb u 61) (Some (token.Equals, us)) (Some (token.Word (word_from (u ∷ us)).0, (word_from (u ∷ us)).1)) (Some (t, behind)) read
-    (λ equals is. subst (λ (p : Token × List ℕ). TokenFound (u ∷ us) p.0 p.1) (same_Some _ _ is)
+    (λ no_colon read. choose (eqb u 61) (Some (lexeme.Equals, us)) (Some (lexeme.Word (word_from (u ∷ us)).0, (word_from (u ∷ us)).1)) (Some (l, behind)) read
+    (λ equals is. subst (λ (p : Lexeme × List ℕ). LexemeFound (u ∷ us) p.0 p.1) (same_Some _ _ is)
     (record { spelled = 61 ∷ []; parts = ap (λ (n : ℕ). n ∷ us) (eqb-true u 61 equals); spells = refl; some = refl }))
-    (λ no_equals is. word_token u us behind t (word_from (u ∷ us)) (word_found (u ∷ us)) (no_end u apart no_quote no_colon no_equals) (same_Some _ _ is))))
+    (λ no_equals is. word_lexeme u us behind l (word_from (u ∷ us)) (word_found (u ∷ us)) (no_end u apart no_quote no_colon no_equals) (same_Some _ _ is))))
 
--- A token that is spelled is read.
-word_read : (us behind : List ℕ) → not (is_empty us) ≡ true → list_all goes_on us ≡ true → is_word_end behind ≡ true → token_from (us ++ behind) ≡ Some (token.Word us, behind)
-unfolding token_from
+-- What stands behind is no longer.
+pub lexeme_fits : (us : List ℕ) (l : Lexeme) (behind : List ℕ) → lexeme_from us ≡ Some (l, behind) → length behind ≤ length us
+unfolding lexeme_from
+lexeme_fits [] l behind e = absurd (none-some _ e)
+lexeme_fits (u ∷ us) l behind e =
+    choose (eqb u 34) (option_map (λ t. (lexeme.Text t.0, t.1)) (text_from us)) (cond (eqb u 58) (Some (lexeme.Colon, us)) (cond (eqb u 61) (Some (lexeme.Equals, us)) (Some (lexeme.Word (word_from (u ∷ us)).0, (word_from (u ∷ us)).1)))) (Some (l, behind)) e
+    (λ quote read. mapped (λ t. (lexeme.Text t.0, t.1)) (text_from us) (l, behind) read (λ x is same.
+    let f = text_found us x.0 x.1 is in
+    let whole : length us ≡ length f.inside + length (34 ∷ x.1) = ap length f.parts ∙ length-append f.inside (34 ∷ x.1) in
+    let left : length x.1 ≡ length behind = ap (λ (p : Lexeme × List ℕ). length p.1) same in
+    omega arith))
+    (λ no_quote read. choose (eqb u 58) (Some (lexeme.Colon, us)) (cond (eqb u 61) (Some (lexeme.Equals, us)) (Some (lexeme.Word (word_from (u ∷ us)).0, (word_from (u ∷ us)).1))) (Some (l, behind)) read
+    (λ colon is.
+    let left : length us ≡ length behind = ap (λ (p : Lexeme × List ℕ). length p.1) (same_Some _ _ is) in
+    omega arith)
+    (λ no_colon read. choose (eqb u 61) (Some (lexeme.Equals, us)) (Some (lexeme.Word (word_from (u ∷ us)).0, (word_from (u ∷ us)).1)) (Some (l, behind)) read
+    (λ equals is.
+    let left : length us ≡ length behind = ap (λ (p : Lexeme × List ℕ). length p.1) (same_Some _ _ is) in
+    omega arith)
+    (λ no_equals is.
+    let f = word_found (u ∷ us) in
+    let whole : length (u ∷ us) ≡ length (word_from (u ∷ us)).0 + length (word_from (u ∷ us)).1 = ap length f.parts ∙ length-append (word_from (u ∷ us)).0 (word_from (u ∷ us)).1 in
+    let left : length (word_from (u ∷ us)).1 ≡ length behind = ap (λ (p : Lexeme × List ℕ). length p.1) (same_Some _ _ is) in
+    omega arith)))
+
+-- What is spelled is read.
+word_read : (us behind : List ℕ) → not (is_empty us) ≡ true → list_all goes_on us ≡ true → is_word_end behind ≡ true → lexeme_from (us ++ behind) ≡ Some (lexeme.Word us, behind)
+unfolding lexeme_from
 word_read [] behind some units ends = absurd cc
 word_read (u ∷ us) behind some units ends =
     let both = and_parts (goes_on u) (list_all goes_on us) units in
@@ -107,14 +132,14 @@ word_read (u ∷ us) behind some units ends =
     no_parts false false false true e = absurd cc
     no_parts false false false false e = (refl, refl, refl, refl)
 
-token_again : (spelled behind : List ℕ) (t : Token) → SpellsToken spelled t behind → token_from (spelled ++ behind) ≡ Some (t, behind)
-unfolding token_from
-token_again spelled behind (token.Word us) (is, some, units, ends) = rw is (word_read us behind some units ends)
-token_again spelled behind (token.Text us) (inside, is, spells) =
+lexeme_again : (spelled behind : List ℕ) (l : Lexeme) → SpellsToken spelled l behind → lexeme_from (spelled ++ behind) ≡ Some (l, behind)
+unfolding lexeme_from
+lexeme_again spelled behind (lexeme.Word us) (is, some, units, ends) = rw is (word_read us behind some units ends)
+lexeme_again spelled behind (lexeme.Text us) (inside, is, spells) =
     let parts : (inside ++ 34 ∷ []) ++ behind ≡ inside ++ 34 ∷ behind = append_assoc inside (34 ∷ []) behind in
     rw (is, parts, text_again inside us behind spells) refl
-token_again spelled behind token.Colon is = rw is refl
-token_again spelled behind token.Equals is = rw is refl
+lexeme_again spelled behind lexeme.Colon is = rw is refl
+lexeme_again spelled behind lexeme.Equals is = rw is refl
 
 -- A token's spelling isn't empty, and begins with no white space.
 record Starts (spelled : List ℕ) : Type 0 where
@@ -131,11 +156,34 @@ word_starts (u ∷ us) some units =
     first true b e = absurd cc
     first false b e = refl
 
-token_starts : (spelled behind : List ℕ) (t : Token) → SpellsToken spelled t behind → Starts spelled
-token_starts spelled behind (token.Word us) (is, some, units, ends) = rw is (word_starts us some units)
-token_starts spelled behind (token.Text us) (inside, is, spells) = rw is (record { some = refl; apart = refl })
-token_starts spelled behind token.Colon is = rw is (record { some = refl; apart = refl })
-token_starts spelled behind token.Equals is = rw is (record { some = refl; apart = refl })
+token_starts : (spelled behind : List ℕ) (l : Lexeme) → SpellsToken spelled l behind → Starts spelled
+token_starts spelled behind (lexeme.Word us) (is, some, units, ends) = rw is (word_starts us some units)
+token_starts spelled behind (lexeme.Text us) (inside, is, spells) = rw is (record { some = refl; apart = refl })
+token_starts spelled behind lexeme.Colon is = rw is (record { some = refl; apart = refl })
+token_starts spelled behind lexeme.Equals is = rw is (record { some = refl; apart = refl })
+
+-- ---- A token at its place
+
+-- What was read, and where it stands.
+record TokenRead (size : ℕ) (us : List ℕ) (t : Token) (behind : List ℕ) : Type 0 where
+  pub is : lexeme_from us ≡ Some (t.lexeme, behind)
+  pub starts : t.start ≡ size - length us
+  pub ends : t.end ≡ size - length behind
+
+token_read : (size : ℕ) (us : List ℕ) (t : Token) (behind : List ℕ) → token_from size us ≡ Some (t, behind) → TokenRead size us t behind
+unfolding token_from
+token_read size us t behind e =
+    mapped (at_its_place size us) (lexeme_from us) (t, behind) e (λ l is same.
+    record {
+      is = is ∙ ap (λ (p : Token × List ℕ). Some (p.0.lexeme, p.1)) same;
+      starts = sym (ap (λ (p : Token × List ℕ). p.0.start) same);
+      ends = sym (ap (λ (p : Token × List ℕ). p.0.end) same) ∙ ap (λ (p : Token × List ℕ). size - length p.1) same;
+    })
+
+-- A token that is spelled is read at its place.
+token_again : (size : ℕ) (spelled behind : List ℕ) (t : Token) → SpellsToken spelled t.lexeme behind → t.start ≡ size - length (spelled ++ behind) → t.end ≡ size - length behind → token_from size (spelled ++ behind) ≡ Some (t, behind)
+unfolding token_from
+token_again size spelled behind t spells starts ends = rw (lexeme_again spelled behind t.lexeme spells, ← starts, ← ends) refl
 
 -- ---- Where a token begins
 
@@ -202,11 +250,12 @@ some_length [] some = absurd cc
 some_length (u ∷ us) some = omega arith
 
 -- What stands behind a token is shorter.
-pub token_shorter : (us : List ℕ) (t : Token) (behind : List ℕ) → begins_space us ≡ false → token_from us ≡ Some (t, behind) → length behind < length us
-token_shorter us t behind apart e =
-    let f = token_found us t behind apart e in
+pub token_shorter : (size : ℕ) (us : List ℕ) (t : Token) (behind : List ℕ) → begins_space us ≡ false → token_from size us ≡ Some (t, behind) → length behind < length us
+token_shorter size us t behind apart e =
+    let r = token_read size us t behind e in
+    let f = lexeme_found us t.lexeme behind apart r.is in
     let some = some_length f.spelled f.some in
-    let size : length us ≡ length f.spelled + length behind = ap length f.parts ∙ length-append f.spelled behind in
+    let whole : length us ≡ length f.spelled + length behind = ap length f.parts ∙ length-append f.spelled behind in
     omega arith
 
 -- White space and a comment, or white space alone, are left out.
@@ -244,65 +293,77 @@ not_so : (b : Bool) → b ≡ false → not b ≡ true
 not_so true e = absurd cc
 not_so false e = refl
 
-none_found : (most : ℕ) (ts : List Token) → tokens_from most [] ≡ Some ts → [] ≡ ts
+none_found : (size most : ℕ) (ts : List Token) → tokens_from size most [] ≡ Some ts → [] ≡ ts
 unfolding tokens_from
-none_found zero ts e = same_Some [] ts e
-none_found (suc most) ts e = same_Some [] ts e
+none_found size zero ts e = same_Some [] ts e
+none_found size (suc most) ts e = same_Some [] ts e
 
-some_found : (us : List ℕ) (ts : List Token) → is_empty us ≡ false → tokens_from zero us ≡ Some ts → ⊥
+some_found : (size : ℕ) (us : List ℕ) (ts : List Token) → is_empty us ≡ false → tokens_from size zero us ≡ Some ts → ⊥
 unfolding tokens_from
-some_found [] ts some e = cc
-some_found (u ∷ us) ts some e = none-some ts e
+some_found size [] ts some e = cc
+some_found size (u ∷ us) ts some e = none-some ts e
 
-token_step : (most : ℕ) (at_start : Bool) (line space begun : List ℕ) (ts : List Token) → line ≡ space ++ begun → list_all is_space space ≡ true → begins_comment at_start space begun ≡ false → begins_space begun ≡ false → is_empty begun ≡ false
-    → ((rest : List ℕ) (vs : List Token) → tokens_from most (begin_from false rest) ≡ Some vs → Lexes false rest vs) → tokens_from (suc most) begun ≡ Some ts → Lexes at_start line ts
+token_step : (size most : ℕ) (at_start : Bool) (place : ℕ) (line space begun : List ℕ) (ts : List Token) → size ≡ place + length line → line ≡ space ++ begun → list_all is_space space ≡ true → begins_comment at_start space begun ≡ false → begins_space begun ≡ false → is_empty begun ≡ false
+    → ((next : ℕ) (rest : List ℕ) (vs : List Token) → size ≡ next + length rest → tokens_from size most (begin_from false rest) ≡ Some vs → Lexes false next rest vs) → tokens_from size (suc most) begun ≡ Some ts → Lexes at_start place line ts
 unfolding tokens_from
-token_step most at_start line space [] ts parts spaces no_comment apart some later e = absurd cc
-token_step most at_start line space (u ∷ us) ts parts spaces no_comment apart some later e =
-    before (λ t. option_map (λ vs. t.0 ∷ vs) (tokens_from most (begin_from false t.1))) (token_from (u ∷ us)) ts e (λ t here behind.
-    mapped (λ vs. t.0 ∷ vs) (tokens_from most (begin_from false t.1)) ts behind (λ vs is same.
-    let f = token_found (u ∷ us) t.0 t.1 apart here in
+token_step size most at_start place line space [] ts all parts spaces no_comment apart some later e = absurd cc
+token_step size most at_start place line space (u ∷ us) ts all parts spaces no_comment apart some later e =
+    before (λ t. option_map (λ vs. t.0 ∷ vs) (tokens_from size most (begin_from false t.1))) (token_from size (u ∷ us)) ts e (λ t here behind.
+    mapped (λ vs. t.0 ∷ vs) (tokens_from size most (begin_from false t.1)) ts behind (λ vs is same.
+    let r = token_read size (u ∷ us) t.0 t.1 here in
+    let f = lexeme_found (u ∷ us) t.0.lexeme t.1 apart r.is in
     let no : begins_comment at_start space f.spelled ≡ false = sym (same_front at_start space f.spelled t.1 f.some) ∙ ap (λ (w : List ℕ). begins_comment at_start space w) (sym f.parts) ∙ no_comment in
-    subst (λ (ws : List Token). Lexes at_start line ws) same (space, f.spelled, t.1, parts ∙ ap (λ (w : List ℕ). space ++ w) f.parts, spaces, not_so (begins_comment at_start space f.spelled) no, f.spells, later t.1 vs is)))
+    let p = places size place line space (u ∷ us) f.spelled t.1 t.0 all parts f.parts r.starts r.ends in
+    subst (λ (ws : List Token). Lexes at_start place line ws) same
+    (space, f.spelled, t.1, parts ∙ ap (λ (w : List ℕ). space ++ w) f.parts, spaces, not_so (begins_comment at_start space f.spelled) no, f.spells, p.0, p.1, later t.0.end t.1 vs p.2 is)))
+  where
+    places : (size place : ℕ) (line space begun spelled behind : List ℕ) (t : Token) → size ≡ place + length line → line ≡ space ++ begun → begun ≡ spelled ++ behind → t.start ≡ size - length begun → t.end ≡ size - length behind
+        → (t.start ≡ place + length space) × (t.end ≡ t.start + length spelled) × (size ≡ t.end + length behind)
+    places size place line space begun spelled behind t all parts inner starts ends =
+        let outside : length line ≡ length space + length begun = ap length parts ∙ length-append space begun in
+        let inside : length begun ≡ length spelled + length behind = ap length inner ∙ length-append spelled behind in
+        (omega arith, omega arith, omega arith)
 
 -- What is read as tokens is spelled so.
-tokens_found : (most : ℕ) (at_start : Bool) (line : List ℕ) (ts : List Token) → tokens_from most (begin_from at_start line) ≡ Some ts → Lexes at_start line ts
-tokens_found zero at_start line ts e =
+tokens_found : (size most : ℕ) (at_start : Bool) (place : ℕ) (line : List ℕ) (ts : List Token) → size ≡ place + length line → tokens_from size most (begin_from at_start line) ≡ Some ts → Lexes at_start place line ts
+tokens_found size zero at_start place line ts all e =
     let b = begin_found at_start line in
     elim b.is [
-      | inl (nothing, end) ↦ subst (λ (ws : List Token). Lexes at_start line ws) (none_found zero ts (rw (sym nothing) e)) (b.space, b.behind, b.parts, b.spaces, end)
-      | inr (same, no_comment, apart, some) ↦ absurd (some_found b.behind ts some (rw (sym same) e))
+      | inl (nothing, end) ↦ subst (λ (ws : List Token). Lexes at_start place line ws) (none_found size zero ts (rw (sym nothing) e)) (b.space, b.behind, b.parts, b.spaces, end)
+      | inr (same, no_comment, apart, some) ↦ absurd (some_found size b.behind ts some (rw (sym same) e))
     ]
-tokens_found (suc most) at_start line ts e =
+tokens_found size (suc most) at_start place line ts all e =
     let b = begin_found at_start line in
     elim b.is [
-      | inl (nothing, end) ↦ subst (λ (ws : List Token). Lexes at_start line ws) (none_found (suc most) ts (rw (sym nothing) e)) (b.space, b.behind, b.parts, b.spaces, end)
-      | inr (same, no_comment, apart, some) ↦ token_step most at_start line b.space b.behind ts b.parts b.spaces no_comment apart some (tokens_found most false) (rw (sym same) e)
+      | inl (nothing, end) ↦ subst (λ (ws : List Token). Lexes at_start place line ws) (none_found size (suc most) ts (rw (sym nothing) e)) (b.space, b.behind, b.parts, b.spaces, end)
+      | inr (same, no_comment, apart, some) ↦ token_step size most at_start place line b.space b.behind ts all b.parts b.spaces no_comment apart some (tokens_found size most false) (rw (sym same) e)
     ]
 
 -- One token, and those behind it.
-token_more : (t : Token) (ts : List Token) (most : ℕ) (spelled behind : List ℕ) → is_empty spelled ≡ false → token_from (spelled ++ behind) ≡ Some (t, behind) → length spelled + length behind ≤ most
-    → ((m : ℕ) → length behind ≤ m → tokens_from m (begin_from false behind) ≡ Some ts) → tokens_from most (spelled ++ behind) ≡ Some (t ∷ ts)
+token_more : (size : ℕ) (t : Token) (ts : List Token) (most : ℕ) (spelled behind : List ℕ) → is_empty spelled ≡ false → token_from size (spelled ++ behind) ≡ Some (t, behind) → length spelled + length behind ≤ most
+    → ((m : ℕ) → length behind ≤ m → tokens_from size m (begin_from false behind) ≡ Some ts) → tokens_from size most (spelled ++ behind) ≡ Some (t ∷ ts)
 unfolding tokens_from
-token_more t ts most [] behind some here fits later = absurd cc
-token_more t ts zero (u ∷ us) behind some here fits later = absurd (omega arith)
-token_more t ts (suc most) (u ∷ us) behind some here fits later = rw (here, later most (omega arith)) refl
+token_more size t ts most [] behind some here fits later = absurd cc
+token_more size t ts zero (u ∷ us) behind some here fits later = absurd (omega arith)
+token_more size t ts (suc most) (u ∷ us) behind some here fits later = rw (here, later most (omega arith)) refl
 
 -- What is spelled as tokens is read so.
-tokens_again : (ts : List Token) (most : ℕ) (at_start : Bool) (line : List ℕ) → Lexes at_start line ts → length line ≤ most → tokens_from most (begin_from at_start line) ≡ Some ts
+tokens_again : (size : ℕ) (ts : List Token) (most : ℕ) (at_start : Bool) (place : ℕ) (line : List ℕ) → Lexes at_start place line ts → size ≡ place + length line → length line ≤ most → tokens_from size most (begin_from at_start line) ≡ Some ts
 unfolding tokens_from
-tokens_again [] zero at_start line (space, behind, parts, spaces, end) fits = rw (parts, begin_end space behind at_start spaces end) refl
-tokens_again [] (suc most) at_start line (space, behind, parts, spaces, end) fits = rw (parts, begin_end space behind at_start spaces end) refl
-tokens_again (t ∷ ts) most at_start line (space, spelled, behind, parts, spaces, no_comment, spells, later) fits =
-    let s = token_starts spelled behind t spells in
+tokens_again size [] zero at_start place line (space, behind, parts, spaces, end) all fits = rw (parts, begin_end space behind at_start spaces end) refl
+tokens_again size [] (suc most) at_start place line (space, behind, parts, spaces, end) all fits = rw (parts, begin_end space behind at_start spaces end) refl
+tokens_again size (t ∷ ts) most at_start place line (space, spelled, behind, parts, spaces, no_comment, spells, starts, ends, later) all fits =
+    let s = token_starts spelled behind t.lexeme spells in
     let no : begins_comment at_start space (spelled ++ behind) ≡ false = same_front at_start space spelled behind s.some ∙ not-true (begins_comment at_start space spelled) no_comment in
     let apart : begins_space (spelled ++ behind) ≡ false = same_space spelled behind s.some ∙ s.apart in
-    let size : length line ≡ length space + (length spelled + length behind) = ap length parts ∙ length-append space (spelled ++ behind) ∙ ap (λ (n : ℕ). length space + n) (length-append spelled behind) in
+    let inside : length (spelled ++ behind) ≡ length spelled + length behind = length-append spelled behind in
+    let outside : length line ≡ length space + length (spelled ++ behind) = ap length parts ∙ length-append space (spelled ++ behind) in
+    let here = token_again size spelled behind t spells (omega arith) (omega arith) in
     rw (parts, begin_again space (spelled ++ behind) at_start spaces no apart)
-    (token_more t ts most spelled behind s.some (token_again spelled behind t spells) (omega arith) (λ m few. tokens_again ts m false behind later few))
+    (token_more size t ts most spelled behind s.some here (omega arith) (λ m few. tokens_again size ts m false t.end behind later (omega arith) few))
 
-pub lexed_is_spelled : (line : List ℕ) (ts : List Token) → tokens_of line ≡ Some ts → Lexes true line ts
-lexed_is_spelled line ts e = tokens_found (length line) true line ts e
+pub lexed_is_spelled : (line : List ℕ) (ts : List Token) → tokens_of line ≡ Some ts → Lexes true 0 line ts
+lexed_is_spelled line ts e = tokens_found (length line) (length line) true 0 line ts (omega arith) e
 
-pub spelled_is_lexed : (line : List ℕ) (ts : List Token) → Lexes true line ts → tokens_of line ≡ Some ts
-spelled_is_lexed line ts spells = tokens_again ts (length line) true line spells (omega arith)
+pub spelled_is_lexed : (line : List ℕ) (ts : List Token) → Lexes true 0 line ts → tokens_of line ≡ Some ts
+spelled_is_lexed line ts spells = tokens_again (length line) ts (length line) true 0 line spells (omega arith) (omega arith)

@@ -1,10 +1,11 @@
 -- Lines of a source as tokens. A line is the list of its 16-bit units, without its end.
-use Rattle.std.specs.Prelude.{IsTrue, ◌≡◌, ◌⊎◌, ℕ, ◌+◌, ◌-◌, ◌*◌, zero, suc, Bool, true, false, not, ◌&&◌, ◌||◌, ◌==◌, nat_le, if◌then◌else◌, List, [], ◌∷◌, ◌++◌, length, Option, Some, None}
+use Rattle.std.specs.Prelude.{IsTrue, ◌≡◌, ◌⊎◌, ℕ, ◌+◌, ◌-◌, ◌*◌, zero, suc, Bool, true, false, not, ◌&&◌, ◌||◌, ◌==◌, nat_le, if◌then◌else◌, List, [], ◌∷◌, ◌++◌, length, map, Option, Some, None}
 use Rattle.std.specs.Option.{option_and_then, option_map, unwrap_or}
 use Rattle.std.specs.List.{list_all}
 use Rattle.jvms_file.specs.Names.{begins_with}
+use Rattle.jasmin.specs.declared.token.Lexeme.{Lexeme}
+use Rattle.jasmin.specs.declared.token.Lexeme.TheVariants as lexeme
 use Rattle.jasmin.specs.declared.token.Token.{Token}
-use Rattle.jasmin.specs.declared.token.Token.TheVariants as token
 
 -- White space: a space, a tab, a form feed, and a carriage return that is no part of a line's end.
 abbrev pub is_space : ℕ → Bool
@@ -70,28 +71,29 @@ SpellsUnits spelled (v ∷ vs) =
     (first behind : List ℕ) × (spelled ≡ first ++ behind) × SpellsUnit first v × SpellsUnits behind vs
 
 -- A token, and what stands behind it: a word goes on as long as it can.
-abbrev pub SpellsToken : List ℕ → Token → List ℕ → Type 0
-SpellsToken spelled (token.Word us) behind =
+abbrev pub SpellsToken : List ℕ → Lexeme → List ℕ → Type 0
+SpellsToken spelled (lexeme.Word us) behind =
     (spelled ≡ us) × IsTrue (not (is_empty us)) × IsTrue (list_all (λ u. not (ends_word u)) us)
     × IsTrue (is_word_end behind)
-SpellsToken spelled (token.Text us) behind =
+SpellsToken spelled (lexeme.Text us) behind =
     (inside : List ℕ) × (spelled ≡ 34 ∷ inside ++ 34 ∷ []) × SpellsUnits inside us
-SpellsToken spelled token.Colon behind = spelled ≡ 58 ∷ []
-SpellsToken spelled token.Equals behind = spelled ≡ 61 ∷ []
+SpellsToken spelled lexeme.Colon behind = spelled ≡ 58 ∷ []
+SpellsToken spelled lexeme.Equals behind = spelled ≡ 61 ∷ []
 
 -- A semicolon begins a comment at a line's start and behind white space, and nowhere else.
 abbrev pub begins_comment : Bool → List ℕ → List ℕ → Bool
 begins_comment at_start space us = begins_with 59 us && (at_start || not (is_empty space))
 
--- A line, or what stands behind a token of one, is these tokens: each stands behind white space or none, and
--- behind the last there is white space or none, and a comment or nothing.
-abbrev pub Lexes : Bool → List ℕ → List Token → Type 0
-Lexes at_start line [] =
+-- A line, or what of one stands behind a token, from this place on, is these tokens: each stands behind white space
+-- or none and is its slice of the line, and behind the last there is white space or none, and a comment or nothing.
+abbrev pub Lexes : Bool → ℕ → List ℕ → List Token → Type 0
+Lexes at_start place line [] =
     (space behind : List ℕ) × (line ≡ space ++ behind) × IsTrue (list_all is_space space)
     × IsTrue (is_empty behind || begins_comment at_start space behind)
-Lexes at_start line (t ∷ ts) =
+Lexes at_start place line (t ∷ ts) =
     (space spelled behind : List ℕ) × (line ≡ space ++ (spelled ++ behind)) × IsTrue (list_all is_space space)
-    × IsTrue (not (begins_comment at_start space spelled)) × SpellsToken spelled t behind × Lexes false behind ts
+    × IsTrue (not (begins_comment at_start space spelled)) × SpellsToken spelled t.lexeme behind
+    × (t.start ≡ place + length space) × (t.end ≡ t.start + length spelled) × Lexes false t.end behind ts
 
 -- ---- Reading
 
@@ -130,14 +132,23 @@ unfoldable pub word_from : List ℕ → List ℕ × List ℕ
 word_from [] = ([], [])
 word_from (u ∷ us) = if ends_word u then ([], u ∷ us) else (u ∷ (word_from us).0, (word_from us).1)
 
--- The token at the front, and what stands behind it.
-unfoldable pub token_from : List ℕ → Option (Token × List ℕ)
-token_from [] = None
-token_from (u ∷ us) =
-    if u == 34 then option_map (λ t. (token.Text t.0, t.1)) (text_from us)
-    else (if u == 58 then Some (token.Colon, us)
-    else (if u == 61 then Some (token.Equals, us)
-    else Some (token.Word (word_from (u ∷ us)).0, (word_from (u ∷ us)).1)))
+-- What the token at the front is, and what stands behind it.
+unfoldable pub lexeme_from : List ℕ → Option (Lexeme × List ℕ)
+lexeme_from [] = None
+lexeme_from (u ∷ us) =
+    if u == 34 then option_map (λ t. (lexeme.Text t.0, t.1)) (text_from us)
+    else (if u == 58 then Some (lexeme.Colon, us)
+    else (if u == 61 then Some (lexeme.Equals, us)
+    else Some (lexeme.Word (word_from (u ∷ us)).0, (word_from (u ∷ us)).1)))
+
+-- The token between what is left of a line of `size` units in front of it and what is left behind it: a place is
+-- the line's length less that of what is left there.
+abbrev pub at_its_place : ℕ → List ℕ → Lexeme × List ℕ → Token × List ℕ
+at_its_place size us l = (record { lexeme = l.0; start = size - length us; end = size - length l.1 }, l.1)
+
+-- The token at the front of what is left of a line of `size` units, and what stands behind it.
+unfoldable pub token_from : ℕ → List ℕ → Option (Token × List ℕ)
+token_from size us = option_map (at_its_place size us) (lexeme_from us)
 
 -- From the next token on: behind white space, and nothing where a comment begins.
 unfoldable pub begin_from : Bool → List ℕ → List ℕ
@@ -145,15 +156,20 @@ begin_from may_comment [] = []
 begin_from may_comment (u ∷ us) =
     if is_space u then begin_from true us else (if u == 59 && may_comment then [] else u ∷ us)
 
--- The tokens from here on, of which there are `most` at most, where a token begins or nothing stands here.
-unfoldable pub tokens_from : ℕ → List ℕ → Option (List Token)
-tokens_from most [] = Some []
-tokens_from zero (u ∷ us) = None
-tokens_from (suc most) (u ∷ us) =
+-- The tokens of what is left of a line of `size` units, of which there are `most` at most, where a token begins or
+-- nothing stands here.
+unfoldable pub tokens_from : ℕ → ℕ → List ℕ → Option (List Token)
+tokens_from size most [] = Some []
+tokens_from size zero (u ∷ us) = None
+tokens_from size (suc most) (u ∷ us) =
     option_and_then
-    (λ t. option_map (λ ts. t.0 ∷ ts) (tokens_from most (begin_from false t.1)))
-    (token_from (u ∷ us))
+    (λ t. option_map (λ ts. t.0 ∷ ts) (tokens_from size most (begin_from false t.1)))
+    (token_from size (u ∷ us))
 
 -- The tokens of a line, if it has a spelling: one for each unit at most.
 abbrev pub tokens_of : List ℕ → Option (List Token)
-tokens_of line = tokens_from (length line) (begin_from true line)
+tokens_of line = tokens_from (length line) (length line) (begin_from true line)
+
+-- What the tokens of a line are, without their places.
+abbrev pub lexemes : List Token → List Lexeme
+lexemes ts = map (λ t. t.lexeme) ts

@@ -1,2 +1,11 @@
+pub mod Assembling
+pub mod Denote
+pub mod Judgements
+pub mod Layout
 pub mod Lexing
+pub mod LineKinds
+pub mod Numerals
+pub mod Operands
+pub mod Reading
 pub mod Sources
+pub mod Statements

@@ -3,4 +3,8 @@
 #![tactic(auto)]
 
 pub mod laws;
+pub mod mnemonic;
+pub mod reading;
+pub mod source;
+pub mod statement;
 pub mod token;

@@ -1,7 +1,7 @@
 -- Units and tokens that are read one behind the other, as loops do.
-use Rattle.std.proofs.Common.{◌≡◌, ℕ, zero, suc, ◌+◌, ◌-◌, ◌<◌, ◌≤◌, Bool, true, false, List, [], ◌∷◌, ◌++◌, length, Option, Some, None, Err, refl, sym, ap, ◌∙◌, append_assoc, arith}
+use Rattle.std.proofs.Common.{◌≡◌, ℕ, zero, suc, ◌+◌, ◌-◌, ◌<◌, ◌≤◌, false, List, [], ◌∷◌, ◌++◌, length, Option, Some, None, Err, refl, sym, ap, ◌∙◌, append_assoc, arith}
 use Rattle.std.proofs.lemmas.List.{append-nil, length-append}
-use Rattle.std.specs.Option.{option_and_then, option_map, unwrap_or}
+use Rattle.std.specs.Option.{option_map}
 use Rattle.jasmin.specs.declared.token.Token.{Token}
 use Rattle.jasmin.specs.Lexing.{unit_from, units_from, token_from, begin_from, tokens_from}
 use Rattle.jasmin.proofs.Texts.{shorter_behind}
@@ -45,46 +45,46 @@ units_done size front rest total e so_far =
 
 -- The tokens that were read before what is left, and those that are still to be read.
 abbrev pub tokens_still : ℕ → List Token → List ℕ → Option (List Token)
-tokens_still size front rest = option_map (λ ts. front ++ ts) (tokens_from (size - length front) rest)
+tokens_still size front rest = option_map (λ ts. front ++ ts) (tokens_from size (size - length front) rest)
 
-one_token : (most : ℕ) (rest : List ℕ) (t : Token) (behind : List ℕ) → 0 < length rest → token_from rest ≡ Some (t, behind) → tokens_from (suc most) rest ≡ option_map (λ ts. t ∷ ts) (tokens_from most (begin_from false behind))
+one_token : (size most : ℕ) (rest : List ℕ) (t : Token) (behind : List ℕ) → 0 < length rest → token_from size rest ≡ Some (t, behind) → tokens_from size (suc most) rest ≡ option_map (λ ts. t ∷ ts) (tokens_from size most (begin_from false behind))
 unfolding tokens_from
-one_token most [] t behind some e = absurd (omega arith)
-one_token most (u ∷ us) t behind some e = rw e refl
+one_token size most [] t behind some e = absurd (omega arith)
+one_token size most (u ∷ us) t behind some e = rw e refl
 
-no_token : (most : ℕ) (rest : List ℕ) → 0 < length rest → token_from rest ≡ None → tokens_from most rest ≡ None
+no_token : (size most : ℕ) (rest : List ℕ) → 0 < length rest → token_from size rest ≡ None → tokens_from size most rest ≡ None
 unfolding tokens_from
-no_token most [] some e = absurd (omega arith)
-no_token zero (u ∷ us) some e = refl
-no_token (suc most) (u ∷ us) some e = rw e refl
+no_token size most [] some e = absurd (omega arith)
+no_token size zero (u ∷ us) some e = refl
+no_token size (suc most) (u ∷ us) some e = rw e refl
 
-nothing_left : (most : ℕ) → tokens_from most [] ≡ Some []
+nothing_left : (size most : ℕ) → tokens_from size most [] ≡ Some []
 unfolding tokens_from
-nothing_left zero = refl
-nothing_left (suc most) = refl
+nothing_left size zero = refl
+nothing_left size (suc most) = refl
 
 regroup : (front : List Token) (t : Token) (o : Option (List Token)) → option_map (λ ts. (front ++ t ∷ []) ++ ts) o ≡ option_map (λ ts. front ++ ts) (option_map (λ ts. t ∷ ts) o)
 regroup front t None = refl
 regroup front t (Some ts) = ap (λ (w : List Token). Some w) (append_assoc front (t ∷ []) ts)
 
-pub token_more : (size : ℕ) (front : List Token) (rest : List ℕ) (t : Token) (behind : List ℕ) (total : Option (List Token)) → length front + length rest ≤ size → 0 < length rest → token_from rest ≡ Some (t, behind)
+pub token_more : (size : ℕ) (front : List Token) (rest : List ℕ) (t : Token) (behind : List ℕ) (total : Option (List Token)) → length front + length rest ≤ size → 0 < length rest → token_from size rest ≡ Some (t, behind)
     → tokens_still size front rest ≡ total → tokens_still size (front ++ t ∷ []) (begin_from false behind) ≡ total
 token_more size front rest t behind total fits some e so_far =
     let longer : length (front ++ t ∷ []) ≡ length front + 1 = length-append front (t ∷ []) in
     let steps : size - length front ≡ suc (size - length (front ++ t ∷ [])) = omega arith in
-    let one : tokens_from (size - length front) rest ≡ option_map (λ ts. t ∷ ts) (tokens_from (size - length (front ++ t ∷ [])) (begin_from false behind)) =
-    ap (λ (n : ℕ). tokens_from n rest) steps ∙ one_token (size - length (front ++ t ∷ [])) rest t behind some e in
-    regroup front t (tokens_from (size - length (front ++ t ∷ [])) (begin_from false behind)) ∙ sym (ap (option_map (λ ts. front ++ ts)) one) ∙ so_far
+    let one : tokens_from size (size - length front) rest ≡ option_map (λ ts. t ∷ ts) (tokens_from size (size - length (front ++ t ∷ [])) (begin_from false behind)) =
+    ap (λ (n : ℕ). tokens_from size n rest) steps ∙ one_token size (size - length (front ++ t ∷ [])) rest t behind some e in
+    regroup front t (tokens_from size (size - length (front ++ t ∷ [])) (begin_from false behind)) ∙ sym (ap (option_map (λ ts. front ++ ts)) one) ∙ so_far
 
-pub tokens_fail : (size : ℕ) (front : List Token) (rest : List ℕ) (total : Option (List Token)) → 0 < length rest → token_from rest ≡ None → tokens_still size front rest ≡ total → total ≡ None
-tokens_fail size front rest total some e so_far = sym so_far ∙ ap (option_map (λ ts. front ++ ts)) (no_token (size - length front) rest some e)
+pub tokens_fail : (size : ℕ) (front : List Token) (rest : List ℕ) (total : Option (List Token)) → 0 < length rest → token_from size rest ≡ None → tokens_still size front rest ≡ total → total ≡ None
+tokens_fail size front rest total some e so_far = sym so_far ∙ ap (option_map (λ ts. front ++ ts)) (no_token size (size - length front) rest some e)
 
 pub tokens_done : (size : ℕ) (front : List Token) (rest : List ℕ) (total : Option (List Token)) → rest ≡ [] → tokens_still size front rest ≡ total → total ≡ Some front
 tokens_done size front rest total e so_far =
-    sym so_far ∙ ap (λ (w : List ℕ). tokens_still size front w) e ∙ ap (option_map (λ ts. front ++ ts)) (nothing_left (size - length front)) ∙ ap (λ (ts : List Token). Some ts) (append-nil front)
+    sym so_far ∙ ap (λ (w : List ℕ). tokens_still size front w) e ∙ ap (option_map (λ ts. front ++ ts)) (nothing_left size (size - length front)) ∙ ap (λ (ts : List Token). Some ts) (append-nil front)
 
 -- A token that wasn't read, for whichever reason.
-pub token_failed : {X Y : Type 0} (one : X → Token × List ℕ) (all : Y → List Token) (fault : LexFault) (size : ℕ) (front : List Token) (rest : List ℕ) (total : Option (List Token)) → 0 < length rest → IsLexed one (Err fault) (token_from rest)
+pub token_failed : {X Y : Type 0} (one : X → Token × List ℕ) (all : Y → List Token) (fault : LexFault) (size : ℕ) (front : List Token) (rest : List ℕ) (total : Option (List Token)) → 0 < length rest → IsLexed one (Err fault) (token_from size rest)
     → tokens_still size front rest ≡ total → IsLexed all (Err fault) total
 token_failed one all Lexeme size front rest total some e so_far = tokens_fail size front rest total some e so_far
 token_failed one all Memory size front rest total some e so_far = tt
@@ -94,7 +94,7 @@ without_front None = refl
 without_front (Some ts) = refl
 
 -- Before the first token all are still to be read.
-pub all_still : (size : ℕ) (rest : List ℕ) → tokens_still size [] rest ≡ tokens_from size rest
+pub all_still : (size : ℕ) (rest : List ℕ) → tokens_still size [] rest ≡ tokens_from size size rest
 all_still size rest =
     let whole : size - 0 ≡ size = omega arith in
-    rw whole (without_front (tokens_from size rest))
+    rw whole (without_front (tokens_from size size rest))

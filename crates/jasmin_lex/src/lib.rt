@@ -11,5 +11,5 @@ mod units;
 mod word;
 
 pub use fault::LexFault;
-pub use jasmin::token::Token;
+pub use jasmin::token::{Lexeme, Token};
 pub use token_list::tokens;

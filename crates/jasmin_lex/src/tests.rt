@@ -5,14 +5,14 @@ use std::test::Fail;
 
 /// How a token is shown: a text in quotes, a word as it is.
 fn shown(alloc: Global, token: &Token) -> Result<String, Fail> {
-    Ok(match token {
-        Token::Word(units) => String::from_utf16_lossy(alloc, units.as_slice())?,
-        Token::Text(units) => {
+    Ok(match &token.lexeme {
+        Lexeme::Word(units) => String::from_utf16_lossy(alloc, units.as_slice())?,
+        Lexeme::Text(units) => {
             let text = String::from_utf16_lossy(alloc, units.as_slice())?;
             format!(in alloc; "<{text}>")?
         }
-        Token::Colon => format!(in alloc; "(:)")?,
-        Token::Equals => format!(in alloc; "(=)")?,
+        Lexeme::Colon => format!(in alloc; "(:)")?,
+        Lexeme::Equals => format!(in alloc; "(=)")?,
     })
 }
 
@@ -52,6 +52,31 @@ fn lines_are_tokens(rt: HostRuntime) -> Result<(), Fail> {
         ("\u{a0}\u{1f600}", "|\u{a0}\u{1f600}"),
     ] {
         assert_line(&rt, rt.alloc(), text, wanted)?;
+    }
+    Ok(())
+}
+
+/// Where the tokens of a line stand, each place behind a bar.
+fn places(alloc: Global, text: &str) -> Result<String, Fail> {
+    let mut all = String::new(alloc);
+    for token in &tokens(alloc, text)? {
+        let place = format!(in alloc; "|{}..{}", token.start, token.end)?;
+        all.push_str(place.as_str())?;
+    }
+    Ok(all)
+}
+
+#[test]
+fn tokens_have_their_places(rt: HostRuntime) -> Result<(), Fail> {
+    for (text, wanted) in [
+        (" ; a comment", ""),
+        ("  iload_1 ; loads", "|2..9"),
+        ("Top:iinc 0\t1", "|0..3|3..4|4..8|9..10|11..12"),
+        ("\"a;b\"= \"\\u0041\" ", "|0..5|5..6|7..15"),
+        ("\u{a0}\u{1f600} x", "|0..3|4..5"),
+    ] {
+        let found = places(rt.alloc(), text)?;
+        assert!(rt; found.as_str() == wanted, "{text} has places {found}");
     }
     Ok(())
 }

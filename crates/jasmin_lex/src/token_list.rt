@@ -1,9 +1,10 @@
 //! The tokens of a line.
 
-ghost use Rattle.std.specs.Prelude.{◌≡◌, List, true, Some, IfOk};
+ghost use Rattle.std.specs.Prelude.{◌≡◌, ◌≤◌, List, length, true, Some, IfOk};
+ghost use Rattle.jasmin.specs.declared.token.Lexeme.{Lexeme as LexemeValue};
 ghost use Rattle.jasmin.specs.declared.token.Token.{Token as TokenValue};
 ghost use Rattle.jasmin.specs.Sources.{units_of as line_units};
-ghost use Rattle.jasmin.specs.Lexing.{token_from, tokens_of, Lexes};
+ghost use Rattle.jasmin.specs.Lexing.{lexeme_from, token_from, tokens_of, Lexes};
 ghost use Rattle.jasmin_lex.specs.Lexed.{IsLexed};
 
 use crate::fault::LexFault;
@@ -12,20 +13,20 @@ use crate::text::text_at;
 use crate::units::units_of;
 use crate::word::{COLON, EQUALS, QUOTE, word_at};
 use held::items::Items;
-use jasmin::token::Token;
+use jasmin::token::{Lexeme, Token};
 use std::alloc::{AllocError, Global};
 
 /// A word of these units.
-fn word(alloc: Global, units: &[u16]) -> Result<Token, AllocError>
-    ensures { IfOk result (λ t. t ≡ TokenValue.Word units.now) }
+fn word(alloc: Global, units: &[u16]) -> Result<Lexeme, AllocError>
+    ensures { IfOk result (λ l. l ≡ LexemeValue.Word units.now) }
 {
-    Ok(Token::Word(Items::from_vec(Vec::from_slice(alloc, units)?)))
+    Ok(Lexeme::Word(Items::from_vec(Vec::from_slice(alloc, units)?)))
 }
 
-/// The token at the front, and what stands behind it.
-#[tactic(auto, unfolding(jasmin::specs::Lexing::token_from))]
-fn token_at(alloc: Global, units: &[u16]) -> Result<(Token, &[u16]), LexFault>
-    ensures { IsLexed (λ x. (x.0, x.1.now)) result (token_from units.now) }
+/// What the token at the front is, and what stands behind it.
+#[tactic(auto, unfolding(jasmin::specs::Lexing::lexeme_from))]
+fn lexeme_at(alloc: Global, units: &[u16]) -> Result<(Lexeme, &[u16]), LexFault>
+    ensures { IsLexed (λ x. (x.0, x.1.now)) result (lexeme_from units.now) }
 {
     let [unit, behind @ ..] = units else {
         return Err(LexFault::Lexeme);
@@ -33,15 +34,27 @@ fn token_at(alloc: Global, units: &[u16]) -> Result<(Token, &[u16]), LexFault>
     match *unit {
         QUOTE => {
             let (text, rest) = text_at(alloc, behind)?;
-            Ok((Token::Text(text), rest))
+            Ok((Lexeme::Text(text), rest))
         }
-        COLON => Ok((Token::Colon, behind)),
-        EQUALS => Ok((Token::Equals, behind)),
+        COLON => Ok((Lexeme::Colon, behind)),
+        EQUALS => Ok((Lexeme::Equals, behind)),
         _ => {
             let (units, rest) = word_at(units);
             Ok((word(alloc, units)?, rest))
         }
     }
+}
+
+/// The token at the front of what is left of a line of `size` units, and what stands behind it.
+#[tactic(auto, using(jasmin::proofs::Tokens::lexeme_fits), unfolding(jasmin::specs::Lexing::token_from))]
+fn token_at(alloc: Global, size: usize, units: &[u16]) -> Result<(Token, &[u16]), LexFault>
+    requires { length units.now ≤ size }
+    ensures { IsLexed (λ x. (x.0, x.1.now)) result (token_from size units.now) }
+{
+    let (lexeme, behind) = lexeme_at(alloc, units)?;
+    let start = size - units.len();
+    let end = size - behind.len();
+    Ok((Token { lexeme, start, end }, behind))
 }
 
 /// The tokens of a line's units.
@@ -51,7 +64,7 @@ fn tokens_in(alloc: Global, line: &[u16]) -> Result<Vec<Token>, LexFault>
     let mut tokens = Vec::new(alloc);
     let mut rest = begin(true, line);
     while !rest.is_empty() {
-        let (token, behind) = match token_at(alloc, rest) {
+        let (token, behind) = match token_at(alloc, line.len(), rest) {
             Ok(read) => read,
             Err(fault) => return Err(fault),
         };
@@ -73,10 +86,10 @@ fn tokens_of_text(alloc: Global, line: &str) -> Result<Vec<Token>, LexFault>
 pub fn tokens(alloc: Global, line: &str) -> Result<Vec<Token>, LexFault>
     // The one list of tokens that the line is, or Lexeme where it is none.
     ensures exact { IsLexed (λ v. v.items) result (tokens_of (line_units line.now)) }
-    // What is read is spelled so.
-    ensures found { IfOk result (λ v. Lexes true (line_units line.now) v.items) }
+    // What is read is spelled so, each token at its place.
+    ensures found { IfOk result (λ v. Lexes true 0 (line_units line.now) v.items) }
     // What is spelled so is read, unless memory runs out.
-    ensures only { (ts : List TokenValue) → Lexes true (line_units line.now) ts → IsLexed (λ v. v.items) result (Some ts) }
+    ensures only { (ts : List TokenValue) → Lexes true 0 (line_units line.now) ts → IsLexed (λ v. v.items) result (Some ts) }
 {
     tokens_of_text(alloc, line)
 }

@@ -3,8 +3,8 @@ use Rattle.std.proofs.Common.{Vec, Global, Bor, true, ℕ, List, ◌≡◌, ◌+
 use Rattle.std.proofs.lemmas.Bool.{eqb-true, eqb-false}
 use Rattle.std.proofs.lemmas.List.{length-append, nil_from_length}
 use Rattle.jasmin.specs.declared.token.Token.{Token}
-use Rattle.jasmin.specs.Lexing.{begin_from, tokens_from, tokens_of}
-use Rattle.jasmin.proofs.Tokens.{begins_space, begin_apart, begin_shorter, token_shorter}
+use Rattle.jasmin.specs.Lexing.{begin_from, tokens_of}
+use Rattle.jasmin.proofs.Tokens.{begin_apart, begin_shorter, token_shorter}
 use Rattle.jasmin_lex.proofs.Loops.{token_more, token_failed, tokens_done, all_still}
 use Rattle.jasmin_lex.proofs.token_list.tokens_in.Goals as goal
 
@@ -25,7 +25,7 @@ returns-in-Err c =
 
 pub loop-rest-smaller : goal.loop-rest-smaller
 loop-rest-smaller c =
-    let less = token_shorter c.loop-rest.rest.now c.in-Ok.read.0 c.in-Ok.read.1.now c.loop-rest.invariant.apart c.in-Ok.ensures in
+    let less = token_shorter (length c.args.line.now) c.loop-rest.rest.now c.in-Ok.read.0 c.in-Ok.read.1.now c.loop-rest.invariant.apart c.in-Ok.ensures in
     let few = begin_shorter false c.in-Ok.read.1.now in
     let left : length c.begin-rest-in-loop-rest.result.now ≡ length (begin_from false c.in-Ok.read.1.now) = ap length c.begin-rest-in-loop-rest.ensures in
     omega arith
@@ -38,7 +38,7 @@ loop-rest-preserved c =
     let token = c.in-Ok.read.0 in
     let behind = c.in-Ok.read.1.now in
     let some = eqb-false (length rest) 0 (sym c.loop-rest-test.ensures) in
-    let less : length behind < length rest = token_shorter rest token behind c.loop-rest.invariant.apart c.in-Ok.ensures in
+    let less : length behind < length rest = token_shorter (length line) rest token behind c.loop-rest.invariant.apart c.in-Ok.ensures in
     let few : length (begin_from false behind) ≤ length behind = begin_shorter false behind in
     let longer : length (tokens ++ token ∷ []) ≡ length tokens + 1 = length-append tokens (token ∷ []) in
     rw (c.in_ok-push.ensures.items, c.begin-rest-in-loop-rest.ensures) record {

@@ -1,0 +1,45 @@
+-- What the parts of a line come to together: what they say, or the least of their faults.
+use Rattle.std.specs.Prelude.{ℕ, Bool, nat_le, if◌then◌else◌, Result, Ok, Err}
+use Rattle.jasmin.specs.declared.statement.Flaw.{Flaw}
+use Rattle.jasmin.specs.declared.statement.Flaw.TheVariants as flaw
+
+-- The number of a fault.
+abbrev pub number : Flaw → ℕ
+number flaw.Lexeme = 1
+number flaw.UnknownDirective = 2
+number flaw.UnknownInstruction = 3
+number flaw.OutOfPlace = 4
+number flaw.Number = 5
+number flaw.Operand = 6
+number flaw.Name = 7
+number flaw.Descriptor = 8
+number flaw.Flags = 9
+number flaw.Repeated = 10
+number flaw.Missing = 11
+
+abbrev pub lesser : Flaw → Flaw → Flaw
+lesser f g = if nat_le (number f) (number g) then f else g
+
+-- What a part says, or its fault.
+abbrev pub Judged : Type 0 → Type 0
+Judged A = Result A Flaw
+
+-- What two parts say, or the lesser of their faults.
+abbrev pub both : {A B : Type 0} → Judged A → Judged B → Judged (A × B)
+both (Ok a) (Ok b) = Ok (a, b)
+both (Ok a) (Err g) = Err g
+both (Err f) (Ok b) = Err f
+both (Err f) (Err g) = Err (lesser f g)
+
+-- What is made of what a part says.
+abbrev pub said : {A B : Type 0} → (A → B) → Judged A → Judged B
+said make (Ok a) = Ok (make a)
+said make (Err f) = Err f
+
+-- What a part says, to which nothing is added but the faults of another.
+abbrev pub unless : {A : Type 0} → Judged A → Judged (Unit {0}) → Judged A
+unless a b = said (λ p. p.0) (both a b)
+
+-- Nothing, or a fault.
+abbrev pub asked : Bool → Flaw → Judged (Unit {0})
+asked test f = if test then Ok tt else Err f
