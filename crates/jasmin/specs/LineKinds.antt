@@ -57,7 +57,7 @@ code_kind (lexeme.Word w ∷ lexeme.Colon ∷ []) = Ok kind.Label
 code_kind (lexeme.Word w ∷ lexeme.Colon ∷ t ∷ ts) = instruction_kind (λ code. kind.LabelledInstruction code) t
 code_kind (t ∷ ts) = instruction_kind (λ code. kind.Instruction code) t
 
--- Whether a line of a switch is its last: its first token is `default`, but for that word alone in a tableswitch.
+-- Whether a line's first token is the word `default`.
 abbrev pub is_default : List Lexeme → Bool
 is_default (lexeme.Word w ∷ ts) = same_text (codes "default") w
 is_default _ = false
@@ -66,6 +66,7 @@ abbrev pub is_alone : List Lexeme → Bool
 is_alone (t ∷ []) = true
 is_alone _ = false
 
+-- The last line of a switch begins with `default`; in a tableswitch that word alone is a label.
 abbrev pub switch_kind : OpenSwitch → List Lexeme → LineKind
 switch_kind (open_switch.Table next) ts = if is_default ts && not (is_alone ts) then kind.Default else kind.Case
 switch_kind _ ts = if is_default ts then kind.Default else kind.Case

@@ -35,11 +35,12 @@ number_of us =
 abbrev pub between : ℤ → ℤ → ℤ → Option ℤ
 between least most n = if int_le least n && int_le n most then Some n else None
 
--- Whether a word spells a version: one from 45 to 50 in decimal digits, a dot, and one from 0 to 65535.
+-- Whether a number stands from one to another.
 abbrev pub is_from_to : ℕ → ℕ → Option ℕ → Bool
 is_from_to least most None = false
 is_from_to least most (Some n) = nat_le least n && nat_le n most
 
+-- Whether a word spells a version: one from 45 to 50 in decimal digits, a dot, and one from 0 to 65535.
 abbrev pub is_version : List ℕ → Bool
 is_version us =
     is_from_to 45 50 (natural 10 (before_first (λ u. u == 46) us))

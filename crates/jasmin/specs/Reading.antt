@@ -46,12 +46,13 @@ use Rattle.jasmin.specs.Denote.{has_code}
 
 -- ---- What the lines before leave open
 
--- The value of the next label, or the last value.
+-- The value of the last match.
 abbrev pub last_value : List MatchLine → Option ℤ
 last_value [] = None
 last_value (m ∷ []) = Some m.value
 last_value (m ∷ n ∷ ms) = last_value (n ∷ ms)
 
+-- A tableswitch with the value of its next label, a lookupswitch with its last value.
 abbrev pub switch_of_lines : Option SwitchLines → OpenSwitch
 switch_of_lines None = open_switch.None
 switch_of_lines (Some (switch_lines.Table low labels)) = open_switch.Table (low +ℤ pos (length labels))

@@ -1,6 +1,7 @@
 -- What a line says, by its operands. Each place is judged by itself, and the least fault is the line's.
-use Rattle.std.specs.Prelude.{ℕ, suc, ◌-◌, Bool, true, false, ◌==◌, ◌||◌, nat_le, if◌then◌else◌, List, [], ◌∷◌, length, take, drop, Option, Some, None, slice_get, Ok, Err, ℤ, pos, int_le, codes, bit_or}
+use Rattle.std.specs.Prelude.{not, ℕ, suc, ◌-◌, Bool, true, false, ◌==◌, ◌||◌, nat_le, if◌then◌else◌, List, [], ◌∷◌, length, take, drop, Option, Some, None, slice_get, Ok, Err, ℤ, pos, int_le, codes, bit_or}
 use Rattle.jvms_file.specs.Names.{same_text, is_name, is_method_name, is_initializer_name}
+use Rattle.jvms_file.specs.Descriptors.{is_class_entry_name}
 use Rattle.jvms_file.specs.Instructions.{is_invocable_name, is_usable_class, is_dimensions, interface_count, is_above}
 use Rattle.jvms_file.specs.Members.{is_static, is_abstract, is_method_descriptor_for}
 use Rattle.jvms_file.specs.declared.insn.TheConstants.{OPCODES}
@@ -11,6 +12,7 @@ use Rattle.jvms_file.specs.declared.insn.FieldUse.{FieldUse}
 use Rattle.jvms_file.specs.declared.insn.Invoke.{Invoke}
 use Rattle.jvms_file.specs.declared.insn.Invoke.TheVariants as invoke
 use Rattle.jvms_file.specs.declared.insn.ClassUse.{ClassUse}
+use Rattle.jvms_file.specs.declared.insn.ClassUse.TheVariants as class_use
 use Rattle.jasmin.specs.declared.token.Lexeme.{Lexeme}
 use Rattle.jasmin.specs.declared.token.Lexeme.TheVariants as lexeme
 use Rattle.jasmin.specs.declared.source.LoadedConstant.{LoadedConstant}
@@ -303,13 +305,17 @@ invoke_operation how ts =
     (λ p. operation.Invoke how (record { class = class_of p.0; name = name_of p.0; descriptor = p.1 }))
     (unless (method_at how (slice_get ts 0)) (behind_method how ts))
 
--- No array for new; at most 254 dimensions for anewarray (JVMS 6.5).
+-- No array for new, whether or not the word is a class's name; at most 254 dimensions for anewarray (JVMS 6.5).
+abbrev pub is_usable_word : ClassUse → List ℕ → Bool
+is_usable_word class_use.New w = is_usable_class class_use.New w
+is_usable_word how w = not (is_class_entry_name w) || is_usable_class how w
+
 unfoldable pub class_operation : ClassUse → List Lexeme → Judged Operation
 class_operation how ts =
     said
     (λ name. operation.Class how name)
     (unless
-    (unless (class_at (slice_get ts 0)) (asked (is_usable_class how (word_or_none (slice_get ts 0))) flaw.Operand))
+    (unless (class_at (slice_get ts 0)) (asked (is_usable_word how (word_or_none (slice_get ts 0))) flaw.Operand))
     (exactly 1 ts))
 
 unfoldable pub new_array_operation : List Lexeme → Judged Operation
@@ -410,4 +416,4 @@ statement_of sort switch kind.Default ts = default_line ts
 statement_of sort switch kind.Label ts = said (λ l. statement.Label l) (label_line ts)
 statement_of sort switch (kind.Instruction code) ts = said (λ i. statement.Instruction i) (instruction_line code (drop 1 ts))
 statement_of sort switch (kind.LabelledInstruction code) ts =
-    said (λ p. statement.LabelledInstruction p.0 p.1) (both (label_line ts) (instruction_line code (drop 2 ts)))
+    said (λ p. statement.LabelledInstruction p.0 p.1) (both (label_line ts) (instruction_line code (drop 3 ts)))

@@ -102,7 +102,7 @@ pub enum Operation {
 /// What stands in a method's code.
 #[derive(Debug, Drop)]
 pub enum CodeItem {
-    /// Names the operation that follows.
+    /// Names the place of the operation that follows, or of the code's end.
     Label(Text),
     Operation(Operation),
 }
