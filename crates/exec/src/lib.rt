@@ -8,6 +8,7 @@ mod branches;
 mod constants;
 mod decisions;
 mod locals;
+mod profile;
 mod stack;
 mod step;
 mod switches;
@@ -16,4 +17,5 @@ mod tests;
 
 pub use actions::apply;
 pub use locals::is_loaded;
+pub use profile::is_outside_method;
 pub use step::{decide, run};

@@ -4,9 +4,10 @@ use crate::{decide, run};
 use frames::Frame;
 use held::boxed::Boxed;
 use held::items::Items;
+use held::shared::Shared;
 use jvms_file::insn::{
-    ArrayInsn, Binary, Branch, Division, IntInsn, Kind, LocalUse, LongInsn, LookupSwitch, Push,
-    Simple, StackForm, SwitchCase, TableSwitch,
+    ArrayInsn, ArrayKind, ArrayType, Binary, Branch, ClassUse, Division, IntInsn, Kind, LocalUse,
+    LongInsn, LookupSwitch, Push, Simple, StackForm, SwitchCase, TableSwitch,
 };
 use jvms_machine::action::FrameDecision;
 use jvms_machine::machine::BadCause;
@@ -118,7 +119,7 @@ fn operands_after_turns(rt: HostRuntime) -> Result<(), Fail> {
     Ok(())
 }
 
-static UNMADE: [(Simple, &[Value], FrameDecision); 8] = [
+static UNMADE: [(Simple, &[Value], FrameDecision); 10] = [
     (
         Simple::Local(LocalUse::Load(Kind::Int), 1),
         &[],
@@ -155,6 +156,16 @@ static UNMADE: [(Simple, &[Value], FrameDecision); 8] = [
         FrameDecision::Stops(BadCause::OutOfProfile),
     ),
     (Simple::Array(ArrayInsn::Length), &[], FrameDecision::Later),
+    (
+        Simple::Array(ArrayInsn::Load(ArrayKind::Float)),
+        &[],
+        FrameDecision::Stops(BadCause::OutOfProfile),
+    ),
+    (
+        Simple::Array(ArrayInsn::New(ArrayType::Int)),
+        &[],
+        FrameDecision::Later,
+    ),
 ];
 
 #[test]
@@ -168,6 +179,51 @@ fn causes_come_in_order(rt: HostRuntime) -> Result<(), Fail> {
         assert!(rt; !run(&instruction, &mut frame));
         assert_operands(&rt, &frame, operands);
         assert_eq!(rt; frame.place(), 0);
+    }
+    Ok(())
+}
+
+static OUTSIDE: [(ClassUse, &str); 4] = [
+    (ClassUse::New, "java/lang/System"),
+    (ClassUse::NewArray, "[F"),
+    (ClassUse::NewArray, "[[J"),
+    (ClassUse::NewArray, "[D"),
+];
+
+// The class F is no float, and a cast makes no array.
+static INSIDE: [(ClassUse, &str); 5] = [
+    (ClassUse::New, "java/lang/Thread"),
+    (ClassUse::NewArray, "F"),
+    (ClassUse::NewArray, "[LF;"),
+    (ClassUse::NewArray, "java/lang/String"),
+    (ClassUse::CheckCast, "[F"),
+];
+
+// Sees what an instruction that names a class comes to.
+fn assert_class_use(
+    rt: &impl Abort,
+    alloc: Global,
+    how: ClassUse,
+    name: &str,
+    want: FrameDecision,
+) -> Result<(), Fail> {
+    let body = code(alloc);
+    let frame = frame_of(rt, alloc, &body, &[], &[])?;
+    let units = Items::from_vec(name.encode_utf16().collect(alloc)?);
+    let instruction = Instruction::Class(how, Shared::new(alloc, units)?);
+    assert!(rt; frame.place() < 65536);
+    assert_eq!(rt; decide(&instruction, &frame), want, "{name}");
+    Ok(())
+}
+
+#[test]
+fn classes_outside_of_the_profile(rt: HostRuntime) -> Result<(), Fail> {
+    let outside = FrameDecision::Stops(BadCause::OutOfProfile);
+    for (how, name) in &OUTSIDE {
+        assert_class_use(&rt, rt.alloc(), *how, name, outside)?;
+    }
+    for (how, name) in &INSIDE {
+        assert_class_use(&rt, rt.alloc(), *how, name, FrameDecision::Later)?;
     }
     Ok(())
 }

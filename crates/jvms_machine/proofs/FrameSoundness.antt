@@ -35,7 +35,8 @@ use Rattle.jvms_machine.specs.Stack.{are_set, stack_decision}
 use Rattle.jvms_machine.specs.Arithmetic.{divided, int_decision}
 use Rattle.jvms_machine.specs.Branches.{branch_decision}
 use Rattle.jvms_machine.specs.Switches.{table_target, case_target}
-use Rattle.jvms_machine.specs.Steps.{simple_decision, frame_decision}
+use Rattle.jvms_machine.specs.Profile.{is_outside_element, is_outside_method, is_outside_class, is_outside_array, is_outside_use}
+use Rattle.jvms_machine.specs.Steps.{later_unless, simple_decision, frame_decision}
 use Rattle.jvms_machine.proofs.ListLaws.{all_set, all_read}
 
 -- What a frame keeps: the locals and at most the operands that the code asks for, all of them values.
@@ -227,6 +228,9 @@ module _ (heap : List Object) (body : Body) (a : Activation) (fit : IsFit heap b
 
   -- ---- Each instruction
 
+  later_keeps : (outside : Bool) → KeepsFit (later_unless outside)
+  later_keeps outside = keeps_if outside _ _ (λ _. tt) tt
+
   simple_keeps : (s : Simple) → KeepsFit (simple_decision body s a)
   simple_keeps simple.Nop = (omega arith, tt)
   simple_keeps (simple.Push p) = push_keeps p
@@ -236,7 +240,7 @@ module _ (heap : List Object) (body : Body) (a : Activation) (fit : IsFit heap b
   simple_keeps (simple.Int i) = int_keeps i
   simple_keeps (simple.Long i) = tt
   simple_keeps (simple.Floating i) = tt
-  simple_keeps (simple.Array i) = tt
+  simple_keeps (simple.Array i) = later_keeps (is_outside_array i)
   simple_keeps (simple.Return i) = tt
   simple_keeps (simple.Object i) = tt
 
@@ -255,7 +259,7 @@ module _ (heap : List Object) (body : Body) (a : Activation) (fit : IsFit heap b
   frame_decision_keeps (instruction.Table s) = switch_keeps (table_target s)
   frame_decision_keeps (instruction.Lookup s) = switch_keeps (case_target s.cases s.default)
   frame_decision_keeps (instruction.Constant c) = constant_keeps c
-  frame_decision_keeps (instruction.Field how r) = tt
-  frame_decision_keeps (instruction.Invoke how r) = tt
-  frame_decision_keeps (instruction.Class how name) = tt
-  frame_decision_keeps (instruction.MultiNewArray name count) = tt
+  frame_decision_keeps (instruction.Field how r) = later_keeps (is_outside_element r.field_type.element)
+  frame_decision_keeps (instruction.Invoke how r) = later_keeps (is_outside_method r.method_type)
+  frame_decision_keeps (instruction.Class how name) = later_keeps (is_outside_use how name)
+  frame_decision_keeps (instruction.MultiNewArray name count) = later_keeps (is_outside_class name)

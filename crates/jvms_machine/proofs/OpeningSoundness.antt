@@ -90,6 +90,7 @@ opening_is_sound program limits are =
       static_values = all_map_weaker (HasValue heap) (HasValue heap) opening_static (opening_static_has_value program) (static_fields program) (all_fields_have_values heap (λ f. f.is_static) program);
       classes = length-map program opening_initialisation;
       threads = ((tt, tt, omega arith, tt, tt), tt);
+      first_thread = refl;
       own_objects = (tt, tt);
       initialised = λ thread class. no_initialisation_frames thread class ∙ sym (none_in_progress program thread class);
       result = tt;

@@ -1,5 +1,5 @@
 -- A turn of any thread leaves a sound state sound, and what it makes is ready to be made.
-use Rattle.std.proofs.Common.{◌≡◌, ℕ, zero, suc, ◌-◌, ◌<◌, ◌≤◌, cond, Bool, true, false, ◌&&◌, ◌||◌, ◌==◌, nat_le, nat_lt, leb-false, ltb-false, List, [], ◌∷◌, ◌++◌, length, replicate, Option, Some, None, IfSome, IsTrue, slice_get, slice_set, count_by, drop, flat_map, take, option_and_then, refl, sym, ap, ◌∙◌, subst, arith, length-set}
+use Rattle.std.proofs.Common.{◌≡◌, ℕ, zero, suc, ◌-◌, ◌<◌, ◌≤◌, cond, Bool, true, false, ◌&&◌, ◌||◌, ◌==◌, nat_le, nat_lt, leb-false, ltb-false, List, [], ◌∷◌, ◌++◌, length, replicate, Option, Some, None, IfSome, IsTrue, slice_get, slice_set, count_by, drop, flat_map, take, option_and_then, option_map, unwrap_or, refl, sym, ap, ◌∙◌, subst, arith, length-set}
 use Rattle.std.specs.List.{AllByRecursion}
 use Rattle.std.proofs.lemmas.Bool.{cond_both, or_parts}
 use Rattle.std.proofs.lemmas.Option.{none-some, same_Some, slice_get_within}
@@ -28,7 +28,7 @@ use Rattle.jvms_program.specs.declared.program.Method.{Method}
 use Rattle.jvms_program.specs.declared.program.Body.{Body}
 use Rattle.jvms_program.specs.declared.program.Instruction.{Instruction}
 use Rattle.jvms_program.specs.Program.{method_at}
-use Rattle.jvms_machine.specs.State.{State, Object, Thread, Frame, MethodFrame, IsValue, AreMonitors, body_at, IsFrame, IsStack, IsThread, same_object, HaveOwnObjects, is_initialisation_of, IsInitialisedInOrder, IsThrowable, IsReference, Sound}
+use Rattle.jvms_machine.specs.State.{State, Object, Thread, Frame, MethodFrame, IsValue, AreMonitors, body_at, is_synchronized_at, IsFrame, IsStack, IsThread, same_object, HaveOwnObjects, is_initialisation_of, IsInitialisedInOrder, IsThrowable, IsReference, Sound}
 use Rattle.jvms_machine.specs.Start.{Start, IsArgument, IsStart}
 use Rattle.jvms_machine.specs.Limits.{are_limits}
 use Rattle.jvms_machine.specs.Locals.{is_loaded}
@@ -36,7 +36,8 @@ use Rattle.jvms_machine.specs.Steps.{instruction_at, step_at, top_step}
 use Rattle.jvms_machine.specs.Steps as steps
 use Rattle.jvms_machine.specs.Decisions.{of_frame}
 use Rattle.jvms_machine.specs.Initialisation.{has_static_constant, begin_decision, asking_at, asking, has_initializer, asked_superclass, initializer_decision, superclass_decision, initialisation_decision}
-use Rattle.jvms_machine.specs.Calls.{is_outside, entered, enterable_body, enter_decision, entry_decision, first_call_decision}
+use Rattle.jvms_machine.specs.Profile.{is_outside_method}
+use Rattle.jvms_machine.specs.Calls.{entered, called_body, enter_decision, entry_decision, first_call_decision}
 use Rattle.jvms_machine.specs.Returns.{gives_kind, gives_nothing, returned_decision, return_top_decision, return_decision, method_return_decision}
 use Rattle.jvms_machine.specs.Actions.{enter_items, exit_items, items_of, changed_to, call_gone_on, top_gone_on, gone_on, begun, popped, called, ended, with_changed, with_result, applied_to}
 use Rattle.jvms_machine.specs.Marks.{calls, calls_in, calls_of, marks_between}
@@ -57,6 +58,12 @@ own_objects_set (u ∷ us) zero thread after at same own =
 own_objects_set (u ∷ us) (suc t) thread after at same own =
     let apart : same_object u.object thread.object ≡ false = all_at (λ v. same_object u.object v.object ≡ false) us t thread at own.0 in
     (all_set (λ v. same_object u.object v.object ≡ false) us t after (ap (same_object u.object) same ∙ apart) own.0, own_objects_set us t thread after at same own.1)
+
+-- And thread 0 has none, as before.
+first_thread_set : (threads : List Thread) (t : ℕ) (thread after : Thread) → slice_get threads t ≡ Some thread → after.object ≡ thread.object → IfSome (slice_get threads 0) (λ u. u.object ≡ None) → IfSome (slice_get (slice_set threads t after) 0) (λ u. u.object ≡ None)
+first_thread_set [] t thread after at same none = tt
+first_thread_set (u ∷ us) zero thread after at same none = same ∙ sym (ap (λ (v : Thread). v.object) (same_Some u thread at)) ∙ none
+first_thread_set (u ∷ us) (suc t) thread after at same none = none
 
 -- A monitor is held by a thread that was given out, also among as many other threads.
 monitors_among : (heap : List Object) (threads others : List Thread) → length others ≡ length threads → (monitors : List (ℕ × Hold)) → AreMonitors heap threads monitors → AreMonitors heap others monitors
@@ -89,23 +96,27 @@ argument_is_value : (heap : List Object) → 4 ≤ length heap → (v : Value) �
 argument_is_value heap opened (value.Reference r) is = (is.0, omega arith)
 argument_is_value heap opened _ is = tt
 
--- A call that is entered with arguments that its locals have room for is a frame.
-entered_is_frame : (program : List Class) (heap : List Object) (method : MethodNumber) (body : Body) (arguments : List Value) → 4 ≤ length heap → length arguments ≤ body.max_locals → AllByRecursion IsArgument arguments → body_at program method ≡ Some body → IsFrame program heap (stack_frame.Call (entered method body arguments))
-entered_is_frame program heap method body arguments opened few are_arguments body_is =
+-- A call that is entered with arguments that its locals have room for is a frame, where it enters no monitor.
+entered_is_frame : (program : List Class) (heap : List Object) (method : MethodNumber) (body : Body) (arguments : List Value) → 4 ≤ length heap → length arguments ≤ body.max_locals → AllByRecursion IsArgument arguments → body_at program method ≡ Some body → is_synchronized_at program method ≡ false → IsFrame program heap (stack_frame.Call (entered method body arguments))
+entered_is_frame program heap method body arguments opened few are_arguments body_is plain =
     let unset : List Value = replicate (body.max_locals - length arguments) value.Unset in
     let as_many : length (arguments ++ unset) ≡ body.max_locals = omega (arith, length-append arguments unset, length-replicate (body.max_locals - length arguments) value.Unset) in
     let values = all_weaker IsArgument (IsValue heap) (argument_is_value heap opened) arguments are_arguments in
-    (body_is, (as_many, omega arith), all_append (IsValue heap) arguments unset values (all_replicate (IsValue heap) (body.max_locals - length arguments) value.Unset tt), tt, tt)
+    (body_is, (as_many, omega arith), all_append (IsValue heap) arguments unset values (all_replicate (IsValue heap) (body.max_locals - length arguments) value.Unset tt), tt, tt, sym plain)
 
--- What can be entered is the code of its method.
-enterable_is_body : (m : Method) (body : Body) → enterable_body m ≡ Some body → m.body ≡ Some body
-enterable_is_body m body is =
-    cond_both (m.flags.is_synchronized || m.flags.is_native) None m.body (λ (o : Option Body). o ≡ Some body → m.body ≡ Some body)
+-- What is called is the code of its method.
+called_is_body : (m : Method) (body : Body) → called_body m ≡ Some body → m.body ≡ Some body
+called_is_body m body is =
+    cond_both m.flags.is_native None m.body (λ (o : Option Body). o ≡ Some body → m.body ≡ Some body)
     (λ _ none. absurd (none-some body none)) (λ _ same. same) is
 
 -- The code at a number is that of the method at it.
 body_of : (program : List Class) (method : MethodNumber) (m : Method) (body : Body) → method_at program method ≡ Some m → m.body ≡ Some body → body_at program method ≡ Some body
 body_of program method m body m_is body_is = ap (option_and_then (λ (n : Method). n.body)) m_is ∙ body_is
+
+-- The flag at a number is that of the method at it.
+flag_of : (program : List Class) (method : MethodNumber) (m : Method) → method_at program method ≡ Some m → m.flags.is_synchronized ≡ false → is_synchronized_at program method ≡ false
+flag_of program method m m_is plain = ap (λ o. unwrap_or (option_map (λ (n : Method). n.flags.is_synchronized) o) false) m_is ∙ plain
 
 -- ---- Marks
 
@@ -192,6 +203,7 @@ module _ (program : List Class) (limits : Limits) (start : Start) (s : State) (t
           static_values = sound.static_values;
           classes = count ∙ sound.classes;
           threads = all_set (IsThread program limits s.heap) s.threads t after is sound.threads;
+          first_thread = first_thread_set s.threads t thread after stands.given_out same sound.first_thread;
           own_objects = own_objects_set s.threads t thread after stands.given_out same sound.own_objects;
           initialised = order;
           result = result_is;
@@ -268,16 +280,16 @@ module _ (program : List Class) (limits : Limits) (start : Start) (s : State) (t
     -- ---- The first call
 
     -- A method is entered.
-    enters_keeps : Stands [] → 1 ≤ limits.frames → (body : Body) → IsStart start → length start.arguments ≤ body.max_locals → body_at program start.method ≡ Some body → KeepsSound (decision.Makes (action.Enters start.method body))
+    enters_keeps : Stands [] → 1 ≤ limits.frames → (body : Body) → IsStart start → length start.arguments ≤ body.max_locals → body_at program start.method ≡ Some body → is_synchronized_at program start.method ≡ false → KeepsSound (decision.Makes (action.Enters start.method body))
     unfolding applied_to items_of
-    enters_keeps stands room body starts few body_is =
+    enters_keeps stands room body starts few body_is plain =
         let was = thread_is stands in
         let frame = entered start.method body start.arguments in
         let after = called frame thread in
         let only : after.frames ≡ stack_frame.Call frame ∷ [] = ap (λ (fs : List Frame). stack_frame.Call frame ∷ fs) stands.frames_are in (
           changed_is_sound stands (called frame) s.initialisations s.result refl
               (subst (λ (fs : List Frame). AllByRecursion (IsFrame program s.heap) fs × IsStack program fs × (length fs ≤ limits.frames) × IfSome thread.pending (IsThrowable program s.heap) × IfSome thread.object (IsReference s.heap)) (sym only)
-              ((entered_is_frame program s.heap start.method body start.arguments stands.sound.opened few starts body_is, tt), tt, room, was.3, was.4))
+              ((entered_is_frame program s.heap start.method body start.arguments stands.sound.opened few starts body_is plain, tt), tt, room, was.3, was.4))
               refl
               (order_with_thread s.threads s.initialisations t thread after stands.given_out stands.sound.initialised
               (λ c. count_call c frame thread.frames))
@@ -287,18 +299,20 @@ module _ (program : List Class) (limits : Limits) (start : Start) (s : State) (t
               (changed_calls s.threads t thread (called frame) stands.given_out ∙ ap (λ (fs : List Frame). start.method ∷ calls fs) stands.frames_are),
         )
 
-    enter_keeps : Stands [] → 1 ≤ limits.frames → (m : Method) (o : Option Body) → IsStart start → method_at program start.method ≡ Some m → enterable_body m ≡ o → KeepsSound (enter_decision start o)
+    enter_keeps : Stands [] → 1 ≤ limits.frames → (m : Method) (o : Option Body) → IsStart start → method_at program start.method ≡ Some m → called_body m ≡ o → KeepsSound (enter_decision start m o)
     enter_keeps stands room m None starts m_is body_is = (stands.sound, tt, unmarked program t (calls_of s t))
     enter_keeps stands room m (Some body) starts m_is body_is =
         cond_both (nat_lt body.max_locals (length start.arguments)) _ _ KeepsSound
         (λ _. (stands.sound, tt, unmarked program t (calls_of s t)))
-        (λ no. enters_keeps stands room body starts (ltb-false body.max_locals (length start.arguments) no) (body_of program start.method m body m_is (enterable_is_body m body body_is)))
+        (λ no. cond_both m.flags.is_synchronized _ _ KeepsSound
+        (λ _. (stands.sound, tt, unmarked program t (calls_of s t)))
+        (λ plain. enters_keeps stands room body starts (ltb-false body.max_locals (length start.arguments) no) (body_of program start.method m body m_is (called_is_body m body body_is)) (flag_of program start.method m m_is plain)))
 
     entry_keeps : Stands [] → 1 ≤ limits.frames → (o : Option Method) → IsStart start → method_at program start.method ≡ o → KeepsSound (entry_decision program limits start s t thread o)
     entry_keeps stands room None starts is = (stands.sound, tt, unmarked program t (calls_of s t))
     entry_keeps stands room (Some m) starts is =
-        either_keeps (is_outside m.method_type) _ _ (stands.sound, tt, unmarked program t (calls_of s t))
-        (asking_keeps stands start.method.class (enter_decision start (enterable_body m)) (enter_keeps stands room m (enterable_body m) starts is refl))
+        either_keeps (is_outside_method m.method_type) _ _ (stands.sound, tt, unmarked program t (calls_of s t))
+        (asking_keeps stands start.method.class (enter_decision start m (called_body m)) (enter_keeps stands room m (called_body m) starts is refl))
 
     first_call_keeps : Stands [] → 1 ≤ limits.frames → IsStart start → KeepsSound (first_call_decision program limits start s t thread)
     first_call_keeps stands room starts = either_keeps (t == 0) _ _ (entry_keeps stands room (method_at program start.method) starts refl) (stands.sound, tt, unmarked program t (calls_of s t))
@@ -360,7 +374,7 @@ module _ (program : List Class) (limits : Limits) (start : Start) (s : State) (t
         let are : after.frames ≡ stack_frame.Call (call_gone_on act frame) ∷ below = ap (top_gone_on act) stands.frames_are in (
           changed_is_sound stands (gone_on act) s.initialisations s.result refl
               (subst (λ (fs : List Frame). AllByRecursion (IsFrame program s.heap) fs × IsStack program fs × (length fs ≤ limits.frames) × IfSome thread.pending (IsThrowable program s.heap) × IfSome thread.object (IsReference s.heap)) (sym are)
-              (((frames.0.0.0, (fit.locals_fit, fit.operands_fit), fit.locals, fit.operands, frames.0.0.4), frames.0.1), stack_goes_on program frame act below frames.1, frames.2, was.3, was.4))
+              (((frames.0.0.0, (fit.locals_fit, fit.operands_fit), fit.locals, fit.operands, frames.0.0.4, frames.0.0.5), frames.0.1), stack_goes_on program frame act below frames.1, frames.2, was.3, was.4))
               refl
               (order_with_thread s.threads s.initialisations t thread after stands.given_out stands.sound.initialised
               (λ c. ap (count_by (is_initialisation_of c)) are ∙ count_call c (call_gone_on act frame) below ∙ sym (count_call c frame below) ∙ sym (ap (count_by (is_initialisation_of c)) stands.frames_are)))

@@ -11,6 +11,7 @@ pub mod Limits
 pub mod Locals
 pub mod Marks
 pub mod Opening
+pub mod Profile
 pub mod Returns
 pub mod Run
 pub mod Stack

@@ -24,5 +24,5 @@ pub use jvms_machine::machine::{Entry, Limits, Outcome, Status, ThreadId};
 pub use jvms_machine::state::{Hold, Initialisation};
 pub use machine::{Machine, admits};
 pub use run::RunStop;
-pub use state::FrameView;
+pub use state::{FieldName, FrameView};
 pub use status::is_enabled;

@@ -4,15 +4,16 @@ ghost use Rattle.std.specs.Prelude.{◌≡◌, slice_get};
 ghost use Rattle.machine.specs.Views.{value_of};
 
 mod declared;
+mod field_name;
 mod objects;
 mod opening;
 mod threads;
 
 use crate::machine::Machine;
+pub use field_name::FieldName;
 use jvms_machine::machine::Limits;
 use jvms_machine::state::Initialisation;
 use jvms_machine::value::Value;
-use jvms_program::key::FieldKey;
 use program::Program;
 pub use threads::FrameView;
 
@@ -39,7 +40,7 @@ impl<'p> Machine<'p> {
     }
 
     /// The value of a static field. There is none where no class has such a static field.
-    pub fn static_value(&self, key: &FieldKey) -> Option<Value>
+    pub fn static_value(&self, key: &FieldName) -> Option<Value>
         ensures { result ≡ value_of key.now self.now.state.statics }
     {
         self.parts.static_value(key)

@@ -5,9 +5,9 @@ ghost use Rattle.std.specs.List.{find};
 ghost use Rattle.jvms_machine.specs.State.{default_of_element, default_value, fields_where, instance_fields, static_fields};
 ghost use Rattle.machine.specs.Views.{value_of, is_declared, is_static_or_not};
 
+use crate::state::FieldName;
 use jvms_file::descriptor::{Element, FieldType, Primitive};
 use jvms_machine::value::Value;
-use jvms_program::key::FieldKey;
 use jvms_program::program::{Class, Field};
 use program::{Program, same_text};
 
@@ -34,16 +34,16 @@ fn default_value(field_type: &FieldType) -> Value
 }
 
 /// Whether a field is static or not, as is asked, and of a key's name and descriptor.
-fn is_declared(field: &Field, key: &FieldKey, is_static: bool) -> bool
+fn is_declared(field: &Field, key: &FieldName, is_static: bool) -> bool
     ensures { result ≡ is_declared is_static key.now field.now }
 {
     field.is_static == is_static
-        && same_text(field.name.as_slice(), key.name.as_slice())
-        && same_text(field.descriptor.as_slice(), key.descriptor.as_slice())
+        && same_text(field.name.as_slice(), key.name)
+        && same_text(field.descriptor.as_slice(), key.descriptor)
 }
 
 /// The first such field of a class.
-fn declared<'a>(class: &'a Class, key: &FieldKey, is_static: bool) -> Option<&'a Field>
+fn declared<'a>(class: &'a Class, key: &FieldName, is_static: bool) -> Option<&'a Field>
     ensures { option_copied result ≡ find (is_declared is_static key.now) class.now.fields }
 {
     class
@@ -55,10 +55,10 @@ fn declared<'a>(class: &'a Class, key: &FieldKey, is_static: bool) -> Option<&'a
 
 /// The first value of the field of a key, if this class declares one that is static or not, as is asked.
 #[tactic(auto, using(crate::proofs::FieldLaws::of_another_class, crate::proofs::FieldLaws::nothing_declared, crate::proofs::FieldLaws::declared_here))]
-fn first_value(class: &Class, key: &FieldKey, is_static: bool) -> Option<Value>
+fn first_value(class: &Class, key: &FieldName, is_static: bool) -> Option<Value>
     ensures { result ≡ value_of key.now (fields_where (is_static_or_not is_static) class.now) }
 {
-    if !same_text(class.name.as_slice(), key.class.as_slice()) {
+    if !same_text(class.name.as_slice(), key.class) {
         return None;
     }
     let field = declared(class, key, is_static)?;
@@ -67,19 +67,19 @@ fn first_value(class: &Class, key: &FieldKey, is_static: bool) -> Option<Value>
 
 /// The first value of the field of a key, of an instance of a class.
 #[tactic(auto, using(crate::proofs::FieldLaws::not_in_chain, crate::proofs::FieldLaws::no_such_class, crate::proofs::FieldLaws::given_in_chain))]
-pub(super) fn instance_value(program: &Program, class: &[u16], key: &FieldKey) -> Option<Value>
+pub(super) fn instance_value(program: &Program, class: &[u16], key: &FieldName) -> Option<Value>
     ensures { result ≡ value_of key.now (instance_fields program.now class.now) }
 {
-    if !program.is_or_extends(class, key.class.as_slice()) {
+    if !program.is_or_extends(class, key.class) {
         return None;
     }
-    let declaring = program.class_named(key.class.as_slice())?;
+    let declaring = program.class_named(key.class)?;
     first_value(declaring, key, false)
 }
 
 /// The first value of the static field of a key.
 #[tactic(auto, using(crate::proofs::FieldLaws::given_past, crate::proofs::FieldLaws::given_here, crate::proofs::FieldLaws::given_nowhere))]
-pub(super) fn static_value(classes: &[Class], key: &FieldKey) -> Option<Value>
+pub(super) fn static_value(classes: &[Class], key: &FieldName) -> Option<Value>
     ensures { result ≡ value_of key.now (static_fields classes.now) }
 {
     for class in classes {

@@ -6,9 +6,9 @@ ghost use Rattle.jvms_machine.specs.State.{monitor_at, text_reference, class_ref
 ghost use Rattle.machine.specs.Views.{asked, class_at, field_of, length_of, element_of, units_of, named_by};
 
 use crate::machine::Machine;
+use crate::state::FieldName;
 use jvms_machine::state::Hold;
 use jvms_machine::value::Value;
-use jvms_program::key::FieldKey;
 
 impl Machine<'_> {
     /// How many references were ever made.
@@ -34,7 +34,7 @@ impl Machine<'_> {
 
     /// The value of an instance's field. There is none where the reference leads to no instance, or to one
     /// that has no such field.
-    pub fn field(&self, reference: u32, key: &FieldKey) -> Option<Value>
+    pub fn field(&self, reference: u32, key: &FieldName) -> Option<Value>
         ensures { result ≡ asked (field_of key.now) self.now reference }
     {
         self.parts.field(reference, key)

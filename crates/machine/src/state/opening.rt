@@ -7,10 +7,9 @@ ghost use Rattle.jvms_machine.specs.Opening.{is_system_out};
 ghost use Rattle.machine.specs.Views.{class_at, field_of, length_of, element_of, units_of, named_by, value_of};
 
 use crate::parts::Parts;
-use crate::state::declared;
+use crate::state::{FieldName, declared};
 use jvms_machine::state::Hold;
 use jvms_machine::value::Value;
-use jvms_program::key::FieldKey;
 use program::same_text;
 
 /// `java/lang/OutOfMemoryError`, the class of reference 1.
@@ -53,10 +52,10 @@ const OUT: [u16; 3] = [111, 117, 116];
 const SYSTEM_OUT: Value = Value::Reference(3);
 
 /// Whether a key is that of `System.out`.
-fn is_system_out(key: &FieldKey) -> bool
+fn is_system_out(key: &FieldName) -> bool
     ensures { result ≡ is_system_out key.now }
 {
-    same_text(key.class.as_slice(), &SYSTEM) && same_text(key.name.as_slice(), &OUT)
+    same_text(key.class, &SYSTEM) && same_text(key.name, &OUT)
 }
 
 impl Parts<'_> {
@@ -109,7 +108,7 @@ impl Parts<'_> {
 
     /// The value of a field of an instance. None was stored in yet.
     #[tactic(auto, using(crate::proofs::OpeningLaws::no_instance, crate::proofs::OpeningLaws::no_object, crate::proofs::OpeningLaws::field_of_class))]
-    pub(super) fn field(&self, reference: u32, key: &FieldKey) -> Option<Value>
+    pub(super) fn field(&self, reference: u32, key: &FieldName) -> Option<Value>
         ensures { result ≡ option_and_then (field_of key.now) (object_at self.now.state.heap reference) }
     {
         let _ = &self.program;
@@ -181,7 +180,7 @@ impl Parts<'_> {
 
     /// The value of a static field. Nothing was stored in any but `System.out`.
     #[tactic(auto, using(crate::proofs::FieldLaws::nothing_opened, crate::proofs::FieldLaws::out_opened, crate::proofs::FieldLaws::other_opened))]
-    pub(super) fn static_value(&self, key: &FieldKey) -> Option<Value>
+    pub(super) fn static_value(&self, key: &FieldName) -> Option<Value>
         ensures { result ≡ value_of key.now (self.now.state.statics) }
     {
         let value = declared::static_value(self.program.classes(), key)?;

@@ -1,0 +1,144 @@
+//! What names a type outside of the profile: a float, a double or a long; and the classes of which no object is made.
+
+ghost use Rattle.std.specs.Prelude.{◌≡◌};
+ghost use Rattle.std.specs.List.{list_any};
+ghost use Rattle.jvms_file.specs.declared.descriptor.Element.TheVariants as element;
+ghost use Rattle.descriptor.specs.Scanning.{element_of};
+ghost use Rattle.jvms_machine.specs.Profile.{is_outside_element as outside_element, is_outside_result as outside_result, is_outside_method as outside_method, is_outside_class as outside_class, is_outside_kind as outside_kind, is_outside_component as outside_component, is_outside_array as outside_array, is_never_new as never_new, is_outside_use as outside_use};
+
+use descriptor::{Innermost, field_in, is_array_name, same_text};
+use jvms_file::descriptor::{Element, FieldType, MethodType, Primitive, ResultType};
+use jvms_file::insn::{ArrayInsn, ArrayKind, ArrayType, ClassUse};
+
+/// `java/lang/String`
+const STRING: [u16; 16] = [
+    106, 97, 118, 97, 47, 108, 97, 110, 103, 47, 83, 116, 114, 105, 110, 103,
+];
+
+/// `java/lang/Class`
+const CLASS: [u16; 15] = [
+    106, 97, 118, 97, 47, 108, 97, 110, 103, 47, 67, 108, 97, 115, 115,
+];
+
+/// `java/lang/System`
+const SYSTEM: [u16; 16] = [
+    106, 97, 118, 97, 47, 108, 97, 110, 103, 47, 83, 121, 115, 116, 101, 109,
+];
+
+/// `java/io/PrintStream`
+const PRINT_STREAM: [u16; 19] = [
+    106, 97, 118, 97, 47, 105, 111, 47, 80, 114, 105, 110, 116, 83, 116, 114, 101, 97, 109,
+];
+
+fn is_outside_primitive(primitive: Primitive) -> bool
+    ensures { result ≡ outside_element (element.Primitive primitive) }
+{
+    matches!(
+        primitive,
+        Primitive::Float | Primitive::Double | Primitive::Long
+    )
+}
+
+/// Whether a type is a float, a double or a long, or an array of them.
+pub(crate) fn is_outside_type(t: &FieldType) -> bool
+    ensures { result ≡ outside_element t.now.element }
+{
+    match &t.element {
+        Element::Primitive(primitive) => is_outside_primitive(*primitive),
+        Element::Object(_) => false,
+    }
+}
+
+fn is_outside_result(given: &ResultType) -> bool
+    ensures { result ≡ outside_result given.now }
+{
+    match given {
+        ResultType::Void => false,
+        ResultType::Value(t) => is_outside_type(t),
+    }
+}
+
+fn has_outside_parameter(parameters: &[FieldType]) -> bool
+    ensures { result ≡ list_any (λ p. outside_element p.element) parameters.now }
+{
+    parameters
+        .iter()
+        .any(|parameter| is_outside_type(parameter))
+}
+
+/// Whether a method's descriptor names a float, a double or a long anywhere.
+pub fn is_outside_method(t: &MethodType) -> bool
+    ensures { result ≡ outside_method t.now }
+{
+    has_outside_parameter(t.parameters.as_slice()) || is_outside_result(&t.result)
+}
+
+fn is_outside_innermost(innermost: Innermost) -> bool
+    ensures { result ≡ outside_element (element_of innermost.entry) }
+{
+    match innermost {
+        Innermost::Primitive(primitive) => is_outside_primitive(primitive),
+        Innermost::Object(_) => false,
+    }
+}
+
+/// Whether the class of a name is an array of floats, doubles or longs.
+pub(crate) fn is_outside_class(name: &[u16]) -> bool
+    ensures { result ≡ outside_class name.now }
+{
+    if !is_array_name(name) {
+        return false;
+    }
+    match field_in(name) {
+        None => false,
+        Some(spelled) => is_outside_innermost(spelled.innermost),
+    }
+}
+
+fn is_outside_kind(kind: ArrayKind) -> bool
+    ensures { result ≡ outside_kind kind }
+{
+    matches!(kind, ArrayKind::Float | ArrayKind::Double | ArrayKind::Long)
+}
+
+fn is_outside_component(component: ArrayType) -> bool
+    ensures { result ≡ outside_component component }
+{
+    matches!(
+        component,
+        ArrayType::Float | ArrayType::Double | ArrayType::Long
+    )
+}
+
+/// Whether it is a load, a store or newarray of float, double or long.
+pub(crate) fn is_outside_array(what: ArrayInsn) -> bool
+    ensures { result ≡ outside_array what }
+{
+    match what {
+        ArrayInsn::Load(kind) | ArrayInsn::Store(kind) => is_outside_kind(kind),
+        ArrayInsn::Length => false,
+        ArrayInsn::New(component) => is_outside_component(component),
+    }
+}
+
+/// Whether `new` makes no object of the class of a name.
+#[tactic(auto, unfolding(jvms_machine::specs::Profile::is_never_new))]
+fn is_never_new(name: &[u16]) -> bool
+    ensures { result ≡ never_new name.now }
+{
+    same_text(name, &STRING)
+        || same_text(name, &CLASS)
+        || same_text(name, &SYSTEM)
+        || same_text(name, &PRINT_STREAM)
+}
+
+/// Whether an instruction makes what stays outside of the profile, of the class of a name.
+pub(crate) fn is_outside_use(how: ClassUse, name: &[u16]) -> bool
+    ensures { result ≡ outside_use how name.now }
+{
+    match how {
+        ClassUse::New => is_never_new(name),
+        ClassUse::NewArray => is_outside_class(name),
+        ClassUse::CheckCast | ClassUse::InstanceOf => false,
+    }
+}

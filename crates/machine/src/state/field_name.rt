@@ -1,0 +1,22 @@
+//! How a field is asked for.
+
+use std::marker::Model;
+
+/// A field by its names, which are borrowed, so that asking for it takes no memory. Contracts see the field's key.
+#[derive(Drop)]
+pub struct FieldName<'a> {
+    /// The name of the class that declares the field.
+    pub class: &'a [u16],
+    /// Its own name.
+    pub name: &'a [u16],
+    /// The descriptor as it is written.
+    pub descriptor: &'a [u16],
+}
+
+impl<'a> Model for FieldName<'a> {
+    ghost use Rattle.jvms_program.specs.declared.key.FieldKey.{FieldKey};
+
+    ghost Value = { FieldKey };
+
+    ghost view = { λ n. record { class = n.class.now; name = n.name.now; descriptor = n.descriptor.now } };
+}
