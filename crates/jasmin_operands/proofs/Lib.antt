@@ -1,0 +1,3 @@
+pub mod AccessFlags
+pub mod Digits
+pub mod Judgements

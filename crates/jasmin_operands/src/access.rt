@@ -1,0 +1,138 @@
+//! Access words and their flags (JVMS tables 4.1-A, 4.5-A, 4.6-A).
+
+ghost use Rattle.std.specs.Prelude.{◌≡◌, ◌∷◌, [], map};
+ghost use Rattle.jasmin.specs.Lexing.{lexemes};
+ghost use Rattle.jasmin.specs.Operands.{flag_of, flag_at, flags_with, flags_in, access_word, access_words};
+ghost use Rattle.jasmin_operands.specs.Views.{words_of};
+
+use crate::judgement::{Judged, asked, unless};
+use crate::words::same_word;
+use jasmin::statement::Flaw;
+use jasmin::token::{Lexeme, Token};
+
+/// Whose access words a line has.
+#[derive(Clone, Copy)]
+pub enum AccessWords {
+    Class,
+    Field,
+    Method,
+}
+
+/// The words of classes and interfaces.
+const CLASS_WORDS: [(&str, u16); 5] = [
+    ("public", 0x0001),
+    ("final", 0x0010),
+    ("abstract", 0x0400),
+    ("interface", 0x0200),
+    ("super", 0x0020),
+];
+
+/// The words of fields.
+const FIELD_WORDS: [(&str, u16); 7] = [
+    ("public", 0x0001),
+    ("private", 0x0002),
+    ("protected", 0x0004),
+    ("static", 0x0008),
+    ("final", 0x0010),
+    ("volatile", 0x0040),
+    ("transient", 0x0080),
+];
+
+/// The words of methods.
+const METHOD_WORDS: [(&str, u16); 8] = [
+    ("public", 0x0001),
+    ("private", 0x0002),
+    ("protected", 0x0004),
+    ("static", 0x0008),
+    ("final", 0x0010),
+    ("synchronized", 0x0020),
+    ("native", 0x0100),
+    ("abstract", 0x0400),
+];
+
+/// The words of a kind, and their flags.
+fn table_of(words: AccessWords) -> &'static [(&'static str, u16)]
+    ensures { map (λ w. (w.0.now, w.1)) result.now ≡ words_of words }
+{
+    match words {
+        AccessWords::Class => &CLASS_WORDS,
+        AccessWords::Field => &FIELD_WORDS,
+        AccessWords::Method => &METHOD_WORDS,
+    }
+}
+
+/// The flag of a word in a table.
+fn flag_in(table: &[(&str, u16)], word: &[u16]) -> Option<u16>
+    ensures { result ≡ flag_of (map (λ w. (w.0.now, w.1)) table.now) word.now }
+{
+    let mut rest = table;
+    while let [(text, flag), behind @ ..] = rest {
+        if same_word(text, word) {
+            return Some(*flag);
+        }
+        rest = behind;
+    }
+    None
+}
+
+/// The flag of a token, if it is one of these words.
+fn flag_at(words: AccessWords, lexeme: &Lexeme) -> Option<u16>
+    ensures { result ≡ flag_at (words_of words) lexeme.now }
+{
+    match lexeme {
+        Lexeme::Word(units) => flag_in(table_of(words), units.as_slice()),
+        _ => None,
+    }
+}
+
+/// The flags before, with that of a token, if it is one of these words.
+fn with_flag(words: AccessWords, before: u16, lexeme: &Lexeme) -> u16
+    ensures { result ≡ flags_with (words_of words) before (lexeme.now ∷ []) }
+{
+    match flag_at(words, lexeme) {
+        Some(flag) => before | flag,
+        None => before,
+    }
+}
+
+/// The flags of all tokens that are words of a kind.
+pub fn flags_in(words: AccessWords, tokens: &[Token]) -> u16
+    ensures { result ≡ flags_in (words_of words) (lexemes tokens.now) }
+{
+    let mut flags = 0;
+    for token in tokens {
+        flags = with_flag(words, flags, &token.lexeme);
+    }
+    flags
+}
+
+/// The place of a word of a kind, which doesn't stand before.
+fn access_word(words: AccessWords, before: u16, lexeme: &Lexeme) -> Judged<()>
+    ensures { result ≡ access_word (words_of words) before lexeme.now }
+{
+    match lexeme {
+        Lexeme::Word(units) => match flag_in(table_of(words), units.as_slice()) {
+            Some(flag) => asked(before & flag == 0, Flaw::Flags),
+            None => Err(Flaw::Flags),
+        },
+        _ => Err(Flaw::Operand),
+    }
+}
+
+/// Nothing, where each token is a word of a kind and none comes twice.
+///
+/// # Errors
+///
+/// `Operand` where another token stands, else `Flags` where a word is none of these or comes twice.
+#[tactic(auto, using(crate::proofs::Judgements::unless_none, crate::proofs::Judgements::unless_alone, crate::proofs::Judgements::unless_again))]
+pub fn access_words(words: AccessWords, tokens: &[Token]) -> Judged<()>
+    ensures { result ≡ access_words (words_of words) (lexemes tokens.now) }
+{
+    let mut judged = Ok(());
+    let mut before = 0;
+    for token in tokens {
+        judged = unless(judged, access_word(words, before, &token.lexeme));
+        before = with_flag(words, before, &token.lexeme);
+    }
+    judged
+}

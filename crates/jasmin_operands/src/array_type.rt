@@ -1,0 +1,50 @@
+//! The component types of `newarray`.
+
+ghost use Rattle.std.specs.Prelude.{◌≡◌};
+ghost use Rattle.std.specs.Option.{option_map};
+ghost use Rattle.jasmin.specs.Operands.{array_type_of, array_type_at};
+
+use crate::judgement::Judged;
+use crate::words::same_word;
+use jasmin::statement::Flaw;
+use jasmin::token::Lexeme;
+use jvms_file::insn::ArrayType;
+
+/// The component type of a word (JVMS table 6.5.newarray-A).
+fn array_type_of(word: &[u16]) -> Option<ArrayType>
+    ensures { result ≡ array_type_of word.now }
+{
+    if same_word("boolean", word) {
+        Some(ArrayType::Boolean)
+    } else if same_word("char", word) {
+        Some(ArrayType::Char)
+    } else if same_word("float", word) {
+        Some(ArrayType::Float)
+    } else if same_word("double", word) {
+        Some(ArrayType::Double)
+    } else if same_word("byte", word) {
+        Some(ArrayType::Byte)
+    } else if same_word("short", word) {
+        Some(ArrayType::Short)
+    } else if same_word("int", word) {
+        Some(ArrayType::Int)
+    } else if same_word("long", word) {
+        Some(ArrayType::Long)
+    } else {
+        None
+    }
+}
+
+/// The component type of a `newarray`.
+///
+/// # Errors
+///
+/// `Operand` where anything else stands or nothing.
+pub fn array_type_at(lexeme: Option<&Lexeme>) -> Judged<ArrayType>
+    ensures { result ≡ array_type_at (option_map (λ l. l.now) lexeme.entry) }
+{
+    match lexeme {
+        Some(Lexeme::Word(units)) => array_type_of(units.as_slice()).ok_or(Flaw::Operand),
+        _ => Err(Flaw::Operand),
+    }
+}

@@ -1,0 +1,40 @@
+//! What a handler names.
+
+ghost use Rattle.std.specs.Prelude.{◌≡◌};
+ghost use Rattle.std.specs.Option.{option_map};
+ghost use Rattle.jasmin.specs.Judgements.{said};
+ghost use Rattle.jasmin.specs.Operands.{caught_at};
+ghost use Rattle.jasmin_operands.specs.Views.{caught_of};
+
+use crate::judgement::Judged;
+use crate::words::{same_word, word_at};
+use descriptor::is_class_entry_name;
+use jasmin::statement::Flaw;
+use jasmin::token::Lexeme;
+
+/// What a `.catch` names, as it stands in its line.
+#[derive(Clone, Copy)]
+pub enum CaughtName<'a> {
+    /// `all`.
+    All,
+    /// A class's name or an array's descriptor.
+    Class(&'a [u16]),
+}
+
+/// What a `.catch` names: `all`, or a class's name or an array's descriptor.
+///
+/// # Errors
+///
+/// `Operand` where no word stands, `Name` where it is none of these.
+pub fn caught_at(lexeme: Option<&Lexeme>) -> Judged<CaughtName<'_>>
+    ensures { said caught_of result ≡ caught_at (option_map (λ l. l.now) lexeme.entry) }
+{
+    let word = word_at(lexeme)?;
+    if same_word("all", word) {
+        Ok(CaughtName::All)
+    } else if is_class_entry_name(word) {
+        Ok(CaughtName::Class(word))
+    } else {
+        Err(Flaw::Name)
+    }
+}

@@ -1,0 +1,168 @@
+//! Numbers as words spell them, and versions.
+
+ghost use Rattle.std.specs.Prelude.{◌≡◌, ◌≤◌, ◌==◌, ◌+◌, ◌*◌, length, drop, is_some, pos, neg_ℤ};
+ghost use Rattle.std.specs.List.{list_all, position_or_len};
+ghost use Rattle.std.specs.Option.{option_and_then};
+ghost use Rattle.jasmin.specs.Lexing.{digit};
+ghost use Rattle.jasmin.specs.Numerals.{digit_below, digits_behind, natural, number_of, is_from_to, is_version};
+ghost use Rattle.jasmin_operands.specs.Numbers.{unsigned_64_bits, signed_64_bits};
+
+use crate::letters::{DOT, LOWER_A, LOWER_F, LOWER_X, MINUS, NINE, PLUS, UPPER_A, UPPER_F, ZERO};
+
+const DECIMAL: u64 = 10;
+
+const HEXADECIMAL: u64 = 16;
+
+/// The value of a digit of either case.
+fn digit(unit: u16) -> Option<u64>
+    ensures { result ≡ digit unit }
+{
+    match unit {
+        ZERO..=NINE => Some(u64::from(unit - ZERO)),
+        LOWER_A..=LOWER_F => Some(u64::from(unit - LOWER_A) + 10),
+        UPPER_A..=UPPER_F => Some(u64::from(unit - UPPER_A) + 10),
+        _ => None,
+    }
+}
+
+/// The value of a digit below the radix.
+fn digit_below(radix: u64, unit: u16) -> Option<u64>
+    ensures { result ≡ digit_below radix unit }
+{
+    let value = digit(unit)?;
+    if value < radix { Some(value) } else { None }
+}
+
+/// The number that digits make with one more, if 64 bits hold it.
+fn with_digit(radix: u64, number: u64, unit: u16) -> Option<u64>
+    ensures { result ≡ option_and_then (λ d. unsigned_64_bits (number * radix + d)) (digit_below radix unit) }
+{
+    let digit = digit_below(radix, unit)?;
+    number.checked_mul(radix)?.checked_add(digit)
+}
+
+/// The number that digits make, if 64 bits hold it.
+#[tactic(auto, using(crate::proofs::Digits::stops, crate::proofs::Digits::no_more))]
+fn digits(radix: u64, units: &[u16]) -> Option<u64>
+    ensures { result ≡ option_and_then unsigned_64_bits (digits_behind radix 0 units.now) }
+{
+    let mut number = 0;
+    let mut rest = units;
+    while let [unit, behind @ ..] = rest {
+        number = with_digit(radix, number, *unit)?;
+        rest = behind;
+    }
+    Some(number)
+}
+
+/// The number of digits, of which there is one at least, if 64 bits hold it.
+#[tactic(auto, using(crate::proofs::Digits::some_natural, crate::proofs::Digits::no_natural))]
+fn natural(radix: u64, units: &[u16]) -> Option<u64>
+    ensures { result ≡ option_and_then unsigned_64_bits (natural radix units.now) }
+{
+    if units.is_empty() {
+        None
+    } else {
+        digits(radix, units)
+    }
+}
+
+/// A number, if 64 bits with a sign hold it.
+fn positive(number: u64) -> Option<i64>
+    ensures { result ≡ signed_64_bits (pos number) }
+{
+    if number <= i64::MAX as u64 {
+        Some(number as i64)
+    } else {
+        None
+    }
+}
+
+/// The negative of a number, if 64 bits with a sign hold it.
+fn negative(number: u64) -> Option<i64>
+    ensures { result ≡ signed_64_bits (neg_ℤ (pos number)) }
+{
+    if number <= 1 << 63 {
+        Some(-i128::from(number) as i64)
+    } else {
+        None
+    }
+}
+
+/// The number that a word spells, if it spells one that 64 bits with a sign hold.
+#[tactic(auto, unfolding(jasmin::specs::Numerals::number_of))]
+pub fn number_of(word: &[u16]) -> Option<i64>
+    ensures { result ≡ option_and_then signed_64_bits (number_of word.now) }
+{
+    match word {
+        [ZERO, LOWER_X, digits @ ..] => positive(natural(HEXADECIMAL, digits)?),
+        [MINUS, digits @ ..] => negative(natural(DECIMAL, digits)?),
+        [PLUS, digits @ ..] => positive(natural(DECIMAL, digits)?),
+        _ => positive(natural(DECIMAL, word)?),
+    }
+}
+
+/// Whether all units are digits.
+fn are_digits(radix: u64, units: &[u16]) -> bool
+    ensures { result ≡ list_all (λ u. is_some (digit_below radix u)) units.now }
+{
+    units.iter().all(|unit| digit_below(radix, *unit).is_some())
+}
+
+/// Whether units are digits, of which there is one at least.
+#[tactic(auto, using(crate::proofs::Digits::natural_digits, crate::proofs::Digits::no_natural))]
+fn is_natural(radix: u64, units: &[u16]) -> bool
+    ensures { result ≡ is_some (natural radix units.now) }
+{
+    !units.is_empty() && are_digits(radix, units)
+}
+
+/// Whether a word spells a number, however large.
+#[tactic(auto, unfolding(jasmin::specs::Numerals::number_of))]
+pub fn spells_number(word: &[u16]) -> bool
+    ensures { result ≡ is_some (number_of word.now) }
+{
+    match word {
+        [ZERO, LOWER_X, digits @ ..] => is_natural(HEXADECIMAL, digits),
+        [MINUS, digits @ ..] => is_natural(DECIMAL, digits),
+        [PLUS, digits @ ..] => is_natural(DECIMAL, digits),
+        _ => is_natural(DECIMAL, word),
+    }
+}
+
+/// Whether decimal digits make a number from one to another.
+fn is_from_to(least: u64, most: u64, units: &[u16]) -> bool
+    ensures { result ≡ is_from_to least most (natural 10 units.now) }
+{
+    match natural(DECIMAL, units) {
+        Some(number) => least <= number && number <= most,
+        None => false,
+    }
+}
+
+/// How many units stand before the first dot; all where there is none.
+fn before_dot(word: &[u16]) -> usize
+    ensures exact { result ≡ position_or_len (λ u. u == 46) word.now }
+    ensures within { result ≤ length word.now }
+{
+    word.iter().take_while(|unit| **unit != DOT).count()
+}
+
+/// What stands behind a place.
+fn behind(word: &[u16], place: usize) -> &[u16]
+    ensures { result.now ≡ drop (place + 1) word.now }
+{
+    if place < word.len() {
+        &word[place + 1..]
+    } else {
+        &[]
+    }
+}
+
+/// Whether a word spells a version: one from 45 to 50, a dot, and one from 0 to 65535, in decimal digits.
+pub fn is_version(word: &[u16]) -> bool
+    ensures { result ≡ is_version word.now }
+{
+    let dot = before_dot(word);
+    is_from_to(45, 50, &word[..dot]) && is_from_to(0, 65535, behind(word, dot))
+}

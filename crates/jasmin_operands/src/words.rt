@@ -1,0 +1,145 @@
+//! Operands that are words.
+
+ghost use Rattle.std.specs.Prelude.{◌≡◌};
+ghost use Rattle.std.specs.Option.{option_map};
+ghost use Rattle.jvms_file.specs.Names.{same_text};
+ghost use Rattle.jasmin.specs.Judgements.{said};
+ghost use Rattle.jasmin.specs.Operands.{word_at, keyword_at, name_at, class_name_at, class_at, field_descriptor_at, is_label, label_at};
+ghost use Rattle.jasmin.specs.Statements.{word_or_none};
+
+use crate::judgement::{Judged, asked};
+use crate::letters::{DOT, MINUS, NINE, PLUS, ZERO};
+use descriptor::{is_class_entry_name, is_class_name, is_field_descriptor, is_name};
+use jasmin::statement::Flaw;
+use jasmin::token::Lexeme;
+
+/// Whether bytes and units are the same text.
+fn are_same(bytes: &[u8], units: &[u16]) -> bool
+    ensures { result ≡ same_text bytes.now units.now }
+{
+    match (bytes.split_first(), units.split_first()) {
+        (None, None) => true,
+        (Some((byte, bytes)), Some((unit, units))) => {
+            u16::from(*byte) == *unit && are_same(bytes, units)
+        }
+        _ => false,
+    }
+}
+
+/// Whether a word's units are those of an ASCII text.
+pub fn same_word(text: &str, word: &[u16]) -> bool
+    ensures { result ≡ same_text text.now word.now }
+{
+    are_same(text.as_bytes(), word)
+}
+
+/// A word. No other token stands in a word's place.
+///
+/// # Errors
+///
+/// `Operand` where another token stands or none.
+pub fn word_at(lexeme: Option<&Lexeme>) -> Judged<&[u16]>
+    ensures { said (λ w. w.now) result ≡ word_at (option_map (λ l. l.now) lexeme.entry) }
+{
+    match lexeme {
+        Some(Lexeme::Word(units)) => Ok(units.as_slice()),
+        _ => Err(Flaw::Operand),
+    }
+}
+
+/// The units of a word, or none.
+pub fn word_or_none(lexeme: Option<&Lexeme>) -> &[u16]
+    ensures { result.now ≡ word_or_none (option_map (λ l. l.now) lexeme.entry) }
+{
+    match lexeme {
+        Some(Lexeme::Word(units)) => units.as_slice(),
+        _ => &[],
+    }
+}
+
+/// The place of a word that is given.
+///
+/// # Errors
+///
+/// `Operand` where anything else stands or nothing.
+pub fn keyword_at(text: &str, lexeme: Option<&Lexeme>) -> Judged<()>
+    ensures { result ≡ keyword_at text.now (option_map (λ l. l.now) lexeme.entry) }
+{
+    let word = word_at(lexeme)?;
+    asked(same_word(text, word), Flaw::Operand)
+}
+
+/// The name of a field, or of a local variable (JVMS 4.2.2).
+///
+/// # Errors
+///
+/// `Operand` where no word stands, `Name` where it is no name.
+pub fn name_at(lexeme: Option<&Lexeme>) -> Judged<&[u16]>
+    ensures { said (λ w. w.now) result ≡ name_at (option_map (λ l. l.now) lexeme.entry) }
+{
+    let word = word_at(lexeme)?;
+    asked(is_name(word), Flaw::Name)?;
+    Ok(word)
+}
+
+/// The name of a class, which is no array's (JVMS 4.2.1).
+///
+/// # Errors
+///
+/// `Operand` where no word stands, `Name` where it is no class's name.
+pub fn class_name_at(lexeme: Option<&Lexeme>) -> Judged<&[u16]>
+    ensures { said (λ w. w.now) result ≡ class_name_at (option_map (λ l. l.now) lexeme.entry) }
+{
+    let word = word_at(lexeme)?;
+    asked(is_class_name(word), Flaw::Name)?;
+    Ok(word)
+}
+
+/// The name of a class or an array's descriptor (JVMS 4.4.1).
+///
+/// # Errors
+///
+/// `Operand` where no word stands, `Name` where it is neither.
+pub fn class_at(lexeme: Option<&Lexeme>) -> Judged<&[u16]>
+    ensures { said (λ w. w.now) result ≡ class_at (option_map (λ l. l.now) lexeme.entry) }
+{
+    let word = word_at(lexeme)?;
+    asked(is_class_entry_name(word), Flaw::Name)?;
+    Ok(word)
+}
+
+/// A field's descriptor (JVMS 4.3.2).
+///
+/// # Errors
+///
+/// `Operand` where no word stands, `Descriptor` where it is no descriptor.
+pub fn field_descriptor_at(lexeme: Option<&Lexeme>) -> Judged<&[u16]>
+    ensures { said (λ w. w.now) result ≡ field_descriptor_at (option_map (λ l. l.now) lexeme.entry) }
+{
+    let word = word_at(lexeme)?;
+    asked(is_field_descriptor(word), Flaw::Descriptor)?;
+    Ok(word)
+}
+
+/// Whether a word is a label: it begins with none of a digit, `+`, `-` and `.`.
+fn is_label(word: &[u16]) -> bool
+    ensures { result ≡ is_label word.now }
+{
+    match word {
+        [] => false,
+        [unit, ..] => !matches!(*unit, ZERO..=NINE | PLUS | MINUS | DOT),
+    }
+}
+
+/// A label.
+///
+/// # Errors
+///
+/// `Operand` where no word stands, `Name` where it is no label.
+pub fn label_at(lexeme: Option<&Lexeme>) -> Judged<&[u16]>
+    ensures { said (λ w. w.now) result ≡ label_at (option_map (λ l. l.now) lexeme.entry) }
+{
+    let word = word_at(lexeme)?;
+    asked(is_label(word), Flaw::Name)?;
+    Ok(word)
+}

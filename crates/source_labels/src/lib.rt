@@ -1,0 +1,15 @@
+//! The labels of a method's code: where each leads, and which of those that something refers to can't be assembled.
+#![tactic(auto)]
+
+mod fault;
+mod labels;
+mod range;
+#[cfg(test)]
+mod tests;
+mod undefined;
+
+pub use fault::LabelsFault;
+pub use jasmin::source::{CodeItem, MethodLines};
+pub use labels::Labels;
+pub use range::has_bad_range;
+pub use undefined::has_undefined_label;
