@@ -74,7 +74,7 @@ is_never_new name =
     same_text name (codes "java/lang/String") || same_text name (codes "java/lang/Class")
     || same_text name (codes "java/lang/System") || same_text name (codes "java/io/PrintStream")
 
--- `new` of those, and an array of such arrays that is made. A cast or a test makes nothing.
+-- `new` of those, and anewarray of such arrays. A cast or a test makes nothing.
 abbrev pub is_outside_use : ClassUse → List ℕ → Bool
 is_outside_use class_use.New name = is_never_new name
 is_outside_use class_use.NewArray name = is_outside_class name

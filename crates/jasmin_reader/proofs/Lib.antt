@@ -1,0 +1,4 @@
+pub mod LastValues
+pub mod LinesRead
+pub mod MemberNames
+pub mod NotedMembers

@@ -1,0 +1,38 @@
+//! The names of members, as statements add to them.
+
+ghost use Rattle.std.specs.Prelude.{OnOk};
+ghost use Rattle.jasmin_reader.specs.Members.{FollowsFields, FollowsMethods};
+
+use crate::members::Members;
+use jasmin::reading::OpenMethod;
+use jasmin::statement::Statement;
+use std::alloc::AllocError;
+
+/// Notes the field that a statement adds.
+#[tactic(auto, using(crate::proofs::NotedMembers::no_field))]
+pub(crate) fn note_field(fields: &mut Members, statement: &Statement) -> Result<(), AllocError>
+    ensures { OnOk result (FollowsFields fields.old fields.new statement.now) }
+{
+    match statement {
+        Statement::Field(field) => fields.put(&field.name, &field.descriptor),
+        _ => Ok(()),
+    }
+}
+
+/// Notes the method that a statement ends, if one is open.
+#[tactic(auto, using(crate::proofs::NotedMembers::no_method, crate::proofs::NotedMembers::nothing_ended))]
+pub(crate) fn note_method(
+    methods: &mut Members,
+    method: &Option<OpenMethod>,
+    statement: &Statement,
+) -> Result<(), AllocError>
+    ensures { OnOk result (FollowsMethods methods.old methods.new method.now statement.now) }
+{
+    match statement {
+        Statement::EndMethod => match method {
+            Some(method) => methods.put(&method.name, &method.descriptor),
+            None => Ok(()),
+        },
+        _ => Ok(()),
+    }
+}

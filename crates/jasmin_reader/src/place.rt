@@ -1,0 +1,110 @@
+//! Which lines may stand where.
+
+ghost use Rattle.std.specs.Prelude.{◌≡◌};
+ghost use Rattle.jasmin.specs.Reading.{rank as part_rank, part_of as directive_part, is_in_order as part_in_order, is_placed as part_placed, takes_instructions as method_takes_instructions, has_no_switch as is_no_switch, has_labels as method_has_labels, is_in_place as line_in_place};
+
+use crate::switch::switch_of;
+use descriptor::{Flags, is_initializer_name};
+use jasmin::reading::{OpenMethod, Part, Reading, SwitchLines};
+use jasmin::statement::{Directive, LineKind, OpenSwitch};
+
+/// Where a part stands among the others.
+fn rank(part: Part) -> u8
+    ensures { result ≡ part_rank part }
+{
+    match part {
+        Part::Beginning => 0,
+        Part::Class => 1,
+        Part::Super => 2,
+        Part::Implements => 3,
+        Part::Members => 4,
+    }
+}
+
+/// The part that a directive outside of methods belongs to.
+fn part_of(directive: Directive) -> Option<Part>
+    ensures { result ≡ directive_part directive }
+{
+    match directive {
+        Directive::Bytecode | Directive::Source => Some(Part::Beginning),
+        Directive::Class | Directive::Interface => Some(Part::Class),
+        Directive::Super => Some(Part::Super),
+        Directive::Implements => Some(Part::Implements),
+        Directive::Field | Directive::Method => Some(Part::Members),
+        Directive::End
+        | Directive::Limit
+        | Directive::Catch
+        | Directive::Throws
+        | Directive::Line
+        | Directive::Var => None,
+    }
+}
+
+/// Whether no statement of a later part has come, and the class has come where it has to.
+fn is_in_order(latest: Part, part: Part) -> bool
+    ensures { result ≡ part_in_order latest part }
+{
+    rank(latest) <= rank(part) && (rank(part) <= 1 || 1 <= rank(latest))
+}
+
+/// Whether a directive may stand here: one of a part outside of methods, each other inside of one.
+fn is_placed(latest: Part, in_method: bool, part: Option<Part>) -> bool
+    ensures { result ≡ part_placed latest in_method part }
+{
+    match part {
+        Some(part) => !in_method && is_in_order(latest, part),
+        None => in_method,
+    }
+}
+
+/// Whether the open method takes instructions: it is neither native nor abstract, or is `<clinit>`.
+fn takes_instructions(method: &Option<OpenMethod>) -> bool
+    ensures { result ≡ method_takes_instructions method.now }
+{
+    match method {
+        Some(method) => {
+            let flags = Flags::of_access(method.access);
+            is_initializer_name(method.name.as_slice())
+                || !(flags.is_native() || flags.is_abstract())
+        }
+        None => false,
+    }
+}
+
+fn has_no_switch(switch: OpenSwitch) -> bool
+    ensures { result ≡ is_no_switch switch }
+{
+    matches!(switch, OpenSwitch::None)
+}
+
+/// Whether a switch has what stands before its default: a `tableswitch` has a label.
+fn has_labels(method: &Option<OpenMethod>) -> bool
+    ensures { result ≡ method_has_labels method.now }
+{
+    match method {
+        Some(method) => match &method.switch {
+            Some(SwitchLines::Table { low: _, labels }) => !labels.as_slice().is_empty(),
+            _ => true,
+        },
+        None => true,
+    }
+}
+
+/// Whether a line of a kind may stand here.
+#[tactic(auto, unfolding(jasmin::specs::Reading::is_in_place))]
+pub(crate) fn is_in_place(reading: &Reading, kind: LineKind) -> bool
+    ensures { result ≡ line_in_place reading.now kind }
+{
+    match kind {
+        LineKind::Blank | LineKind::Case => true,
+        LineKind::Directive(directive) => {
+            has_no_switch(switch_of(reading))
+                && is_placed(reading.part, reading.method.is_some(), part_of(directive))
+        }
+        LineKind::Default => has_labels(&reading.method),
+        LineKind::Label => reading.method.is_some(),
+        LineKind::Instruction(_) | LineKind::LabelledInstruction(_) => {
+            takes_instructions(&reading.method)
+        }
+    }
+}

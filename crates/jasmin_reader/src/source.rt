@@ -1,0 +1,86 @@
+//! A source: what its lines say, one behind another, and what that is together.
+
+ghost use Rattle.std.specs.Prelude.{◌≡◌, ℕ, List, length, IfOk, codes};
+ghost use Rattle.std.specs.Option.{unwrap_or};
+ghost use Rattle.std.specs.Str.Lines.{lines};
+ghost use Rattle.jasmin.specs.Reading.{nothing_read, with_lines as lines_read, last_line as last_of_lines, finished as reading_finished, source_of};
+ghost use Rattle.jasmin_reader.specs.Readings.{Reads, IsRead};
+
+use crate::fault::SourceFault;
+use crate::line::with_line;
+use crate::open::Open;
+use crate::text::text as ascii_text;
+use held::shared::Text;
+use jasmin::reading::Reading;
+use jasmin::source::Source;
+use jasmin::statement::Flaw;
+use std::alloc::{AllocError, Global};
+
+/// What the lines of a text say, and how many there are.
+fn with_lines(alloc: Global, text: &str) -> Result<(Open, usize), SourceFault>
+    ensures read { Reads (λ x. x.0) result (lines_read 0 nothing_read (lines text.now)) }
+    ensures count { IfOk result (λ x. x.1 ≡ length (lines text.now)) }
+{
+    let mut read = Open::new(alloc);
+    let mut number = 0;
+    for line in text.lines() {
+        number += 1;
+        read = match with_line(alloc, read, line) {
+            Ok(read) => read,
+            Err(fault) => return Err(fault.at(number)),
+        };
+    }
+    Ok((read, number))
+}
+
+/// The line that what is missing is missing from: the last one, or the first of a text without lines.
+#[tactic(auto, using(crate::proofs::LinesRead::last_of_none, crate::proofs::LinesRead::last_of_some))]
+fn last_line(count: usize) -> usize
+    ensures { (ls : List (List ℕ)) → count ≡ length ls → result ≡ last_of_lines ls }
+{
+    if count == 0 { 1 } else { count }
+}
+
+/// The superclass, which is `java/lang/Object` where none has come.
+fn superclass_of(alloc: Global, superclass: Option<Text>) -> Result<Text, AllocError>
+    ensures { IfOk result (λ name. name ≡ unwrap_or superclass (codes "java/lang/Object")) }
+{
+    match superclass {
+        Some(name) => Ok(name),
+        None => ascii_text(alloc, "java/lang/Object"),
+    }
+}
+
+/// The tree, if the class has come and no method is open.
+fn finished(alloc: Global, last: usize, reading: Reading) -> Result<Source, SourceFault>
+    ensures { IsRead result (reading_finished last reading) }
+{
+    match (reading.name, reading.method) {
+        (Some(name), None) => Ok(Source {
+            access: reading.access,
+            name,
+            superclass: superclass_of(alloc, reading.superclass)?,
+            interfaces: reading.interfaces,
+            fields: reading.fields,
+            methods: reading.methods,
+        }),
+        _ => Err(SourceFault::Flawed {
+            flaw: Flaw::Missing,
+            line: last,
+        }),
+    }
+}
+
+/// The tree of a source in Jasmin. Lines end at LF or CR LF.
+///
+/// # Errors
+///
+/// The first faulty line, from 1, with the least number of its faults; or Memory.
+#[tactic(auto, unfolding(jasmin::specs::Reading::source_of))]
+pub fn read(alloc: Global, text: &str) -> Result<Source, SourceFault>
+    // The tree that the text is, or its first faulty line, unless memory runs out.
+    ensures exact { IsRead result (source_of text.now) }
+{
+    let (read, count) = with_lines(alloc, text)?;
+    finished(alloc, last_line(count), read.into_reading())
+}

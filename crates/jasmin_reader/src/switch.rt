@@ -1,0 +1,65 @@
+//! What the lines before leave open, as far as the operands of a line depend on it.
+
+ghost use Rattle.std.specs.Prelude.{◌≡◌};
+ghost use Rattle.jasmin.specs.Reading.{last_value as last_match_value, switch_of_lines as lines_switch, switch_of_method as method_switch, switch_of as reading_switch, sort_of as access_sort};
+
+use descriptor::Flags;
+use jasmin::reading::{OpenMethod, Reading, SwitchLines};
+use jasmin::source::MatchLine;
+use jasmin::statement::{ClassSort, OpenSwitch};
+
+/// The last value of a `lookupswitch`, if it has one.
+#[tactic(auto, using(crate::proofs::LastValues::last_value_of))]
+fn last_value(matches: &[MatchLine]) -> Option<i32>
+    ensures { result ≡ last_match_value matches.now }
+{
+    match matches.last() {
+        Some(line) => Some(line.value),
+        None => None,
+    }
+}
+
+/// The switch that these lines leave open.
+fn switch_of_lines(lines: &SwitchLines) -> OpenSwitch
+    ensures { result ≡ lines_switch (Some lines.now) }
+{
+    match lines {
+        SwitchLines::Table { low, labels } => OpenSwitch::Table {
+            next: i64::from(*low) + labels.as_slice().len() as i64,
+        },
+        SwitchLines::Lookup { matches } => OpenSwitch::Lookup {
+            last: last_value(matches.as_slice()),
+        },
+    }
+}
+
+/// The switch that a method leaves open.
+fn switch_of_method(method: &OpenMethod) -> OpenSwitch
+    ensures { result ≡ method_switch (Some method.now) }
+{
+    match &method.switch {
+        Some(lines) => switch_of_lines(lines),
+        None => OpenSwitch::None,
+    }
+}
+
+/// The switch that the lines so far leave open.
+pub(crate) fn switch_of(reading: &Reading) -> OpenSwitch
+    ensures { result ≡ reading_switch reading.now }
+{
+    match &reading.method {
+        Some(method) => switch_of_method(method),
+        None => OpenSwitch::None,
+    }
+}
+
+/// Which sort of class has these flags.
+pub(crate) fn sort_of(access: u16) -> ClassSort
+    ensures { result ≡ access_sort access }
+{
+    if Flags::of_access(access).is_interface() {
+        ClassSort::Interface
+    } else {
+        ClassSort::Class
+    }
+}

@@ -1,0 +1,3 @@
+pub mod Kinds
+pub mod Saying
+pub mod Views

@@ -1,0 +1,254 @@
+//! `.field`.
+
+ghost use Rattle.std.specs.Prelude.{◌≡◌, ◌≤◌, length, IfOk};
+ghost use Rattle.std.specs.List.{position_or_len};
+ghost use Rattle.std.specs.Option.{option_map};
+ghost use Rattle.jasmin.specs.Lexing.{lexemes};
+ghost use Rattle.jasmin.specs.Judgements.{both, said, unless};
+ghost use Rattle.jasmin.specs.Operands.{field_words, access_words, name_at, field_descriptor_at};
+ghost use Rattle.jasmin.specs.Statements.{is_equals, field_head, field_tail, is_long, is_int_type, is_string_type, int_constant, constant_at, constant_in, word_or_none, field_access, field_name_at, last_of, field_line};
+ghost use Rattle.jasmin_statements.specs.Saying.{Says};
+ghost use Rattle.jasmin_statements.specs.Views.{constant_of};
+
+use crate::fault::LineFault;
+use crate::parts::is_word;
+use crate::places::last_of;
+use crate::texts::text;
+use jasmin::source::{FieldConstant, FieldLine};
+use jasmin::statement::{Flaw, Statement};
+use jasmin::token::{Lexeme, Token};
+use jasmin_operands::{
+    AccessWords, Judged, access_words, both, exactly, field_descriptor_at, flags_in, i32_at,
+    i64_at, name_at, operand, unless, word_or_none,
+};
+use std::alloc::{AllocError, Global};
+
+/// The value of a field, as its line lends it.
+#[derive(Clone, Copy, Drop)]
+pub(crate) enum LentConstant<'a> {
+    Integer(i32),
+    Long(i64),
+    String(&'a [u16]),
+}
+
+/// What a field's line says behind its access words, as it lends it: the name, the descriptor and the value.
+type FieldParts<'a> = (&'a [u16], (&'a [u16], Option<LentConstant<'a>>));
+
+/// Whether a token is an equals sign.
+fn is_equals(token: &Token) -> bool
+    ensures { result ≡ is_equals token.now.lexeme }
+{
+    matches!(token.lexeme, Lexeme::Equals)
+}
+
+/// How many tokens stand before the first equals sign.
+fn head_len(tokens: &[Token]) -> usize
+    ensures exact { result ≡ position_or_len (λ t. is_equals t.lexeme) tokens.now }
+    ensures within { result ≤ length tokens.now }
+{
+    tokens.iter().take_while(|token| !is_equals(token)).count()
+}
+
+/// What stands before the first equals sign.
+#[tactic(auto, using(crate::proofs::TokenLists::lexemes_head))]
+fn field_head(tokens: &[Token]) -> &[Token]
+    ensures { lexemes result.now ≡ field_head (lexemes tokens.now) }
+{
+    &tokens[..head_len(tokens)]
+}
+
+/// What stands behind it, if there is one.
+fn field_tail(tokens: &[Token]) -> Option<&[Token]>
+    ensures { option_map (λ ts. lexemes ts.now) result ≡ field_tail (lexemes tokens.now) }
+{
+    let mut rest = tokens;
+    while let [token, behind @ ..] = rest {
+        if is_equals(token) {
+            return Some(behind);
+        }
+        rest = behind;
+    }
+    None
+}
+
+/// Whether a field's constant is a long.
+fn is_long(descriptor: &[u16]) -> bool
+    ensures { result ≡ is_long descriptor.now }
+{
+    is_word(descriptor, "J")
+}
+
+/// Whether a field's constant is an int.
+fn is_int_type(descriptor: &[u16]) -> bool
+    ensures { result ≡ is_int_type descriptor.now }
+{
+    is_word(descriptor, "I")
+        || is_word(descriptor, "B")
+        || is_word(descriptor, "C")
+        || is_word(descriptor, "S")
+        || is_word(descriptor, "Z")
+}
+
+/// Whether a field's constant is a text.
+fn is_string_type(descriptor: &[u16]) -> bool
+    ensures { result ≡ is_string_type descriptor.now }
+{
+    is_word(descriptor, "Ljava/lang/String;")
+}
+
+/// A number of 32 bits, of an int's field.
+fn int_constant<'a>(descriptor: &[u16], number: Judged<i32>) -> Judged<LentConstant<'a>>
+    ensures { said constant_of result ≡ int_constant descriptor.now number }
+{
+    let number = number?;
+    if is_int_type(descriptor) {
+        Ok(LentConstant::Integer(number))
+    } else {
+        Err(Flaw::Operand)
+    }
+}
+
+/// The value of a field of this type.
+fn constant_at<'a>(descriptor: &[u16], lexeme: Option<&'a Lexeme>) -> Judged<LentConstant<'a>>
+    ensures { said constant_of result ≡ constant_at descriptor.now (option_map (λ l. l.now) lexeme.entry) }
+{
+    match lexeme {
+        Some(Lexeme::Word(_)) if is_long(descriptor) => Ok(LentConstant::Long(i64_at(lexeme)?)),
+        Some(Lexeme::Word(_)) => int_constant(descriptor, i32_at(lexeme)),
+        Some(Lexeme::Text(units)) if is_string_type(descriptor) => Ok(LentConstant::String(
+            units.as_slice(),
+        )),
+        _ => Err(Flaw::Operand),
+    }
+}
+
+/// Behind an equals sign: one value.
+#[tactic(auto, using(jasmin_operands::proofs::Judgements::said_unless))]
+fn constant_in<'a>(
+    descriptor: &[u16],
+    tokens: Option<&'a [Token]>,
+) -> Judged<Option<LentConstant<'a>>>
+    ensures { said (λ c. option_map constant_of c) result ≡ constant_in descriptor.now (option_map (λ ts. lexemes ts.now) tokens.entry) }
+{
+    match tokens {
+        None => Ok(None),
+        Some(tokens) => {
+            let constant = unless(
+                constant_at(descriptor, operand(tokens, 0)),
+                exactly(1, tokens),
+            )?;
+            Ok(Some(constant))
+        }
+    }
+}
+
+/// The access words of a field's head: all but its last two tokens.
+#[tactic(auto, using(crate::proofs::TokenLists::lexemes_access))]
+fn field_access(head: &[Token]) -> &[Token]
+    ensures { lexemes result.now ≡ field_access (lexemes head.now) }
+{
+    &head[..head.len().saturating_sub(2)]
+}
+
+/// The last but one token of a field's head.
+#[tactic(auto, using(crate::proofs::TokenLists::lexemes_length))]
+fn field_name_at(head: &[Token]) -> Option<&Lexeme>
+    ensures { option_map (λ l. l.now) result ≡ field_name_at (lexemes head.now) }
+{
+    if head.len() >= 2 {
+        operand(head, head.len() - 2)
+    } else {
+        None
+    }
+}
+
+/// The value of a field, whose descriptor stands last in the head of its line.
+fn field_constant<'a>(head: &[Token], tail: Option<&'a [Token]>) -> Judged<Option<LentConstant<'a>>>
+    ensures { said (λ c. option_map constant_of c) result ≡ constant_in (word_or_none (last_of (lexemes head.now))) (option_map (λ ts. lexemes ts.now) tail.entry) }
+{
+    constant_in(word_or_none(last_of(head)), tail)
+}
+
+/// The descriptor and the value of a field.
+#[tactic(auto, using(jasmin_operands::proofs::Judgements::said_both))]
+fn field_type<'a>(
+    head: &'a [Token],
+    tail: Option<&'a [Token]>,
+) -> Judged<(&'a [u16], Option<LentConstant<'a>>)>
+    ensures { let last = last_of (lexemes head.now) in
+        said (λ p. (p.0.now, option_map constant_of p.1)) result
+        ≡ both (field_descriptor_at last) (constant_in (word_or_none last) (option_map (λ ts. lexemes ts.now) tail.entry)) }
+{
+    both(
+        field_descriptor_at(last_of(head)),
+        field_constant(head, tail),
+    )
+}
+
+/// What a field's line says, whatever its access words are.
+#[tactic(auto, using(jasmin_operands::proofs::Judgements::said_both))]
+fn field_operands<'a>(head: &'a [Token], tail: Option<&'a [Token]>) -> Judged<FieldParts<'a>>
+    ensures { let last = last_of (lexemes head.now) in
+        said (λ p. (p.0.now, (p.1.0.now, option_map constant_of p.1.1))) result
+        ≡ both
+        (name_at (field_name_at (lexemes head.now)))
+        (both (field_descriptor_at last) (constant_in (word_or_none last) (option_map (λ ts. lexemes ts.now) tail.entry))) }
+{
+    both(name_at(field_name_at(head)), field_type(head, tail))
+}
+
+/// What a field's line says behind its access words.
+#[tactic(auto, using(jasmin_operands::proofs::Judgements::said_unless))]
+fn field_parts<'a>(head: &'a [Token], tail: Option<&'a [Token]>) -> Judged<FieldParts<'a>>
+    ensures { let last = last_of (lexemes head.now) in
+        said (λ p. (p.0.now, (p.1.0.now, option_map constant_of p.1.1))) result
+        ≡ unless
+        (both
+        (name_at (field_name_at (lexemes head.now)))
+        (both (field_descriptor_at last) (constant_in (word_or_none last) (option_map (λ ts. lexemes ts.now) tail.entry))))
+        (access_words field_words (field_access (lexemes head.now))) }
+{
+    unless(
+        field_operands(head, tail),
+        access_words(AccessWords::Field, field_access(head)),
+    )
+}
+
+/// A constant of its own.
+fn constant_of(alloc: Global, constant: LentConstant<'_>) -> Result<FieldConstant, AllocError>
+    ensures { IfOk result (λ c. c ≡ constant_of constant.entry) }
+{
+    Ok(match constant {
+        LentConstant::Integer(number) => FieldConstant::Integer(number),
+        LentConstant::Long(number) => FieldConstant::Long(number),
+        LentConstant::String(units) => FieldConstant::String(text(alloc, units)?),
+    })
+}
+
+/// A constant of its own, if there is one.
+fn constant_if(
+    alloc: Global,
+    constant: Option<LentConstant<'_>>,
+) -> Result<Option<FieldConstant>, AllocError>
+    ensures { IfOk result (λ c. c ≡ option_map constant_of constant.entry) }
+{
+    match constant {
+        Some(constant) => Ok(Some(constant_of(alloc, constant)?)),
+        None => Ok(None),
+    }
+}
+
+/// `.field ACCESS NAME DESCRIPTOR` with `= VALUE` or without.
+#[tactic(auto, unfolding(jasmin::specs::Statements::field_line))]
+pub(crate) fn field_line(alloc: Global, tokens: &[Token]) -> Result<Statement, LineFault>
+    ensures { Says result (field_line (lexemes tokens.now)) }
+{
+    let head = field_head(tokens);
+    let (name, (descriptor, constant)) = field_parts(head, field_tail(tokens))?;
+    Ok(Statement::Field(FieldLine {
+        access: flags_in(AccessWords::Field, field_access(head)),
+        name: text(alloc, name)?,
+        descriptor: text(alloc, descriptor)?,
+        constant: constant_if(alloc, constant)?,
+    }))
+}

@@ -1,0 +1,71 @@
+//! The operands that name fields (JVMS 6.5 getstatic, putstatic, getfield, putfield).
+
+ghost use Rattle.std.specs.Prelude.{◌≡◌, slice_get};
+ghost use Rattle.std.specs.Option.{option_map};
+ghost use Rattle.jvms_file.specs.Names.{is_name};
+ghost use Rattle.jasmin.specs.Lexing.{lexemes};
+ghost use Rattle.jasmin.specs.Judgements.{both, said, unless};
+ghost use Rattle.jasmin.specs.Operands.{exactly, tested, word_at, is_member, field_descriptor_at};
+ghost use Rattle.jasmin.specs.Statements.{field_operation};
+ghost use Rattle.jasmin_statements.specs.Saying.{Says};
+ghost use Rattle.jasmin_statements.specs.Views.{two_texts};
+
+use crate::fault::LineFault;
+use crate::parts::{tested, two_words, two_words_unless};
+use crate::texts::text;
+use held::boxed::Boxed;
+use jasmin::source::{FieldName, Operation};
+use jasmin::statement::Flaw;
+use jasmin::token::{Lexeme, Token};
+use jasmin_operands::{
+    Judged, class_of, exactly, field_descriptor_at, is_member_field, name_of, operand, word_at,
+};
+use jvms_file::insn::FieldUse;
+use std::alloc::Global;
+
+/// `class/name` of a field.
+fn member_at(lexeme: Option<&Lexeme>) -> Judged<&[u16]>
+    ensures { said (λ w. w.now) result ≡ tested (is_member is_name) Flaw.Name (word_at (option_map (λ l. l.now) lexeme.entry)) }
+{
+    let word = word_at(lexeme)?;
+    tested(is_member_field(word), Flaw::Name, word)
+}
+
+/// `class/name` of a field, and behind it its descriptor.
+fn field_at(tokens: &[Token]) -> Judged<(&[u16], &[u16])>
+    ensures { let ts = lexemes tokens.now in
+        said two_texts result
+        ≡ both (tested (is_member is_name) Flaw.Name (word_at (slice_get ts 0))) (field_descriptor_at (slice_get ts 1)) }
+{
+    two_words(
+        member_at(operand(tokens, 0)),
+        field_descriptor_at(operand(tokens, 1)),
+    )
+}
+
+/// `class/name` of a field and its descriptor, and no more.
+fn field_parts(tokens: &[Token]) -> Judged<(&[u16], &[u16])>
+    ensures { let ts = lexemes tokens.now in
+        said two_texts result
+        ≡ unless (both (tested (is_member is_name) Flaw.Name (word_at (slice_get ts 0))) (field_descriptor_at (slice_get ts 1))) (exactly 2 ts) }
+{
+    two_words_unless(field_at(tokens), exactly(2, tokens))
+}
+
+/// JVMS 6.5 getstatic, putstatic, getfield, putfield.
+#[tactic(auto, unfolding(jasmin::specs::Statements::field_operation))]
+pub(crate) fn field_operation(
+    alloc: Global,
+    how: FieldUse,
+    tokens: &[Token],
+) -> Result<Operation, LineFault>
+    ensures { Says result (field_operation how (lexemes tokens.now)) }
+{
+    let (member, descriptor) = field_parts(tokens)?;
+    let name = FieldName {
+        class: text(alloc, class_of(member))?,
+        name: text(alloc, name_of(member))?,
+        descriptor: text(alloc, descriptor)?,
+    };
+    Ok(Operation::Field(how, Boxed::new(alloc, name)?))
+}

@@ -1,0 +1,160 @@
+//! What a line is, by its first tokens.
+
+ghost use Rattle.std.specs.Prelude.{◌≡◌, ◌∷◌, ℕ};
+ghost use Rattle.jvms_file.specs.Names.{begins_with};
+ghost use Rattle.jasmin.specs.declared.statement.LineKind.{LineKind as Kind};
+ghost use Rattle.jasmin.specs.Lexing.{lexemes};
+ghost use Rattle.jasmin.specs.Judgements.{said};
+ghost use Rattle.jasmin.specs.LineKinds.{directive_named as directive_of, directive_kind as kind_of_directive, instruction_kind, code_kind as kind_of_code, is_default as begins_default, switch_kind as kind_in_switch, other_kind as kind_of_other, kind_of as kind_of_line};
+ghost use Rattle.jasmin_statements.specs.Kinds.{labelled_kind as kind_behind_label};
+
+use crate::directives::directive_named;
+use crate::mnemonics::opcode_named;
+use jasmin::statement::{Flaw, LineKind, OpenSwitch};
+use jasmin::token::{Lexeme, Token};
+use jasmin_operands::{Judged, same_word};
+
+/// What a directive's name begins with.
+const DOT: u16 = b'.' as u16;
+
+/// Whether a word begins with a dot.
+fn begins_with_dot(word: &[u16]) -> bool
+    ensures { result ≡ begins_with 46 word.now }
+{
+    matches!(word, [DOT, ..])
+}
+
+/// The kind of a line whose first token is a word that begins with a dot.
+fn directive_kind(word: &[u16]) -> Judged<LineKind>
+    ensures { result ≡ kind_of_directive (directive_of word.now) }
+{
+    match directive_named(word) {
+        Some(directive) => Ok(LineKind::Directive(directive)),
+        None => Err(Flaw::UnknownDirective),
+    }
+}
+
+/// The opcode of what stands in an instruction's place.
+fn opcode_at(token: &Token) -> Judged<u8>
+    ensures { (make : ℕ → Kind) → said make result ≡ instruction_kind make token.now.lexeme }
+{
+    match &token.lexeme {
+        Lexeme::Word(word) => match opcode_named(word.as_slice()) {
+            Some(code) => Ok(code),
+            None => Err(Flaw::UnknownInstruction),
+        },
+        _ => Err(Flaw::UnknownInstruction),
+    }
+}
+
+/// What stands behind a label.
+fn labelled_kind(behind: &[Token]) -> Judged<LineKind>
+    ensures { result ≡ kind_behind_label (lexemes behind.now) }
+{
+    match behind.first() {
+        None => Ok(LineKind::Label),
+        Some(token) => Ok(LineKind::LabelledInstruction(opcode_at(token)?)),
+    }
+}
+
+/// An instruction.
+fn instruction(token: &Token) -> Judged<LineKind>
+    ensures { result ≡ instruction_kind (λ code. Kind.Instruction code) token.now.lexeme }
+{
+    Ok(LineKind::Instruction(opcode_at(token)?))
+}
+
+/// A line of code with a token at least: a label where the first is a word and the second a colon.
+fn begun_kind(first: &Token, behind: &[Token]) -> Judged<LineKind>
+    ensures { result ≡ kind_of_code (first.now.lexeme ∷ lexemes behind.now) }
+{
+    match &first.lexeme {
+        Lexeme::Word(_) => match behind.split_first() {
+            None => instruction(first),
+            Some((second, rest)) => match &second.lexeme {
+                Lexeme::Colon => labelled_kind(rest),
+                Lexeme::Word(_) | Lexeme::Text(_) | Lexeme::Equals => instruction(first),
+            },
+        },
+        Lexeme::Text(_) | Lexeme::Colon | Lexeme::Equals => instruction(first),
+    }
+}
+
+/// A line of code: a label, a label and an instruction, or an instruction.
+fn code_kind(tokens: &[Token]) -> Judged<LineKind>
+    ensures { result ≡ kind_of_code (lexemes tokens.now) }
+{
+    match tokens.split_first() {
+        None => Ok(LineKind::Blank),
+        Some((first, behind)) => begun_kind(first, behind),
+    }
+}
+
+/// Whether the first token is the word `default`.
+fn is_default(tokens: &[Token]) -> bool
+    ensures { result ≡ begins_default (lexemes tokens.now) }
+{
+    match tokens {
+        [
+            Token {
+                lexeme: Lexeme::Word(word),
+                ..
+            },
+            ..
+        ] => same_word("default", word.as_slice()),
+        _ => false,
+    }
+}
+
+/// The kind of a line of a switch. The word `default` alone is a label of a tableswitch.
+fn switch_kind(switch: OpenSwitch, tokens: &[Token]) -> LineKind
+    ensures { result ≡ kind_in_switch switch (lexemes tokens.now) }
+{
+    let is_label = matches!(switch, OpenSwitch::Table { next: _ }) && tokens.len() == 1;
+    if is_default(tokens) && !is_label {
+        LineKind::Default
+    } else {
+        LineKind::Case
+    }
+}
+
+/// The kind of a line behind no directive.
+fn other_kind(switch: OpenSwitch, tokens: &[Token]) -> Judged<LineKind>
+    ensures { result ≡ kind_of_other switch (lexemes tokens.now) }
+{
+    match switch {
+        OpenSwitch::None => code_kind(tokens),
+        OpenSwitch::Table { next: _ } | OpenSwitch::Lookup { last: _ } => {
+            if tokens.is_empty() {
+                Ok(LineKind::Blank)
+            } else {
+                Ok(switch_kind(switch, tokens))
+            }
+        }
+    }
+}
+
+/// What a line is, by its first tokens, or the fault of its name.
+///
+/// # Errors
+///
+/// `UnknownDirective` where the first token is a word that begins with a dot and no directive's name;
+/// `UnknownInstruction` where no name of an instruction stands in an instruction's place.
+#[tactic(auto, unfolding(jasmin::specs::LineKinds::kind_of))]
+pub fn kind_of(switch: OpenSwitch, tokens: &[Token]) -> Judged<LineKind>
+    ensures { result ≡ kind_of_line switch (lexemes tokens.now) }
+{
+    let Some(first) = tokens.first() else {
+        return other_kind(switch, tokens);
+    };
+    match &first.lexeme {
+        Lexeme::Word(word) => {
+            if begins_with_dot(word.as_slice()) {
+                directive_kind(word.as_slice())
+            } else {
+                other_kind(switch, tokens)
+            }
+        }
+        Lexeme::Text(_) | Lexeme::Colon | Lexeme::Equals => other_kind(switch, tokens),
+    }
+}

@@ -1,0 +1,136 @@
+//! `.method` and `.end method`.
+
+ghost use Rattle.std.specs.Prelude.{◌≡◌, ◌||◌, Ok};
+ghost use Rattle.jvms_file.specs.Names.{is_method_name, is_initializer_name};
+ghost use Rattle.jvms_file.specs.Members.{is_static, is_method_descriptor_for};
+ghost use Rattle.jasmin.specs.Lexing.{lexemes};
+ghost use Rattle.jasmin.specs.Judgements.{both, said, unless};
+ghost use Rattle.jasmin.specs.Operands.{method_words, access_words, tested, word_at, before_descriptor, descriptor_of};
+ghost use Rattle.jasmin.specs.Statements.{is_permitted, method_head_at, but_last, last_of, method_line, end_line};
+ghost use Rattle.jasmin_statements.specs.Saying.{Says};
+ghost use Rattle.jasmin_statements.specs.Views.{two_texts};
+
+use crate::fault::LineFault;
+use crate::parts::{tested, two_words, two_words_unless};
+use crate::places::{but_last, last_of};
+use crate::texts::text;
+use descriptor::{Flags, is_initializer_name, is_method_name, method_units};
+use jasmin::statement::{ClassSort, Flaw, Statement};
+use jasmin::token::Token;
+use jasmin_operands::{
+    AccessWords, Judged, access_words, asked, before_descriptor, both, descriptor_of, exactly,
+    flags_in, keyword_at, operand, word_at,
+};
+use std::alloc::Global;
+
+/// The most units of a method's arguments (JVMS 4.3.3).
+const MOST_UNITS: usize = 255;
+
+/// Whether a method of a class of this sort may have these flags: an interface's is abstract, but for `<clinit>`.
+fn is_permitted(sort: ClassSort, access: u16, name: &[u16]) -> bool
+    ensures { result ≡ is_permitted sort access name.now }
+{
+    match sort {
+        ClassSort::Class => true,
+        ClassSort::Interface => Flags::of_access(access).is_abstract() || is_initializer_name(name),
+    }
+}
+
+/// Whether a text is the descriptor of a method that is called on no object, or of one that is: the object counts.
+pub(crate) fn is_method_descriptor_for(on_none: bool, text: &[u16]) -> bool
+    ensures { result ≡ is_method_descriptor_for on_none text.now }
+{
+    match method_units(text) {
+        Some(units) => units + usize::from(!on_none) <= MOST_UNITS,
+        None => false,
+    }
+}
+
+/// Whether a method with these flags and this name is called on no object: a static one, or `<clinit>`.
+fn is_on_none(access: u16, name: &[u16]) -> bool
+    ensures { result ≡ (is_static access || is_initializer_name name.now) }
+{
+    Flags::of_access(access).is_static() || is_initializer_name(name)
+}
+
+/// The descriptor of a method with these flags and this name.
+fn method_descriptor<'a>(access: u16, name: &[u16], descriptor: &'a [u16]) -> Judged<&'a [u16]>
+    ensures { said (λ w. w.now) result ≡ tested (is_method_descriptor_for (is_static access || is_initializer_name name.now)) Flaw.Descriptor (Ok descriptor.now) }
+{
+    let fits = is_method_descriptor_for(is_on_none(access, name), descriptor);
+    tested(fits, Flaw::Descriptor, descriptor)
+}
+
+/// The name of a method, by the word that has its descriptor too.
+fn method_name(word: &[u16]) -> Judged<&[u16]>
+    ensures { said (λ w. w.now) result ≡ tested is_method_name Flaw.Name (Ok (before_descriptor word.now)) }
+{
+    let name = before_descriptor(word);
+    tested(is_method_name(name), Flaw::Name, name)
+}
+
+/// The name and the descriptor of a method with these flags, by the word that has both.
+fn named_method(access: u16, word: &[u16]) -> Judged<(&[u16], &[u16])>
+    ensures { let name = before_descriptor word.now in
+        said two_texts result
+        ≡ both
+        (tested is_method_name Flaw.Name (Ok name))
+        (tested (is_method_descriptor_for (is_static access || is_initializer_name name)) Flaw.Descriptor (Ok (descriptor_of word.now))) }
+{
+    two_words(
+        method_name(word),
+        method_descriptor(access, before_descriptor(word), descriptor_of(word)),
+    )
+}
+
+/// The name and the descriptor of a method that a class of this sort may have.
+fn permitted_method(sort: ClassSort, access: u16, word: &[u16]) -> Judged<(&[u16], &[u16])>
+    ensures { said two_texts result ≡ method_head_at sort access (Ok word.now) }
+{
+    let is_permitted = is_permitted(sort, access, before_descriptor(word));
+    two_words_unless(named_method(access, word), asked(is_permitted, Flaw::Flags))
+}
+
+/// The name and the descriptor of a method, where a word stands.
+fn method_head_at(sort: ClassSort, access: u16, word: Judged<&[u16]>) -> Judged<(&[u16], &[u16])>
+    ensures { said two_texts result ≡ method_head_at sort access (said (λ w. w.now) word.entry) }
+{
+    permitted_method(sort, access, word?)
+}
+
+/// The name and the descriptor of a method, behind its access words.
+fn method_head(sort: ClassSort, access: u16, tokens: &[Token]) -> Judged<(&[u16], &[u16])>
+    ensures { said two_texts result ≡ unless (method_head_at sort access (word_at (last_of (lexemes tokens.now)))) (access_words method_words (but_last (lexemes tokens.now))) }
+{
+    two_words_unless(
+        method_head_at(sort, access, word_at(last_of(tokens))),
+        access_words(AccessWords::Method, but_last(tokens)),
+    )
+}
+
+/// `.method ACCESS NAME(PARAMETERS)RESULT`.
+#[tactic(auto, unfolding(jasmin::specs::Statements::method_line))]
+pub(crate) fn method_line(
+    alloc: Global,
+    sort: ClassSort,
+    tokens: &[Token],
+) -> Result<Statement, LineFault>
+    ensures { Says result (method_line sort (lexemes tokens.now)) }
+{
+    let access = flags_in(AccessWords::Method, but_last(tokens));
+    let (name, descriptor) = method_head(sort, access, tokens)?;
+    Ok(Statement::Method {
+        access,
+        name: text(alloc, name)?,
+        descriptor: text(alloc, descriptor)?,
+    })
+}
+
+/// `.end method`.
+#[tactic(auto, unfolding(jasmin::specs::Statements::end_line))]
+pub(crate) fn end_line(tokens: &[Token]) -> Judged<Statement>
+    ensures { result ≡ end_line (lexemes tokens.now) }
+{
+    both(keyword_at("method", operand(tokens, 0)), exactly(1, tokens))?;
+    Ok(Statement::EndMethod)
+}

@@ -1,0 +1,48 @@
+//! The names of instructions.
+
+ghost use Rattle.std.specs.Prelude.{◌≡◌, ◌≤◌, length, position};
+ghost use Rattle.jvms_file.specs.Names.{same_text};
+ghost use Rattle.jasmin.specs.declared.mnemonic.TheConstants.{MNEMONICS as names};
+ghost use Rattle.jasmin.specs.LineKinds.{opcode_named};
+
+use jasmin::mnemonic::MNEMONICS;
+use jasmin_operands::same_word;
+
+/// The opcode of invokespecial, which `invokenonvirtual` is another name of.
+const INVOKESPECIAL: u8 = 183;
+
+/// The place of a word among names, if it is one of them.
+fn place_of(word: &[u16], names: &[&str]) -> Option<usize>
+    ensures { result ≡ position (λ name. same_text name.now word.now) names.now }
+{
+    names.iter().position(|name| same_word(name, word))
+}
+
+/// The code of a word, which is its place among the names.
+fn code_of(word: &[u16], names: &[&str]) -> Option<u8>
+    requires { length names.now ≤ 256 }
+    ensures { result ≡ position (λ name. same_text name.now word.now) names.now }
+{
+    match place_of(word, names) {
+        Some(place) => Some(place as u8),
+        None => None,
+    }
+}
+
+/// The opcode of a name that stands in the table.
+fn listed_opcode(word: &[u16]) -> Option<u8>
+    ensures { result ≡ position (λ name. same_text name.now word.now) names }
+{
+    code_of(word, &MNEMONICS)
+}
+
+/// The opcode of an instruction's name.
+pub(crate) fn opcode_named(word: &[u16]) -> Option<u8>
+    ensures { result ≡ opcode_named word.now }
+{
+    if same_word("invokenonvirtual", word) {
+        Some(INVOKESPECIAL)
+    } else {
+        listed_opcode(word)
+    }
+}
