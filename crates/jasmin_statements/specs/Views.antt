@@ -5,8 +5,8 @@ use Rattle.jasmin.specs.declared.source.FieldConstant.{FieldConstant}
 use Rattle.jasmin.specs.declared.source.FieldConstant.TheVariants as constant
 use Rattle.jasmin.specs.declared.source.LoadedConstant.{LoadedConstant}
 use Rattle.jasmin.specs.declared.source.LoadedConstant.TheVariants as loaded
-use Rattle.jasmin_statements.specs.declared.field_line.LentConstant.{LentConstant}
-use Rattle.jasmin_statements.specs.declared.field_line.LentConstant.TheVariants as lent_constant
+use Rattle.jasmin_statements.specs.declared.field_constant.LentConstant.{LentConstant}
+use Rattle.jasmin_statements.specs.declared.field_constant.LentConstant.TheVariants as lent_constant
 use Rattle.jasmin_statements.specs.declared.constants.LentOperand.{LentOperand}
 use Rattle.jasmin_statements.specs.declared.constants.LentOperand.TheVariants as lent_operand
 

@@ -1,14 +1,14 @@
 //! The names of directives.
 
 ghost use Rattle.std.specs.Prelude.{◌≡◌};
-ghost use Rattle.jasmin.specs.LineKinds.{directive_named as named};
+ghost use Rattle.jasmin.specs.LineKinds.{directive_named};
 
 use jasmin::statement::Directive;
 use jasmin_operands::same_word;
 
 /// The directive of a word that begins with a dot.
 pub(crate) fn directive_named(word: &[u16]) -> Option<Directive>
-    ensures { result ≡ named word.now }
+    ensures { result ≡ directive_named word.now }
 {
     if same_word(".bytecode", word) {
         Some(Directive::Bytecode)

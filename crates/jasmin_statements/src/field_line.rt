@@ -1,35 +1,27 @@
 //! `.field`.
 
-ghost use Rattle.std.specs.Prelude.{◌≡◌, ◌≤◌, length, IfOk};
+ghost use Rattle.std.specs.Prelude.{◌≡◌, ◌≤◌, length};
 ghost use Rattle.std.specs.List.{position_or_len};
 ghost use Rattle.std.specs.Option.{option_map};
 ghost use Rattle.jasmin.specs.Lexing.{lexemes};
 ghost use Rattle.jasmin.specs.Judgements.{both, said, unless};
 ghost use Rattle.jasmin.specs.Operands.{field_words, access_words, name_at, field_descriptor_at};
-ghost use Rattle.jasmin.specs.Statements.{is_equals, field_head, field_tail, is_long, is_int_type, is_string_type, int_constant, constant_at, constant_in, word_or_none, field_access, field_name_at, last_of, field_line};
+ghost use Rattle.jasmin.specs.Statements.{is_equals, field_head, field_tail, constant_in, word_or_none, field_access, field_name_at, last_of, field_line};
 ghost use Rattle.jasmin_statements.specs.Saying.{Says};
 ghost use Rattle.jasmin_statements.specs.Views.{constant_of};
 
 use crate::fault::LineFault;
-use crate::parts::is_word;
+use crate::field_constant::{LentConstant, constant_if, constant_in};
 use crate::places::last_of;
 use crate::texts::text;
-use jasmin::source::{FieldConstant, FieldLine};
-use jasmin::statement::{Flaw, Statement};
+use jasmin::source::FieldLine;
+use jasmin::statement::Statement;
 use jasmin::token::{Lexeme, Token};
 use jasmin_operands::{
-    AccessWords, Judged, access_words, both, exactly, field_descriptor_at, flags_in, i32_at,
-    i64_at, name_at, operand, unless, word_or_none,
+    AccessWords, Judged, access_words, both, field_descriptor_at, flags_in, name_at, operand,
+    unless, word_or_none,
 };
-use std::alloc::{AllocError, Global};
-
-/// The value of a field, as its line lends it.
-#[derive(Clone, Copy, Drop)]
-pub(crate) enum LentConstant<'a> {
-    Integer(i32),
-    Long(i64),
-    String(&'a [u16]),
-}
+use std::alloc::Global;
 
 /// What a field's line says behind its access words, as it lends it: the name, the descriptor and the value.
 type FieldParts<'a> = (&'a [u16], (&'a [u16], Option<LentConstant<'a>>));
@@ -69,77 +61,6 @@ fn field_tail(tokens: &[Token]) -> Option<&[Token]>
         rest = behind;
     }
     None
-}
-
-/// Whether a field's constant is a long.
-fn is_long(descriptor: &[u16]) -> bool
-    ensures { result ≡ is_long descriptor.now }
-{
-    is_word(descriptor, "J")
-}
-
-/// Whether a field's constant is an int.
-fn is_int_type(descriptor: &[u16]) -> bool
-    ensures { result ≡ is_int_type descriptor.now }
-{
-    is_word(descriptor, "I")
-        || is_word(descriptor, "B")
-        || is_word(descriptor, "C")
-        || is_word(descriptor, "S")
-        || is_word(descriptor, "Z")
-}
-
-/// Whether a field's constant is a text.
-fn is_string_type(descriptor: &[u16]) -> bool
-    ensures { result ≡ is_string_type descriptor.now }
-{
-    is_word(descriptor, "Ljava/lang/String;")
-}
-
-/// A number of 32 bits, of an int's field.
-fn int_constant<'a>(descriptor: &[u16], number: Judged<i32>) -> Judged<LentConstant<'a>>
-    ensures { said constant_of result ≡ int_constant descriptor.now number }
-{
-    let number = number?;
-    if is_int_type(descriptor) {
-        Ok(LentConstant::Integer(number))
-    } else {
-        Err(Flaw::Operand)
-    }
-}
-
-/// The value of a field of this type.
-fn constant_at<'a>(descriptor: &[u16], lexeme: Option<&'a Lexeme>) -> Judged<LentConstant<'a>>
-    ensures { said constant_of result ≡ constant_at descriptor.now (option_map (λ l. l.now) lexeme.entry) }
-{
-    match lexeme {
-        Some(Lexeme::Word(_)) if is_long(descriptor) => Ok(LentConstant::Long(i64_at(lexeme)?)),
-        Some(Lexeme::Word(_)) => int_constant(descriptor, i32_at(lexeme)),
-        Some(Lexeme::Text(units)) if is_string_type(descriptor) => Ok(LentConstant::String(
-            units.as_slice(),
-        )),
-        _ => Err(Flaw::Operand),
-    }
-}
-
-/// Behind an equals sign: one value.
-#[tactic(auto, using(jasmin_operands::proofs::Judgements::said_unless))]
-fn constant_in<'a>(
-    descriptor: &[u16],
-    tokens: Option<&'a [Token]>,
-) -> Judged<Option<LentConstant<'a>>>
-    ensures { said (λ c. option_map constant_of c) result ≡ constant_in descriptor.now (option_map (λ ts. lexemes ts.now) tokens.entry) }
-{
-    match tokens {
-        None => Ok(None),
-        Some(tokens) => {
-            let constant = unless(
-                constant_at(descriptor, operand(tokens, 0)),
-                exactly(1, tokens),
-            )?;
-            Ok(Some(constant))
-        }
-    }
 }
 
 /// The access words of a field's head: all but its last two tokens.
@@ -212,30 +133,6 @@ fn field_parts<'a>(head: &'a [Token], tail: Option<&'a [Token]>) -> Judged<Field
         field_operands(head, tail),
         access_words(AccessWords::Field, field_access(head)),
     )
-}
-
-/// A constant of its own.
-fn constant_of(alloc: Global, constant: LentConstant<'_>) -> Result<FieldConstant, AllocError>
-    ensures { IfOk result (λ c. c ≡ constant_of constant.entry) }
-{
-    Ok(match constant {
-        LentConstant::Integer(number) => FieldConstant::Integer(number),
-        LentConstant::Long(number) => FieldConstant::Long(number),
-        LentConstant::String(units) => FieldConstant::String(text(alloc, units)?),
-    })
-}
-
-/// A constant of its own, if there is one.
-fn constant_if(
-    alloc: Global,
-    constant: Option<LentConstant<'_>>,
-) -> Result<Option<FieldConstant>, AllocError>
-    ensures { IfOk result (λ c. c ≡ option_map constant_of constant.entry) }
-{
-    match constant {
-        Some(constant) => Ok(Some(constant_of(alloc, constant)?)),
-        None => Ok(None),
-    }
 }
 
 /// `.field ACCESS NAME DESCRIPTOR` with `= VALUE` or without.

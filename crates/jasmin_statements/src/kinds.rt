@@ -5,8 +5,8 @@ ghost use Rattle.jvms_file.specs.Names.{begins_with};
 ghost use Rattle.jasmin.specs.declared.statement.LineKind.{LineKind as Kind};
 ghost use Rattle.jasmin.specs.Lexing.{lexemes};
 ghost use Rattle.jasmin.specs.Judgements.{said};
-ghost use Rattle.jasmin.specs.LineKinds.{directive_named as directive_of, directive_kind as kind_of_directive, instruction_kind, code_kind as kind_of_code, is_default as begins_default, switch_kind as kind_in_switch, other_kind as kind_of_other, kind_of as kind_of_line};
-ghost use Rattle.jasmin_statements.specs.Kinds.{labelled_kind as kind_behind_label};
+ghost use Rattle.jasmin.specs.LineKinds.{directive_named, directive_kind, instruction_kind, code_kind, is_default, switch_kind, other_kind, kind_of};
+ghost use Rattle.jasmin_statements.specs.Kinds.{labelled_kind};
 
 use crate::directives::directive_named;
 use crate::mnemonics::opcode_named;
@@ -26,7 +26,7 @@ fn begins_with_dot(word: &[u16]) -> bool
 
 /// The kind of a line whose first token is a word that begins with a dot.
 fn directive_kind(word: &[u16]) -> Judged<LineKind>
-    ensures { result ≡ kind_of_directive (directive_of word.now) }
+    ensures { result ≡ directive_kind (directive_named word.now) }
 {
     match directive_named(word) {
         Some(directive) => Ok(LineKind::Directive(directive)),
@@ -49,7 +49,7 @@ fn opcode_at(token: &Token) -> Judged<u8>
 
 /// What stands behind a label.
 fn labelled_kind(behind: &[Token]) -> Judged<LineKind>
-    ensures { result ≡ kind_behind_label (lexemes behind.now) }
+    ensures { result ≡ labelled_kind (lexemes behind.now) }
 {
     match behind.first() {
         None => Ok(LineKind::Label),
@@ -66,7 +66,7 @@ fn instruction(token: &Token) -> Judged<LineKind>
 
 /// A line of code with a token at least: a label where the first is a word and the second a colon.
 fn begun_kind(first: &Token, behind: &[Token]) -> Judged<LineKind>
-    ensures { result ≡ kind_of_code (first.now.lexeme ∷ lexemes behind.now) }
+    ensures { result ≡ code_kind (first.now.lexeme ∷ lexemes behind.now) }
 {
     match &first.lexeme {
         Lexeme::Word(_) => match behind.split_first() {
@@ -82,7 +82,7 @@ fn begun_kind(first: &Token, behind: &[Token]) -> Judged<LineKind>
 
 /// A line of code: a label, a label and an instruction, or an instruction.
 fn code_kind(tokens: &[Token]) -> Judged<LineKind>
-    ensures { result ≡ kind_of_code (lexemes tokens.now) }
+    ensures { result ≡ code_kind (lexemes tokens.now) }
 {
     match tokens.split_first() {
         None => Ok(LineKind::Blank),
@@ -92,7 +92,7 @@ fn code_kind(tokens: &[Token]) -> Judged<LineKind>
 
 /// Whether the first token is the word `default`.
 fn is_default(tokens: &[Token]) -> bool
-    ensures { result ≡ begins_default (lexemes tokens.now) }
+    ensures { result ≡ is_default (lexemes tokens.now) }
 {
     match tokens {
         [
@@ -108,7 +108,7 @@ fn is_default(tokens: &[Token]) -> bool
 
 /// The kind of a line of a switch. The word `default` alone is a label of a tableswitch.
 fn switch_kind(switch: OpenSwitch, tokens: &[Token]) -> LineKind
-    ensures { result ≡ kind_in_switch switch (lexemes tokens.now) }
+    ensures { result ≡ switch_kind switch (lexemes tokens.now) }
 {
     let is_label = matches!(switch, OpenSwitch::Table { next: _ }) && tokens.len() == 1;
     if is_default(tokens) && !is_label {
@@ -120,7 +120,7 @@ fn switch_kind(switch: OpenSwitch, tokens: &[Token]) -> LineKind
 
 /// The kind of a line behind no directive.
 fn other_kind(switch: OpenSwitch, tokens: &[Token]) -> Judged<LineKind>
-    ensures { result ≡ kind_of_other switch (lexemes tokens.now) }
+    ensures { result ≡ other_kind switch (lexemes tokens.now) }
 {
     match switch {
         OpenSwitch::None => code_kind(tokens),
@@ -142,7 +142,7 @@ fn other_kind(switch: OpenSwitch, tokens: &[Token]) -> Judged<LineKind>
 /// `UnknownInstruction` where no name of an instruction stands in an instruction's place.
 #[tactic(auto, unfolding(jasmin::specs::LineKinds::kind_of))]
 pub fn kind_of(switch: OpenSwitch, tokens: &[Token]) -> Judged<LineKind>
-    ensures { result ≡ kind_of_line switch (lexemes tokens.now) }
+    ensures { result ≡ kind_of switch (lexemes tokens.now) }
 {
     let Some(first) = tokens.first() else {
         return other_kind(switch, tokens);

@@ -8,6 +8,7 @@ mod code_lines;
 mod constants;
 mod directives;
 mod fault;
+mod field_constant;
 mod field_line;
 mod field_operands;
 mod instructions;

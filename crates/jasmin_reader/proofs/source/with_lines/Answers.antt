@@ -1,5 +1,5 @@
 -- Each turn reads the line that reading reads there.
-use Rattle.std.proofs.Common.{◌≡◌, ◌+◌, ◌<◌, ◌≤◌, ℕ, ◌∙◌, [], ◌∷◌, ap, length, drop, get_or, refl, sym, arith, rules, Result}
+use Rattle.std.proofs.Common.{◌≡◌, ◌<◌, ℕ, ◌∙◌, [], ◌∷◌, length, get_or, sym, arith, rules}
 use Rattle.std.proofs.lemmas.List.{length-append}
 use Rattle.std.specs.Str.Lines.{lines}
 use Rattle.std.proofs.lemmas.Iterator.Splits.{YieldsList-from_lines}

@@ -1,0 +1,119 @@
+//! The values of fields (JVMS table 4.7.2-A).
+
+ghost use Rattle.std.specs.Prelude.{◌≡◌, IfOk};
+ghost use Rattle.std.specs.Option.{option_map};
+ghost use Rattle.jasmin.specs.Lexing.{lexemes};
+ghost use Rattle.jasmin.specs.Judgements.{said};
+ghost use Rattle.jasmin.specs.Statements.{is_long, is_int_type, is_string_type, int_constant, constant_at, constant_in};
+ghost use Rattle.jasmin_statements.specs.Views.{constant_of};
+
+use crate::parts::is_word;
+use crate::texts::text;
+use jasmin::source::FieldConstant;
+use jasmin::statement::Flaw;
+use jasmin::token::{Lexeme, Token};
+use jasmin_operands::{Judged, exactly, i32_at, i64_at, operand, unless};
+use std::alloc::{AllocError, Global};
+
+/// The value of a field, as its line lends it.
+#[derive(Clone, Copy, Drop)]
+pub(crate) enum LentConstant<'a> {
+    Integer(i32),
+    Long(i64),
+    String(&'a [u16]),
+}
+
+/// Whether a field's constant is a long.
+fn is_long(descriptor: &[u16]) -> bool
+    ensures { result ≡ is_long descriptor.now }
+{
+    is_word(descriptor, "J")
+}
+
+/// Whether a field's constant is an int.
+fn is_int_type(descriptor: &[u16]) -> bool
+    ensures { result ≡ is_int_type descriptor.now }
+{
+    is_word(descriptor, "I")
+        || is_word(descriptor, "B")
+        || is_word(descriptor, "C")
+        || is_word(descriptor, "S")
+        || is_word(descriptor, "Z")
+}
+
+/// Whether a field's constant is a text.
+fn is_string_type(descriptor: &[u16]) -> bool
+    ensures { result ≡ is_string_type descriptor.now }
+{
+    is_word(descriptor, "Ljava/lang/String;")
+}
+
+/// A number of 32 bits, of an int's field.
+fn int_constant<'a>(descriptor: &[u16], number: Judged<i32>) -> Judged<LentConstant<'a>>
+    ensures { said constant_of result ≡ int_constant descriptor.now number }
+{
+    let number = number?;
+    if is_int_type(descriptor) {
+        Ok(LentConstant::Integer(number))
+    } else {
+        Err(Flaw::Operand)
+    }
+}
+
+/// The value of a field of this type.
+fn constant_at<'a>(descriptor: &[u16], lexeme: Option<&'a Lexeme>) -> Judged<LentConstant<'a>>
+    ensures { said constant_of result ≡ constant_at descriptor.now (option_map (λ l. l.now) lexeme.entry) }
+{
+    match lexeme {
+        Some(Lexeme::Word(_)) if is_long(descriptor) => Ok(LentConstant::Long(i64_at(lexeme)?)),
+        Some(Lexeme::Word(_)) => int_constant(descriptor, i32_at(lexeme)),
+        Some(Lexeme::Text(units)) if is_string_type(descriptor) => Ok(LentConstant::String(
+            units.as_slice(),
+        )),
+        _ => Err(Flaw::Operand),
+    }
+}
+
+/// Behind an equals sign: one value.
+#[tactic(auto, using(jasmin_operands::proofs::Judgements::said_unless))]
+pub(crate) fn constant_in<'a>(
+    descriptor: &[u16],
+    tokens: Option<&'a [Token]>,
+) -> Judged<Option<LentConstant<'a>>>
+    ensures { said (λ c. option_map constant_of c) result ≡ constant_in descriptor.now (option_map (λ ts. lexemes ts.now) tokens.entry) }
+{
+    match tokens {
+        None => Ok(None),
+        Some(tokens) => {
+            let constant = unless(
+                constant_at(descriptor, operand(tokens, 0)),
+                exactly(1, tokens),
+            )?;
+            Ok(Some(constant))
+        }
+    }
+}
+
+/// A constant of its own.
+fn constant_of(alloc: Global, constant: LentConstant<'_>) -> Result<FieldConstant, AllocError>
+    ensures { IfOk result (λ c. c ≡ constant_of constant.entry) }
+{
+    Ok(match constant {
+        LentConstant::Integer(number) => FieldConstant::Integer(number),
+        LentConstant::Long(number) => FieldConstant::Long(number),
+        LentConstant::String(units) => FieldConstant::String(text(alloc, units)?),
+    })
+}
+
+/// A constant of its own, if there is one.
+pub(crate) fn constant_if(
+    alloc: Global,
+    constant: Option<LentConstant<'_>>,
+) -> Result<Option<FieldConstant>, AllocError>
+    ensures { IfOk result (λ c. c ≡ option_map constant_of constant.entry) }
+{
+    match constant {
+        Some(constant) => Ok(Some(constant_of(alloc, constant)?)),
+        None => Ok(None),
+    }
+}
