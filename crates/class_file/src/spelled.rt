@@ -35,6 +35,14 @@ impl Model for ClassFile {
 }
 
 impl ClassFile {
+    /// A class that bytes spell.
+    pub fn new(class: jvms_file::class_file::ClassFile) -> ClassFile
+        requires spelled { HasSpelling class }
+        ensures same { result ≡ class }
+    {
+        ClassFile { class }
+    }
+
     /// The class.
     pub fn class(&self) -> &jvms_file::class_file::ClassFile
         ensures same { result.now ≡ self.now }

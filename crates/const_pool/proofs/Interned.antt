@@ -85,6 +85,14 @@ interned-new es keys e next w are is wide fits some new =
     let here : taken es + 1 ≡ next = omega arith in
     rw (← new, free) (ap (λ n. Ok (n, es ++ e ∷ [])) here)
 
+-- An entry that isn't there, and for which a number is left, takes the next.
+pub interned-next : (es keys : List Entry) (e : Entry) (next w : ℕ) → keys ≡ es → next ≡ taken keys + 1 → w ≡ width e → w ≤ 65535 - next → 0 < w → None ≡ number_from 1 es e → interned es e ≡ Ok (taken es + 1, es ++ e ∷ [])
+unfolding interned
+interned-next es keys e next w are is wide fits some new =
+    let all : taken keys ≡ taken es = ap taken are in
+    let free : nat_le (taken es + width e) 65534 ≡ true = grind (arith, nat_tests) in
+    rw (← new, free) refl
+
 -- ---- The pool of entries
 
 -- Behind each long and double, and nowhere else, stands an unusable entry.

@@ -78,11 +78,12 @@ abbrev pub numbered_from : ℕ → List Entry → List (Entry × ℕ)
 numbered_from n [] = []
 numbered_from n (e ∷ es) = (e, n) ∷ numbered_from (n + width e) es
 
--- An answer of interning, which took the entries from old to new: where it is no number, nothing changed.
+-- An answer of interning, which took the entries from old to new: where it is no number, nothing changed. Memory is
+-- wanted for an entry that isn't there and has a number left, and for no other.
 abbrev pub Interns : List Entry → Entry → Result ℕ PoolFault → List Entry → Type 0
 Interns old e (Ok n) new = interned old e ≡ Ok (n, new)
 Interns old e (Err pool_fault.PoolFull) new = (interned old e ≡ Err pool_fault.PoolFull) × (new ≡ old)
-Interns old e (Err pool_fault.Memory) new = new ≡ old
+Interns old e (Err pool_fault.Memory) new = (interned old e ≡ Ok (taken old + 1, old ++ e ∷ [])) × (new ≡ old)
 
 -- Entries with their numbers, and the number of the next entry.
 pub record IsNumbering (entries : List (Entry × ℕ)) (next : ℕ) : Type 0 where

@@ -23,6 +23,7 @@ pub use code::{Decoded, decode};
 pub use encoding::encode;
 pub use handlers::handler;
 pub use jvms_file::insn::{Insn, Opcode};
+pub use opcodes::form_of;
 pub use operands::insn_at;
 pub use pads::layout;
 pub use starts::Starts;

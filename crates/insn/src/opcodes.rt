@@ -13,7 +13,7 @@ fn entry_of(entries: &[Opcode], code: u8) -> Option<Opcode>
 }
 
 /// What the operands of an opcode are, if the code is an opcode.
-pub(crate) fn form_of(code: u8) -> Option<Opcode>
+pub fn form_of(code: u8) -> Option<Opcode>
     ensures { result ≡ slice_get table code }
 {
     entry_of(&OPCODES, code)

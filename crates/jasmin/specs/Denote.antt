@@ -1,11 +1,15 @@
 -- What a source means: a class of a program, in which a label stands for the number of instructions before it.
-use Rattle.std.specs.Prelude.{ℕ, suc, Bool, true, false, not, ◌||◌, if◌then◌else◌, List, [], ◌∷◌, map, Option, Some, None}
+use Rattle.std.specs.Prelude.{ℕ, suc, Bool, true, false, not, ◌||◌, if◌then◌else◌, List, [], ◌∷◌, map, Option, Some, None, slice_get}
 use Rattle.std.specs.Option.{option_map, unwrap_or}
 use Rattle.jvms_file.specs.Names.{same_text, is_initializer_name}
 use Rattle.jvms_file.specs.Descriptors.{field_type, method_type}
 use Rattle.jvms_file.specs.Members.{is_private, is_static, is_native, is_abstract, is_interface}
 use Rattle.jvms_file.specs.declared.insn.Invoke.{Invoke}
 use Rattle.jvms_file.specs.declared.insn.Invoke.TheVariants as invoke
+use Rattle.jvms_file.specs.declared.insn.TheConstants.{OPCODES}
+use Rattle.jvms_file.specs.declared.insn.Opcode.{Opcode}
+use Rattle.jvms_file.specs.declared.insn.Opcode.TheVariants as opcode
+use Rattle.jvms_file.specs.declared.insn.Simple.{Simple}
 use Rattle.jvms_file.specs.declared.insn.Simple.TheVariants as simple
 use Rattle.jvms_file.specs.declared.insn.Push.TheVariants as push
 use Rattle.jvms_file.specs.declared.insn.ArrayInsn.TheVariants as array_insn
@@ -58,6 +62,14 @@ operations (item.Operation o ∷ items) = o ∷ operations items
 
 -- ---- Instructions
 
+-- The instruction that an opcode is alone; what stands here for another opcode is never seen.
+abbrev pub simple_of : ℕ → Simple
+simple_of code = of_form (slice_get OPCODES code)
+  where
+    of_form : Option Opcode → Simple
+    of_form (Some (opcode.Alone s)) = s
+    of_form _ = simple.Nop
+
 abbrev pub loaded_constant : LoadedConstant → Loadable
 loaded_constant (loaded.Integer n) = loadable.Integer n
 loaded_constant (loaded.String text) = loadable.String text
@@ -72,7 +84,7 @@ abbrev pub switch_case : List CodeItem → MatchLine → SwitchCase
 switch_case items line = record { value = line.value; target = target items line.label }
 
 abbrev pub instruction_of : List CodeItem → Operation → Instruction
-instruction_of items (operation.Alone s) = instruction.Simple s
+instruction_of items (operation.Alone code) = instruction.Simple (simple_of code)
 instruction_of items (operation.PushByte n) = instruction.Simple (simple.Push (push.Int n))
 instruction_of items (operation.PushShort n) = instruction.Simple (simple.Push (push.Int n))
 instruction_of items (operation.Constant width c) = instruction.Constant (loaded_constant c)

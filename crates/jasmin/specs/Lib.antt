@@ -1,7 +1,6 @@
 pub mod Assembling
 pub mod Denote
 pub mod Judgements
-pub mod Layout
 pub mod Lexing
 pub mod LineKinds
 pub mod Numerals

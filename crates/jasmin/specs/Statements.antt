@@ -334,34 +334,34 @@ multi_new_array_operation ts =
     (both (class_at (slice_get ts 0)) (dimensions_at (word_or_none (slice_get ts 0)) (u8_at (slice_get ts 1))))
     (exactly 2 ts))
 
--- The instruction of an opcode, by its operands. No name leads to `wide` or to the opcode that these versions lack.
-abbrev pub instruction_with : Opcode → List Lexeme → Judged Instruction
-instruction_with (opcode.Alone s) ts = whole (said (λ _. operation.Alone s) (exactly 0 ts))
-instruction_with opcode.PushByte ts = whole (said (λ n. operation.PushByte n) (alone i8_at ts))
-instruction_with opcode.PushShort ts = whole (said (λ n. operation.PushShort n) (alone i16_at ts))
-instruction_with opcode.Constant ts = whole (constant_operation constant_width.AsNeeded ts)
-instruction_with opcode.ConstantWide ts = whole (constant_operation constant_width.Wide ts)
-instruction_with opcode.ConstantLong ts = whole (said (λ n. operation.ConstantLong n) (alone i64_at ts))
-instruction_with (opcode.Local how) ts = whole (said (λ n. operation.Local how n) (alone u16_at ts))
-instruction_with opcode.Increment ts = whole (increment_operation ts)
-instruction_with (opcode.Branch how) ts = whole (branch_operation branch_width.Short how ts)
-instruction_with (opcode.BranchWide how) ts = whole (branch_operation branch_width.Wide how ts)
-instruction_with opcode.TableSwitch ts = said (λ low. instruction.Table low) (alone i32_at ts)
-instruction_with opcode.LookupSwitch ts = said (λ _. instruction.Lookup) (exactly 0 ts)
-instruction_with (opcode.Field how) ts = whole (field_operation how ts)
-instruction_with (opcode.Invoke how) ts = whole (invoke_operation how ts)
-instruction_with (opcode.Class how) ts = whole (class_operation how ts)
-instruction_with opcode.NewArray ts = whole (new_array_operation ts)
-instruction_with opcode.MultiNewArray ts = whole (multi_new_array_operation ts)
-instruction_with opcode.Wide ts = Err flaw.UnknownInstruction
-instruction_with opcode.Reserved ts = Err flaw.UnknownInstruction
+-- The instruction of an opcode with such operands. No name leads to `wide` or to the opcode that these versions lack.
+abbrev pub instruction_with : ℕ → Opcode → List Lexeme → Judged Instruction
+instruction_with code (opcode.Alone s) ts = whole (said (λ _. operation.Alone code) (exactly 0 ts))
+instruction_with code opcode.PushByte ts = whole (said (λ n. operation.PushByte n) (alone i8_at ts))
+instruction_with code opcode.PushShort ts = whole (said (λ n. operation.PushShort n) (alone i16_at ts))
+instruction_with code opcode.Constant ts = whole (constant_operation constant_width.AsNeeded ts)
+instruction_with code opcode.ConstantWide ts = whole (constant_operation constant_width.Wide ts)
+instruction_with code opcode.ConstantLong ts = whole (said (λ n. operation.ConstantLong n) (alone i64_at ts))
+instruction_with code (opcode.Local how) ts = whole (said (λ n. operation.Local how n) (alone u16_at ts))
+instruction_with code opcode.Increment ts = whole (increment_operation ts)
+instruction_with code (opcode.Branch how) ts = whole (branch_operation branch_width.Short how ts)
+instruction_with code (opcode.BranchWide how) ts = whole (branch_operation branch_width.Wide how ts)
+instruction_with code opcode.TableSwitch ts = said (λ low. instruction.Table low) (alone i32_at ts)
+instruction_with code opcode.LookupSwitch ts = said (λ _. instruction.Lookup) (exactly 0 ts)
+instruction_with code (opcode.Field how) ts = whole (field_operation how ts)
+instruction_with code (opcode.Invoke how) ts = whole (invoke_operation how ts)
+instruction_with code (opcode.Class how) ts = whole (class_operation how ts)
+instruction_with code opcode.NewArray ts = whole (new_array_operation ts)
+instruction_with code opcode.MultiNewArray ts = whole (multi_new_array_operation ts)
+instruction_with code opcode.Wide ts = Err flaw.UnknownInstruction
+instruction_with code opcode.Reserved ts = Err flaw.UnknownInstruction
 
 -- The instruction of an opcode's number.
 unfoldable pub instruction_line : ℕ → List Lexeme → Judged Instruction
 instruction_line code ts = of_form (slice_get OPCODES code)
   where
     of_form : Option Opcode → Judged Instruction
-    of_form (Some form) = instruction_with form ts
+    of_form (Some form) = instruction_with code form ts
     of_form None = Err flaw.UnknownInstruction
 
 -- ---- Lines of a switch

@@ -4,7 +4,7 @@
 use held::boxed::Boxed;
 use held::items::Items;
 use held::shared::Text;
-use jvms_file::insn::{ArrayType, Branch, ClassUse, FieldUse, Invoke, LocalUse, Simple};
+use jvms_file::insn::{ArrayType, Branch, ClassUse, FieldUse, Invoke, LocalUse};
 
 /// A field that an instruction names.
 #[derive(Debug, Drop)]
@@ -73,8 +73,8 @@ pub struct LookupLines {
 /// An instruction as it is spelled, by the operands of its opcode.
 #[derive(Debug, Drop)]
 pub enum Operation {
-    /// The opcode alone is the instruction.
-    Alone(Simple),
+    /// An instruction without operands, by its opcode.
+    Alone(u8),
     /// `bipush`.
     PushByte(i8),
     /// `sipush`.

@@ -14,8 +14,8 @@ mod place;
 mod source;
 mod switch;
 mod text;
+mod written;
 
 pub use fault::SourceFault;
-pub use jasmin::source::Source;
 pub use jasmin::statement::Flaw;
-pub use source::read;
+pub use written::{Source, read};

@@ -71,14 +71,9 @@ fn finished(alloc: Global, last: usize, reading: Reading) -> Result<Source, Sour
     }
 }
 
-/// The tree of a source in Jasmin. Lines end at LF or CR LF.
-///
-/// # Errors
-///
-/// The first faulty line, from 1, with the least number of its faults; or Memory.
+/// The tree of a text, or its first faulty line.
 #[tactic(auto, unfolding(jasmin::specs::Reading::source_of))]
-pub fn read(alloc: Global, text: &str) -> Result<Source, SourceFault>
-    // The tree that the text is, or its first faulty line, unless memory runs out.
+pub(crate) fn read_tree(alloc: Global, text: &str) -> Result<Source, SourceFault>
     ensures exact { IsRead result (source_of text.now) }
 {
     let (read, count) = with_lines(alloc, text)?;

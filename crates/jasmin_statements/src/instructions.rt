@@ -58,16 +58,21 @@ fn new_array_operation(tokens: &[Token]) -> Judged<Operation>
     Ok(Operation::NewArray(component))
 }
 
-/// The instruction of an opcode, by its operands.
-fn instruction_with(alloc: Global, form: Opcode, tokens: &[Token]) -> Result<Instruction, LineFault>
-    ensures { Says result (instruction_with form (lexemes tokens.now)) }
+/// The instruction of an opcode with such operands.
+fn instruction_with(
+    alloc: Global,
+    code: u8,
+    form: Opcode,
+    tokens: &[Token],
+) -> Result<Instruction, LineFault>
+    ensures { Says result (instruction_with code form (lexemes tokens.now)) }
 {
     let first = operand(tokens, 0);
     let alone = exactly(1, tokens);
     let operation = match form {
-        Opcode::Alone(simple) => {
+        Opcode::Alone(_) => {
             exactly(0, tokens)?;
-            Operation::Alone(simple)
+            Operation::Alone(code)
         }
         Opcode::PushByte => Operation::PushByte(unless(i8_at(first), alone)?),
         Opcode::PushShort => Operation::PushShort(unless(i16_at(first), alone)?),
@@ -103,7 +108,7 @@ pub(crate) fn instruction_line(
     ensures { Says result (instruction_line code (lexemes tokens.now)) }
 {
     match form_of(code) {
-        Some(form) => instruction_with(alloc, form, tokens),
+        Some(form) => instruction_with(alloc, code, form, tokens),
         None => Err(LineFault::Flaw(Flaw::UnknownInstruction)),
     }
 }

@@ -21,8 +21,6 @@ mod parts;
 mod places;
 mod statement;
 mod switch_lines;
-#[cfg(test)]
-mod tests;
 mod texts;
 
 pub use kinds::kind_of;

@@ -1,5 +1,6 @@
 -- Entries are numbered in their pool as they are among themselves.
 use Rattle.std.proofs.Common.{◌≡◌, ℕ, ◌+◌, true, false, cond, List, [], ◌∷◌, ◌++◌, length, Option, None, Some, Result, Ok, Err, refl, sym, ap, ◌∙◌, arith, nat_le, append-nil, subst}
+use Rattle.std.specs.List.{AllByRecursion}
 use Rattle.std.proofs.lemmas.List.Concat.{flat_map-append}
 use Rattle.jvms_file.specs.declared.class_file.Constant.{Constant}
 use Rattle.jvms_file.specs.declared.class_file.Constant.TheVariants as constant
@@ -12,7 +13,7 @@ use Rattle.const_pool.specs.Interning.{constant_of, constants_of, pool_of, is_sa
 use Rattle.const_pool.proofs.Interned.{length-pool_of}
 use Rattle.pool_entries.specs.declared.fault.EntryFault.{EntryFault}
 use Rattle.pool_entries.specs.declared.fault.EntryFault.TheVariants as fault
-use Rattle.pool_entries.specs.Entries.{is_same as is_same_constant, numbers_of, number_from as number_in, constant_entry, IsShort, AreShort, Gives}
+use Rattle.pool_entries.specs.Entries.{is_same as is_same_constant, numbers_of, number_from as number_in, constant_entry, IsShort, AreShort, IsProper, AreProper, Gives}
 use Rattle.pool_entries.specs.Faults.{fault_of}
 
 -- Two entries are one exactly where they are one constant.
@@ -85,30 +86,37 @@ pub gives_fault : (es new : List Entry) (e : Entry) (f : PoolFault) (pool : List
 gives_fault es new e pool_fault.PoolFull pool is = constant_entry-pool_of es e ∙ ap in_pool is.0
 gives_fault es new e pool_fault.Memory pool is = tt
 
--- ---- Texts stay short
+-- ---- What holds of each entry goes on to hold
 
-short_push : (xs ys : List Constant) → AreShort xs → AreShort ys → AreShort (xs ++ ys)
-short_push [] ys are more = more
-short_push (x ∷ xs) ys are more = (are.0, short_push xs ys are.1 more)
+holds_push : (P : Constant → Type 0) (xs ys : List Constant) → AllByRecursion P xs → AllByRecursion P ys → AllByRecursion P (xs ++ ys)
+holds_push P [] ys are more = more
+holds_push P (x ∷ xs) ys are more = (are.0, holds_push P xs ys are.1 more)
 
-short_numbers : (c : Constant) → IsShort c → AreShort (numbers_of c)
-short_numbers c is =
-    elim (takes_two c) as (λ two. AreShort (cond two (c ∷ constant.Unusable ∷ []) (c ∷ []))) [ true ↦ (is, (tt, tt)) | false ↦ (is, tt) ]
+holds_numbers : (P : Constant → Type 0) (c : Constant) → P constant.Unusable → P c → AllByRecursion P (numbers_of c)
+holds_numbers P c unusable is =
+    elim (takes_two c) as (λ two. AllByRecursion P (cond two (c ∷ constant.Unusable ∷ []) (c ∷ []))) [ true ↦ (is, (unusable, tt)) | false ↦ (is, tt) ]
 
-short_in : List Entry → Result (ℕ × List Entry) PoolFault → Type 0
-short_in old (Ok (n, new)) = AreShort (pool_of new)
-short_in old (Err f) = Unit {0}
+holds_in : (Constant → Type 0) → Result (ℕ × List Entry) PoolFault → Type 0
+holds_in P (Ok (n, new)) = AllByRecursion P (pool_of new)
+holds_in P (Err f) = Unit {0}
 
-short_by : (es : List Entry) (e : Entry) (r : Option ℕ) → r ≡ number_from 1 es e → IsShort (constant_of e) → AreShort (pool_of es) → short_in es (interned es e)
-unfolding interned short_in
-short_by es e (Some n) is short are = rw (← is) are
-short_by es e None is short are =
+holds_by : (P : Constant → Type 0) (es : List Entry) (e : Entry) (r : Option ℕ) → r ≡ number_from 1 es e → P constant.Unusable → P (constant_of e) → AllByRecursion P (pool_of es) → holds_in P (interned es e)
+unfolding interned holds_in
+holds_by P es e (Some n) is unusable new are = rw (← is) are
+holds_by P es e None is unusable new are =
     rw (← is)
-    (elim (nat_le (taken es + width e) 65534) as (λ fits. short_in es (cond fits (Ok (taken es + 1, es ++ e ∷ [])) (Err pool_fault.PoolFull))) [
-      | true ↦ subst AreShort (pool_of-push es e) (short_push (pool_of es) (numbers_of (constant_of e)) are (short_numbers (constant_of e) short))
+    (elim (nat_le (taken es + width e) 65534) as (λ fits. holds_in P (cond fits (Ok (taken es + 1, es ++ e ∷ [])) (Err pool_fault.PoolFull))) [
+      | true ↦ subst (AllByRecursion P) (pool_of-push es e) (holds_push P (pool_of es) (numbers_of (constant_of e)) are (holds_numbers P (constant_of e) unusable new))
       | false ↦ tt
     ])
 
+holds_on : (P : Constant → Type 0) (es new : List Entry) (e : Entry) (n : ℕ) → P constant.Unusable → P (constant_of e) → AllByRecursion P (pool_of es) → interned es e ≡ Ok (n, new) → AllByRecursion P (pool_of new)
+unfolding holds_in
+holds_on P es new e n unusable one are is = subst (holds_in P) is (holds_by P es e (number_from 1 es e) refl unusable one are)
+
+-- Texts stay short, and their units of 16 bits.
 pub stays_short : (es new : List Entry) (e : Entry) (n : ℕ) → IsShort (constant_of e) → AreShort (pool_of es) → interned es e ≡ Ok (n, new) → AreShort (pool_of new)
-unfolding short_in
-stays_short es new e n short are is = subst (short_in es) is (short_by es e (number_from 1 es e) refl short are)
+stays_short es new e n short are is = holds_on IsShort es new e n tt short are is
+
+pub stays_proper : (es new : List Entry) (e : Entry) (n : ℕ) → IsProper (constant_of e) → AreProper (pool_of es) → interned es e ≡ Ok (n, new) → AreProper (pool_of new)
+stays_proper es new e n proper are is = holds_on IsProper es new e n tt proper are is

@@ -8,7 +8,7 @@ use Rattle.jvms_file.specs.declared.class_file.Constant.TheVariants as constant
 use Rattle.jvms_file.specs.ConstantPool.{takes_two}
 use Rattle.jvms_file.specs.Names.{same_text}
 use Rattle.jvms_file.specs.Results.{◌>>=◌, want}
-use Rattle.jvms_file.specs.Texts.{encoded}
+use Rattle.jvms_file.specs.Texts.{encoded, IsText}
 use Rattle.pool_entries.specs.declared.fault.EntryFault.{EntryFault}
 use Rattle.pool_entries.specs.declared.fault.EntryFault.TheVariants as fault
 use Rattle.pool_entries.specs.declared.kind.MethodKind.{MethodKind}
@@ -62,6 +62,14 @@ IsShort _ = Unit {0}
 -- Each text of a pool is short.
 abbrev pub AreShort : List Constant → Type 0
 AreShort pool = AllByRecursion IsShort pool
+
+-- The units of a text are of 16 bits.
+abbrev pub IsProper : Constant → Type 0
+IsProper (constant.Utf8 units) = IsText units
+IsProper _ = Unit {0}
+
+abbrev pub AreProper : List Constant → Type 0
+AreProper pool = AllByRecursion IsProper pool
 
 unfoldable pub text_entry : List Constant → List ℕ → Result (ℕ × List Constant) EntryFault
 text_entry pool units = do

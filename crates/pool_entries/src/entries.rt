@@ -5,7 +5,7 @@ ghost use Rattle.jvms_file.specs.declared.class_file.Constant.TheVariants as con
 ghost use Rattle.jvms_file.specs.ConstantPool.{entry as entry_at, utf8_at, class_name_at, name_and_type_at};
 ghost use Rattle.jvms_file.specs.Spelling.{IsNumbered};
 ghost use Rattle.const_pool.specs.Interning.{constant_of, pool_of};
-ghost use Rattle.pool_entries.specs.Entries.{IsShort, AreShort, Gives, constant_entry, text_entry, class_entry, string_entry, integer_entry, long_entry, name_and_type_entry};
+ghost use Rattle.pool_entries.specs.Entries.{IsShort, AreShort, IsProper, AreProper, Gives, constant_entry, text_entry, class_entry, string_entry, integer_entry, long_entry, name_and_type_entry};
 ghost use Rattle.pool_entries.specs.Kept.{IsKept};
 ghost use Rattle.pool_entries.specs.Named.{IsString};
 
@@ -29,13 +29,13 @@ impl Model for Entries {
     ghost use Rattle.std.specs.Prelude.{List};
     ghost use Rattle.const_pool.specs.declared.entry.Entry.{Entry};
     ghost use Rattle.const_pool.specs.Interning.{pool_of};
-    ghost use Rattle.pool_entries.specs.Entries.{AreShort};
+    ghost use Rattle.pool_entries.specs.Entries.{AreShort, AreProper};
 
     ghost Value = { List Entry };
 
     ghost view = { λ e. e.builder };
 
-    ghost invariant = { λ e. AreShort (pool_of e.builder) };
+    ghost invariant = { λ e. AreShort (pool_of e.builder) × AreProper (pool_of e.builder) };
 }
 
 impl Entries {
@@ -50,7 +50,8 @@ impl Entries {
 
     /// The number of an entry, which is put behind the others if it isn't there.
     pub(crate) fn constant(&mut self, entry: Entry) -> Result<u16, EntryFault>
-        requires { IsShort (constant_of entry) }
+        requires short { IsShort (constant_of entry) }
+        requires proper { IsProper (constant_of entry) }
         ensures exact { Gives (constant_entry (pool_of self.old) (constant_of entry)) result (pool_of self.new) }
         ensures names { IfOk result (λ n. entry_at (pool_of self.new) n ≡ Some (constant_of entry)) }
         ensures kept { IsKept (pool_of self.old) (pool_of self.new) }
@@ -113,12 +114,14 @@ impl Entries {
     }
 
     /// The pool of these entries. It can be written: constant_pool_count is at most 65535, behind each long and
-    /// double, and nowhere else, stands an unusable entry (JVMS 4.4.5), and two bytes count each text's.
+    /// double, and nowhere else, stands an unusable entry (JVMS 4.4.5), two bytes count each text's, and its units are
+    /// of 16 bits.
     pub fn into_pool(self, alloc: Global) -> Result<Pool, AllocError>
         ensures exact { IfOk result (λ pool. pool ≡ pool_of self) }
         ensures numbered { IfOk result (IsNumbered false) }
         ensures few { IfOk result (λ pool. length pool ≤ 65534) }
         ensures short { IfOk result AreShort }
+        ensures proper { IfOk result AreProper }
     {
         self.builder.into_pool(alloc)
     }

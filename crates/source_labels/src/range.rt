@@ -2,8 +2,7 @@
 
 ghost use Rattle.std.specs.Prelude.{◌≡◌};
 ghost use Rattle.std.specs.List.{list_any};
-ghost use Rattle.jasmin.specs.Assembling.{has_bad_range as has_bad_range_of};
-ghost use Rattle.source_labels.specs.Leading.{is_bad_range_in};
+ghost use Rattle.jasmin.specs.Assembling.{has_bad_range as has_bad_range_of, is_bad_range as is_bad_range_in};
 
 use crate::labels::Labels;
 use jasmin::source::{CatchLine, MethodLines};

@@ -3,8 +3,8 @@
 ghost use Rattle.std.specs.Prelude.{◌≡◌, ◌∷◌, map};
 ghost use Rattle.std.specs.List.{list_any};
 ghost use Rattle.jasmin.specs.Denote.{operations};
-ghost use Rattle.jasmin.specs.Assembling.{labels_of, leads_nowhere as leads_nowhere_of, has_bad_label as has_bad_label_of, has_undefined_label as has_undefined_label_of};
-ghost use Rattle.source_labels.specs.Leading.{leads_nowhere_in, item_leads_nowhere as item_leads_nowhere_in, has_bad_label_in};
+ghost use Rattle.jasmin.specs.Assembling.{labels_of, leads_nowhere as leads_nowhere_in, has_bad_label as has_bad_label_in, has_undefined_label as has_undefined_label_of};
+ghost use Rattle.source_labels.specs.Leading.{item_leads_nowhere as item_leads_nowhere_in};
 
 use crate::labels::Labels;
 use held::shared::Text;
@@ -95,7 +95,7 @@ fn any_item_leads_nowhere(labels: &Labels<'_>, code: &[CodeItem]) -> bool
 #[tactic(auto, using(crate::proofs::Any::code_leads_nowhere))]
 fn code_leads_nowhere(method: &MethodLines, labels: &Labels<'_>) -> bool
     requires { labels.now ≡ method.now.code }
-    ensures { result ≡ list_any (λ o. list_any (leads_nowhere_of method.now) (labels_of o)) (operations method.now.code) }
+    ensures { result ≡ list_any (λ o. list_any (leads_nowhere_in method.now.code) (labels_of o)) (operations method.now.code) }
 {
     any_item_leads_nowhere(labels, method.code.as_slice())
 }
@@ -110,7 +110,7 @@ fn any_bad_label(labels: &Labels<'_>, catches: &[CatchLine]) -> bool
 /// Whether a catch of a method has a label that can't be where it is used.
 fn catches_lead_nowhere(method: &MethodLines, labels: &Labels<'_>) -> bool
     requires { labels.now ≡ method.now.code }
-    ensures { result ≡ list_any (has_bad_label_of method.now) method.now.catches }
+    ensures { result ≡ list_any (has_bad_label_in method.now.code) method.now.catches }
 {
     any_bad_label(labels, method.catches.as_slice())
 }

@@ -80,6 +80,7 @@ fn assert_method(
 #[test]
 fn gcd_is_read(rt: HostRuntime) -> Result<(), Fail> {
     let source = read(rt.alloc(), GCD)?;
+    let source = source.tree();
     assert_eq!(rt; source.access, 0x21);
     assert_name(&rt, rt.alloc(), source.name.as_slice(), "G")?;
     assert_name(
@@ -89,21 +90,23 @@ fn gcd_is_read(rt: HostRuntime) -> Result<(), Fail> {
         "java/lang/Object",
     )?;
     assert_eq!(rt; source.methods.len(), 1);
-    assert_method(&rt, rt.alloc(), &source, 0, "gcd", (3, 2), (2, 11))
+    assert_method(&rt, rt.alloc(), source, 0, "gcd", (3, 2), (2, 11))
 }
 
 #[test]
 fn hello_world_is_read(rt: HostRuntime) -> Result<(), Fail> {
     let source = read(rt.alloc(), HELLO_WORLD)?;
+    let source = source.tree();
     assert_name(&rt, rt.alloc(), source.name.as_slice(), "HelloWorld")?;
     assert_eq!(rt; source.methods.len(), 2);
-    assert_method(&rt, rt.alloc(), &source, 0, "<init>", (1, 1), (0, 3))?;
-    assert_method(&rt, rt.alloc(), &source, 1, "main", (2, 1), (0, 4))
+    assert_method(&rt, rt.alloc(), source, 0, "<init>", (1, 1), (0, 3))?;
+    assert_method(&rt, rt.alloc(), source, 1, "main", (2, 1), (0, 4))
 }
 
 #[test]
 fn the_superclass_may_be_missing(rt: HostRuntime) -> Result<(), Fail> {
     let source = read(rt.alloc(), ".class A")?;
+    let source = source.tree();
     assert_name(
         &rt,
         rt.alloc(),

@@ -6,3 +6,5 @@
 mod examples;
 #[cfg(test)]
 mod faults;
+#[cfg(test)]
+mod statements;

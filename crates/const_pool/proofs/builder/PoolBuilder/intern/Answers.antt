@@ -1,10 +1,10 @@
-use Rattle.std.proofs.Common.{◌≡◌, ◌<◌, ◌++◌, ◌∷◌, [], None, Ok, ◌∙◌, refl, sym, ap}
+use Rattle.std.proofs.Common.{rules, ◌≡◌, ◌<◌, ◌++◌, ◌∷◌, [], None, Ok, ◌∙◌, refl, sym, ap}
 use Rattle.indexmap.specs.IndexMap.{get}
 use Rattle.indexmap.proofs.CallerLemmas.{insert_entry-new}
 use Rattle.std.specs.Map.{keys_of}
 use Rattle.jvms_file.specs.ConstantPool.{entry as entry_at}
 use Rattle.const_pool.specs.Interning.{pool_of}
-use Rattle.const_pool.proofs.Interned.{same, width-some, found_number, keys_of-push, one_more, interned-known, interned-full, interned-new, next_names, names_kept}
+use Rattle.const_pool.proofs.Interned.{same, width-some, found_number, keys_of-push, one_more, interned-known, interned-full, interned-new, interned-next, next_names, names_kept}
 use Rattle.const_pool.proofs.builder.PoolBuilder.intern.Goals as goal
 
 pub returns-in-Some : goal.returns-in-Some
@@ -20,6 +20,12 @@ returns-then-width-number c = record {
   names = tt;
   kept = λ n k is. is;
 }
+
+pub returns-in_err-insert-clause-exact : goal.returns-in_err-insert-clause-exact
+returns-in_err-insert-clause-exact c =
+    let some : 0 < c.width-width.result = rw c.width-width.ensures (width-some c.args.entry) in
+    let made = interned-next c.args.self.now _ c.args.entry c.self.inside.next c.width-width.result c.self.view_is c.self.invariant.behind c.width-width.ensures c.if-width-number.false some c.in_default.ensures.exact in
+    search (rules, made)
 
 pub invariant_of-self-2 : goal.invariant_of-self-2
 invariant_of-self-2 c =

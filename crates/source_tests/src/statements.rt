@@ -1,9 +1,11 @@
-use crate::*;
+//! What single lines say, and the least of their faults.
+
 use held::items::Items;
 use jasmin::source::Operation;
 use jasmin::statement::{ClassSort, Flaw, Instruction, OpenSwitch, Statement};
 use jasmin::token::{Lexeme, Token};
 use jasmin_operands::Judged;
+use jasmin_statements::{kind_of, statement_of};
 use std::alloc::{AllocError, Global};
 use std::process::Abort;
 use std::test::Fail;

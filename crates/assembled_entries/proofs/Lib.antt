@@ -1,0 +1,4 @@
+pub mod Entries
+pub mod Keeping
+pub mod Operands
+pub mod Steps

@@ -1,0 +1,4 @@
+pub mod Failing
+pub mod Instances
+pub mod Loops
+pub mod Spelled

@@ -1,0 +1,12 @@
+pub mod Class
+pub mod CodeSizes
+pub mod Constants
+pub mod Fields
+pub mod Lists
+pub mod Made
+pub mod Methods
+pub mod MethodAttributes
+pub mod Names
+pub mod Operands
+pub mod Pools
+pub mod Steps

@@ -1,0 +1,6 @@
+-- The starts so far and those to come are all.
+use Rattle.std.proofs.Common.{◌≡◌, ◌++◌, drop}
+use Rattle.code_bytes.proofs.starts.widened.Given as goal
+
+abbrev pub invariant-loop-start : goal.invariant-loop-start
+invariant-loop-start l = l.wide ++ drop l.start-index l.starts ≡ l.starts

@@ -1,0 +1,6 @@
+-- So many zeros so far.
+use Rattle.std.proofs.Common.{◌≡◌, ◌++◌, replicate}
+use Rattle.code_bytes.proofs.switches.write_pads.Given as goal
+
+abbrev pub invariant-loop : goal.invariant-loop
+invariant-loop l = l.out.items ≡ l.initial.out.items ++ replicate l.counter 0

@@ -1,0 +1,47 @@
+//! The code of a method (JVMS 4.7.3).
+
+ghost use Rattle.std.specs.Prelude.{◌≡◌, length};
+ghost use Rattle.jasmin.specs.Denote.{operations};
+ghost use Rattle.assembly.specs.CodeOf.{code_within as code_within_of};
+ghost use Rattle.assembly.specs.Faults.{Answers};
+
+use crate::bytes::bytes_of;
+use crate::handlers::handlers_of;
+use crate::insns::insns_of;
+use crate::starts::{starts_of, widened};
+use assembly::fault::AsmFault;
+use held::items::Items;
+use jasmin::source::MethodLines;
+use jvms_file::class_file::{Code, Layout};
+use source_labels::Labels;
+use std::alloc::Global;
+
+/// The code of a method (JVMS 4.7.3); `operands` and `caught` are the numbers of the entries that its instructions and
+/// its catches name, 0 where they name none, and the labels are those of its code. Fails where the code has no byte or
+/// more than 65535, and where a branch of two bytes can't reach its label.
+pub fn code_within(
+    alloc: Global,
+    operands: &[u16],
+    caught: &[u16],
+    method: &MethodLines,
+    labels: &Labels<'_>,
+) -> Result<Code, AsmFault>
+    requires labels { labels.now ≡ method.now.code }
+    requires numbers { length operands.now ≡ length (operations method.now.code) }
+    ensures exact { Answers result (code_within_of operands.now caught.now method.now) }
+{
+    let items = method.code.as_slice();
+    let starts = starts_of(alloc, operands, items)?;
+    let bytes = bytes_of(alloc, labels, starts.as_slice(), operands, items)?;
+    let insns = insns_of(alloc, labels, operands, items)?;
+    let handlers = handlers_of(alloc, labels, caught, method.catches.as_slice())?;
+    let starts = widened(alloc, starts.as_slice())?;
+    Ok(Code {
+        max_stack: method.max_stack,
+        max_locals: method.max_locals,
+        layout: Layout { bytes, starts },
+        insns,
+        handlers,
+        attributes: Items::new(alloc),
+    })
+}

@@ -1,0 +1,51 @@
+//! The exception table of a method (JVMS 4.7.3), whose bounds and targets are places.
+
+ghost use Rattle.std.specs.Prelude.{◌≡◌, ◌≤◌, length, IfOk};
+ghost use Rattle.jasmin.specs.Denote.{operations};
+ghost use Rattle.assembly.specs.CodeOf.{handler_of as handler_at, handlers_from};
+
+use crate::room::with_room;
+use crate::targets::target_of;
+use held::items::Items;
+use jasmin::source::CatchLine;
+use jvms_file::class_file::Handler;
+use source_labels::Labels;
+use std::alloc::{AllocError, Global};
+
+/// A catch whose class has this number, 0 for all.
+fn handler_of(labels: &Labels<'_>, number: u16, catch: &CatchLine) -> Handler
+    requires { length (operations labels.now) ≤ 65535 }
+    ensures { result ≡ handler_at labels.now number catch.now }
+{
+    Handler {
+        start: target_of(labels, &catch.from),
+        end: target_of(labels, &catch.to),
+        target: target_of(labels, &catch.using),
+        catch_type: number,
+    }
+}
+
+/// The catches whose classes have these numbers.
+#[tactic(auto, unfolding(assembly::specs::CodeOf::handlers_from))]
+pub(crate) fn handlers_of(
+    alloc: Global,
+    labels: &Labels<'_>,
+    caught: &[u16],
+    catches: &[CatchLine],
+) -> Result<Items<Handler>, AllocError>
+    requires { length (operations labels.now) ≤ 65535 }
+    ensures { IfOk result (λ handlers. handlers ≡ handlers_from labels.now caught.now catches.now) }
+{
+    let mut handlers = with_room(alloc, caught.len())?;
+    let mut numbers = caught;
+    let mut rest = catches;
+    while let [number, others @ ..] = numbers {
+        let [catch, behind @ ..] = rest else {
+            return Ok(handlers);
+        };
+        handlers.push(handler_of(labels, *number, catch))?;
+        numbers = others;
+        rest = behind;
+    }
+    Ok(handlers)
+}

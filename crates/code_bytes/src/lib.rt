@@ -1,0 +1,23 @@
+//! The code of a method (JVMS 4.7.3), made of the method's lines in a source and of the numbers of the entries that
+//! they name: the bytes of each instruction, where each starts, and the instructions with their targets as places.
+#![tactic(auto)]
+
+mod bytes;
+mod code;
+mod handlers;
+mod insns;
+mod numbers;
+mod opcodes;
+mod operation;
+mod room;
+mod sizes;
+mod starts;
+mod steps;
+mod switches;
+mod targets;
+
+pub use assembly::fault::AsmFault;
+pub use code::code_within;
+pub use jasmin::source::MethodLines;
+pub use jvms_file::class_file::Code;
+pub use source_labels::Labels;

@@ -1,0 +1,222 @@
+//! The bytes of an instruction (JVMS 6.5).
+
+ghost use Rattle.std.specs.Prelude.{◌≡◌, ◌++◌, ◌∷◌, [], ◌^◌, ◌-◌, ◌%◌, not, Some, None, OnOk, pos, neg_ℤ, nat_le, if◌then◌else◌};
+ghost use Rattle.std.specs.Option.{unwrap_or};
+ghost use Rattle.jvms_file.specs.Instructions.{interface_count};
+ghost use Rattle.jvms_file.specs.Spelling.{u2};
+ghost use Rattle.assembly.specs.Sizes.{is_between, is_too_far};
+ghost use Rattle.assembly.specs.Opcodes.{branch_opcode as branch_code, wide_branch_opcode as wide_branch_code, invoke_opcode as invoke_code};
+ghost use Rattle.assembly.specs.Bytes.{s1, s2, s4, constant_bytes, local_bytes, increment_bytes, behind_invoke as bytes_behind, operation_bytes};
+ghost use Rattle.code_bytes.specs.Few.{IsFew};
+ghost use Rattle.code_bytes.specs.Writing.{Writes};
+
+use crate::numbers::{write_s1, write_s2, write_s4, write_u1};
+use crate::opcodes::{
+    array_type_number, branch_opcode, class_opcode, field_opcode, invoke_opcode, local_opcode,
+    wide_branch_opcode,
+};
+use crate::sizes::is_byte_step;
+use crate::switches::{write_lookup, write_table};
+use crate::targets::offset_of;
+use assembly::fault::AsmFault;
+use descriptor::method_units;
+use file_bytes::write_u2;
+use jasmin::source::{BranchWidth, ConstantWidth, Operation};
+use jvms_file::insn::{Branch, Invoke};
+use source_labels::Labels;
+use std::alloc::AllocError;
+
+/// The opcode of wide.
+const WIDE: u8 = 196;
+
+/// The opcode of iinc.
+const INCREMENT: u8 = 132;
+
+/// Puts an opcode and a byte behind the bytes.
+fn write_two(out: &mut Vec<u8>, code: u8, operand: u8) -> Result<(), AllocError>
+    ensures { OnOk result (out.new.items ≡ out.old.items ++ code ∷ operand ∷ []) }
+{
+    write_u1(out, code)?;
+    write_u1(out, operand)
+}
+
+/// Puts an opcode and a number of two bytes behind the bytes.
+fn write_numbered(out: &mut Vec<u8>, code: u8, number: u16) -> Result<(), AllocError>
+    ensures { OnOk result (out.new.items ≡ out.old.items ++ code ∷ u2 number) }
+{
+    write_u1(out, code)?;
+    write_u2(out, number)
+}
+
+/// Puts bipush behind the bytes.
+fn write_push_byte(out: &mut Vec<u8>, number: i8) -> Result<(), AllocError>
+    ensures { OnOk result (out.new.items ≡ out.old.items ++ 16 ∷ s1 number) }
+{
+    write_u1(out, 16)?;
+    write_s1(out, number)
+}
+
+/// Puts sipush behind the bytes.
+fn write_push_short(out: &mut Vec<u8>, number: i16) -> Result<(), AllocError>
+    ensures { OnOk result (out.new.items ≡ out.old.items ++ 17 ∷ s2 number) }
+{
+    write_u1(out, 17)?;
+    write_s2(out, number)
+}
+
+/// Puts ldc behind the bytes, or ldc_w for a number above 255.
+fn write_short_load(out: &mut Vec<u8>, number: u16) -> Result<(), AllocError>
+    ensures { OnOk result (out.new.items ≡ out.old.items ++ (if nat_le number 255 then 18 ∷ number ∷ [] else 19 ∷ u2 number)) }
+{
+    if number <= 255 {
+        write_two(out, 18, number as u8)
+    } else {
+        write_numbered(out, 19, number)
+    }
+}
+
+/// Puts ldc or ldc_w behind the bytes.
+fn write_load(out: &mut Vec<u8>, width: ConstantWidth, number: u16) -> Result<(), AllocError>
+    ensures { OnOk result (out.new.items ≡ out.old.items ++ constant_bytes width number) }
+{
+    match width {
+        ConstantWidth::AsNeeded => write_short_load(out, number),
+        ConstantWidth::Wide => write_numbered(out, 19, number),
+    }
+}
+
+/// Puts an instruction of a local behind the bytes, behind wide where the local's number is above 255.
+fn write_local(out: &mut Vec<u8>, code: u8, local: u16) -> Result<(), AllocError>
+    ensures { OnOk result (out.new.items ≡ out.old.items ++ local_bytes code local) }
+{
+    if local <= 255 {
+        return write_two(out, code, local as u8);
+    }
+    write_u1(out, WIDE)?;
+    write_numbered(out, code, local)
+}
+
+/// Puts iinc behind the bytes, behind wide where a byte isn't enough for the local's number or for the step.
+fn write_increment(out: &mut Vec<u8>, local: u16, by: i16) -> Result<(), AllocError>
+    ensures { OnOk result (out.new.items ≡ out.old.items ++ increment_bytes local by) }
+{
+    if is_byte_step(local, by) {
+        write_two(out, INCREMENT, local as u8)?;
+        return write_s1(out, by as i8);
+    }
+    write_u1(out, WIDE)?;
+    write_numbered(out, INCREMENT, local)?;
+    write_s2(out, by)
+}
+
+/// The offset, if two bytes are enough for it.
+fn near(offset: i32) -> Option<i16>
+    ensures { result ≡ (if is_between (neg_ℤ (pos (2 ^ 15))) (pos (2 ^ 15 - 1)) offset then Some offset else None) }
+{
+    if -32768 <= offset && offset <= 32767 {
+        Some(offset as i16)
+    } else {
+        None
+    }
+}
+
+/// Puts a branch with an offset of two bytes behind the bytes, if they are enough for it.
+fn write_near(out: &mut Vec<u8>, how: Branch, offset: i32) -> Result<(), AsmFault>
+    ensures { Writes (not (is_between (neg_ℤ (pos (2 ^ 15))) (pos (2 ^ 15 - 1)) offset)) (branch_code how ∷ s2 offset) result out.old.items out.new.items }
+{
+    let Some(short) = near(offset) else {
+        return Err(AsmFault::BranchTooFar);
+    };
+    write_u1(out, branch_opcode(how))?;
+    write_s2(out, short)?;
+    Ok(())
+}
+
+/// Puts a branch with an offset of four bytes behind the bytes.
+fn write_far(out: &mut Vec<u8>, how: Branch, offset: i32) -> Result<(), AllocError>
+    ensures { OnOk result (out.new.items ≡ out.old.items ++ wide_branch_code how ∷ s4 offset) }
+{
+    write_u1(out, wide_branch_opcode(how))?;
+    write_s4(out, offset)
+}
+
+/// The lowest byte of the number of units that the arguments of an interface's method have, with the object.
+fn interface_units(descriptor: &[u16]) -> u8
+    ensures { result ≡ unwrap_or (interface_count (Some ([], descriptor.now))) 0 % 256 }
+{
+    match method_units(descriptor) {
+        Some(units) => ((units + 1) % 256) as u8,
+        None => 0,
+    }
+}
+
+/// Puts what stands behind the number of an invoke behind the bytes.
+fn write_behind_invoke(out: &mut Vec<u8>, how: Invoke, descriptor: &[u16]) -> Result<(), AllocError>
+    ensures { OnOk result (out.new.items ≡ out.old.items ++ bytes_behind how descriptor.now) }
+{
+    match how {
+        Invoke::Interface => write_two(out, interface_units(descriptor), 0),
+        Invoke::Virtual | Invoke::Special | Invoke::Static => Ok(()),
+    }
+}
+
+/// Puts an invoke behind the bytes.
+fn write_invoke(
+    out: &mut Vec<u8>,
+    how: Invoke,
+    number: u16,
+    descriptor: &[u16],
+) -> Result<(), AllocError>
+    ensures { OnOk result (out.new.items ≡ out.old.items ++ (invoke_code how ∷ u2 number ++ bytes_behind how descriptor.now)) }
+{
+    write_numbered(out, invoke_opcode(how), number)?;
+    write_behind_invoke(out, how, descriptor)
+}
+
+/// Puts multianewarray behind the bytes.
+fn write_multi_new_array(out: &mut Vec<u8>, number: u16, count: u8) -> Result<(), AllocError>
+    ensures { OnOk result (out.new.items ≡ out.old.items ++ (197 ∷ u2 number ++ count ∷ [])) }
+{
+    write_numbered(out, 197, number)?;
+    write_u1(out, count)
+}
+
+/// Puts an instruction behind the bytes that starts at byte `pc` and names the entry of this number, in code whose
+/// instructions start at these bytes, if its branch reaches its label.
+#[tactic(auto, unfolding(assembly::specs::Bytes::operation_bytes, assembly::specs::Sizes::is_too_far))]
+pub(crate) fn write_operation(
+    out: &mut Vec<u8>,
+    labels: &Labels<'_>,
+    starts: &[u16],
+    number: u16,
+    pc: u16,
+    operation: &Operation,
+) -> Result<(), AsmFault>
+    requires { IsFew operation.now }
+    ensures { Writes (is_too_far starts.now labels.now pc operation.now) (operation_bytes starts.now labels.now number pc operation.now) result out.old.items out.new.items }
+{
+    match operation {
+        Operation::Alone(code) => Ok(write_u1(out, *code)?),
+        Operation::PushByte(value) => Ok(write_push_byte(out, *value)?),
+        Operation::PushShort(value) => Ok(write_push_short(out, *value)?),
+        Operation::Constant(width, _) => Ok(write_load(out, *width, number)?),
+        Operation::ConstantLong(_) => Ok(write_numbered(out, 20, number)?),
+        Operation::Local(how, local) => Ok(write_local(out, local_opcode(*how), *local)?),
+        Operation::Increment(local, by) => Ok(write_increment(out, *local, *by)?),
+        Operation::Branch(BranchWidth::Short, how, label) => {
+            write_near(out, *how, offset_of(labels, starts, pc, label))
+        }
+        Operation::Branch(BranchWidth::Wide, how, label) => {
+            Ok(write_far(out, *how, offset_of(labels, starts, pc, label))?)
+        }
+        Operation::Table(lines) => Ok(write_table(out, labels, starts, pc, lines.get())?),
+        Operation::Lookup(lines) => Ok(write_lookup(out, labels, starts, pc, lines.get())?),
+        Operation::Field(how, _) => Ok(write_numbered(out, field_opcode(*how), number)?),
+        Operation::Invoke(how, method) => {
+            Ok(write_invoke(out, *how, number, method.get().descriptor.as_slice())?)
+        }
+        Operation::Class(how, _) => Ok(write_numbered(out, class_opcode(*how), number)?),
+        Operation::NewArray(component) => Ok(write_two(out, 188, array_type_number(*component))?),
+        Operation::MultiNewArray(_, count) => Ok(write_multi_new_array(out, number, *count)?),
+    }
+}

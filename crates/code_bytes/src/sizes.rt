@@ -1,0 +1,109 @@
+//! How many bytes an instruction takes as it is spelled (JVMS 6.5).
+
+ghost use Rattle.std.specs.Prelude.{◌≡◌, ◌+◌, ◌*◌, ◌≤◌, min, length, nat_le, if◌then◌else◌};
+ghost use Rattle.jvms_file.specs.Instructions.{pad_length as pads_at};
+ghost use Rattle.assembly.specs.Sizes.{is_byte_step as steps_by_byte, invoke_size as size_of_invoke, size as size_of};
+
+use jasmin::source::{BranchWidth, ConstantWidth, LookupLines, Operation, TableLines};
+use jvms_file::insn::Invoke;
+
+/// No code has so many bytes (JVMS 4.7.3).
+const TOO_MANY: usize = 65536;
+
+/// How many bytes stand before the next multiple of 4.
+pub(crate) fn pad_length(pc: usize) -> usize
+    ensures exact { result ≡ pads_at pc }
+    ensures few { result ≤ 3 }
+{
+    3 - pc % 4
+}
+
+/// Whether an `iinc` is written with a byte for the local and one for the step.
+pub(crate) fn is_byte_step(local: u16, by: i16) -> bool
+    ensures { result ≡ steps_by_byte local by }
+{
+    local <= 255 && -128 <= by && by <= 127
+}
+
+/// A count, or `TOO_MANY` where it is more.
+fn capped(count: usize) -> usize
+    ensures { result ≡ min count 65536 }
+{
+    if count < TOO_MANY { count } else { TOO_MANY }
+}
+
+/// An `ldc` takes one byte for a number up to 255.
+fn constant_size(number: u16) -> usize
+    ensures exact { result ≡ (if nat_le number 255 then 2 else 3) }
+    ensures few { result ≤ 3 }
+{
+    if number <= 255 { 2 } else { 3 }
+}
+
+/// Above 255 a local's number takes two bytes, behind `wide`.
+fn local_size(local: u16) -> usize
+    ensures exact { result ≡ (if nat_le local 255 then 2 else 4) }
+    ensures few { result ≤ 4 }
+{
+    if local <= 255 { 2 } else { 4 }
+}
+
+/// An `iinc` is written short or behind `wide`.
+fn increment_size(local: u16, by: i16) -> usize
+    ensures exact { result ≡ (if steps_by_byte local by then 3 else 6) }
+    ensures few { result ≤ 6 }
+{
+    if is_byte_step(local, by) { 3 } else { 6 }
+}
+
+/// An `invokeinterface` has two bytes more than another invoke.
+fn invoke_size(how: Invoke) -> usize
+    ensures exact { result ≡ size_of_invoke how }
+    ensures few { result ≤ 5 }
+{
+    match how {
+        Invoke::Interface => 5,
+        Invoke::Virtual | Invoke::Special | Invoke::Static => 3,
+    }
+}
+
+/// Behind the pads of a tableswitch stand the default, low, high and the offsets.
+fn table_size(pc: usize, lines: &TableLines) -> usize
+    ensures { result ≡ min (1 + pads_at pc + 12 + 4 * length lines.now.labels) 65536 }
+{
+    capped(1 + pad_length(pc) + 12 + 4 * capped(lines.labels.len()))
+}
+
+/// Behind the pads of a lookupswitch stand the default, the count and the pairs.
+fn lookup_size(pc: usize, lines: &LookupLines) -> usize
+    ensures { result ≡ min (1 + pads_at pc + 8 + 8 * length lines.now.matches) 65536 }
+{
+    capped(1 + pad_length(pc) + 8 + 8 * capped(lines.matches.len()))
+}
+
+/// The bytes of an instruction that names the entry of this number and starts at byte `pc`, or 65536 where they are
+/// more.
+#[tactic(auto, unfolding(assembly::specs::Sizes::size))]
+pub(crate) fn capped_size(number: u16, pc: usize, operation: &Operation) -> usize
+    ensures { result ≡ min (size_of number pc operation.now) 65536 }
+{
+    match operation {
+        Operation::Alone(_) => 1,
+        Operation::PushByte(_) => 2,
+        Operation::PushShort(_) => 3,
+        Operation::Constant(ConstantWidth::AsNeeded, _) => constant_size(number),
+        Operation::Constant(ConstantWidth::Wide, _) => 3,
+        Operation::ConstantLong(_) => 3,
+        Operation::Local(_, local) => local_size(*local),
+        Operation::Increment(local, by) => increment_size(*local, *by),
+        Operation::Branch(BranchWidth::Short, _, _) => 3,
+        Operation::Branch(BranchWidth::Wide, _, _) => 5,
+        Operation::Table(lines) => table_size(pc, lines.get()),
+        Operation::Lookup(lines) => lookup_size(pc, lines.get()),
+        Operation::Field(_, _) => 3,
+        Operation::Invoke(how, _) => invoke_size(*how),
+        Operation::Class(_, _) => 3,
+        Operation::NewArray(_) => 2,
+        Operation::MultiNewArray(_, _) => 4,
+    }
+}

@@ -1,0 +1,93 @@
+//! The bytes at which instructions start, in code of at least one byte and at most 65535 (JVMS 4.7.3).
+
+ghost use Rattle.std.specs.Prelude.{◌≡◌, ◌+◌, ◌≤◌, [], length, IfSome, IfOk, OnOk};
+ghost use Rattle.jasmin.specs.Denote.{operations};
+ghost use Rattle.assembly.specs.Sizes.{size as size_of};
+ghost use Rattle.assembly.specs.Faults.{Answers};
+ghost use Rattle.code_bytes.specs.Starting.{end_within, some_starts, starts_onto, starts_within};
+ghost use Rattle.code_bytes.specs.Few.{AreFew};
+
+use crate::room::with_room;
+use crate::sizes::capped_size;
+use crate::steps::next_operation;
+use assembly::fault::AsmFault;
+use held::items::Items;
+use jasmin::source::{CodeItem, Operation};
+use std::alloc::{AllocError, Global};
+
+/// The most bytes that code has.
+const MOST_BYTES: usize = 65535;
+
+/// The byte behind an instruction that starts at byte `pc`, if code may be so long.
+fn end_of(number: u16, pc: usize, operation: &Operation) -> Option<usize>
+    requires { pc ≤ 65535 }
+    ensures exact { result ≡ end_within (pc + size_of number pc operation.now) }
+    ensures few { IfSome result (λ end. end ≤ 65535) }
+{
+    let end = pc + capped_size(number, pc, operation);
+    if end <= MOST_BYTES { Some(end) } else { None }
+}
+
+/// The starts of all instructions, if there are bytes.
+fn finished(starts: Items<u16>, pc: usize) -> Result<Items<u16>, AsmFault>
+    ensures { result ≡ some_starts starts pc }
+{
+    if pc > 0 {
+        Ok(starts)
+    } else {
+        Err(AsmFault::CodeLength)
+    }
+}
+
+/// The starts of instructions, one after the other.
+fn collected_starts(
+    alloc: Global,
+    operands: &[u16],
+    items: &[CodeItem],
+) -> Result<Items<u16>, AsmFault>
+    ensures { Answers result (starts_onto [] 0 operands.now (operations items.now)) }
+{
+    let mut starts = with_room(alloc, operands.len())?;
+    let mut pc = 0;
+    let mut numbers = operands;
+    let mut rest = items;
+    while let Some((number, others)) = numbers.split_first() {
+        let Some((operation, behind)) = next_operation(rest) else {
+            return finished(starts, pc);
+        };
+        let Some(end) = end_of(*number, pc, operation) else {
+            return Err(AsmFault::CodeLength);
+        };
+        starts.push(pc as u16)?;
+        pc = end;
+        numbers = others;
+        rest = behind;
+    }
+    finished(starts, pc)
+}
+
+/// The bytes at which the instructions start that name the entries of these numbers. Two bytes are enough for each.
+pub(crate) fn starts_of(
+    alloc: Global,
+    operands: &[u16],
+    items: &[CodeItem],
+) -> Result<Items<u16>, AsmFault>
+    requires { length operands.now ≡ length (operations items.now) }
+    ensures exact { Answers result (starts_within operands.now items.now) }
+    ensures few { OnOk result (AreFew (operations items.now)) }
+    ensures counted { OnOk result (length (operations items.now) ≤ 65535) }
+    ensures many { IfOk result (λ starts. length starts ≡ length (operations items.now)) }
+{
+    collected_starts(alloc, operands, items)
+}
+
+/// The same numbers with room for four bytes.
+pub(crate) fn widened(alloc: Global, starts: &[u16]) -> Result<Items<u32>, AllocError>
+    ensures { IfOk result (λ w. w ≡ starts.now) }
+{
+    let mut wide = with_room(alloc, starts.len())?;
+    for start in starts {
+        wide.push(u32::from(*start))?;
+    }
+    Ok(wide)
+}

@@ -1,0 +1,162 @@
+//! The bytes of the instructions with many targets (JVMS 6.5 tableswitch, lookupswitch).
+
+ghost use Rattle.std.specs.Prelude.{◌≡◌, ◌++◌, ◌∷◌, ◌≤◌, ◌-◌, ◌^◌, ◌+ℤ◌, ◌<ℤ◌, ◌≤ℤ◌, length, pos, neg_ℤ, OnOk};
+ghost use Rattle.std.specs.List.{flat_map};
+ghost use Rattle.assembly.specs.Sizes.{offset};
+ghost use Rattle.assembly.specs.Bytes.{s4, pads as pads_at, table_bytes, lookup_bytes};
+ghost use Rattle.code_bytes.specs.Writing.{pair_bytes};
+
+use crate::numbers::{word_of, write_s4, write_u1};
+use crate::sizes::pad_length;
+use crate::targets::offset_of;
+use file_bytes::{write_length, write_u4};
+use held::shared::Text;
+use jasmin::source::{LookupLines, MatchLine, TableLines};
+use source_labels::Labels;
+use std::alloc::AllocError;
+
+/// The opcode of tableswitch.
+const TABLE: u8 = 170;
+
+/// The opcode of lookupswitch.
+const LOOKUP: u8 = 171;
+
+/// Puts zeros behind the bytes up to the next multiple of 4, from the byte behind an opcode at `pc` on.
+fn write_pads(out: &mut Vec<u8>, pc: u16) -> Result<(), AllocError>
+    ensures { OnOk result (out.new.items ≡ out.old.items ++ pads_at pc) }
+{
+    for _ in 0..pad_length(usize::from(pc)) {
+        write_u1(out, 0)?;
+    }
+    Ok(())
+}
+
+/// Puts the opcode of a switch at `pc` and its pads behind the bytes.
+fn write_head(out: &mut Vec<u8>, code: u8, pc: u16) -> Result<(), AllocError>
+    ensures { OnOk result (out.new.items ≡ out.old.items ++ code ∷ pads_at pc) }
+{
+    write_u1(out, code)?;
+    write_pads(out, pc)
+}
+
+/// Puts the offset of a label behind the bytes.
+fn write_offset(
+    out: &mut Vec<u8>,
+    labels: &Labels<'_>,
+    starts: &[u16],
+    pc: u16,
+    label: &Text,
+) -> Result<(), AllocError>
+    ensures { OnOk result (out.new.items ≡ out.old.items ++ s4 (offset starts.now labels.now pc label.now)) }
+{
+    write_s4(out, offset_of(labels, starts, pc, label))
+}
+
+/// Puts the offsets of labels behind the bytes.
+fn write_offsets(
+    out: &mut Vec<u8>,
+    labels: &Labels<'_>,
+    starts: &[u16],
+    pc: u16,
+    names: &[Text],
+) -> Result<(), AllocError>
+    ensures { OnOk result (out.new.items ≡ out.old.items ++ flat_map (λ label. s4 (offset starts.now labels.now pc label)) names.now) }
+{
+    for name in names {
+        write_offset(out, labels, starts, pc, name)?;
+    }
+    Ok(())
+}
+
+/// The greatest value that a tableswitch has a label for.
+fn greatest(low: i32, count: usize) -> i64
+    requires { count ≤ 65535 }
+    ensures exact { result ≡ low +ℤ pos (count - 1) }
+    ensures least { neg_ℤ (pos (2 ^ 31)) ≤ℤ result }
+    ensures most { result <ℤ pos (2 ^ 32) }
+{
+    i64::from(low) + count.saturating_sub(1) as i64
+}
+
+/// Puts the least and the greatest value of a tableswitch behind the bytes.
+fn write_bounds(out: &mut Vec<u8>, low: i32, count: usize) -> Result<(), AllocError>
+    requires { count ≤ 65535 }
+    ensures { OnOk result (out.new.items ≡ out.old.items ++ (s4 low ++ s4 (low +ℤ pos (count - 1)))) }
+{
+    write_s4(out, low)?;
+    write_u4(out, word_of(greatest(low, count)))
+}
+
+/// Puts the bounds of a tableswitch behind the bytes.
+fn write_bounds_of(out: &mut Vec<u8>, lines: &TableLines) -> Result<(), AllocError>
+    requires { length lines.now.labels ≤ 65535 }
+    ensures { OnOk result (out.new.items ≡ out.old.items ++ (s4 lines.now.low ++ s4 (lines.now.low +ℤ pos (length lines.now.labels - 1)))) }
+{
+    write_bounds(out, lines.low, lines.labels.len())
+}
+
+/// Puts a tableswitch behind the bytes.
+#[tactic(auto, unfolding(assembly::specs::Bytes::table_bytes))]
+pub(crate) fn write_table(
+    out: &mut Vec<u8>,
+    labels: &Labels<'_>,
+    starts: &[u16],
+    pc: u16,
+    lines: &TableLines,
+) -> Result<(), AllocError>
+    requires { length lines.now.labels ≤ 65535 }
+    ensures { OnOk result (out.new.items ≡ out.old.items ++ table_bytes starts.now labels.now pc lines.now) }
+{
+    write_head(out, TABLE, pc)?;
+    write_offset(out, labels, starts, pc, &lines.default)?;
+    write_bounds_of(out, lines)?;
+    write_offsets(out, labels, starts, pc, lines.labels.as_slice())
+}
+
+/// Puts the value and the offset of a pair behind the bytes.
+#[tactic(auto, unfolding(crate::specs::Writing::pair_bytes))]
+fn write_pair(
+    out: &mut Vec<u8>,
+    labels: &Labels<'_>,
+    starts: &[u16],
+    pc: u16,
+    pair: &MatchLine,
+) -> Result<(), AllocError>
+    ensures { OnOk result (out.new.items ≡ out.old.items ++ pair_bytes starts.now labels.now pc pair.now) }
+{
+    write_s4(out, pair.value)?;
+    write_offset(out, labels, starts, pc, &pair.label)
+}
+
+/// Puts the values and offsets of pairs behind the bytes.
+fn write_pairs(
+    out: &mut Vec<u8>,
+    labels: &Labels<'_>,
+    starts: &[u16],
+    pc: u16,
+    pairs: &[MatchLine],
+) -> Result<(), AllocError>
+    ensures { OnOk result (out.new.items ≡ out.old.items ++ flat_map (pair_bytes starts.now labels.now pc) pairs.now) }
+{
+    for pair in pairs {
+        write_pair(out, labels, starts, pc, pair)?;
+    }
+    Ok(())
+}
+
+/// Puts a lookupswitch behind the bytes.
+#[tactic(auto, unfolding(assembly::specs::Bytes::lookup_bytes, crate::specs::Writing::pair_bytes))]
+pub(crate) fn write_lookup(
+    out: &mut Vec<u8>,
+    labels: &Labels<'_>,
+    starts: &[u16],
+    pc: u16,
+    lines: &LookupLines,
+) -> Result<(), AllocError>
+    ensures { OnOk result (out.new.items ≡ out.old.items ++ lookup_bytes starts.now labels.now pc lines.now) }
+{
+    write_head(out, LOOKUP, pc)?;
+    write_offset(out, labels, starts, pc, &lines.default)?;
+    write_length(out, lines.matches.len())?;
+    write_pairs(out, labels, starts, pc, lines.matches.as_slice())
+}

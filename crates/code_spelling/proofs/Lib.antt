@@ -1,0 +1,12 @@
+pub mod Branches
+pub mod Content
+pub mod Handlers
+pub mod Labels
+pub mod Members
+pub mod Numbers
+pub mod Operations
+pub mod Simple
+pub mod Sizes
+pub mod Starts
+pub mod Switches
+pub mod ZeroPads

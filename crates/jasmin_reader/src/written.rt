@@ -1,0 +1,53 @@
+//! Sources that texts spell.
+
+ghost use Rattle.std.specs.Prelude.{◌≡◌};
+ghost use Rattle.jasmin.specs.Reading.{source_of};
+ghost use Rattle.jasmin_reader.specs.Readings.{IsRead};
+ghost use Rattle.jasmin_reader.specs.Written.{IsWritten};
+
+use crate::fault::SourceFault;
+use crate::source::read_tree;
+use jasmin::source::Source as Tree;
+use std::alloc::Global;
+use std::marker::Model;
+
+/// A source that a text spells. Contracts see it as its tree.
+#[derive(Debug, Drop)]
+pub struct Source {
+    tree: Tree,
+}
+
+impl Model for Source {
+    ghost use Rattle.jasmin.specs.declared.source.Source.{Source as TreeValue};
+
+    ghost Value = { TreeValue };
+
+    ghost use Rattle.jasmin_reader.specs.Written.{IsWritten};
+
+    ghost view = { λ s. s.tree };
+
+    ghost invariant = { λ s. IsWritten s.tree };
+}
+
+impl Source {
+    /// The tree.
+    pub fn tree(&self) -> &Tree
+        ensures same { result.now ≡ self.now }
+        ensures written { IsWritten self.now }
+    {
+        &self.tree
+    }
+}
+
+/// The source that a text in Jasmin is. Lines end at LF or CR LF.
+///
+/// # Errors
+///
+/// The first faulty line, from 1, with the least number of its faults; or Memory.
+pub fn read(alloc: Global, text: &str) -> Result<Source, SourceFault>
+    // The tree that the text is, or its first faulty line, unless memory runs out.
+    ensures exact { IsRead result (source_of text.now) }
+{
+    let tree = read_tree(alloc, text)?;
+    Ok(Source { tree })
+}

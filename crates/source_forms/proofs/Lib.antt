@@ -1,0 +1,10 @@
+pub mod Judged
+pub mod Lists
+pub mod Operands
+pub mod Flags
+pub mod Operations
+pub mod Statements
+pub mod Lines
+pub mod Methods
+pub mod Readings
+pub mod Sources
