@@ -1,9 +1,8 @@
 ; Numbers of 32 bits: what overflows comes round, a quotient is rounded to zero, a shift's distance is taken modulo 32.
-; `jvmx asm` is to come; another assembler of Jasmin makes the class that these words run:
 ;
-;   jvmx eval --entry 'Arithmetic.next.(I)I' --args 2147483647 Arithmetic.class       -2147483648
-;   jvmx eval --entry 'Arithmetic.halves.(I)I' --args=-7 Arithmetic.class       -3
-;   jvmx eval --entry 'Arithmetic.top_bits.(II)I' --args=-1,28 Arithmetic.class       15
+;   ./jvmx eval --entry 'Arithmetic.next.(I)I' --args 2147483647 examples/Arithmetic.j       -2147483648
+;   ./jvmx eval --entry 'Arithmetic.halves.(I)I' --args=-7 examples/Arithmetic.j       -3
+;   ./jvmx eval --entry 'Arithmetic.top_bits.(II)I' --args=-1,28 examples/Arithmetic.j       15
 .class public Arithmetic
 .super java/lang/Object
 

@@ -1,7 +1,6 @@
 ; A loop: the sum of the numbers from 1 to n. A label names the instruction that follows it.
-; `jvmx asm` is to come; another assembler of Jasmin makes the class that these words run:
 ;
-;   jvmx eval --entry 'Loop.sum.(I)I' --args 100 Loop.class       5050
+;   ./jvmx eval --entry 'Loop.sum.(I)I' --args 100 examples/Loop.j       5050
 .class public Loop
 .super java/lang/Object
 

@@ -1,8 +1,7 @@
 ; A subroutine within a method: `jsr` leaves the place behind it on the stack, and `ret` goes back to the place that a
 ; local holds. Here it adds the square of local 0 to local 1, and is called twice.
-; `jvmx asm` is to come; another assembler of Jasmin makes the class that these words run:
 ;
-;   jvmx eval --entry 'Subroutine.squares.(II)I' --args 3,4 Subroutine.class       25
+;   ./jvmx eval --entry 'Subroutine.squares.(II)I' --args 3,4 examples/Subroutine.j       25
 .class public Subroutine
 .super java/lang/Object
 

@@ -1,8 +1,7 @@
 ; Both switches: the days of a month by a table of its values, and a lookup of values that lie apart.
-; `jvmx asm` is to come; another assembler of Jasmin makes the class that these words run:
 ;
-;   jvmx eval --entry 'Switch.days.(I)I' --args 2 Switch.class       28
-;   jvmx eval --entry 'Switch.zeros.(I)I' --args 1000 Switch.class       3
+;   ./jvmx eval --entry 'Switch.days.(I)I' --args 2 examples/Switch.j       28
+;   ./jvmx eval --entry 'Switch.zeros.(I)I' --args 1000 examples/Switch.j       3
 .class public Switch
 .super java/lang/Object
 

@@ -1,8 +1,7 @@
 ; Locals above 255 and a step of more than a byte: the assembler puts `wide` before these instructions. A label still
 ; counts instructions, so that the branch leads where it says.
-; `jvmx asm` is to come; another assembler of Jasmin makes the class that these words run:
 ;
-;   jvmx eval --entry 'WideLocals.up.(I)I' --args 7 WideLocals.class       1007
+;   ./jvmx eval --entry 'WideLocals.up.(I)I' --args 7 examples/WideLocals.j       1007
 .class public WideLocals
 .super java/lang/Object
 

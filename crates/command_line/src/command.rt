@@ -2,8 +2,8 @@
 
 use crate::entry::{arguments_of, static_entry};
 use crate::fault::WordsFault;
-use crate::help::{EVAL_HELP, HELP};
-use crate::syntax::{ARGUMENTS, ENTRY, FILES, syntax};
+use crate::help::{ASM_HELP, EVAL_HELP, HELP};
+use crate::syntax::{ARGUMENTS, ENTRY, FILES, INPUT, OUTPUT, syntax};
 use clap::ArgMatches;
 use jvms_machine::machine::Entry;
 use std::alloc::Global;
@@ -13,6 +13,8 @@ use std::alloc::Global;
 pub enum Command<'a> {
     /// To run a static method and print what it gives.
     Eval(EvalWords<'a>),
+    /// To write the class file of a source.
+    Asm(AsmWords<'a>),
     /// To print how the program, or one command, is used.
     Help(&'static str),
     /// To print which program this is.
@@ -25,8 +27,17 @@ pub struct EvalWords<'a> {
     pub entry: Entry,
     /// The entry as the words have it.
     pub entry_text: &'a str,
-    /// The class files, at least one.
+    /// The class files and sources, at least one.
     pub files: Vec<&'a str>,
+}
+
+/// The words of `asm`.
+#[derive(Debug, Drop)]
+pub struct AsmWords<'a> {
+    /// The source.
+    pub input: &'a str,
+    /// The class file that is written.
+    pub output: &'a str,
 }
 
 impl<'a> EvalWords<'a> {
@@ -36,14 +47,11 @@ impl<'a> EvalWords<'a> {
     }
 }
 
-/// The class files of the words. Sources in Jasmin, which end in `.j`, aren't read yet.
+/// The FILEs of the words.
 fn files_of<'a>(alloc: Global, matches: &ArgMatches<'a>) -> Result<Vec<&'a str>, WordsFault> {
     let words = matches.get_strs(FILES).ok_or(WordsFault::Words)?;
     let mut files = Vec::new(alloc);
     for word in words {
-        if word.ends_with(".j") {
-            return Err(WordsFault::Words);
-        }
         files.push(*word)?;
     }
     Ok(files)
@@ -62,6 +70,13 @@ fn eval_words<'a>(alloc: Global, matches: &ArgMatches<'a>) -> Result<EvalWords<'
     })
 }
 
+fn asm_words<'a>(matches: &ArgMatches<'a>) -> Result<AsmWords<'a>, WordsFault> {
+    Ok(AsmWords {
+        input: matches.get_str(INPUT).ok_or(WordsFault::Words)?,
+        output: matches.get_str(OUTPUT).ok_or(WordsFault::Words)?,
+    })
+}
+
 /// Whether a word asks for help.
 fn asks_help(word: &str) -> bool {
     word == "--help" || word == "-h"
@@ -71,6 +86,7 @@ fn asks_help(word: &str) -> bool {
 fn help_of(command: &str) -> Option<Command<'static>> {
     match command {
         "eval" => Some(Command::Help(EVAL_HELP)),
+        "asm" => Some(Command::Help(ASM_HELP)),
         _ => None,
     }
 }
@@ -108,6 +124,7 @@ pub fn command_of<'a>(alloc: Global, words: &'a [String]) -> Result<Command<'a>,
     let matches = syntax(alloc)?.try_get_matches_from(words)?;
     match matches.subcommand() {
         Some(("eval", matches)) => Ok(Command::Eval(eval_words(alloc, matches)?)),
+        Some(("asm", matches)) => Ok(Command::Asm(asm_words(matches)?)),
         _ => Err(WordsFault::Words),
     }
 }

@@ -2,11 +2,13 @@
 
 /// `jvmx --help`
 pub const HELP: &str = "\
-jvmx: runs Java class files, one turn of one thread at a time
+jvmx: runs Java class files and sources in Jasmin, one turn of one thread at a
+time
 
 Usage: jvmx COMMAND WORDS
 
   eval           runs a static method on int arguments and prints what it gives
+  asm            writes the class file of a source
   help           prints this text; help COMMAND, how that command is used
   -h, --help     prints this text; behind a command, how that command is used
   -V, --version  prints the program's name and version
@@ -18,7 +20,7 @@ failed.
 A refusal is one line on standard error, jvmx: FILE: CODE NAME. docs/REFUSALS.md
 says what each code means and what usually causes it.
 
-Example: jvmx eval --entry 'G.gcd.(II)I' --args 48,36 examples/G.class
+Example: jvmx eval --entry 'G.gcd.(II)I' --args 48,36 examples/G.j
 ";
 
 /// `jvmx eval --help`
@@ -36,8 +38,9 @@ Usage: jvmx eval --entry C.m.D [--args N,N] FILE...
                  parted by commas (default: none). A negative first one is
                  joined to the option
                  examples: --args 48,36, --args=-7,2
-  FILE...        the class files of the program, each of at most 67108864 bytes
-                 (at least one)
+  FILE...        the classes of the program, each of at most 67108864 bytes (at
+                 least one): a source in Jasmin where the name ends in .j, else
+                 a class file
 
 Options and FILEs stand in any order. --args=48,36 is --args 48,36, and behind
 -- all words are FILEs.
@@ -56,8 +59,26 @@ one of Finished, Running, Stalled, Deadlocked.
 Exit status: 0 where the status is Finished, else 1; 2 and 3 as jvmx --help
 says. docs/REFUSALS.md explains the codes of refusals.
 
-Example: jvmx eval --entry 'G.gcd.(II)I' --args 48,36 examples/G.class
+Example: jvmx eval --entry 'G.gcd.(II)I' --args 48,36 examples/G.j
 prints 12
+";
+
+/// `jvmx asm --help`
+pub const ASM_HELP: &str = "\
+jvmx asm: writes the class file of a source in Jasmin
+
+Usage: jvmx asm IN OUT
+
+  IN   the source, in UTF-8, of at most 67108864 bytes, whatever its name
+  OUT  the class file, version 49.0, that is written
+
+A refusal leaves OUT as it is: the class is written to OUT.part, which then
+takes the place of OUT.
+
+Exit status: 0; 2 and 3 as jvmx --help says. docs/REFUSALS.md explains the
+codes of refusals: J01 to J12 of a source's line, A01 to A08 of its class.
+
+Example: jvmx asm examples/G.j G.class
 ";
 
 /// `jvmx --version`

@@ -7,6 +7,6 @@ mod fault;
 mod help;
 mod syntax;
 
-pub use command::{Command, EvalWords, command_of};
+pub use command::{AsmWords, Command, EvalWords, command_of};
 pub use fault::WordsFault;
-pub use help::{EVAL_HELP, HELP, VERSION};
+pub use help::{ASM_HELP, EVAL_HELP, HELP, VERSION};

@@ -12,6 +12,12 @@ pub(crate) const ARGUMENTS: &str = "args";
 /// FILE...
 pub(crate) const FILES: &str = "files";
 
+/// IN
+pub(crate) const INPUT: &str = "input";
+
+/// OUT
+pub(crate) const OUTPUT: &str = "output";
+
 /// A command with neither help nor version of the parser's own.
 fn bare<'a>(alloc: Global, name: &'a str) -> Command<'a> {
     Command::new(alloc, name)
@@ -43,7 +49,21 @@ fn eval_syntax<'a>(alloc: Global) -> Result<Command<'a>, AllocError> {
         .arg(files(alloc))
 }
 
+/// One FILE.
+fn file<'a>(alloc: Global, name: &'a str) -> Arg<'a> {
+    Arg::new(alloc, name).required(true).action(ArgAction::Set)
+}
+
+/// `asm IN OUT`
+fn asm_syntax<'a>(alloc: Global) -> Result<Command<'a>, AllocError> {
+    bare(alloc, "asm")
+        .arg(file(alloc, INPUT))?
+        .arg(file(alloc, OUTPUT))
+}
+
 /// All commands.
 pub(crate) fn syntax<'a>(alloc: Global) -> Result<Command<'a>, AllocError> {
-    bare(alloc, "jvmx").subcommand(eval_syntax(alloc)?)
+    bare(alloc, "jvmx")
+        .subcommand(eval_syntax(alloc)?)?
+        .subcommand(asm_syntax(alloc)?)
 }

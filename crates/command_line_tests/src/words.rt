@@ -1,6 +1,6 @@
 //! Words: what they ask for, as the program's manual says.
 
-use command_line::{Command, EVAL_HELP, HELP, VERSION, WordsFault, command_of};
+use command_line::{ASM_HELP, Command, EVAL_HELP, HELP, VERSION, WordsFault, command_of};
 use fixtures::texts::units;
 use held::items::Items;
 use jvms_machine::machine::Entry;
@@ -74,7 +74,7 @@ fn is_gcd(
 
 #[test]
 fn refuses_other_words(rt: HostRuntime) -> Result<(), Fail> {
-    let refused: [&[&str]; 25] = [
+    let refused: [&[&str]; 26] = [
         &[],
         &["run"],
         &["--version", "eval"],
@@ -100,8 +100,9 @@ fn refuses_other_words(rt: HostRuntime) -> Result<(), Fail> {
         &["eval", "--entry", GCD, "--stop", "F"],
         &["eval", "--help=1", "--entry", GCD, "F"],
         &["eval", "--entry", GCD, "-x"],
-        &["eval", "--entry", GCD, "G.j"],
-        &["eval", "--entry", GCD, "--args", "48,36", "F", "G.j"],
+        &["asm"],
+        &["asm", "G.j"],
+        &["asm", "G.j", "G.class", "F"],
     ];
     for words in refused {
         assert!(rt; is_refused(rt.alloc(), words)?, "{words:?}");
@@ -155,14 +156,27 @@ fn takes_words_in_any_order(rt: HostRuntime) -> Result<(), Fail> {
 }
 
 #[test]
+fn takes_a_source_and_a_class_file(rt: HostRuntime) -> Result<(), Fail> {
+    let words = owned(rt.alloc(), &["asm", "G.j", "--", "-G"])?;
+    let command = command_of(rt.alloc(), words.as_slice());
+    let Ok(Command::Asm(asm)) = command else {
+        return Err("no asm".into());
+    };
+    assert!(rt; asm.input == "G.j" && asm.output == "-G");
+    Ok(())
+}
+
+#[test]
 fn gives_texts(rt: HostRuntime) -> Result<(), Fail> {
-    let asked: [(&[&str], &str); 8] = [
+    let asked: [(&[&str], &str); 10] = [
         (&["--help"], HELP),
         (&["-h"], HELP),
         (&["help"], HELP),
         (&["help", "eval"], EVAL_HELP),
         (&["eval", "--help"], EVAL_HELP),
         (&["eval", "-h"], EVAL_HELP),
+        (&["help", "asm"], ASM_HELP),
+        (&["asm", "--help"], ASM_HELP),
         (&["--version"], VERSION),
         (&["-V"], VERSION),
     ];
@@ -174,7 +188,7 @@ fn gives_texts(rt: HostRuntime) -> Result<(), Fail> {
 
 #[test]
 fn keeps_texts_to_eighty_columns(rt: HostRuntime) -> Result<(), Fail> {
-    for text in [HELP, EVAL_HELP, VERSION] {
+    for text in [HELP, EVAL_HELP, ASM_HELP, VERSION] {
         assert!(rt; text.ends_with("\n"));
         for line in text.split('\n') {
             assert!(rt; line.len() <= 80, "{line}");

@@ -2,10 +2,10 @@
 use Rattle.std.proofs.Common.{◌≡◌, ℕ, suc, List, [], ◌∷◌, ◌++◌, refl, ap, append-nil}
 use Rattle.std.specs.Prelude.{Result, Ok, Err}
 use Rattle.std.proofs.lemmas.List.{append_assoc}
-use Rattle.jvms_file.specs.declared.fault.ClassFault.{ClassFault}
 use Rattle.jvms_file.specs.declared.class_file.ClassFile.{ClassFile}
 use Rattle.jvms_file.specs.Results.{◌>>=◌}
-use Rattle.jvms_file.specs.ClassFile.{read}
+use Rattle.inputs.specs.declared.input.Input.{Input}
+use Rattle.inputs.specs.Inputs.{NoClass, class_in}
 use Rattle.jvmx.specs.Evaluation.{NotEvaluated, no_class, classes_from}
 
 -- The classes that were read, then those that are still to be read.
@@ -17,7 +17,7 @@ still_none : (r : Result (List ClassFile) NotEvaluated) → still [] r ≡ r
 still_none (Ok classes) = refl
 still_none (Err why) = refl
 
-pub still_all : (files : List (List ℕ)) → still [] (classes_from 0 files) ≡ classes_from 0 files
+pub still_all : (files : List Input) → still [] (classes_from 0 files) ≡ classes_from 0 files
 still_all files = still_none (classes_from 0 files)
 
 still_with : (seen : List ClassFile) (class : ClassFile) (r : Result (List ClassFile) NotEvaluated) → still (seen ++ class ∷ []) r ≡ still seen (r >>= λ classes. Ok (class ∷ classes))
@@ -25,12 +25,12 @@ still_with seen class (Ok classes) = ap Ok (append_assoc seen (class ∷ []) cla
 still_with seen class (Err why) = refl
 
 -- One more class is read.
-pub still_more : (seen : List ClassFile) (file : ℕ) (bytes : List ℕ) (rest : List (List ℕ)) (class : ClassFile) → read bytes ≡ Ok class → still (seen ++ class ∷ []) (classes_from (suc file) rest) ≡ still seen (classes_from file (bytes ∷ rest))
-still_more seen file bytes rest class read_so = rw read_so (still_with seen class (classes_from (suc file) rest))
+pub still_more : (seen : List ClassFile) (file : ℕ) (input : Input) (rest : List Input) (class : ClassFile) → class_in input ≡ Ok class → still (seen ++ class ∷ []) (classes_from (suc file) rest) ≡ still seen (classes_from file (input ∷ rest))
+still_more seen file input rest class read_so = rw read_so (still_with seen class (classes_from (suc file) rest))
 
--- The next file is no class file.
-pub still_fails : (seen : List ClassFile) (file : ℕ) (bytes : List ℕ) (rest : List (List ℕ)) (fault : ClassFault) → read bytes ≡ Err fault → still seen (classes_from file (bytes ∷ rest)) ≡ Err (no_class file fault)
-still_fails seen file bytes rest fault read_so = rw read_so refl
+-- The next file is no class.
+pub still_fails : (seen : List ClassFile) (file : ℕ) (input : Input) (rest : List Input) (why : NoClass) → class_in input ≡ Err why → still seen (classes_from file (input ∷ rest)) ≡ Err (no_class file why)
+still_fails seen file input rest why read_so = rw read_so refl
 
 -- No file is left.
 pub still_done : (seen : List ClassFile) (file : ℕ) → still seen (classes_from file []) ≡ Ok seen

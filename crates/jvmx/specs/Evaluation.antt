@@ -1,24 +1,24 @@
--- What a static method gives when it runs by itself: class files are read and linked, and thread 0 takes
--- turns while it can.
+-- What a static method gives when it runs by itself: class files are read, sources assembled, all are linked, and
+-- thread 0 takes turns while it can.
 use Rattle.std.specs.Prelude.{◌≡◌, ◌<◌, ℕ, zero, suc, if◌then◌else◌, List, [], ◌∷◌, ◌++◌, length, Option, Some, None, codes, Result, Ok, Err}
 use Rattle.std.specs.Fmt.{decimal, signed_decimal}
 use Rattle.jvms_machine.specs.declared.value.Value.{Value}
 use Rattle.jvms_machine.specs.declared.value.Value.TheVariants as value
-use Rattle.jvms_file.specs.declared.fault.ClassFault.{ClassFault}
-use Rattle.jvms_file.specs.declared.fault.ReadError.{ReadError}
-use Rattle.jvms_file.specs.declared.fault.ReadError.TheVariants as read_error
 use Rattle.jvms_file.specs.declared.class_file.ClassFile.{ClassFile}
 use Rattle.jvms_machine.specs.declared.machine.Entry.{Entry}
 use Rattle.jvms_machine.specs.declared.machine.Limits.{Limits}
 use Rattle.jvms_program.specs.declared.program.Class.{Class}
 use Rattle.jvms_file.specs.Results.{◌>>=◌}
-use Rattle.jvms_file.specs.ClassFile.{read}
 use Rattle.jvms_machine.specs.State.{State}
 use Rattle.jvms_machine.specs.Start.{Start}
 use Rattle.jvms_machine.specs.Turn.{turn}
 use Rattle.jvms_machine.specs.Opening.{NotMade, no_entry, no_limits, made, opening}
 use Rattle.jvms_machine.specs.Run.{run}
 use Rattle.jvms_machine.specs.Status.{is_enabled, status_of}
+use Rattle.inputs.specs.declared.fault.InputFault.{InputFault}
+use Rattle.inputs.specs.declared.input.Input.{Input}
+use Rattle.inputs.specs.Inputs.{NoClass, class_in}
+use Rattle.inputs.specs.Inputs as inputs
 use Rattle.linker.specs.declared.fault.LinkFault.{LinkFault}
 use Rattle.linker.specs.declared.fault.LinkFault.TheVariants as link_fault
 use Rattle.linker.specs.Linking.{linked}
@@ -60,11 +60,11 @@ evaluation program start =
       turns = length (choices program start);
     }
 
--- ---- From bytes to the run
+-- ---- From files to the run
 
--- Why a method isn't evaluated: a file is no class file, the classes make no program, or there is no machine.
+-- Why a method isn't evaluated: a file is no class, the classes make no program, or there is no machine.
 pub data NotEvaluated : Type 0 where
-  no_class : (file : ℕ) (fault : ClassFault) → NotEvaluated
+  no_class : (file : ℕ) (why : NoClass) → NotEvaluated
   not_linked : (fault : LinkFault) → NotEvaluated
   not_made : (why : NotMade) → NotEvaluated
 
@@ -72,11 +72,11 @@ abbrev pub refused : {A E : Type 0} → (E → NotEvaluated) → Result A E → 
 refused why (Ok x) = Ok x
 refused why (Err fault) = Err (why fault)
 
--- The classes that files spell, the first of which has this number, or the first that spells none.
-abbrev pub classes_from : ℕ → List (List ℕ) → Result (List ClassFile) NotEvaluated
+-- The classes that files are, the first of which has this number, or the first that is none.
+abbrev pub classes_from : ℕ → List Input → Result (List ClassFile) NotEvaluated
 classes_from file [] = Ok []
-classes_from file (bytes ∷ rest) = do
-  class ← refused (no_class file) (read bytes)
+classes_from file (input ∷ rest) = do
+  class ← refused (no_class file) (class_in input)
   classes ← classes_from (suc file) rest
   Ok (class ∷ classes)
 
@@ -90,7 +90,7 @@ evaluated_classes classes entry = do
   program ← refused not_linked (linked classes)
   evaluated_program program entry
 
-unfoldable pub evaluated : List (List ℕ) → Entry → Result Evaluated NotEvaluated
+unfoldable pub evaluated : List Input → Entry → Result Evaluated NotEvaluated
 evaluated files entry = do
   classes ← classes_from 0 files
   evaluated_classes classes entry
@@ -116,21 +116,21 @@ WroteBeginning said old new = (e : Evaluated) × (said ≡ Ok e) × AppendsBegin
 
 -- ---- Faults
 
-abbrev pub IsClassFault : {A : Type 0} → ℕ → ReadError → Result A NotEvaluated → Type 0
-IsClassFault file (read_error.Fault fault) said = said ≡ Err (no_class file fault)
-IsClassFault file read_error.Memory said = Unit {0}
+-- A fault of a file is why it is no class, unless memory ran out.
+abbrev pub IsFileFault : {A : Type 0} → ℕ → InputFault → Result A NotEvaluated → Type 0
+IsFileFault file fault said = inputs.IsFault (no_class file) fault said
 
--- A fault of a class file names one of so many files.
+-- It names one of so many files.
 abbrev pub NamesFile : ℕ → EvalFault → Type 0
-NamesFile files (eval_fault.Class file error) = file < files
+NamesFile files (eval_fault.Input file fault) = file < files
 NamesFile files (eval_fault.Link fault) = Unit {0}
 NamesFile files (eval_fault.Machine fault) = Unit {0}
 NamesFile files eval_fault.Memory = Unit {0}
 NamesFile files eval_fault.Output = Unit {0}
 
--- Why the classes weren't read, unless memory ran out.
+-- Why the classes weren't had, unless memory ran out.
 abbrev pub IsClassesFault : EvalFault → Result (List ClassFile) NotEvaluated → Type 0
-IsClassesFault (eval_fault.Class file error) said = IsClassFault file error said
+IsClassesFault (eval_fault.Input file fault) said = IsFileFault file fault said
 IsClassesFault (eval_fault.Link fault) said = ⊥
 IsClassesFault (eval_fault.Machine fault) said = ⊥
 IsClassesFault eval_fault.Memory said = Unit {0}
@@ -147,7 +147,7 @@ IsMachineFault machine_fault.Limits said = said ≡ Err (not_made no_limits)
 
 -- A fault is what was said, unless memory ran out or the writer failed.
 abbrev pub IsFault : EvalFault → Result Evaluated NotEvaluated → Type 0
-IsFault (eval_fault.Class file error) said = IsClassFault file error said
+IsFault (eval_fault.Input file fault) said = IsFileFault file fault said
 IsFault (eval_fault.Link fault) said = IsLinkFault fault said
 IsFault (eval_fault.Machine fault) said = IsMachineFault fault said
 IsFault eval_fault.Memory said = Unit {0}

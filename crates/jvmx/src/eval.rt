@@ -1,16 +1,15 @@
 //! `eval`: what a static method gives.
 
-ghost use Rattle.std.specs.Prelude.{◌≡◌, ◌≢◌, ◌+◌, ◌++◌, ◌∷◌, [], IfOk, IfErr, OnOk, IsErrOf, map, length, string_bytes};
+ghost use Rattle.std.specs.Prelude.{◌≡◌, ◌≢◌, ◌+◌, ◌++◌, ◌∷◌, [], IfOk, IfErr, OnOk, IsErrOf, length, string_bytes};
 ghost use Rattle.std.specs.Io.KnownBytes.{Appends};
-ghost use Rattle.jvms_file.specs.ClassFile.{read as file_read};
-ghost use Rattle.jvms_file.specs.Reading.{Gives};
+ghost use Rattle.inputs.specs.Inputs.{Becomes, class_in};
 ghost use Rattle.jvms_machine.specs.Run.{run_from};
 ghost use Rattle.machine.specs.Machine.{with_state};
 ghost use Rattle.trace.specs.Bytes.{AppendsBeginning};
 ghost use Rattle.jvmx.specs.Evaluation.{IsFault, NamesFile, evaluated as said_of, evaluated_program as program_said, classes_from, result_text, value_text, zeros_from, IsClassesFault, WroteBeginning};
 ghost use Rattle.jvmx.specs.declared.eval.EvalFault.TheVariants.{Link, Machine as NoMachine, Memory, Output};
 
-use class_file::{ReadError, read};
+use inputs::{Input, InputFault, class_of};
 use jvms_file::class_file::ClassFile;
 use jvms_machine::machine::{Entry, Limits, Status};
 use jvms_machine::value::Value;
@@ -45,9 +44,9 @@ pub struct Evaluated {
 /// Why a method wasn't evaluated.
 #[derive(Clone, Copy, Debug, PartialEq, Eq, Error)]
 pub enum EvalFault {
-    /// C01 to C18: the file of this place, from 0, is no class file, or there was no memory for its class.
-    #[error("class file {file}: {error:?}")]
-    Class { file: usize, error: ReadError },
+    /// C01 to C18, J01 to J12, A01 to A08: the file of this place, from 0, is no class, or there was no memory for it.
+    #[error("file {file}: {fault}")]
+    Input { file: usize, fault: InputFault },
     /// K01 to K07: the classes make no program.
     #[error("{0}")]
     Link(LinkFault),
@@ -102,25 +101,25 @@ impl<T: Drop> From<AllocFailed<T>> for EvalFault {
     }
 }
 
-/// The class of a class file.
-fn read_class(alloc: Global, bytes: &[u8]) -> Result<ClassFile, ReadError>
-    ensures { Gives (λ c. c) result (file_read bytes.now) }
+/// The class that a file is.
+fn class_of_file(alloc: Global, input: &Input) -> Result<ClassFile, InputFault>
+    ensures { Becomes result (class_in input.now) }
 {
-    let file = read(alloc, bytes)?;
-    Ok(file.into_class())
+    let class = class_of(alloc, input)?;
+    Ok(class.into_class())
 }
 
-/// The classes of class files, or the first that isn't one.
-fn read_all(alloc: Global, files: &[Vec<u8>]) -> Result<Vec<ClassFile>, EvalFault>
-    ensures classes { IfOk result (λ classes. classes_from 0 (map (λ f. f.items) files.now) ≡ Ok classes.items) }
-    ensures fault { IfErr result (λ fault. IsClassesFault fault (classes_from 0 (map (λ f. f.items) files.now))) }
+/// The classes of files, or the first that is none.
+fn read_all(alloc: Global, files: &[Input]) -> Result<Vec<ClassFile>, EvalFault>
+    ensures classes { IfOk result (λ classes. classes_from 0 files.now ≡ Ok classes.items) }
+    ensures fault { IfErr result (λ fault. IsClassesFault fault (classes_from 0 files.now)) }
     ensures named { IfErr result (λ fault. NamesFile (length files.now) fault) }
 {
     let mut classes = Vec::new(alloc);
-    for (file, bytes) in files.iter().enumerate() {
-        match read_class(alloc, bytes.as_slice()) {
+    for (file, input) in files.iter().enumerate() {
+        match class_of_file(alloc, input) {
             Ok(class) => classes.push(class)?,
-            Err(error) => return Err(EvalFault::Class { file, error }),
+            Err(fault) => return Err(EvalFault::Input { file, fault }),
         }
     }
     Ok(classes)
@@ -195,30 +194,30 @@ fn write_result<W: ByteOut>(
     Ok(())
 }
 
-/// Runs a static method of the program that class files make, by choices of thread 0 while it is enabled,
-/// and writes its result's line.
+/// Runs a static method of the program that class files and sources make, by choices of thread 0 while it is
+/// enabled, and writes its result's line.
 #[tactic(auto, unfolding(crate::specs::Evaluation::evaluated, crate::specs::Evaluation::evaluated_classes))]
 pub fn eval<W: ByteOut>(
     alloc: Global,
-    classes: &[Vec<u8>],
+    inputs: &[Input],
     entry: &Entry,
     output: &mut W,
 ) -> Result<Evaluated, EvalFault>
     // The status, the turns and the result are those of the run by the instruction table.
-    ensures exact { IfOk result (λ e. said_of (map (λ f. f.items) classes.now) entry.now ≡ Ok e) }
+    ensures exact { IfOk result (λ e. said_of inputs.now entry.now ≡ Ok e) }
     // The result's line was written, or nothing where there is none.
     ensures written { IfOk result (λ e. Appends (W.written output.old) (W.written output.new) (result_text e.result)) }
     ensures count { OnOk result (W.failures output.new ≡ W.failures output.old) }
-    // A fault comes only where its condition stands, and that of a class file names one of these.
-    ensures fault { IfErr result (λ fault. IsFault fault (said_of (map (λ f. f.items) classes.now) entry.now)) }
-    ensures named { IfErr result (λ fault. NamesFile (length classes.now) fault) }
+    // A fault comes only where its condition stands, and that of a file names one of these.
+    ensures fault { IfErr result (λ fault. IsFault fault (said_of inputs.now entry.now)) }
+    ensures named { IfErr result (λ fault. NamesFile (length inputs.now) fault) }
     ensures untouched { IfErr result (λ fault. fault ≢ EvalFault.Output → output.new ≡ output.old) }
     // Output comes only where the writer failed; then a beginning of the line was written.
     ensures failed { IsErrOf result EvalFault.Output → W.failures output.new ≡ W.failures output.old + 1 }
-    ensures beginning { IsErrOf result EvalFault.Output → WroteBeginning (said_of (map (λ f. f.items) classes.now) entry.now) (W.written output.old) (W.written output.new) }
+    ensures beginning { IsErrOf result EvalFault.Output → WroteBeginning (said_of inputs.now entry.now) (W.written output.old) (W.written output.new) }
 {
-    let files = read_all(alloc, classes)?;
-    let program = link(alloc, files)?;
+    let classes = read_all(alloc, inputs)?;
+    let program = link(alloc, classes)?;
     let evaluated = run_entry(alloc, &program, entry)?;
     write_result(alloc, evaluated.result, output)?;
     Ok(evaluated)

@@ -2,8 +2,8 @@
 
 ghost use Rattle.std.specs.Prelude.{◌≡◌, ◌≤◌, ◌<◌, length, IfOk, IfSome, IsErrOf};
 
-use std::alloc::Global;
-use std::io::{self, ErrorKind, Read};
+use std::alloc::{AllocError, AllocFailed, Global};
+use std::io::{self, ErrorKind, Read, Write};
 use std::{fs, rt};
 
 /// How many bytes a file may have.
@@ -20,6 +20,18 @@ pub enum FileFault {
     Memory,
 }
 
+impl From<AllocError> for FileFault {
+    fn from(_error: AllocError) -> FileFault {
+        FileFault::Memory
+    }
+}
+
+impl<T: Drop> From<AllocFailed<T>> for FileFault {
+    fn from(_error: AllocFailed<T>) -> FileFault {
+        FileFault::Memory
+    }
+}
+
 impl From<io::Error> for FileFault {
     fn from(error: io::Error) -> FileFault {
         match error.kind() {
@@ -33,6 +45,9 @@ impl From<io::Error> for FileFault {
 pub trait Files {
     /// The bytes of a file, if there are at most 67,108,864.
     fn read(&mut self, name: &str) -> Result<Vec<u8>, FileFault>;
+
+    /// Makes these the bytes of a file. Where that fails, a file that was there has its bytes still.
+    fn write(&mut self, name: &str, bytes: &[u8]) -> Result<(), FileFault>;
 }
 
 /// All bytes that a reader has left, if there aren't too many; of more, one too many is read.
@@ -46,6 +61,19 @@ fn read_bounded<R: Read + Drop>(alloc: Global, reader: R) -> Result<Vec<u8>, Fil
     Ok(bytes)
 }
 
+/// The name of the file that is written first, so that a file is replaced as a whole.
+fn name_beside(alloc: Global, name: &str) -> Result<String, AllocError> {
+    format!(in alloc; "{name}.part")
+}
+
+/// Writes a file beside another, and puts it in the other's place.
+fn replace<R: rt::Files>(rt: &R, beside: &str, name: &str, bytes: &[u8]) -> io::Result<()> {
+    let mut file = fs::create(rt, beside)?;
+    file.write_all(bytes)?;
+    drop(file);
+    fs::rename(rt, beside, name)
+}
+
 /// The files of the system.
 #[derive(Drop)]
 pub(crate) struct SystemFiles<'r, R> {
@@ -56,5 +84,17 @@ impl<R: rt::Files + AllocGlobal> Files for SystemFiles<'_, R> {
     fn read(&mut self, name: &str) -> Result<Vec<u8>, FileFault> {
         let file = fs::open(self.rt, name)?;
         read_bounded(self.rt.alloc(), file)
+    }
+
+    fn write(&mut self, name: &str, bytes: &[u8]) -> Result<(), FileFault> {
+        let beside = name_beside(self.rt.alloc(), name)?;
+        match replace(self.rt, beside.as_str(), name, bytes) {
+            Ok(()) => Ok(()),
+            Err(error) => {
+                // What stands beside it is of no use; that it can't be removed changes no answer.
+                let _removed = fs::remove_file(self.rt, beside.as_str());
+                Err(error.into())
+            }
+        }
     }
 }

@@ -3,25 +3,47 @@
 use crate::eval::eval;
 use crate::files::Files;
 use crate::refusal::Refusal;
-use command_line::{Command, EvalWords, VERSION, command_of};
+use command_line::{AsmWords, Command, EvalWords, VERSION, command_of};
+use inputs::{Input, class_of};
 use jvms_machine::machine::Status;
 use std::alloc::Global;
 use trace::{ByteIn, ByteOut};
 
-/// The bytes of all files, in order.
-fn read_files<'w, F: Files>(
+/// The bytes of a file.
+fn read_file<'w, F: Files>(files: &mut F, name: &'w str) -> Result<Vec<u8>, Refusal<'w>> {
+    files
+        .read(name)
+        .map_err(|fault| Refusal::of_file(name, fault))
+}
+
+/// A source in Jasmin, whatever its name.
+fn read_source<'w, F: Files>(files: &mut F, name: &'w str) -> Result<Input, Refusal<'w>> {
+    match String::from_utf8(read_file(files, name)?) {
+        Ok(text) => Ok(Input::Source(text)),
+        Err(_) => Err(Refusal::NotUtf8 { file: name }),
+    }
+}
+
+/// What a FILE holds: a source where its name ends in `.j`, else a class file.
+fn read_input<'w, F: Files>(files: &mut F, name: &'w str) -> Result<Input, Refusal<'w>> {
+    if name.ends_with(".j") {
+        read_source(files, name)
+    } else {
+        Ok(Input::ClassFile(read_file(files, name)?))
+    }
+}
+
+/// What all FILEs hold, in order.
+fn read_inputs<'w, F: Files>(
     alloc: Global,
     files: &mut F,
     names: &[&'w str],
-) -> Result<Vec<Vec<u8>>, Refusal<'w>> {
-    let mut contents = Vec::new(alloc);
+) -> Result<Vec<Input>, Refusal<'w>> {
+    let mut inputs = Vec::new(alloc);
     for name in names {
-        match files.read(*name) {
-            Ok(bytes) => contents.push(bytes)?,
-            Err(fault) => return Err(Refusal::of_file(*name, fault)),
-        }
+        inputs.push(read_input(files, *name)?)?;
     }
-    Ok(contents)
+    Ok(inputs)
 }
 
 /// A status by its name.
@@ -42,8 +64,8 @@ fn perform_eval<'w, F: Files, W: ByteOut, E: ByteOut>(
     output: &mut W,
     errors: &mut E,
 ) -> Result<u8, Refusal<'w>> {
-    let classes = read_files(alloc, files, words.files.as_slice())?;
-    let evaluated = match eval(alloc, classes.as_slice(), &words.entry, output) {
+    let inputs = read_inputs(alloc, files, words.files.as_slice())?;
+    let evaluated = match eval(alloc, inputs.as_slice(), &words.entry, output) {
         Ok(evaluated) => evaluated,
         Err(fault) => return Err(Refusal::of_eval(&words, fault)),
     };
@@ -54,6 +76,25 @@ fn perform_eval<'w, F: Files, W: ByteOut, E: ByteOut>(
         errors.write_all(line.as_bytes())?;
     }
     Ok(u8::from(evaluated.status != Status::Finished))
+}
+
+/// `asm`: writes the class file that a source is assembled to. A refusal before leaves OUT as it is.
+fn perform_asm<'w, F: Files>(
+    alloc: Global,
+    words: AsmWords<'w>,
+    files: &mut F,
+) -> Result<u8, Refusal<'w>> {
+    let file = words.input;
+    let source = read_source(files, file)?;
+    let class = match class_of(alloc, &source) {
+        Ok(class) => class,
+        Err(fault) => return Err(Refusal::Input { file, fault }),
+    };
+    let bytes = class_file::write(alloc, &class)?;
+    match files.write(words.output, bytes.as_slice()) {
+        Ok(()) => Ok(0),
+        Err(fault) => Err(Refusal::of_file(words.output, fault)),
+    }
 }
 
 /// Prints a text.
@@ -72,6 +113,7 @@ fn command<'w, F: Files, W: ByteOut, E: ByteOut>(
 ) -> Result<u8, Refusal<'w>> {
     match command_of(alloc, words)? {
         Command::Eval(words) => perform_eval(alloc, words, files, output, errors),
+        Command::Asm(words) => perform_asm(alloc, words, files),
         Command::Help(text) => print(output, text),
         Command::Version => print(output, VERSION),
     }

@@ -2,8 +2,8 @@
 
 use crate::eval::EvalFault;
 use crate::files::FileFault;
-use class_file::{ClassFault, ReadError};
 use command_line::{EvalWords, WordsFault};
+use inputs::InputFault;
 use linker::LinkFault;
 use machine::MachineFault;
 use std::alloc::{AllocError, AllocFailed};
@@ -19,8 +19,10 @@ pub(crate) enum Refusal<'w> {
     File { file: &'w str },
     /// P01: a file has too many bytes.
     FileTooLarge { file: &'w str },
-    /// C01 to C18: a file is no class file, or there was no memory for its class.
-    Class { file: &'w str, error: ReadError },
+    /// P03: a file ought to be a source and isn't UTF-8.
+    NotUtf8 { file: &'w str },
+    /// C01 to C18, J01 to J12, A01 to A08: a file is no class, or there was no memory for its class.
+    Input { file: &'w str, fault: InputFault },
     /// K01 to K07: the class of a file can't be linked.
     Link { file: &'w str, fault: LinkFault },
     /// K06: there was no memory for the program.
@@ -86,9 +88,9 @@ impl<'w> Refusal<'w> {
     /// A method that wasn't evaluated.
     pub(crate) fn of_eval(words: &EvalWords<'w>, fault: EvalFault) -> Self {
         match fault {
-            EvalFault::Class { file, error } => Refusal::Class {
+            EvalFault::Input { file, fault } => Refusal::Input {
                 file: words.file(file),
-                error,
+                fault,
             },
             EvalFault::Link(fault) => Refusal::of_link(words, fault),
             EvalFault::Machine(fault) => Refusal::Machine {
@@ -104,41 +106,9 @@ impl<'w> Refusal<'w> {
     pub(crate) fn status(&self) -> u8 {
         match self {
             Refusal::File { .. } | Refusal::LinkMemory | Refusal::Output | Refusal::Memory => 3,
-            Refusal::Class { error, .. } if *error == ReadError::Memory => 3,
+            Refusal::Input { fault, .. } if fault.is_memory() => 3,
             Refusal::Machine { fault, .. } if *fault == MachineFault::Memory => 3,
             _ => 2,
-        }
-    }
-}
-
-/// A number and name of C01 to C18, with the place where there is one.
-#[derive(Clone, Copy)]
-struct ClassCode(ReadError);
-
-impl fmt::Display for ClassCode {
-    fn fmt<W: fmt::Write>(&self, f: &mut fmt::Formatter<W>) -> fmt::Result {
-        let fault = match self.0 {
-            ReadError::Memory => return f.write_str("C18 Memory"),
-            ReadError::Fault(fault) => fault,
-        };
-        match fault {
-            ClassFault::Truncated { at } => write!(f, "C01 Truncated at {at}"),
-            ClassFault::Magic => f.write_str("C02 Magic"),
-            ClassFault::Version => f.write_str("C03 Version"),
-            ClassFault::Tag => f.write_str("C04 Tag"),
-            ClassFault::Index => f.write_str("C05 Index"),
-            ClassFault::Utf8 => f.write_str("C06 Utf8"),
-            ClassFault::Descriptor => f.write_str("C07 Descriptor"),
-            ClassFault::AttributeLength => f.write_str("C08 AttributeLength"),
-            ClassFault::RepeatedAttribute => f.write_str("C09 RepeatedAttribute"),
-            ClassFault::CodePresence => f.write_str("C10 CodePresence"),
-            ClassFault::Opcode { pc } => write!(f, "C11 Opcode at {pc}"),
-            ClassFault::Operand { pc } => write!(f, "C12 Operand at {pc}"),
-            ClassFault::Target { pc } => write!(f, "C13 Target at {pc}"),
-            ClassFault::Handler => f.write_str("C14 Handler"),
-            ClassFault::CodeLength => f.write_str("C15 CodeLength"),
-            ClassFault::Trailing => f.write_str("C16 Trailing"),
-            ClassFault::RepeatedMember => f.write_str("C17 RepeatedMember"),
         }
     }
 }
@@ -146,17 +116,15 @@ impl fmt::Display for ClassCode {
 impl fmt::Display for Refusal<'_> {
     fn fmt<W: fmt::Write>(&self, f: &mut fmt::Formatter<W>) -> fmt::Result {
         match self {
-            Refusal::Words => f.write_str("P04 Words"),
+            Refusal::Words => write!(f, "{}", WordsFault::Words),
             Refusal::File { file } => write!(f, "{file}: P02 File"),
             Refusal::FileTooLarge { file } => write!(f, "{file}: P01 FileTooLarge"),
-            Refusal::Class { file, error } => {
-                let code = ClassCode(*error);
-                write!(f, "{file}: {code}")
-            }
+            Refusal::NotUtf8 { file } => write!(f, "{file}: P03 NotUtf8"),
+            Refusal::Input { file, fault } => write!(f, "{file}: {fault}"),
             Refusal::Link { file, fault } => write!(f, "{file}: {fault}"),
-            Refusal::LinkMemory => f.write_str("K06 Memory"),
+            Refusal::LinkMemory => write!(f, "{}", LinkFault::Memory),
             Refusal::Machine { entry, fault } => write!(f, "{entry}: {fault}"),
-            Refusal::Output => f.write_str("P05 Output"),
+            Refusal::Output => write!(f, "{}", EvalFault::Output),
             Refusal::Memory => f.write_str("Memory"),
         }
     }

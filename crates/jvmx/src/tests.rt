@@ -4,4 +4,5 @@
 mod harness;
 mod refusals;
 mod runs;
+mod sources;
 mod words;

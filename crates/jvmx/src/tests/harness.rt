@@ -23,7 +23,7 @@ pub const G: [u8; 115] = [
     0x00, 0x00, 0x00,
 ];
 
-/// A file in memory: G, changed or cut, under a name.
+/// A file in memory: a text, or G, changed or cut.
 #[derive(Clone, Copy)]
 pub enum File {
     /// G as it is.
@@ -36,31 +36,42 @@ pub enum File {
     Longer,
     /// A file with too many bytes.
     Large,
+    /// These bytes.
+    Text(&'static [u8]),
 }
 
 impl File {
     fn bytes(self, alloc: Global) -> Result<Vec<u8>, FileFault> {
-        let mut bytes = G.to_vec(alloc).map_err(|_| FileFault::Memory)?;
+        let held: &[u8] = match self {
+            File::Text(text) => text,
+            _ => &G,
+        };
+        let mut bytes = held.to_vec(alloc)?;
         match self {
-            File::Whole => {}
+            File::Whole | File::Text(_) => {}
             File::Cut(length) => bytes.truncate(length),
             File::With(place, byte) => {
                 if let Some(slot) = bytes.get_mut(place) {
                     *slot = byte;
                 }
             }
-            File::Longer => bytes.push(0).map_err(|_| FileFault::Memory)?,
+            File::Longer => bytes.push(0)?,
             File::Large => return Err(FileFault::TooLarge),
         }
         Ok(bytes)
     }
 }
 
+/// The name of the one file that can be written.
+pub const WRITABLE: &str = "OUT";
+
 /// Files in memory by name; all others aren't there.
 #[derive(Drop)]
 struct Held<'f> {
     alloc: Global,
     files: &'f [(&'f str, File)],
+    /// The bytes of the file that was written.
+    written: Vec<u8>,
 }
 
 impl Files for Held<'_> {
@@ -71,6 +82,14 @@ impl Files for Held<'_> {
             }
         }
         Err(FileFault::File)
+    }
+
+    fn write(&mut self, name: &str, bytes: &[u8]) -> Result<(), FileFault> {
+        if name != WRITABLE {
+            return Err(FileFault::File);
+        }
+        self.written.extend_from_slice(bytes)?;
+        Ok(())
     }
 }
 
@@ -105,6 +124,8 @@ pub struct Observed {
     pub status: u8,
     pub output: String,
     pub errors: String,
+    /// The bytes of the file that was written.
+    pub written: Vec<u8>,
 }
 
 impl Observed {
@@ -152,7 +173,11 @@ fn counted<I: Ledger, O: Ledger, E: Ledger>(
     let mut output = Counted::new(written, Failures::<O>::none(output));
     let mut errors = Counted::new(told, Failures::<E>::none(errors));
     let words = owned(alloc, words)?;
-    let mut held = Held { alloc, files };
+    let mut held = Held {
+        alloc,
+        files,
+        written: Vec::new(alloc),
+    };
     let status = perform(
         alloc,
         words.as_slice(),
@@ -165,6 +190,7 @@ fn counted<I: Ledger, O: Ledger, E: Ledger>(
         status,
         output: text(output.inner().bytes.as_slice(), alloc)?,
         errors: text(errors.inner().bytes.as_slice(), alloc)?,
+        written: held.written,
     })
 }
 
