@@ -1,0 +1,4 @@
+pub mod Collected
+pub mod Items
+pub mod PoolTexts
+pub mod Referred

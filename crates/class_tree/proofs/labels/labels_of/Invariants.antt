@@ -1,0 +1,6 @@
+use Rattle.std.proofs.Common.{◌≡◌, take, map}
+use Rattle.listings.specs.TreeOf.{label_of}
+use Rattle.class_tree.proofs.labels.labels_of.Given as goal
+
+abbrev pub invariant-loop-target : goal.invariant-loop-target
+invariant-loop-target l = l.labels.items ≡ map label_of (take l.target-index l.targets)

@@ -1,0 +1,11 @@
+use Rattle.std.proofs.Common.{◌≡◌, length}
+use Rattle.jvms_file.specs.Results.{collected}
+use Rattle.listings.specs.TreeOf.{method_lines}
+use Rattle.class_tree.proofs.Collected.{with_items}
+use Rattle.class_tree.proofs.methods.all_method_lines.Given as goal
+
+abbrev pub invariant-loop-rest : goal.invariant-loop-rest
+invariant-loop-rest l = with_items l.methods (collected (method_lines l.texts) l.rest) ≡ collected (method_lines l.texts) l.fn.infos
+
+abbrev pub decreases-loop-rest : goal.decreases-loop-rest
+decreases-loop-rest l = length l.rest

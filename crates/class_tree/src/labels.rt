@@ -1,0 +1,39 @@
+//! Labels of places.
+
+ghost use Rattle.std.specs.Prelude.{◌≡◌, IfOk, map};
+ghost use Rattle.listings.specs.TreeOf.{label_of};
+
+use held::items::Items;
+use held::shared::{Shared, Text};
+use std::alloc::{AllocError, Global};
+
+/// The text of ASCII bytes.
+fn text_of_bytes(alloc: Global, bytes: &[u8]) -> Result<Text, AllocError>
+    ensures { IfOk result (λ text. text ≡ bytes.now) }
+{
+    let mut units = Vec::with_capacity(alloc, bytes.len())?;
+    for byte in bytes {
+        units.push(u16::from(*byte))?;
+    }
+    Shared::new(alloc, Items::from_vec(units))
+}
+
+/// The label of a place: `L` and its number.
+#[tactic(auto, unfolding(listings::specs::TreeOf::label_of))]
+pub(crate) fn label_of(alloc: Global, place: usize) -> Result<Text, AllocError>
+    ensures { IfOk result (λ label. label ≡ label_of place) }
+{
+    let label = format!(in alloc; "L{place}")?;
+    text_of_bytes(alloc, label.as_bytes())
+}
+
+/// The labels of targets, in order.
+pub(crate) fn labels_of(alloc: Global, targets: &[u32]) -> Result<Items<Text>, AllocError>
+    ensures { IfOk result (λ labels. labels ≡ map label_of targets.now) }
+{
+    let mut labels = Vec::with_capacity(alloc, targets.len())?;
+    for target in targets {
+        labels.push(label_of(alloc, *target as usize)?)?;
+    }
+    Ok(Items::from_vec(labels))
+}

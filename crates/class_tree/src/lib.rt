@@ -1,0 +1,21 @@
+//! From a class file's parts to the tree of a source that means the same.
+#![tactic(auto)]
+
+mod code;
+mod constants;
+mod fields;
+mod handlers;
+mod labels;
+mod marks;
+mod methods;
+mod opcodes;
+mod operations;
+mod references;
+mod switches;
+mod texts;
+mod tree;
+
+pub use jasmin::source::Source;
+pub use jvms_file::class_file::ClassFile;
+pub use listings::fault::ListFault;
+pub use tree::tree_of;

@@ -1,0 +1,130 @@
+//! Methods (JVMS 4.6).
+
+ghost use Rattle.std.specs.Prelude.{◌≡◌, IfOk, map};
+ghost use Rattle.std.specs.Option.{option_map};
+ghost use Rattle.jvms_file.specs.Results.{collected};
+ghost use Rattle.jvms_program.specs.Meaning.{code_of, throws_of};
+ghost use Rattle.listings.specs.Faults.{Lists};
+ghost use Rattle.listings.specs.TreeOf.{method_flags, method_with, method_lines};
+
+use crate::code::items_of;
+use crate::handlers::catches_of;
+use crate::texts::Texts;
+use held::items::Items;
+use held::shared::Text;
+use jasmin::source::{CatchLine, CodeItem, MethodLines};
+use jvms_file::class_file::{Code, MethodAttribute, MethodInfo};
+use listings::fault::ListFault;
+use std::alloc::{AllocError, Global};
+
+/// The flags that methods' access words have (JVMS table 4.6-A).
+const FLAGS: u16 = 1343;
+
+/// The classes that the first Exceptions among attributes lists (JVMS 4.7.5).
+fn throws_of(
+    alloc: Global,
+    texts: &Texts<'_>,
+    attributes: &[MethodAttribute],
+) -> Result<Items<Text>, AllocError>
+    ensures { IfOk result (λ names. names ≡ throws_of texts.now attributes.now) }
+{
+    let mut rest = attributes;
+    while let [attribute, others @ ..] = rest {
+        if let MethodAttribute::Exceptions { name: _, classes } = attribute {
+            return texts.class_names(alloc, classes.as_slice());
+        }
+        rest = others;
+    }
+    Ok(Items::new(alloc))
+}
+
+/// The first Code among attributes.
+fn code_of(attributes: &[MethodAttribute]) -> Option<&Code>
+    ensures { option_map (λ c. c.now) result ≡ code_of attributes.now }
+{
+    let mut rest = attributes;
+    while let [attribute, others @ ..] = rest {
+        if let MethodAttribute::Code { name: _, code } = attribute {
+            return Some(code);
+        }
+        rest = others;
+    }
+    None
+}
+
+/// A method's lines, with its limits and what its code comes to.
+fn method_with(
+    alloc: Global,
+    texts: &Texts<'_>,
+    info: &MethodInfo,
+    max_stack: u16,
+    max_locals: u16,
+    catches: Items<CatchLine>,
+    code: Items<CodeItem>,
+) -> Result<MethodLines, AllocError>
+    ensures { IfOk result (λ m. m ≡ method_with texts.now info.now max_stack max_locals catches code) }
+{
+    Ok(MethodLines {
+        access: info.access & FLAGS,
+        name: texts.text(info.name)?,
+        descriptor: texts.text(info.descriptor)?,
+        throws: throws_of(alloc, texts, info.attributes.as_slice())?,
+        max_stack,
+        max_locals,
+        catches,
+        code,
+    })
+}
+
+/// The lines of a method; one without code has limits of 1, as where none is written.
+#[tactic(auto, unfolding(listings::specs::TreeOf::method_lines))]
+fn method_lines(
+    alloc: Global,
+    texts: &Texts<'_>,
+    info: &MethodInfo,
+) -> Result<MethodLines, ListFault>
+    ensures { Lists result (method_lines texts.now info.now) }
+{
+    match code_of(info.attributes.as_slice()) {
+        None => Ok(method_with(
+            alloc,
+            texts,
+            info,
+            1,
+            1,
+            Items::new(alloc),
+            Items::new(alloc),
+        )?),
+        Some(code) => {
+            let items = items_of(alloc, texts, code)?;
+            let catches = catches_of(alloc, texts, code.handlers.as_slice())?;
+            Ok(method_with(
+                alloc,
+                texts,
+                info,
+                code.max_stack,
+                code.max_locals,
+                catches,
+                items,
+            )?)
+        }
+    }
+}
+
+/// The lines of methods, in order.
+pub(crate) fn all_method_lines(
+    alloc: Global,
+    texts: &Texts<'_>,
+    infos: &[MethodInfo],
+) -> Result<Items<MethodLines>, ListFault>
+    ensures { Lists result (collected (method_lines texts.now) infos.now) }
+{
+    let mut methods = Items::new(alloc);
+    let mut rest = infos;
+    while let [info, others @ ..] = rest {
+        let lines = method_lines(alloc, texts, info)?;
+        methods.push(lines)?;
+        rest = others;
+    }
+    Ok(methods)
+}

@@ -1,0 +1,44 @@
+//! The opcodes that spell instructions.
+
+ghost use Rattle.std.specs.Prelude.{◌≡◌, slice_get};
+ghost use Rattle.std.specs.Option.{unwrap_or};
+ghost use Rattle.jvms_file.specs.declared.insn.TheConstants.{OPCODES as table};
+ghost use Rattle.listings.specs.TreeOf.{opcode_at};
+
+use jvms_file::insn::{OPCODES, Opcode};
+
+/// The byte at a place; behind the last, 0.
+fn byte_at(bytes: &[u8], place: usize) -> u8
+    ensures { result ≡ unwrap_or (slice_get bytes.now place) 0 }
+{
+    bytes.get(place).copied().unwrap_or(0)
+}
+
+/// The opcode of the instruction that starts at a byte; behind `wide`, that of the instruction that it widens.
+pub(crate) fn opcode_at(bytes: &[u8], pc: u32) -> u8
+    ensures { result ≡ opcode_at bytes.now pc }
+{
+    let code = byte_at(bytes, pc as usize);
+    if code == 196 {
+        byte_at(bytes, pc as usize + 1)
+    } else {
+        code
+    }
+}
+
+/// The entry of a code, if there is one.
+fn entry_of(entries: &[Opcode], code: u8) -> Opcode
+    ensures { result ≡ unwrap_or (slice_get entries.now code) Opcode.Reserved }
+{
+    entries
+        .get(usize::from(code))
+        .copied()
+        .unwrap_or(Opcode::Reserved)
+}
+
+/// What the operands of an opcode are.
+pub(crate) fn form_of(code: u8) -> Opcode
+    ensures { result ≡ unwrap_or (slice_get table code) Opcode.Reserved }
+{
+    entry_of(&OPCODES, code)
+}

@@ -1,0 +1,165 @@
+//! Texts that numbers of pool entries name: each is made once, and shared by all that name it.
+
+ghost use Rattle.std.specs.Prelude.{◌≡◌, [], IfOk, map, slice_get};
+ghost use Rattle.std.specs.Option.{option_and_then, option_copied, unwrap_or};
+ghost use Rattle.jvms_file.specs.ConstantPool.{entry, utf8_of, utf8_at, both};
+ghost use Rattle.jvms_program.specs.Meaning.{text_of, class_text, name_and_type};
+
+use held::items::Items;
+use held::shared::{Shared, Text};
+use jvms_file::class_file::Constant;
+use std::alloc::{AllocError, Global};
+use std::marker::Model;
+
+/// A class's constant pool, each of whose texts is held once for all that name it. Contracts see the list of
+/// its entries.
+#[derive(Drop)]
+pub(crate) struct Texts<'p> {
+    pool: &'p [Constant],
+    texts: Vec<Option<Text>>,
+    /// What stands for a text that isn't there.
+    nothing: Text,
+}
+
+impl<'p> Model for Texts<'p> {
+    ghost use Rattle.std.specs.Prelude.{List, [], ◌≡◌, map};
+    ghost use Rattle.jvms_file.specs.declared.class_file.Constant.{Constant};
+    ghost use Rattle.jvms_file.specs.ConstantPool.{utf8_of};
+
+    ghost Value = { List Constant };
+
+    ghost view = { λ t. t.pool.now };
+
+    ghost invariant = { λ t. (t.texts.items ≡ map utf8_of t.pool.now) × (t.nothing ≡ []) };
+}
+
+/// A text of these units.
+fn copied(alloc: Global, units: &[u16]) -> Result<Text, AllocError>
+    ensures { IfOk result (λ text. text ≡ units.now) }
+{
+    Shared::new(alloc, Items::from_vec(Vec::from_slice(alloc, units)?))
+}
+
+/// The text of an entry, if it is a Utf8 (JVMS 4.4.7).
+fn entry_text(alloc: Global, constant: &Constant) -> Result<Option<Text>, AllocError>
+    ensures { IfOk result (λ text. text ≡ utf8_of constant.now) }
+{
+    match constant {
+        Constant::Utf8(text) => Ok(Some(copied(alloc, text.as_slice())?)),
+        _ => Ok(None),
+    }
+}
+
+/// The texts of entries, in order.
+fn entry_texts(alloc: Global, pool: &[Constant]) -> Result<Vec<Option<Text>>, AllocError>
+    ensures { IfOk result (λ texts. texts.items ≡ map utf8_of pool.now) }
+{
+    let mut texts = Vec::with_capacity(alloc, pool.len())?;
+    for constant in pool {
+        texts.push(entry_text(alloc, constant)?)?;
+    }
+    Ok(texts)
+}
+
+/// The text at a place, if there is one.
+fn at_place(texts: &[Option<Text>], place: usize) -> Option<&Text>
+    ensures { option_copied result ≡ option_and_then (λ text. text) (slice_get texts.now place) }
+{
+    match texts.get(place) {
+        Some(Some(found)) => Some(found),
+        _ => None,
+    }
+}
+
+impl<'p> Texts<'p> {
+    /// The texts of a pool.
+    pub(crate) fn of(alloc: Global, pool: &'p [Constant]) -> Result<Self, AllocError>
+        ensures { IfOk result (λ texts. texts ≡ pool.now) }
+    {
+        let nothing = Shared::new(alloc, Items::new(alloc))?;
+        let texts = entry_texts(alloc, pool)?;
+        Ok(Texts {
+            pool,
+            texts,
+            nothing,
+        })
+    }
+
+    /// The entry of a number, if there is one.
+    pub(crate) fn entry(&self, number: u16) -> Option<&Constant>
+        ensures { option_copied result ≡ entry self.now number }
+    {
+        if number == 0 {
+            return None;
+        }
+        self.pool.get(usize::from(number) - 1)
+    }
+
+    /// The text of a Utf8 entry (JVMS 4.4.7), if a number is one's.
+    #[tactic(auto, using(crate::proofs::PoolTexts::text_at))]
+    fn found(&self, number: u16) -> Option<&Text>
+        ensures { option_copied result ≡ utf8_at self.now number }
+    {
+        if number == 0 {
+            return None;
+        }
+        at_place(&self.texts, usize::from(number) - 1)
+    }
+
+    /// The text of a Utf8 entry; where a number names none, the empty text.
+    pub(crate) fn text(&self, number: u16) -> Result<Text, AllocError>
+        ensures { IfOk result (λ text. text ≡ text_of self.now number) }
+    {
+        match self.found(number) {
+            Some(found) => found.share(),
+            None => self.nothing.share(),
+        }
+    }
+
+    /// The name of a Class entry (JVMS 4.4.1); where a number names none, the empty text.
+    pub(crate) fn class_name(&self, number: u16) -> Result<Text, AllocError>
+        ensures { IfOk result (λ name. name ≡ class_text self.now number) }
+    {
+        match self.entry(number) {
+            Some(Constant::Class { name }) => self.text(*name),
+            _ => self.nothing.share(),
+        }
+    }
+
+    /// The names of Class entries, in order.
+    pub(crate) fn class_names(
+        &self,
+        alloc: Global,
+        numbers: &[u16],
+    ) -> Result<Items<Text>, AllocError>
+        ensures { IfOk result (λ names. names ≡ map (class_text self.now) numbers.now) }
+    {
+        let mut names = Vec::with_capacity(alloc, numbers.len())?;
+        for number in numbers {
+            names.push(self.class_name(*number)?)?;
+        }
+        Ok(Items::from_vec(names))
+    }
+
+    /// Two texts; where a number names none, two empty texts.
+    fn two_texts(&self, name: u16, descriptor: u16) -> (&Text, &Text)
+        ensures name { result.0.now ≡ (unwrap_or (both (utf8_at self.now name) (utf8_at self.now descriptor)) ([], [])).0 }
+        ensures descriptor { result.1.now ≡ (unwrap_or (both (utf8_at self.now name) (utf8_at self.now descriptor)) ([], [])).1 }
+    {
+        match (self.found(name), self.found(descriptor)) {
+            (Some(name), Some(descriptor)) => (name, descriptor),
+            _ => (&self.nothing, &self.nothing),
+        }
+    }
+
+    /// The name and the descriptor of a NameAndType entry (JVMS 4.4.6); where a number names none, empty texts.
+    pub(crate) fn name_and_type(&self, number: u16) -> (&Text, &Text)
+        ensures name { result.0.now ≡ (name_and_type self.now number).0 }
+        ensures descriptor { result.1.now ≡ (name_and_type self.now number).1 }
+    {
+        match self.entry(number) {
+            Some(Constant::NameAndType { name, descriptor }) => self.two_texts(*name, *descriptor),
+            _ => (&self.nothing, &self.nothing),
+        }
+    }
+}

@@ -1,0 +1,16 @@
+pub mod Words
+pub mod Numbers
+pub mod Flags
+pub mod Names
+pub mod Cuts
+pub mod Follows
+pub mod Header
+pub mod Quotes
+pub mod Fields
+pub mod Labels
+pub mod Mnemonics
+pub mod Members
+pub mod Operations
+pub mod Items
+pub mod Methods
+pub mod Listed

@@ -1,0 +1,10 @@
+pub mod Appending
+pub mod Classes
+pub mod Ended
+pub mod Halves
+pub mod Joined
+pub mod Methods
+pub mod Plain
+pub mod PlainTree
+pub mod PlainWords
+pub mod TextLines

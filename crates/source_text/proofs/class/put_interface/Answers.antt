@@ -1,0 +1,5 @@
+-- The name is what its slice has.
+use Rattle.source_text.proofs.class.put_interface.Goals as goal
+
+pub returns : goal.returns
+returns c = rw (← c.as_slice.ensures) c.put_line.ensures

@@ -1,0 +1,10 @@
+-- What is left is paired where all is.
+use Rattle.std.proofs.Common.{◌≡◌, length}
+use Rattle.listings.specs.Printable.{is_paired}
+use Rattle.source_text.proofs.names.is_paired.Given as goal
+
+abbrev pub invariant-loop-rest : goal.invariant-loop-rest
+invariant-loop-rest l = is_paired l.rest ≡ is_paired l.units
+
+abbrev pub decreases-loop-rest : goal.decreases-loop-rest
+decreases-loop-rest l = length l.rest

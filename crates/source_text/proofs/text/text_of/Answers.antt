@@ -1,0 +1,17 @@
+-- The lines of the tree are plain, so that their units are a text's and give its lines again.
+use Rattle.std.proofs.Common.{◌∙◌}
+use Rattle.listings.specs.Printed.{printed}
+use Rattle.source_text.proofs.Halves.{lines_paired}
+use Rattle.source_text.proofs.PlainTree.{printed_plain}
+use Rattle.source_text.proofs.TextLines.{lines_of_text}
+use Rattle.source_text.proofs.text.text_of.Goals as goal
+
+pub decoded-requires : goal.decoded-requires
+decoded-requires c =
+    let s = c.args.source.now in
+    rw (c.as_slice.ensures.value, c.in_ok-units.ensures) (lines_paired (printed s) (printed_plain s c.requires.listable c.requires.printable))
+
+pub returns : goal.returns
+returns c =
+    let s = c.args.source.now in
+    record { exact = lines_of_text c.decoded.result c.as_slice.result.now (printed s) (c.as_slice.ensures.value ∙ c.in_ok-units.ensures) (printed_plain s c.requires.listable c.requires.printable) c.decoded.ensures }

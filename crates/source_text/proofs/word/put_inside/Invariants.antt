@@ -1,0 +1,7 @@
+-- The units so far are escaped.
+use Rattle.std.proofs.Common.{◌≡◌, ◌++◌, take, flat_map}
+use Rattle.listings.specs.Printed.{escaped}
+use Rattle.source_text.proofs.word.put_inside.Given as goal
+
+abbrev pub invariant-loop-unit : goal.invariant-loop-unit
+invariant-loop-unit l = l.out.items ≡ l.initial.out.items ++ flat_map escaped (take l.unit-index l.text)

@@ -1,0 +1,110 @@
+//! Access words (JVMS tables 4.1-A, 4.5-A, 4.6-A).
+
+ghost use Rattle.std.specs.Prelude.{◌≡◌, ◌++◌, ◌∷◌, [], map, OnOk, if◌then◌else◌};
+ghost use Rattle.jasmin.specs.Operands.{field_words, method_words};
+ghost use Rattle.listings.specs.Printed.{access_names, written_class_words, written_interface_words};
+ghost use Rattle.source_text.specs.Words.{units_in};
+
+use crate::word::Word;
+use std::alloc::AllocError;
+
+/// The words of a class but `super`, which `.class` adds.
+const CLASS_WORDS: [(&str, u16); 3] = [("public", 0x0001), ("final", 0x0010), ("abstract", 0x0400)];
+
+/// The words of an interface but those that `.interface` adds.
+const INTERFACE_WORDS: [(&str, u16); 3] = [
+    ("public", 0x0001),
+    ("final", 0x0010),
+    ("super", 0x0020),
+];
+
+/// The words of fields.
+const FIELD_WORDS: [(&str, u16); 7] = [
+    ("public", 0x0001),
+    ("private", 0x0002),
+    ("protected", 0x0004),
+    ("static", 0x0008),
+    ("final", 0x0010),
+    ("volatile", 0x0040),
+    ("transient", 0x0080),
+];
+
+/// The words of methods.
+const METHOD_WORDS: [(&str, u16); 8] = [
+    ("public", 0x0001),
+    ("private", 0x0002),
+    ("protected", 0x0004),
+    ("static", 0x0008),
+    ("final", 0x0010),
+    ("synchronized", 0x0020),
+    ("native", 0x0100),
+    ("abstract", 0x0400),
+];
+
+/// Adds a word.
+pub(crate) fn push_word<'a>(words: &mut Vec<Word<'a>>, word: Word<'a>) -> Result<(), AllocError>
+    ensures { OnOk result (map units_in words.new.items ≡ map units_in words.old.items ++ units_in word.entry ∷ []) }
+{
+    words.push(word)?;
+    Ok(())
+}
+
+/// Adds a word, where its flag is set.
+fn push_word_if<'a>(
+    words: &mut Vec<Word<'a>>,
+    word: &'a str,
+    is_set: bool,
+) -> Result<(), AllocError>
+    ensures { OnOk result (map units_in words.new.items ≡ map units_in words.old.items ++ (if is_set then word.now ∷ [] else [])) }
+{
+    if is_set {
+        push_word(words, Word::Ascii(word))
+    } else {
+        Ok(())
+    }
+}
+
+/// Adds the words of a table whose flags are set.
+#[tactic(auto, unfolding(listings::specs::Printed::access_names))]
+fn push_words<'a>(
+    words: &mut Vec<Word<'a>>,
+    table: &[(&'a str, u16)],
+    access: u16,
+) -> Result<(), AllocError>
+    ensures { OnOk result (map units_in words.new.items ≡ map units_in words.old.items ++ access_names (map (λ w. (w.0.now, w.1)) table.now) access) }
+{
+    let mut rest = table;
+    while let [(word, flag), behind @ ..] = rest {
+        push_word_if(words, word, access & *flag != 0)?;
+        rest = behind;
+    }
+    Ok(())
+}
+
+/// Adds the words of a class.
+pub(crate) fn push_class_words(words: &mut Vec<Word<'_>>, access: u16) -> Result<(), AllocError>
+    ensures { OnOk result (map units_in words.new.items ≡ map units_in words.old.items ++ access_names written_class_words access) }
+{
+    push_words(words, &CLASS_WORDS, access)
+}
+
+/// Adds the words of an interface.
+pub(crate) fn push_interface_words(words: &mut Vec<Word<'_>>, access: u16) -> Result<(), AllocError>
+    ensures { OnOk result (map units_in words.new.items ≡ map units_in words.old.items ++ access_names written_interface_words access) }
+{
+    push_words(words, &INTERFACE_WORDS, access)
+}
+
+/// Adds the words of a field.
+pub(crate) fn push_field_words(words: &mut Vec<Word<'_>>, access: u16) -> Result<(), AllocError>
+    ensures { OnOk result (map units_in words.new.items ≡ map units_in words.old.items ++ access_names field_words access) }
+{
+    push_words(words, &FIELD_WORDS, access)
+}
+
+/// Adds the words of a method.
+pub(crate) fn push_method_words(words: &mut Vec<Word<'_>>, access: u16) -> Result<(), AllocError>
+    ensures { OnOk result (map units_in words.new.items ≡ map units_in words.old.items ++ access_names method_words access) }
+{
+    push_words(words, &METHOD_WORDS, access)
+}

@@ -1,0 +1,132 @@
+//! Which trees have a text.
+
+ghost use Rattle.std.specs.Prelude.{◌≡◌};
+ghost use Rattle.std.specs.List.{list_all};
+ghost use Rattle.listings.specs.Printable.{is_word as name_is_word, is_loadable_word as constant_is_loadable, is_printable_operation as operation_is_printable, is_printable_item as item_is_printable, is_printable_caught as caught_is_printable, is_printable_field as field_is_printable, is_printable_method as method_is_printable, is_printable as is_printable_source};
+
+use crate::names::{is_before_descriptor, is_word};
+use held::shared::Text;
+use jasmin::source::{
+    CatchLine, Caught, CodeItem, FieldLine, LoadedConstant, MethodLines, Operation, Source,
+};
+use jasmin_operands::{same_word, spells_number};
+
+/// Whether words spell all names of a list.
+fn are_words(names: &[Text]) -> bool
+    ensures { result ≡ list_all name_is_word names.now }
+{
+    names.iter().all(|name| is_word(name.as_slice()))
+}
+
+/// Whether a word spells what `ldc` loads: a class isn't read as a number.
+fn is_loadable(constant: &LoadedConstant) -> bool
+    ensures { result ≡ constant_is_loadable constant.now }
+{
+    match constant {
+        LoadedConstant::Class(name) => is_word(name.as_slice()) && !spells_number(name.as_slice()),
+        LoadedConstant::Integer(_) | LoadedConstant::String(_) => true,
+    }
+}
+
+/// Whether words spell the names of an instruction.
+#[tactic(auto, unfolding(listings::specs::Printable::is_printable_operation))]
+fn is_printable_operation(operation: &Operation) -> bool
+    ensures { result ≡ operation_is_printable operation.now }
+{
+    match operation {
+        Operation::Constant(_, constant) => is_loadable(constant.get()),
+        Operation::Field(_, field) => {
+            let field = field.get();
+            is_word(field.class.as_slice())
+                && is_word(field.name.as_slice())
+                && is_word(field.descriptor.as_slice())
+        }
+        Operation::Invoke(_, method) => {
+            let method = method.get();
+            is_before_descriptor(method.class.as_slice())
+                && is_before_descriptor(method.name.as_slice())
+                && is_word(method.descriptor.as_slice())
+        }
+        Operation::Class(_, name) | Operation::MultiNewArray(name, _) => is_word(name.as_slice()),
+        _ => true,
+    }
+}
+
+/// Whether words spell the names of what stands in a method's code. A label is spelled by what made it.
+fn is_printable_item(item: &CodeItem) -> bool
+    ensures { result ≡ item_is_printable item.now }
+{
+    match item {
+        CodeItem::Label(_) => true,
+        CodeItem::Operation(operation) => is_printable_operation(operation),
+    }
+}
+
+/// Whether words spell all names of a method's code.
+fn is_printable_code(code: &[CodeItem]) -> bool
+    ensures { result ≡ list_all item_is_printable code.now }
+{
+    code.iter().all(|item| is_printable_item(item))
+}
+
+/// Whether a word spells what is caught: a class isn't read as `all`.
+fn is_printable_caught(caught: &Caught) -> bool
+    ensures { result ≡ caught_is_printable caught.now }
+{
+    match caught {
+        Caught::All => true,
+        Caught::Class(name) => is_word(name.as_slice()) && !same_word("all", name.as_slice()),
+    }
+}
+
+/// Whether words spell all that is caught.
+fn are_printable_catches(catches: &[CatchLine]) -> bool
+    ensures { result ≡ list_all (λ c. caught_is_printable c.caught) catches.now }
+{
+    catches.iter().all(|line| is_printable_caught(&line.caught))
+}
+
+/// Whether words spell the name and the descriptor of a field.
+fn is_printable_field(field: &FieldLine) -> bool
+    ensures { result ≡ field_is_printable field.now }
+{
+    is_word(field.name.as_slice()) && is_word(field.descriptor.as_slice())
+}
+
+/// Whether words spell the names of all fields.
+fn are_printable_fields(fields: &[FieldLine]) -> bool
+    ensures { result ≡ list_all field_is_printable fields.now }
+{
+    fields.iter().all(|field| is_printable_field(field))
+}
+
+/// Whether words spell all names of a method.
+#[tactic(auto, unfolding(listings::specs::Printable::is_printable_method))]
+fn is_printable_method(method: &MethodLines) -> bool
+    ensures { result ≡ method_is_printable method.now }
+{
+    is_before_descriptor(method.name.as_slice())
+        && is_word(method.descriptor.as_slice())
+        && are_words(method.throws.as_slice())
+        && are_printable_catches(method.catches.as_slice())
+        && is_printable_code(method.code.as_slice())
+}
+
+/// Whether words spell the names of all methods.
+fn are_printable_methods(methods: &[MethodLines]) -> bool
+    ensures { result ≡ list_all method_is_printable methods.now }
+{
+    methods.iter().all(|method| is_printable_method(method))
+}
+
+/// Whether all names of a tree are spelled by words.
+#[tactic(auto, unfolding(listings::specs::Printable::is_printable))]
+pub fn is_printable(source: &Source) -> bool
+    ensures { result ≡ is_printable_source source.now }
+{
+    is_word(source.name.as_slice())
+        && is_word(source.superclass.as_slice())
+        && are_words(source.interfaces.as_slice())
+        && are_printable_fields(source.fields.as_slice())
+        && are_printable_methods(source.methods.as_slice())
+}

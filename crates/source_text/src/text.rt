@@ -1,0 +1,42 @@
+//! The text of a source.
+
+ghost use Rattle.std.specs.Prelude.{◌≡◌, map, true, IfOk};
+ghost use Rattle.std.specs.String.{string_bytes};
+ghost use Rattle.std.specs.Str.Lines.{lines};
+ghost use Rattle.jasmin.specs.Sources.{units_of};
+ghost use Rattle.listings.specs.Listable.{IsListable};
+ghost use Rattle.listings.specs.Printable.{is_paired, is_printable as is_printable_source};
+ghost use Rattle.listings.specs.Printed.{printed};
+ghost use Rattle.source_text.specs.Lines.{all_ended};
+
+use crate::class::put_source;
+use jasmin::source::Source;
+use std::alloc::{AllocError, Global};
+
+/// The text that has these units.
+fn decoded(alloc: Global, units: &[u16]) -> Result<String, AllocError>
+    requires { is_paired units.now ≡ true }
+    ensures { IfOk result (λ text. units_of (string_bytes text) ≡ units.now) }
+{
+    Ok(String::from_utf16(alloc, units)?.unwrap())
+}
+
+/// The units of a source's lines, each ended by LF.
+fn units_of_lines(alloc: Global, source: &Source) -> Result<Vec<u16>, AllocError>
+    ensures { IfOk result (λ units. units.items ≡ all_ended (printed source.now)) }
+{
+    let mut units = Vec::new(alloc);
+    put_source(alloc, &mut units, source)?;
+    Ok(units)
+}
+
+/// The text of a source, one statement a line, each ended by LF. All names of the source are spelled by words, its labels
+/// name places, and what isn't written of a method without code is what is read where it isn't written.
+pub fn text_of(alloc: Global, source: &Source) -> Result<String, AllocError>
+    requires listable { IsListable source.now }
+    requires printable { is_printable_source source.now ≡ true }
+    ensures exact { IfOk result (λ text. map units_of (lines (string_bytes text)) ≡ printed source.now) }
+{
+    let units = units_of_lines(alloc, source)?;
+    decoded(alloc, units.as_slice())
+}

@@ -1,0 +1,15 @@
+pub mod Steps
+pub mod Numbers
+pub mod Flags
+pub mod Lists
+pub mod Pools
+pub mod Texts
+pub mod Opcodes
+pub mod Simples
+pub mod Operations
+pub mod Items
+pub mod Fields
+pub mod Methods
+pub mod Classes
+pub mod Labels
+pub mod Listed

@@ -1,0 +1,12 @@
+pub mod Bodies
+pub mod Classes
+pub mod Fields
+pub mod Flags
+pub mod Instructions
+pub mod Items
+pub mod Labels
+pub mod Lists
+pub mod Methods
+pub mod Numbers
+pub mod Opcodes
+pub mod Targets
