@@ -33,7 +33,8 @@ def shown(file):
         if dropped and re.match(r"\s*(line \d+|Start\s+Length|\d+\s+\d+\s+\d+\s)", line):
             continue
         dropped = False
-        lines.append(re.sub(r"\s+", " ", re.sub(r"#\d+(, *\d+)?", "#", line)).strip())
+        line = re.sub(r"#\d+(, *\d+)?", "#", re.sub(r", attributes: \d+$", "", line))
+        lines.append(re.sub(r"\s+", " ", line).strip())
     return lines
 
 
@@ -44,8 +45,11 @@ def assembled_here(source, folder):
 
 
 def assembled_there(source, folder):
+    """It knows no .bytecode, and reads Latin letters alone."""
+    known = Path(folder) / "there.j"
+    known.write_text(re.sub(r"(?m)^\.bytecode .*$", "", source.read_text()) + "\n")
     try:
-        run = subprocess.run(["jasmin", "-d", folder, source], capture_output=True, text=True, timeout=SECONDS)
+        run = subprocess.run(["jasmin", "-d", folder, known], capture_output=True, text=True, timeout=SECONDS)
     except subprocess.TimeoutExpired:
         return None, f"no end within {SECONDS} seconds"
     made = [path for path in Path(folder).rglob("*.class") if path.name != "here.class"]

@@ -2,8 +2,8 @@
 
 use crate::entry::{arguments_of, static_entry};
 use crate::fault::WordsFault;
-use crate::help::{ASM_HELP, EVAL_HELP, HELP};
-use crate::syntax::{ARGUMENTS, ENTRY, FILES, INPUT, OUTPUT, syntax};
+use crate::help::{ASM_HELP, EVAL_HELP, HELP, LIST_HELP};
+use crate::syntax::{ARGUMENTS, ENTRY, FILE, FILES, INPUT, OUTPUT, syntax};
 use clap::ArgMatches;
 use jvms_machine::machine::Entry;
 use std::alloc::Global;
@@ -15,6 +15,8 @@ pub enum Command<'a> {
     Eval(EvalWords<'a>),
     /// To write the class file of a source.
     Asm(AsmWords<'a>),
+    /// To print the source that the class of a FILE is listed as.
+    List(&'a str),
     /// To print how the program, or one command, is used.
     Help(&'static str),
     /// To print which program this is.
@@ -77,6 +79,11 @@ fn asm_words<'a>(matches: &ArgMatches<'a>) -> Result<AsmWords<'a>, WordsFault> {
     })
 }
 
+/// The FILE of `list`.
+fn list_word<'a>(matches: &ArgMatches<'a>) -> Result<&'a str, WordsFault> {
+    matches.get_str(FILE).ok_or(WordsFault::Words)
+}
+
 /// Whether a word asks for help.
 fn asks_help(word: &str) -> bool {
     word == "--help" || word == "-h"
@@ -87,6 +94,7 @@ fn help_of(command: &str) -> Option<Command<'static>> {
     match command {
         "eval" => Some(Command::Help(EVAL_HELP)),
         "asm" => Some(Command::Help(ASM_HELP)),
+        "list" => Some(Command::Help(LIST_HELP)),
         _ => None,
     }
 }
@@ -125,6 +133,7 @@ pub fn command_of<'a>(alloc: Global, words: &'a [String]) -> Result<Command<'a>,
     match matches.subcommand() {
         Some(("eval", matches)) => Ok(Command::Eval(eval_words(alloc, matches)?)),
         Some(("asm", matches)) => Ok(Command::Asm(asm_words(matches)?)),
+        Some(("list", matches)) => Ok(Command::List(list_word(matches)?)),
         _ => Err(WordsFault::Words),
     }
 }

@@ -9,6 +9,7 @@ Usage: jvmx COMMAND WORDS
 
   eval           runs a static method on int arguments and prints what it gives
   asm            writes the class file of a source
+  list           prints a class file as a source
   help           prints this text; help COMMAND, how that command is used
   -h, --help     prints this text; behind a command, how that command is used
   -V, --version  prints the program's name and version
@@ -79,6 +80,25 @@ Exit status: 0; 2 and 3 as jvmx --help says. docs/REFUSALS.md explains the
 codes of refusals: J01 to J12 of a source's line, A01 to A08 of its class.
 
 Example: jvmx asm examples/G.j G.class
+";
+
+/// `jvmx list --help`
+pub const LIST_HELP: &str = "\
+jvmx list: prints a class file as a source in Jasmin
+
+Usage: jvmx list FILE
+
+  FILE  the class, of at most 67108864 bytes: a source in Jasmin where the name
+        ends in .j, else a class file
+
+Standard output: a source that means what the class means, one statement a
+line, instruction n under the label Ln where something leads to it. Attributes
+that don't run, as line numbers, aren't listed.
+
+Exit status: 0; 2 and 3 as jvmx --help says. docs/REFUSALS.md explains the
+codes of refusals: L01 and L02 say why a class can't be written as a source.
+
+Example: jvmx list examples/G.class
 ";
 
 /// `jvmx --version`

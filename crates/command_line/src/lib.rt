@@ -9,4 +9,4 @@ mod syntax;
 
 pub use command::{AsmWords, Command, EvalWords, command_of};
 pub use fault::WordsFault;
-pub use help::{ASM_HELP, EVAL_HELP, HELP, VERSION};
+pub use help::{ASM_HELP, EVAL_HELP, HELP, LIST_HELP, VERSION};

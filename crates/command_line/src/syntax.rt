@@ -12,6 +12,9 @@ pub(crate) const ARGUMENTS: &str = "args";
 /// FILE...
 pub(crate) const FILES: &str = "files";
 
+/// FILE
+pub(crate) const FILE: &str = "file";
+
 /// IN
 pub(crate) const INPUT: &str = "input";
 
@@ -61,9 +64,15 @@ fn asm_syntax<'a>(alloc: Global) -> Result<Command<'a>, AllocError> {
         .arg(file(alloc, OUTPUT))
 }
 
+/// `list FILE`
+fn list_syntax<'a>(alloc: Global) -> Result<Command<'a>, AllocError> {
+    bare(alloc, "list").arg(file(alloc, FILE))
+}
+
 /// All commands.
 pub(crate) fn syntax<'a>(alloc: Global) -> Result<Command<'a>, AllocError> {
     bare(alloc, "jvmx")
         .subcommand(eval_syntax(alloc)?)?
-        .subcommand(asm_syntax(alloc)?)
+        .subcommand(asm_syntax(alloc)?)?
+        .subcommand(list_syntax(alloc)?)
 }

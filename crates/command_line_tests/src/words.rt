@@ -1,6 +1,8 @@
 //! Words: what they ask for, as the program's manual says.
 
-use command_line::{ASM_HELP, Command, EVAL_HELP, HELP, VERSION, WordsFault, command_of};
+use command_line::{
+    ASM_HELP, Command, EVAL_HELP, HELP, LIST_HELP, VERSION, WordsFault, command_of,
+};
 use fixtures::texts::units;
 use held::items::Items;
 use jvms_machine::machine::Entry;
@@ -74,7 +76,7 @@ fn is_gcd(
 
 #[test]
 fn refuses_other_words(rt: HostRuntime) -> Result<(), Fail> {
-    let refused: [&[&str]; 26] = [
+    let refused: [&[&str]; 28] = [
         &[],
         &["run"],
         &["--version", "eval"],
@@ -103,6 +105,8 @@ fn refuses_other_words(rt: HostRuntime) -> Result<(), Fail> {
         &["asm"],
         &["asm", "G.j"],
         &["asm", "G.j", "G.class", "F"],
+        &["list"],
+        &["list", "G.class", "F"],
     ];
     for words in refused {
         assert!(rt; is_refused(rt.alloc(), words)?, "{words:?}");
@@ -167,8 +171,16 @@ fn takes_a_source_and_a_class_file(rt: HostRuntime) -> Result<(), Fail> {
 }
 
 #[test]
+fn takes_a_file_to_list(rt: HostRuntime) -> Result<(), Fail> {
+    let words = owned(rt.alloc(), &["list", "--", "-G"])?;
+    let command = command_of(rt.alloc(), words.as_slice());
+    assert!(rt; matches!(command, Ok(Command::List("-G"))));
+    Ok(())
+}
+
+#[test]
 fn gives_texts(rt: HostRuntime) -> Result<(), Fail> {
-    let asked: [(&[&str], &str); 10] = [
+    let asked: [(&[&str], &str); 12] = [
         (&["--help"], HELP),
         (&["-h"], HELP),
         (&["help"], HELP),
@@ -177,6 +189,8 @@ fn gives_texts(rt: HostRuntime) -> Result<(), Fail> {
         (&["eval", "-h"], EVAL_HELP),
         (&["help", "asm"], ASM_HELP),
         (&["asm", "--help"], ASM_HELP),
+        (&["help", "list"], LIST_HELP),
+        (&["list", "-h"], LIST_HELP),
         (&["--version"], VERSION),
         (&["-V"], VERSION),
     ];
@@ -188,7 +202,7 @@ fn gives_texts(rt: HostRuntime) -> Result<(), Fail> {
 
 #[test]
 fn keeps_texts_to_eighty_columns(rt: HostRuntime) -> Result<(), Fail> {
-    for text in [HELP, EVAL_HELP, ASM_HELP, VERSION] {
+    for text in [HELP, EVAL_HELP, ASM_HELP, LIST_HELP, VERSION] {
         assert!(rt; text.ends_with("\n"));
         for line in text.split('\n') {
             assert!(rt; line.len() <= 80, "{line}");

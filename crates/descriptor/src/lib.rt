@@ -11,8 +11,6 @@ mod letters;
 mod method;
 mod names;
 mod scan;
-#[cfg(test)]
-mod tests;
 mod types;
 mod units;
 

@@ -12,8 +12,6 @@ mod profile;
 mod stack;
 mod step;
 mod switches;
-#[cfg(test)]
-mod tests;
 
 pub use actions::apply;
 pub use locals::is_loaded;

@@ -3,6 +3,7 @@
 
 mod classes;
 mod codes;
+mod descriptors;
 mod fixtures;
 mod members;
 mod numbers;

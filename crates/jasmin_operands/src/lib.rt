@@ -11,8 +11,6 @@ mod members;
 mod numbers;
 mod numerals;
 mod places;
-#[cfg(test)]
-mod tests;
 mod words;
 
 pub use access::{AccessWords, access_words, flags_in};

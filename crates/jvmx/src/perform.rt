@@ -6,6 +6,7 @@ use crate::refusal::Refusal;
 use command_line::{AsmWords, Command, EvalWords, VERSION, command_of};
 use inputs::{Input, class_of};
 use jvms_machine::machine::Status;
+use listing::{ClassFile, list};
 use std::alloc::Global;
 use trace::{ByteIn, ByteOut};
 
@@ -78,22 +79,41 @@ fn perform_eval<'w, F: Files, W: ByteOut, E: ByteOut>(
     Ok(u8::from(evaluated.status != Status::Finished))
 }
 
+/// The class that a FILE holds.
+fn class_in<'w>(alloc: Global, file: &'w str, input: &Input) -> Result<ClassFile, Refusal<'w>> {
+    match class_of(alloc, input) {
+        Ok(class) => Ok(class),
+        Err(fault) => Err(Refusal::Input { file, fault }),
+    }
+}
+
 /// `asm`: writes the class file that a source is assembled to. A refusal before leaves OUT as it is.
 fn perform_asm<'w, F: Files>(
     alloc: Global,
     words: AsmWords<'w>,
     files: &mut F,
 ) -> Result<u8, Refusal<'w>> {
-    let file = words.input;
-    let source = read_source(files, file)?;
-    let class = match class_of(alloc, &source) {
-        Ok(class) => class,
-        Err(fault) => return Err(Refusal::Input { file, fault }),
-    };
+    let source = read_source(files, words.input)?;
+    let class = class_in(alloc, words.input, &source)?;
     let bytes = class_file::write(alloc, &class)?;
     match files.write(words.output, bytes.as_slice()) {
         Ok(()) => Ok(0),
         Err(fault) => Err(Refusal::of_file(words.output, fault)),
+    }
+}
+
+/// `list`: prints the source that a class is listed as.
+fn perform_list<'w, F: Files, W: ByteOut>(
+    alloc: Global,
+    file: &'w str,
+    files: &mut F,
+    output: &mut W,
+) -> Result<u8, Refusal<'w>> {
+    let input = read_input(files, file)?;
+    let class = class_in(alloc, file, &input)?;
+    match list(alloc, &class) {
+        Ok(text) => print(output, text.as_str()),
+        Err(fault) => Err(Refusal::List { file, fault }),
     }
 }
 
@@ -114,6 +134,7 @@ fn command<'w, F: Files, W: ByteOut, E: ByteOut>(
     match command_of(alloc, words)? {
         Command::Eval(words) => perform_eval(alloc, words, files, output, errors),
         Command::Asm(words) => perform_asm(alloc, words, files),
+        Command::List(file) => perform_list(alloc, file, files, output),
         Command::Help(text) => print(output, text),
         Command::Version => print(output, VERSION),
     }

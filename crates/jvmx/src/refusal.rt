@@ -5,6 +5,7 @@ use crate::files::FileFault;
 use command_line::{EvalWords, WordsFault};
 use inputs::InputFault;
 use linker::LinkFault;
+use listing::ListFault;
 use machine::MachineFault;
 use std::alloc::{AllocError, AllocFailed};
 use std::fmt;
@@ -23,6 +24,8 @@ pub(crate) enum Refusal<'w> {
     NotUtf8 { file: &'w str },
     /// C01 to C18, J01 to J12, A01 to A08: a file is no class, or there was no memory for its class.
     Input { file: &'w str, fault: InputFault },
+    /// L01 to L03: the class of a file can't be listed.
+    List { file: &'w str, fault: ListFault },
     /// K01 to K07: the class of a file can't be linked.
     Link { file: &'w str, fault: LinkFault },
     /// K06: there was no memory for the program.
@@ -107,6 +110,7 @@ impl<'w> Refusal<'w> {
         match self {
             Refusal::File { .. } | Refusal::LinkMemory | Refusal::Output | Refusal::Memory => 3,
             Refusal::Input { fault, .. } if fault.is_memory() => 3,
+            Refusal::List { fault, .. } if *fault == ListFault::Memory => 3,
             Refusal::Machine { fault, .. } if *fault == MachineFault::Memory => 3,
             _ => 2,
         }
@@ -121,6 +125,7 @@ impl fmt::Display for Refusal<'_> {
             Refusal::FileTooLarge { file } => write!(f, "{file}: P01 FileTooLarge"),
             Refusal::NotUtf8 { file } => write!(f, "{file}: P03 NotUtf8"),
             Refusal::Input { file, fault } => write!(f, "{file}: {fault}"),
+            Refusal::List { file, fault } => write!(f, "{file}: {fault}"),
             Refusal::Link { file, fault } => write!(f, "{file}: {fault}"),
             Refusal::LinkMemory => write!(f, "{}", LinkFault::Memory),
             Refusal::Machine { entry, fault } => write!(f, "{entry}: {fault}"),

@@ -4,6 +4,7 @@ use crate::methods::{entry, program};
 use machine::{Limits, Machine, MachineFault, admits};
 use program::Program;
 use std::alloc::{AllocError, Global};
+use std::test::Fail;
 
 /// A class, a method's name, its descriptor, and arguments.
 type Named = (&'static str, &'static str, &'static str, &'static [i32]);
@@ -71,7 +72,7 @@ fn answer(
 }
 
 #[test]
-fn refuses_entries_and_limits(rt: HostRuntime) -> Result<(), AllocError> {
+fn refuses_entries_and_limits(rt: HostRuntime) -> Result<(), Fail> {
     let program = program(rt.alloc())?;
     for (named, numbers, fault) in &CASES {
         let answer = answer(rt.alloc(), &program, *named, *numbers)?;

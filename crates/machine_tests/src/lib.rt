@@ -8,6 +8,8 @@ mod entries;
 #[cfg(test)]
 mod getters;
 #[cfg(test)]
+mod instructions;
+#[cfg(test)]
 mod methods;
 #[cfg(test)]
 mod runs;

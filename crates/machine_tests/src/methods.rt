@@ -1,94 +1,95 @@
 //! The methods that are run: their program, and machines at them.
 
-use fixtures::classes::class;
-use fixtures::code::Line::{Jump, Plain};
-use fixtures::code::{
-    ALOAD_0, IADD, ILOAD_0, ILOAD_1, IREM, IRETURN, ISTORE_0, ISTORE_1, Line, POP, RETURN, lines,
-};
-use fixtures::members::{body, method};
 use fixtures::texts::units;
 use held::items::Items;
-use jvms_file::insn::{Branch, Comparison, Division, IntInsn, Push, Simple};
-use jvms_program::program::Method;
 use machine::{Entry, Limits, Machine, Outcome, ThreadId};
 use program::Program;
+use source_programs::program_of;
 use std::alloc::{AllocError, Global};
 use std::test::Fail;
 use trace::Trace;
 
-const ICONST_0: Simple = Simple::Push(Push::Int(0));
-
-const IDIV: Simple = Simple::Int(IntInsn::Division(Division::Quotient));
-
-/// A method: its name and descriptor, whether it is static, its operands and locals at most, and its code.
-type Row = (&'static str, &'static str, bool, u16, u16, &'static [Line]);
-
-const GCD: &[Line] = &[
-    Plain(ILOAD_1),
-    Jump(Branch::IfZero(Comparison::Equal), 9),
-    Plain(ILOAD_1),
-    Plain(ILOAD_0),
-    Plain(ILOAD_1),
-    Plain(IREM),
-    Plain(ISTORE_1),
-    Plain(ISTORE_0),
-    Jump(Branch::Goto, 0),
-    Plain(ILOAD_0),
-    Plain(IRETURN),
-];
-
-const ADD: &[Line] = &[Plain(ILOAD_0), Plain(ILOAD_1), Plain(IADD), Plain(IRETURN)];
-
-const DIV: &[Line] = &[Plain(ILOAD_0), Plain(ILOAD_1), Plain(IDIV), Plain(IRETURN)];
-
-const NOTHING: &[Line] = &[Plain(RETURN)];
-
-/// The methods of class R.
-static METHODS: [Row; 12] = [
-    ("gcd", "(II)I", true, 3, 2, GCD),
-    ("add", "(II)I", true, 2, 2, ADD),
-    ("div", "(II)I", true, 2, 2, DIV),
-    // Nothing is there to be popped.
-    ("pop", "()V", true, 1, 0, &[Plain(POP), Plain(RETURN)]),
-    // There is no room for an operand.
-    ("deep", "()V", true, 0, 0, &[Plain(ICONST_0), Plain(RETURN)]),
-    // The code ends.
-    ("fell", "(I)I", true, 1, 1, &[Plain(ILOAD_0)]),
-    // There is no local 1.
-    ("local", "()V", true, 1, 1, &[Plain(ILOAD_1), Plain(RETURN)]),
-    // There is no room for both parameters.
-    ("wide", "(II)V", true, 1, 1, NOTHING),
-    // Local 0 is an int.
-    ("kind", "(I)V", true, 1, 1, &[Plain(ALOAD_0), Plain(RETURN)]),
-    // These are no entries.
-    ("own", "()V", false, 1, 1, NOTHING),
-    ("long", "(J)V", true, 1, 2, NOTHING),
-    ("text", "(Ljava/lang/String;)V", true, 1, 1, NOTHING),
-];
-
-/// The method of a row.
-fn made(alloc: Global, row: &Row) -> Result<Method, AllocError> {
-    let (name, descriptor, is_static, max_stack, max_locals, code) = row;
-    let code = body(alloc, *max_stack, *max_locals, lines(alloc, code)?);
-    method(alloc, name, descriptor, *is_static, Some(code))
-}
-
-/// The methods of the rows.
-fn methods(alloc: Global) -> Result<Vec<Method>, AllocError> {
-    let mut methods = Vec::new(alloc);
-    for row in &METHODS {
-        methods.push(made(alloc, row)?)?;
-    }
-    Ok(methods)
-}
+/// Methods of a class R that run, and some that can't.
+const R: &str = "
+.class public R
+.method static gcd(II)I
+.limit stack 3
+.limit locals 2
+Top:
+  iload_1
+  ifeq End
+  iload_1
+  iload_0
+  iload_1
+  irem
+  istore_1
+  istore_0
+  goto Top
+End:
+  iload_0
+  ireturn
+.end method
+.method static add(II)I
+.limit stack 2
+.limit locals 2
+  iload_0
+  iload_1
+  iadd
+  ireturn
+.end method
+.method static div(II)I
+.limit stack 2
+.limit locals 2
+  iload_0
+  iload_1
+  idiv
+  ireturn
+.end method
+; Nothing is there to be popped.
+.method static pop()V
+  pop
+  return
+.end method
+; There is no room for an operand.
+.method static deep()V
+.limit stack 0
+  iconst_0
+  return
+.end method
+; The code ends.
+.method static fell(I)I
+  iload_0
+.end method
+; There is no local 1.
+.method static local()V
+  iload_1
+  return
+.end method
+; There is no room for both parameters.
+.method static wide(II)V
+  return
+.end method
+; Local 0 is an int.
+.method static kind(I)V
+  aload_0
+  return
+.end method
+; These are no entries.
+.method own()V
+  return
+.end method
+.method static long(J)V
+.limit locals 2
+  return
+.end method
+.method static text(Ljava/lang/String;)V
+  return
+.end method
+";
 
 /// The program of class R.
-pub fn program(alloc: Global) -> Result<Program, AllocError> {
-    let mut classes = Vec::new(alloc);
-    let methods = methods(alloc)?;
-    let class = class(alloc, "R", "java/lang/Object", Vec::new(alloc), methods)?;
-    classes.push(class)?;
-    Program::new(alloc, classes)
+pub fn program(alloc: Global) -> Result<Program, Fail> {
+    program_of(alloc, &[R])
 }
 
 /// A static method of a class, with these arguments.

@@ -7,4 +7,6 @@ mod examples;
 #[cfg(test)]
 mod faults;
 #[cfg(test)]
+mod operands;
+#[cfg(test)]
 mod statements;

@@ -25,6 +25,29 @@ End:
 .end method
 ";
 
+/// The listing of G.
+const LISTED: &str = ".bytecode 49.0
+.class public G
+.super java/lang/Object
+.method public static gcd(II)I
+.limit stack 3
+.limit locals 2
+L0:
+  iload_1
+  ifeq L9
+  iload_1
+  iload_0
+  iload_1
+  irem
+  istore_1
+  istore_0
+  goto L0
+L9:
+  iload_0
+  ireturn
+.end method
+";
+
 /// A local above 255, whose instructions take `wide`, behind a branch over a nop.
 const WIDE: &[u8] = b".class Wide
 .method static same(I)I
@@ -103,6 +126,40 @@ fn tells_that_a_file_is_not_read_or_written(rt: HostRuntime) -> Result<(), Fail>
         let ran = ran(rt.alloc(), &["asm", input, output], &files)?;
         assert!(rt; ran.is(status, "", line), "{line}");
         assert!(rt; ran.written.is_empty(), "{line}");
+    }
+    Ok(())
+}
+
+#[test]
+fn lists_a_class_file_and_a_source(rt: HostRuntime) -> Result<(), Fail> {
+    let files = [("F", File::Whole), ("F.j", File::Text(GCD))];
+    for file in ["F", "F.j"] {
+        assert!(rt;
+            ran(rt.alloc(), &["list", file], &files)?.is(0, LISTED, ""),
+            "{file}"
+        );
+    }
+    Ok(())
+}
+
+/// A class without a superclass, and files that are no class.
+#[test]
+fn tells_what_is_not_listed(rt: HostRuntime) -> Result<(), Fail> {
+    let files = [
+        ("Top", File::With(65, 0)),
+        ("F.j", File::Text(b".class")),
+        ("Cut", File::Cut(60)),
+    ];
+    let cases = [
+        ("Top", "jvmx: Top: L01 Name\n"),
+        ("F.j", "jvmx: F.j: J06 Operand line 1\n"),
+        ("Cut", "jvmx: Cut: C01 Truncated at 60\n"),
+    ];
+    for (file, line) in cases {
+        assert!(rt;
+            ran(rt.alloc(), &["list", file], &files)?.is(2, "", line),
+            "{line}"
+        );
     }
     Ok(())
 }

@@ -1,7 +1,14 @@
-use super::*;
+//! Operands of a line, one of each place: numbers in their range, members cut in two, names, access words.
+
 use held::items::Items;
 use jasmin::statement::Flaw;
 use jasmin::token::{Lexeme, Token};
+use jasmin_operands::{
+    AccessWords, CaughtName, Judged, access_words, array_type_at, before_descriptor, caught_at,
+    class_at, class_name_at, class_of, descriptor_of, exactly, flags_in, i32_at, i64_at,
+    is_member_field, is_member_method, is_version, keyword_at, label_at, name_at, name_of, operand,
+    same_word, spells_number, word_or_none,
+};
 use jvms_file::insn::ArrayType;
 use std::alloc::Global;
 use std::process::Abort;

@@ -1,6 +1,11 @@
-//! Texts and types from the Java Virtual Machine Specification's grammar, and not from this crate's answers.
+//! Texts and types from the Java Virtual Machine Specification's grammar, and not from the program's answers.
 
-use crate::*;
+use descriptor::{
+    DescriptorFault, Flags, Innermost, dimensions_of, field_in, field_type, is_array_name,
+    is_class_entry_name, is_class_name, is_constructor_name, is_field_descriptor,
+    is_initializer_name, is_method_descriptor, is_method_name, is_name, method_type, method_units,
+    parameter_units, parse_field, parse_method, same_text,
+};
 use held::items::Items;
 use jvms_file::descriptor::{Element, FieldType, Primitive, ResultType};
 use std::alloc::{AllocError, Global};

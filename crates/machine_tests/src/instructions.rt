@@ -1,6 +1,6 @@
-//! Worked turns, each by the text of an instruction in the JVMS and not by this crate's answers.
+//! Worked turns, each by the text of an instruction in the JVMS and not by the program's answers.
 
-use crate::{decide, run};
+use exec::{decide, run};
 use frames::Frame;
 use held::boxed::Boxed;
 use held::items::Items;
