@@ -1,15 +1,12 @@
 -- The class that a FILE is: that which its bytes spell, or which its text is assembled to.
-use Rattle.std.specs.Prelude.{◌≡◌, ℕ, List, Result, Ok, Err, string_bytes}
+use Rattle.std.specs.Prelude.{◌≡◌, ℕ, Bool, true, false, List, Result, Ok, Err, string_bytes}
 use Rattle.jvms_file.specs.declared.class_file.ClassFile.{ClassFile}
 use Rattle.jvms_file.specs.declared.fault.ClassFault.{ClassFault}
-use Rattle.jvms_file.specs.declared.fault.ReadError.{ReadError}
 use Rattle.jvms_file.specs.declared.fault.ReadError.TheVariants as read_error
 use Rattle.jvms_file.specs.ClassFile.{read}
 use Rattle.jvms_file.specs.Results.{◌>>=◌}
-use Rattle.jasmin.specs.declared.source.Source.{Source}
 use Rattle.jasmin.specs.declared.statement.Flaw.{Flaw}
 use Rattle.jasmin.specs.Reading.{source_of}
-use Rattle.jasmin_reader.specs.declared.fault.SourceFault.{SourceFault}
 use Rattle.jasmin_reader.specs.declared.fault.SourceFault.TheVariants as source_fault
 use Rattle.assembly.specs.declared.fault.AsmFault.{AsmFault}
 use Rattle.assembly.specs.declared.fault.AsmFault.TheVariants as asm_fault
@@ -55,3 +52,25 @@ IsFault why (fault.Assembly f) said = said ≡ Err (why (not_assembled f))
 abbrev pub Becomes : Result ClassFile InputFault → Result ClassFile NoClass → Type 0
 Becomes (Ok c) said = said ≡ Ok c
 Becomes (Err f) said = IsFault (λ why. why) f said
+
+-- A fault of the bytes of a class file, that of memory too.
+abbrev pub IsOfBytes : InputFault → Type 0
+IsOfBytes (fault.Class error) = Unit {0}
+IsOfBytes _ = ⊥
+
+-- A fault of a text or of its assembly, that of memory too.
+abbrev pub IsOfText : InputFault → Type 0
+IsOfText (fault.Class error) = ⊥
+IsOfText _ = Unit {0}
+
+-- A fault is of what the FILE is.
+abbrev pub IsOfSort : Input → InputFault → Type 0
+IsOfSort (input.ClassFile bytes) = IsOfBytes
+IsOfSort (input.Source text) = IsOfText
+
+-- Whether a fault says that there was no memory.
+abbrev pub is_memory : InputFault → Bool
+is_memory (fault.Class read_error.Memory) = true
+is_memory (fault.Source source_fault.Memory) = true
+is_memory (fault.Assembly asm_fault.Memory) = true
+is_memory _ = false

@@ -2,6 +2,7 @@
 
 ghost use Rattle.std.specs.Prelude.{◌≡◌};
 ghost use Rattle.inputs.specs.declared.fault.InputFault.TheVariants as fault;
+ghost use Rattle.inputs.specs.Inputs.{is_memory};
 
 use crate::code::ClassCode;
 use assembler::AsmFault;
@@ -46,7 +47,9 @@ impl From<AsmFault> for InputFault {
 
 impl InputFault {
     /// Whether there was no memory.
-    pub fn is_memory(&self) -> bool {
+    pub fn is_memory(&self) -> bool
+        ensures { result ≡ is_memory self.now }
+    {
         matches!(
             self,
             InputFault::Class(ReadError::Memory)

@@ -5,9 +5,10 @@ use Rattle.jasmin.specs.declared.statement.Flaw.{Flaw}
 use Rattle.jasmin.specs.declared.reading.Reading.{Reading}
 use Rattle.jasmin.specs.Sources.{units_of}
 use Rattle.jasmin.specs.Reading.{with_line, with_lines, last_line}
-use Rattle.jasmin_reader.specs.declared.fault.LineFault.{LineFault}
-use Rattle.jasmin_reader.specs.declared.fault.LineFault.TheVariants as line_fault
-use Rattle.jasmin_reader.specs.Readings.{IsJudged, Reads, source_fault}
+use Rattle.jasmin_instructions.specs.declared.fault.LineFault.{LineFault}
+use Rattle.jasmin_instructions.specs.declared.fault.LineFault.TheVariants as line_fault
+use Rattle.jasmin_instructions.specs.Saying.{Says}
+use Rattle.jasmin_reader.specs.Readings.{Reads, source_fault}
 
 no_line : (n : ℕ) (r : Reading) → with_lines n r [] ≡ Ok r
 unfolding with_lines
@@ -31,8 +32,8 @@ line_more all n line r s total below is read so_far =
     rw add-one (sym (one_line n r s line (drop (suc n) all) read) ∙ sym (ap (with_lines n r) (line_there all n line below is)) ∙ so_far)
 
 -- A line that can't be read.
-pub line_fails : {X : Type 0} (view : X → Reading) (all : List (List ℕ)) (n : ℕ) (line : List ℕ) (r : Reading) (e : LineFault) (total : Result Reading (ℕ × Flaw)) → n < length all → line ≡ get_or all n line → IsJudged {A = Reading} (Err e) (with_line r (units_of line)) → with_lines n r (drop n all) ≡ total → Reads view (Err (source_fault (n + 1) e)) total
-line_fails view all n line r (line_fault.Flawed f) total below is read so_far =
+pub line_fails : {X : Type 0} (view : X → Reading) (all : List (List ℕ)) (n : ℕ) (line : List ℕ) (r : Reading) (e : LineFault) (total : Result Reading (ℕ × Flaw)) → n < length all → line ≡ get_or all n line → Says {X = Reading} (Err e) (with_line r (units_of line)) → with_lines n r (drop n all) ≡ total → Reads view (Err (source_fault (n + 1) e)) total
+line_fails view all n line r (line_fault.Flaw f) total below is read so_far =
     rw add-one (sym so_far ∙ ap (with_lines n r) (line_there all n line below is) ∙ flawed_line n r f line (drop (suc n) all) read)
 line_fails view all n line r line_fault.Memory total below is read so_far = tt
 

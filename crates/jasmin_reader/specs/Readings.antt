@@ -2,21 +2,14 @@
 use Rattle.std.specs.Prelude.{◌≡◌, ℕ, Result, Ok, Err}
 use Rattle.jasmin.specs.declared.source.Source.{Source}
 use Rattle.jasmin.specs.declared.statement.Flaw.{Flaw}
-use Rattle.jasmin.specs.Judgements.{Judged}
-use Rattle.jasmin_reader.specs.declared.fault.LineFault.{LineFault}
-use Rattle.jasmin_reader.specs.declared.fault.LineFault.TheVariants as line_fault
+use Rattle.jasmin_instructions.specs.declared.fault.LineFault.{LineFault}
+use Rattle.jasmin_instructions.specs.declared.fault.LineFault.TheVariants as line_fault
 use Rattle.jasmin_reader.specs.declared.fault.SourceFault.{SourceFault}
 use Rattle.jasmin_reader.specs.declared.fault.SourceFault.TheVariants as fault
 
--- The answer is what is judged. Where memory ran out it is neither.
-abbrev pub IsJudged : {A : Type 0} → Result A LineFault → Judged A → Type 0
-IsJudged (Ok a) judged = judged ≡ Ok a
-IsJudged (Err (line_fault.Flawed f)) judged = judged ≡ Err f
-IsJudged (Err line_fault.Memory) judged = Unit {0}
-
 -- The fault of a line with its number.
 abbrev pub source_fault : ℕ → LineFault → SourceFault
-source_fault n (line_fault.Flawed f) = fault.Flawed f n
+source_fault n (line_fault.Flaw f) = fault.Flawed f n
 source_fault n line_fault.Memory = fault.Memory
 
 -- The answer, seen by view, is what is read. Where memory ran out it is neither.

@@ -3,35 +3,35 @@
 ghost use Rattle.jasmin.specs.Sources.{units_of};
 ghost use Rattle.jasmin.specs.Lexing.{lexemes};
 ghost use Rattle.jasmin.specs.Reading.{added as statement_added, placed as line_placed, with_lexemes, with_line as line_read};
-ghost use Rattle.jasmin_reader.specs.Readings.{IsJudged};
+ghost use Rattle.jasmin_instructions.specs.Saying.{Says};
 
-use crate::fault::LineFault;
 use crate::open::Open;
 use crate::place::is_in_place;
 use crate::switch::{sort_of, switch_of};
 use jasmin::statement::{Flaw, LineKind, Statement};
 use jasmin::token::Token;
+use jasmin_instructions::LineFault;
 use jasmin_lex::{LexFault, tokens};
 use jasmin_statements::{kind_of, statement_of};
 use std::alloc::Global;
 
 /// A statement that doesn't repeat another is added.
 fn added(alloc: Global, before: Open, statement: Statement) -> Result<Open, LineFault>
-    ensures { IsJudged result (statement_added before statement) }
+    ensures { Says result (statement_added before statement) }
 {
     if before.is_repeated(&statement)? {
-        return Err(LineFault::Flawed(Flaw::Repeated));
+        return Err(LineFault::Flaw(Flaw::Repeated));
     }
     Ok(before.with_statement(alloc, statement)?)
 }
 
 /// A line of a kind that may stand here is added.
 fn placed(alloc: Global, before: Open, kind: LineKind, tokens: &[Token]) -> Result<Open, LineFault>
-    ensures { IsJudged result (line_placed before kind (lexemes tokens.now)) }
+    ensures { Says result (line_placed before kind (lexemes tokens.now)) }
 {
     let reading = before.reading();
     if !is_in_place(reading, kind) {
-        return Err(LineFault::Flawed(Flaw::OutOfPlace));
+        return Err(LineFault::Flaw(Flaw::OutOfPlace));
     }
     let sort = sort_of(reading.access);
     let statement = statement_of(alloc, sort, switch_of(reading), kind, tokens)?;
@@ -40,7 +40,7 @@ fn placed(alloc: Global, before: Open, kind: LineKind, tokens: &[Token]) -> Resu
 
 /// The line of these tokens is added.
 fn with_tokens(alloc: Global, before: Open, tokens: &[Token]) -> Result<Open, LineFault>
-    ensures { IsJudged result (with_lexemes before (lexemes tokens.now)) }
+    ensures { Says result (with_lexemes before (lexemes tokens.now)) }
 {
     let kind = kind_of(switch_of(before.reading()), tokens)?;
     placed(alloc, before, kind, tokens)
@@ -49,11 +49,11 @@ fn with_tokens(alloc: Global, before: Open, tokens: &[Token]) -> Result<Open, Li
 /// What the lines so far have said together with a line.
 #[tactic(auto, unfolding(jasmin::specs::Reading::with_line))]
 pub(crate) fn with_line(alloc: Global, before: Open, line: &str) -> Result<Open, LineFault>
-    ensures { IsJudged result (line_read before (units_of line.now)) }
+    ensures { Says result (line_read before (units_of line.now)) }
 {
     match tokens(alloc, line) {
         Ok(tokens) => with_tokens(alloc, before, &tokens),
-        Err(LexFault::Lexeme) => Err(LineFault::Flawed(Flaw::Lexeme)),
+        Err(LexFault::Lexeme) => Err(LineFault::Flaw(Flaw::Lexeme)),
         Err(LexFault::Memory) => Err(LineFault::Memory),
     }
 }

@@ -27,7 +27,7 @@ fn with_lines(alloc: Global, text: &str) -> Result<(Open, usize), SourceFault>
         number += 1;
         read = match with_line(alloc, read, line) {
             Ok(read) => read,
-            Err(fault) => return Err(fault.at(number)),
+            Err(fault) => return Err(SourceFault::at(number, fault)),
         };
     }
     Ok((read, number))

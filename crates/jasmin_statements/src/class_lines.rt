@@ -6,14 +6,12 @@ ghost use Rattle.jasmin.specs.Lexing.{lexemes};
 ghost use Rattle.jasmin.specs.Judgements.{said, unless};
 ghost use Rattle.jasmin.specs.Operands.{class_words, access_words, class_name_at};
 ghost use Rattle.jasmin.specs.Statements.{version_at, bytecode_line, file_at, source_line, but_last, last_of, class_line, super_line, implements_line};
-ghost use Rattle.jasmin_statements.specs.Saying.{Says};
+ghost use Rattle.jasmin_instructions.specs.Saying.{Says};
 
-use crate::fault::LineFault;
-use crate::parts::{alone, word_unless};
 use crate::places::{but_last, last_of};
-use crate::texts::text;
 use jasmin::statement::{Flaw, Statement};
 use jasmin::token::{Lexeme, Token};
+use jasmin_instructions::{LineFault, alone, text, word_unless};
 use jasmin_operands::{
     AccessWords, Judged, access_words, asked, both, class_name_at, exactly, flags_in, is_version,
     operand,

@@ -7,15 +7,13 @@ ghost use Rattle.jasmin.specs.Judgements.{both, said, unless};
 ghost use Rattle.jasmin.specs.Operands.{caught_at, exactly, keyword_at, label_at, name_at, field_descriptor_at, u16_at};
 ghost use Rattle.jasmin.specs.Statements.{limit_at, limit_line, label_behind, catch_line, throws_line, line_line, var_line};
 ghost use Rattle.jasmin_operands.specs.Views.{caught_of};
-ghost use Rattle.jasmin_statements.specs.Saying.{Says};
-ghost use Rattle.jasmin_statements.specs.Views.{two_texts};
+ghost use Rattle.jasmin_instructions.specs.Saying.{Says};
+ghost use Rattle.jasmin_instructions.specs.Views.{two_texts};
 
-use crate::fault::LineFault;
-use crate::parts::{alone, two_words, word_unless};
-use crate::texts::text;
 use jasmin::source::{CatchLine, Caught};
 use jasmin::statement::{Flaw, Statement};
 use jasmin::token::{Lexeme, Token};
+use jasmin_instructions::{LineFault, alone, text, two_words, word_unless};
 use jasmin_operands::{
     CaughtName, Judged, both, caught_at, class_at, exactly, field_descriptor_at, keyword_at,
     label_at, name_at, operand, same_word, u16_at, unless, word_at,
@@ -187,7 +185,7 @@ fn behind_number(tokens: &[Token]) -> Judged<((&[u16], &[u16]), (&[u16], &[u16])
 }
 
 /// What a `.var` says.
-#[tactic(auto, using(crate::proofs::Judging::said_second))]
+#[tactic(auto, using(jasmin_operands::proofs::Judgements::said_both))]
 fn var_operands(tokens: &[Token]) -> Judged<VarParts<'_>>
     ensures { let ts = lexemes tokens.now in
         said (λ p. (p.0, (two_texts p.1.0, two_texts p.1.1))) result

@@ -2,17 +2,17 @@
 
 ghost use Rattle.std.specs.Prelude.{◌≡◌, IfOk};
 ghost use Rattle.std.specs.Option.{option_map};
+ghost use Rattle.jvms_file.specs.Names.{same_text};
 ghost use Rattle.jasmin.specs.Lexing.{lexemes};
 ghost use Rattle.jasmin.specs.Judgements.{said};
 ghost use Rattle.jasmin.specs.Statements.{is_long, is_int_type, is_string_type, int_constant, constant_at, constant_in};
 ghost use Rattle.jasmin_statements.specs.Views.{constant_of};
 
-use crate::parts::is_word;
-use crate::texts::text;
 use jasmin::source::FieldConstant;
 use jasmin::statement::Flaw;
 use jasmin::token::{Lexeme, Token};
-use jasmin_operands::{Judged, exactly, i32_at, i64_at, operand, unless};
+use jasmin_instructions::text;
+use jasmin_operands::{Judged, exactly, i32_at, i64_at, operand, same_word, unless};
 use std::alloc::{AllocError, Global};
 
 /// The value of a field, as its line lends it.
@@ -21,6 +21,13 @@ pub(crate) enum LentConstant<'a> {
     Integer(i32),
     Long(i64),
     String(&'a [u16]),
+}
+
+/// Whether a word is one that is given.
+fn is_word(word: &[u16], text: &str) -> bool
+    ensures { result ≡ same_text word.now text.now }
+{
+    same_word(text, word)
 }
 
 /// Whether a field's constant is a long.

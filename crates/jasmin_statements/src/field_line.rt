@@ -7,16 +7,15 @@ ghost use Rattle.jasmin.specs.Lexing.{lexemes};
 ghost use Rattle.jasmin.specs.Judgements.{both, said, unless};
 ghost use Rattle.jasmin.specs.Operands.{field_words, access_words, name_at, field_descriptor_at};
 ghost use Rattle.jasmin.specs.Statements.{is_equals, field_head, field_tail, constant_in, word_or_none, field_access, field_name_at, last_of, field_line};
-ghost use Rattle.jasmin_statements.specs.Saying.{Says};
+ghost use Rattle.jasmin_instructions.specs.Saying.{Says};
 ghost use Rattle.jasmin_statements.specs.Views.{constant_of};
 
-use crate::fault::LineFault;
 use crate::field_constant::{LentConstant, constant_if, constant_in};
 use crate::places::last_of;
-use crate::texts::text;
 use jasmin::source::FieldLine;
 use jasmin::statement::Statement;
 use jasmin::token::{Lexeme, Token};
+use jasmin_instructions::{LineFault, text};
 use jasmin_operands::{
     AccessWords, Judged, access_words, both, field_descriptor_at, flags_in, name_at, operand,
     unless, word_or_none,

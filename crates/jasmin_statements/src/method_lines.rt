@@ -7,24 +7,19 @@ ghost use Rattle.jasmin.specs.Lexing.{lexemes};
 ghost use Rattle.jasmin.specs.Judgements.{both, said, unless};
 ghost use Rattle.jasmin.specs.Operands.{method_words, access_words, tested, word_at, before_descriptor, descriptor_of};
 ghost use Rattle.jasmin.specs.Statements.{is_permitted, method_head_at, but_last, last_of, method_line, end_line};
-ghost use Rattle.jasmin_statements.specs.Saying.{Says};
-ghost use Rattle.jasmin_statements.specs.Views.{two_texts};
+ghost use Rattle.jasmin_instructions.specs.Saying.{Says};
+ghost use Rattle.jasmin_instructions.specs.Views.{two_texts};
 
-use crate::fault::LineFault;
-use crate::parts::{tested, two_words, two_words_unless};
 use crate::places::{but_last, last_of};
-use crate::texts::text;
-use descriptor::{Flags, is_initializer_name, is_method_name, method_units};
+use descriptor::{Flags, is_initializer_name, is_method_name};
 use jasmin::statement::{ClassSort, Flaw, Statement};
 use jasmin::token::Token;
+use jasmin_instructions::{LineFault, is_method_descriptor_for, text, two_words, two_words_unless};
 use jasmin_operands::{
     AccessWords, Judged, access_words, asked, before_descriptor, both, descriptor_of, exactly,
     flags_in, keyword_at, operand, word_at,
 };
 use std::alloc::Global;
-
-/// The most units of a method's arguments (JVMS 4.3.3).
-const MOST_UNITS: usize = 255;
 
 /// Whether a method of a class of this sort may have these flags: an interface's is abstract, but for `<clinit>`.
 fn is_permitted(sort: ClassSort, access: u16, name: &[u16]) -> bool
@@ -33,16 +28,6 @@ fn is_permitted(sort: ClassSort, access: u16, name: &[u16]) -> bool
     match sort {
         ClassSort::Class => true,
         ClassSort::Interface => Flags::of_access(access).is_abstract() || is_initializer_name(name),
-    }
-}
-
-/// Whether a text is the descriptor of a method that is called on no object, or of one that is: the object counts.
-pub(crate) fn is_method_descriptor_for(on_none: bool, text: &[u16]) -> bool
-    ensures { result ≡ is_method_descriptor_for on_none text.now }
-{
-    match method_units(text) {
-        Some(units) => units + usize::from(!on_none) <= MOST_UNITS,
-        None => false,
     }
 }
 
@@ -58,7 +43,8 @@ fn method_descriptor<'a>(access: u16, name: &[u16], descriptor: &'a [u16]) -> Ju
     ensures { said (λ w. w.now) result ≡ tested (is_method_descriptor_for (is_static access || is_initializer_name name.now)) Flaw.Descriptor (Ok descriptor.now) }
 {
     let fits = is_method_descriptor_for(is_on_none(access, name), descriptor);
-    tested(fits, Flaw::Descriptor, descriptor)
+    asked(fits, Flaw::Descriptor)?;
+    Ok(descriptor)
 }
 
 /// The name of a method, by the word that has its descriptor too.
@@ -66,7 +52,8 @@ fn method_name(word: &[u16]) -> Judged<&[u16]>
     ensures { said (λ w. w.now) result ≡ tested is_method_name Flaw.Name (Ok (before_descriptor word.now)) }
 {
     let name = before_descriptor(word);
-    tested(is_method_name(name), Flaw::Name, name)
+    asked(is_method_name(name), Flaw::Name)?;
+    Ok(name)
 }
 
 /// The name and the descriptor of a method with these flags, by the word that has both.

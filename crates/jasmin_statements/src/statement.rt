@@ -4,19 +4,17 @@ ghost use Rattle.std.specs.Prelude.{◌≡◌, IfOk, drop};
 ghost use Rattle.jasmin.specs.Lexing.{lexemes};
 ghost use Rattle.jasmin.specs.Judgements.{both, said};
 ghost use Rattle.jasmin.specs.Statements.{directive_line, instruction_line, label_line, statement_of};
-ghost use Rattle.jasmin_statements.specs.Saying.{Says};
+ghost use Rattle.jasmin_instructions.specs.Saying.{Says};
 
 use crate::class_lines::{bytecode_line, class_line, implements_line, source_line, super_line};
 use crate::code_lines::{catch_line, limit_line, line_line, throws_line, var_line};
-use crate::fault::LineFault;
 use crate::field_line::field_line;
-use crate::instructions::instruction_line;
 use crate::method_lines::{end_line, method_line};
 use crate::places::behind;
 use crate::switch_lines::{case_line, default_line};
-use crate::texts::text;
 use jasmin::statement::{ClassSort, Directive, LineKind, OpenSwitch, Statement};
 use jasmin::token::Token;
+use jasmin_instructions::{LineFault, instruction_line, text};
 use jasmin_operands::{Judged, label_at, lesser, operand};
 use std::alloc::{AllocError, Global};
 

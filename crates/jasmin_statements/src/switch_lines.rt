@@ -7,14 +7,12 @@ ghost use Rattle.jasmin.specs.Lexing.{lexemes};
 ghost use Rattle.jasmin.specs.Judgements.{said, both, unless, asked};
 ghost use Rattle.jasmin.specs.Operands.{exactly, label_at, i32_at};
 ghost use Rattle.jasmin.specs.Statements.{table_line, colon_at, label_behind_colon, rising_at, match_line, case_line, default_line};
-ghost use Rattle.jasmin_statements.specs.Saying.{Says};
+ghost use Rattle.jasmin_instructions.specs.Saying.{Says};
 
-use crate::fault::LineFault;
-use crate::parts::{alone, word_unless};
-use crate::texts::text;
 use jasmin::source::MatchLine;
 use jasmin::statement::{Flaw, OpenSwitch, Statement};
 use jasmin::token::{Lexeme, Token};
+use jasmin_instructions::{LineFault, alone, text, word_unless};
 use jasmin_operands::{Judged, asked, both, exactly, i32_at, label_at, operand};
 use std::alloc::Global;
 

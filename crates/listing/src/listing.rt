@@ -5,6 +5,7 @@ ghost use Rattle.std.specs.Str.Lines.{lines};
 ghost use Rattle.jasmin.specs.Sources.{units_of};
 ghost use Rattle.listings.specs.Listed.{listed};
 ghost use Rattle.listings.specs.Faults.{Lists};
+ghost use Rattle.source_text.specs.Lines.{all_ended};
 ghost use Rattle.listing.specs.Written.{MeansClass};
 
 use class_file::ClassFile;
@@ -25,6 +26,8 @@ pub fn list(alloc: Global, class: &ClassFile) -> Result<String, ListFault>
     // The lines of the definition, or its fault, unless memory runs out.
     ensures exact { IfOk result (λ text. listed class.now ≡ Ok (map units_of (lines (string_bytes text)))) }
     ensures fault { IfErr result (λ fault. Lists (Err fault) (listed class.now)) }
+    // Nothing but LF stands behind a line, and behind the last one too.
+    ensures ended { IfOk result (λ text. units_of (string_bytes text) ≡ all_ended (map units_of (lines (string_bytes text)))) }
     // The text is read as a source that denotes what the class means.
     ensures means { IfOk result (λ text. MeansClass (string_bytes text) class.now) }
 {

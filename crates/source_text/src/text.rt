@@ -36,6 +36,8 @@ pub fn text_of(alloc: Global, source: &Source) -> Result<String, AllocError>
     requires listable { IsListable source.now }
     requires printable { is_printable_source source.now ≡ true }
     ensures exact { IfOk result (λ text. map units_of (lines (string_bytes text)) ≡ printed source.now) }
+    // Nothing but LF stands behind a line, and behind the last one too.
+    ensures ended { IfOk result (λ text. units_of (string_bytes text) ≡ all_ended (printed source.now)) }
 {
     let units = units_of_lines(alloc, source)?;
     decoded(alloc, units.as_slice())

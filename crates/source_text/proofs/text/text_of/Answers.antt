@@ -1,5 +1,8 @@
 -- The lines of the tree are plain, so that their units are a text's and give its lines again.
-use Rattle.std.proofs.Common.{◌∙◌}
+use Rattle.std.proofs.Common.{◌≡◌, ℕ, List, ◌∙◌, subst}
+use Rattle.std.specs.Result.{IfOk}
+use Rattle.std.specs.String.{string_bytes}
+use Rattle.jasmin.specs.Sources.{units_of}
 use Rattle.listings.specs.Printed.{printed}
 use Rattle.source_text.proofs.Halves.{lines_paired}
 use Rattle.source_text.proofs.PlainTree.{printed_plain}
@@ -14,4 +17,8 @@ decoded-requires c =
 pub returns : goal.returns
 returns c =
     let s = c.args.source.now in
-    record { exact = lines_of_text c.decoded.result c.as_slice.result.now (printed s) (c.as_slice.ensures.value ∙ c.in_ok-units.ensures) (printed_plain s c.requires.listable c.requires.printable) c.decoded.ensures }
+    let units = c.as_slice.ensures.value ∙ c.in_ok-units.ensures in
+    record {
+      exact = lines_of_text c.decoded.result c.as_slice.result.now (printed s) units (printed_plain s c.requires.listable c.requires.printable) c.decoded.ensures;
+      ended = subst (λ (us : List ℕ). IfOk c.decoded.result (λ text. units_of (string_bytes text) ≡ us)) units c.decoded.ensures;
+    }

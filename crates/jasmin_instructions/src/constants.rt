@@ -6,8 +6,8 @@ ghost use Rattle.jasmin.specs.Lexing.{lexemes};
 ghost use Rattle.jasmin.specs.Judgements.{said};
 ghost use Rattle.jasmin.specs.Operands.{i32_at, class_at};
 ghost use Rattle.jasmin.specs.Statements.{loaded_at, alone, constant_operation};
-ghost use Rattle.jasmin_statements.specs.Saying.{Says};
-ghost use Rattle.jasmin_statements.specs.Views.{loaded_of};
+ghost use Rattle.jasmin_instructions.specs.Saying.{Says};
+ghost use Rattle.jasmin_instructions.specs.Views.{loaded_of};
 
 use crate::fault::LineFault;
 use crate::texts::text;

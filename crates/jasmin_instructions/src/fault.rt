@@ -1,14 +1,15 @@
 //! Why a line says nothing.
 
 ghost use Rattle.std.specs.Prelude.{◌≡◌};
-ghost use Rattle.jasmin_statements.specs.declared.fault.LineFault.TheVariants as fault;
+ghost use Rattle.jasmin_instructions.specs.declared.fault.LineFault.TheVariants as fault;
 
 use jasmin::statement::Flaw;
 use std::alloc::AllocError;
 
 /// Why a line says nothing.
 #[derive(Clone, Copy, Debug, Drop)]
-pub(crate) enum LineFault {
+pub enum LineFault {
+    /// The least of its faults.
     Flaw(Flaw),
     /// There was no memory for what it says.
     Memory,

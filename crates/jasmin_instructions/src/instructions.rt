@@ -5,7 +5,7 @@ ghost use Rattle.jasmin.specs.Lexing.{lexemes};
 ghost use Rattle.jasmin.specs.Judgements.{said};
 ghost use Rattle.jasmin.specs.Operands.{exactly, i8_at, i16_at, i32_at, i64_at, u16_at};
 ghost use Rattle.jasmin.specs.Statements.{alone, increment_operation, branch_operation, new_array_operation, instruction_with, instruction_line};
-ghost use Rattle.jasmin_statements.specs.Saying.{Says};
+ghost use Rattle.jasmin_instructions.specs.Saying.{Says};
 
 use crate::class_operands::{class_operation, multi_new_array_operation};
 use crate::constants::constant_operation;
@@ -98,13 +98,14 @@ fn instruction_with(
     Ok(Instruction::Whole(operation))
 }
 
-/// The instruction of an opcode's number, by its operands.
+/// The instruction of an opcode's number, by its operands, or the least of their faults.
+///
+/// # Errors
+///
+/// `Flaw` where the operands aren't those of the opcode, with `UnknownInstruction` where the number is no opcode's;
+/// `Memory` where there is no memory for the instruction.
 #[tactic(auto, unfolding(jasmin::specs::Statements::instruction_line))]
-pub(crate) fn instruction_line(
-    alloc: Global,
-    code: u8,
-    tokens: &[Token],
-) -> Result<Instruction, LineFault>
+pub fn instruction_line(alloc: Global, code: u8, tokens: &[Token]) -> Result<Instruction, LineFault>
     ensures { Says result (instruction_line code (lexemes tokens.now)) }
 {
     match form_of(code) {

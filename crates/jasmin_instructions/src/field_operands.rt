@@ -7,18 +7,19 @@ ghost use Rattle.jasmin.specs.Lexing.{lexemes};
 ghost use Rattle.jasmin.specs.Judgements.{both, said, unless};
 ghost use Rattle.jasmin.specs.Operands.{exactly, tested, word_at, is_member, field_descriptor_at};
 ghost use Rattle.jasmin.specs.Statements.{field_operation};
-ghost use Rattle.jasmin_statements.specs.Saying.{Says};
-ghost use Rattle.jasmin_statements.specs.Views.{two_texts};
+ghost use Rattle.jasmin_instructions.specs.Saying.{Says};
+ghost use Rattle.jasmin_instructions.specs.Views.{two_texts};
 
 use crate::fault::LineFault;
-use crate::parts::{tested, two_words, two_words_unless};
+use crate::parts::{two_words, two_words_unless};
 use crate::texts::text;
 use held::boxed::Boxed;
 use jasmin::source::{FieldName, Operation};
 use jasmin::statement::Flaw;
 use jasmin::token::{Lexeme, Token};
 use jasmin_operands::{
-    Judged, class_of, exactly, field_descriptor_at, is_member_field, name_of, operand, word_at,
+    Judged, asked, class_of, exactly, field_descriptor_at, is_member_field, name_of, operand,
+    word_at,
 };
 use jvms_file::insn::FieldUse;
 use std::alloc::Global;
@@ -28,7 +29,8 @@ fn member_at(lexeme: Option<&Lexeme>) -> Judged<&[u16]>
     ensures { said (λ w. w.now) result ≡ tested (is_member is_name) Flaw.Name (word_at (option_map (λ l. l.now) lexeme.entry)) }
 {
     let word = word_at(lexeme)?;
-    tested(is_member_field(word), Flaw::Name, word)
+    asked(is_member_field(word), Flaw::Name)?;
+    Ok(word)
 }
 
 /// `class/name` of a field, and behind it its descriptor.

@@ -6,7 +6,7 @@ ghost use Rattle.jasmin.specs.Lexing.{lexemes};
 ghost use Rattle.jasmin.specs.Judgements.{asked, both, said, unless};
 ghost use Rattle.jasmin.specs.Operands.{exactly, class_at, u8_at};
 ghost use Rattle.jasmin.specs.Statements.{word_or_none, is_usable_word, class_operation, dimensions_at, multi_new_array_operation};
-ghost use Rattle.jasmin_statements.specs.Saying.{Says};
+ghost use Rattle.jasmin_instructions.specs.Saying.{Says};
 
 use crate::fault::LineFault;
 use crate::parts::word_unless;
@@ -102,7 +102,7 @@ fn dimensions(tokens: &[Token]) -> Judged<u8>
 }
 
 /// The class and the dimensions of a `multianewarray`.
-#[tactic(auto, using(crate::proofs::Judging::said_first))]
+#[tactic(auto, using(jasmin_operands::proofs::Judgements::said_both))]
 fn multi_at(tokens: &[Token]) -> Judged<(&[u16], u8)>
     ensures { let ts = lexemes tokens.now in
         said (λ p. (p.0.now, p.1)) result

@@ -9,12 +9,12 @@ ghost use Rattle.jasmin.specs.Lexing.{lexemes};
 ghost use Rattle.jasmin.specs.Judgements.{said, unless};
 ghost use Rattle.jasmin.specs.Operands.{tested, is_member, before_descriptor, descriptor_of};
 ghost use Rattle.jasmin.specs.Statements.{named_method, method_at, is_count, counted_at, behind_method, invoke_operation};
-ghost use Rattle.jasmin_statements.specs.Saying.{Says};
-ghost use Rattle.jasmin_statements.specs.Views.{two_texts};
+ghost use Rattle.jasmin_instructions.specs.Saying.{Says};
+ghost use Rattle.jasmin_instructions.specs.Views.{two_texts};
 
+use crate::descriptors::is_method_descriptor_for;
 use crate::fault::LineFault;
-use crate::method_lines::is_method_descriptor_for;
-use crate::parts::{tested, two_words, two_words_unless};
+use crate::parts::{two_words, two_words_unless};
 use crate::texts::text;
 use descriptor::{is_constructor_name, method_units};
 use held::boxed::Boxed;
@@ -53,7 +53,8 @@ fn method_member(word: &[u16]) -> Judged<&[u16]>
     ensures { said (λ w. w.now) result ≡ tested (is_member is_method_name) Flaw.Name (Ok (before_descriptor word.now)) }
 {
     let member = before_descriptor(word);
-    tested(is_member_method(member), Flaw::Name, member)
+    asked(is_member_method(member), Flaw::Name)?;
+    Ok(member)
 }
 
 /// A method's descriptor, by the word that has `class/name` too.
@@ -61,11 +62,8 @@ fn method_descriptor(word: &[u16]) -> Judged<&[u16]>
     ensures { said (λ w. w.now) result ≡ tested (is_method_descriptor_for true) Flaw.Descriptor (Ok (descriptor_of word.now)) }
 {
     let descriptor = descriptor_of(word);
-    tested(
-        is_method_descriptor_for(true, descriptor),
-        Flaw::Descriptor,
-        descriptor,
-    )
+    asked(is_method_descriptor_for(true, descriptor), Flaw::Descriptor)?;
+    Ok(descriptor)
 }
 
 /// `class/name` of a method, and its descriptor, by the word that has both, where it may be called so.
