@@ -48,10 +48,10 @@ Options and FILEs stand in any order. --args=48,36 is --args 48,36, and behind
 
 The method runs by itself, as thread 0, for at most 1000000 turns, with at most
 1000000 objects, 10000000 elements of arrays, 64 threads and 1024 frames a
-thread. Today the instructions of ints, locals, the stack, jumps and switches
-run, and the return from the method. Calls, objects, fields, arrays, exceptions,
-long, float and double don't run yet: the run stands still before such an
-instruction, with status Stalled.
+thread. Today the instructions of ints, locals, the stack, jumps, switches and
+calls run, and returns. Objects, fields, arrays, handlers of exceptions, long,
+float and double don't run yet: the run stands still before such an instruction,
+and behind an exception that is thrown, with status Stalled.
 
 Standard output: the result and a line end, an int in decimal, a reference as
 null or R:n. Where there is no result, standard error: status S turns N, with S

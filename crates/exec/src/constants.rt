@@ -48,6 +48,6 @@ pub(crate) fn constant(what: &Loadable, frame: &Frame) -> FrameDecision
         Loadable::Float(_) | Loadable::Long(_) | Loadable::Double(_) => {
             FrameDecision::Stops(BadCause::OutOfProfile)
         }
-        Loadable::String(_) | Loadable::Class(_) => FrameDecision::Later,
+        Loadable::String(_) | Loadable::Class(_) => FrameDecision::Beyond,
     }
 }

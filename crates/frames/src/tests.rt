@@ -58,6 +58,8 @@ fn operands_come_and_go(rt: HostRuntime) -> Result<(), Fail> {
     assert_eq!(rt; frame.height(), 4);
     let four = (Value::Int(0), Value::Int(1), Value::Int(2), Value::Int(3));
     assert_eq!(rt; frame.top_four(), four);
+    let arguments = [Value::Int(2), Value::Int(3)];
+    assert_eq!(rt; frame.arguments(2), arguments.as_slice());
     assert_eq!(rt;
         frame.top_three(),
         (Value::Int(1), Value::Int(2), Value::Int(3))

@@ -1,6 +1,6 @@
 -- The action of an instruction that touches its frame alone has room in it, and leaves it with the locals and at
 -- most the operands that its code asks for, and with values of the heap in them.
-use Rattle.std.proofs.Common.{◌≡◌, ℕ, zero, suc, ◌+◌, ◌-◌, ◌<◌, ◌≤◌, cond, Bool, true, ◌&&◌, nat_le, nat_lt, leb-true, ltb-true, List, [], ◌∷◌, length, drop, Option, Some, None, ℤ, ◌∙◌, arith, length-set, length-drop}
+use Rattle.std.proofs.Common.{◌≡◌, ℕ, ◌+◌, ◌-◌, ◌<◌, ◌≤◌, cond, Bool, true, ◌&&◌, nat_le, nat_lt, leb-true, ltb-true, List, [], ◌∷◌, length, drop, Option, Some, None, ℤ, ◌∙◌, arith, length-set, length-drop}
 use Rattle.std.specs.List.{AllByRecursion}
 use Rattle.std.proofs.lemmas.Bool.{cond_both, and_parts}
 use Rattle.jvms_machine.specs.declared.value.Value.{Value}
@@ -36,8 +36,8 @@ use Rattle.jvms_machine.specs.Arithmetic.{divided, int_decision}
 use Rattle.jvms_machine.specs.Branches.{branch_decision}
 use Rattle.jvms_machine.specs.Switches.{table_target, case_target}
 use Rattle.jvms_machine.specs.Profile.{is_outside_element, is_outside_method, is_outside_class, is_outside_array, is_outside_use}
-use Rattle.jvms_machine.specs.Steps.{later_unless, simple_decision, frame_decision}
-use Rattle.jvms_machine.proofs.ListLaws.{all_set, all_read}
+use Rattle.jvms_machine.specs.Steps.{beyond_unless, simple_decision, frame_decision}
+use Rattle.jvms_machine.proofs.ListLaws.{all_set, all_read, all_drop}
 
 -- What a frame keeps: the locals and at most the operands that the code asks for, all of them values.
 pub record IsFit (heap : List Object) (body : Body) (a : Activation) : Type 0 where
@@ -56,12 +56,6 @@ HasValue heap _ = Unit {0}
 abbrev pub Keeps : List Object → Body → Activation → FrameDecision → Type 0
 Keeps heap body a (decision.Does act) = HasRoom body a act × HasValue heap act
 Keeps heap body a _ = Unit {0}
-
--- What holds of all elements holds of those that are left.
-all_drop : {X : Type 0} (P : X → Type 0) (n : ℕ) (xs : List X) → AllByRecursion P xs → AllByRecursion P (drop n xs)
-all_drop P zero xs all = all
-all_drop P (suc n) [] all = tt
-all_drop P (suc n) (x ∷ xs) all = all_drop P n xs all.1
 
 module _ (heap : List Object) (body : Body) (a : Activation) (fit : IsFit heap body a) where
   -- ---- What an action makes of a fit frame is fit.
@@ -228,8 +222,8 @@ module _ (heap : List Object) (body : Body) (a : Activation) (fit : IsFit heap b
 
   -- ---- Each instruction
 
-  later_keeps : (outside : Bool) → KeepsFit (later_unless outside)
-  later_keeps outside = keeps_if outside _ _ (λ _. tt) tt
+  beyond_keeps : (outside : Bool) → KeepsFit (beyond_unless outside)
+  beyond_keeps outside = keeps_if outside _ _ (λ _. tt) tt
 
   simple_keeps : (s : Simple) → KeepsFit (simple_decision body s a)
   simple_keeps simple.Nop = (omega arith, tt)
@@ -240,7 +234,7 @@ module _ (heap : List Object) (body : Body) (a : Activation) (fit : IsFit heap b
   simple_keeps (simple.Int i) = int_keeps i
   simple_keeps (simple.Long i) = tt
   simple_keeps (simple.Floating i) = tt
-  simple_keeps (simple.Array i) = later_keeps (is_outside_array i)
+  simple_keeps (simple.Array i) = beyond_keeps (is_outside_array i)
   simple_keeps (simple.Return i) = tt
   simple_keeps (simple.Object i) = tt
 
@@ -259,7 +253,7 @@ module _ (heap : List Object) (body : Body) (a : Activation) (fit : IsFit heap b
   frame_decision_keeps (instruction.Table s) = switch_keeps (table_target s)
   frame_decision_keeps (instruction.Lookup s) = switch_keeps (case_target s.cases s.default)
   frame_decision_keeps (instruction.Constant c) = constant_keeps c
-  frame_decision_keeps (instruction.Field how r) = later_keeps (is_outside_element r.field_type.element)
-  frame_decision_keeps (instruction.Invoke how r) = later_keeps (is_outside_method r.method_type)
-  frame_decision_keeps (instruction.Class how name) = later_keeps (is_outside_use how name)
-  frame_decision_keeps (instruction.MultiNewArray name count) = later_keeps (is_outside_class name)
+  frame_decision_keeps (instruction.Field how r) = beyond_keeps (is_outside_element r.field_type.element)
+  frame_decision_keeps (instruction.Invoke how r) = beyond_keeps (is_outside_method r.method_type)
+  frame_decision_keeps (instruction.Class how name) = beyond_keeps (is_outside_use how name)
+  frame_decision_keeps (instruction.MultiNewArray name count) = beyond_keeps (is_outside_class name)

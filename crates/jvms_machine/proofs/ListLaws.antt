@@ -1,6 +1,7 @@
 -- What holds of every element of a list, and what stands at a place of it.
-use Rattle.std.proofs.Common.{◌≡◌, ℕ, zero, suc, ◌+◌, cond, Bool, List, [], ◌∷◌, ◌++◌, replicate, map, Some, slice_get, slice_set, unwrap_or, count_by, flat_map, refl, ap, subst}
+use Rattle.std.proofs.Common.{◌≡◌, ℕ, zero, suc, ◌+◌, cond, Bool, List, [], ◌∷◌, ◌++◌, length, take, drop, replicate, map, reverse, Option, Some, None, slice_get, slice_set, unwrap_or, option_map, count_by, flat_map, refl, sym, ap, subst}
 use Rattle.std.specs.List.{AllByRecursion}
+use Rattle.std.proofs.lemmas.List.{reverse-append}
 use Rattle.std.proofs.lemmas.Option.{none-some, same_Some}
 use Rattle.std.proofs.lemmas.List.Sums.{sum_by-cons}
 
@@ -69,3 +70,36 @@ get_set_other (y ∷ ys) (suc i) (suc j) x other = get_set_other ys i j x (λ sa
 -- An element that passes counts as one, any other as none.
 pub count_by_cons : {X : Type 0} (test : X → Bool) (x : X) (xs : List X) → count_by test (x ∷ xs) ≡ cond (test x) 1 0 + count_by test xs
 count_by_cons test x xs = sum_by-cons (λ y. cond (test y) 1 0) x xs
+
+-- What holds of all elements holds of those that are left.
+pub all_drop : {X : Type 0} (P : X → Type 0) (n : ℕ) (xs : List X) → AllByRecursion P xs → AllByRecursion P (drop n xs)
+all_drop P zero xs all = all
+all_drop P (suc n) [] all = tt
+all_drop P (suc n) (x ∷ xs) all = all_drop P n xs all.1
+
+-- And of the first ones.
+pub all_take : {X : Type 0} (P : X → Type 0) (n : ℕ) (xs : List X) → AllByRecursion P xs → AllByRecursion P (take n xs)
+all_take P zero xs all = tt
+all_take P (suc n) [] all = tt
+all_take P (suc n) (x ∷ xs) all = (all.0, all_take P n xs all.1)
+
+-- And of all from the last on.
+pub all_reverse : {X : Type 0} (P : X → Type 0) (xs : List X) → AllByRecursion P xs → AllByRecursion P (reverse xs)
+all_reverse P [] all = tt
+all_reverse P (x ∷ xs) all = subst (AllByRecursion P) (sym (reverse-append (x ∷ []) xs)) (all_append P (reverse xs) (x ∷ []) (all_reverse P xs all.1) (all.0, tt))
+
+-- What stands at a place stands there too with a list behind it.
+pub appended_within : {X : Type 0} (xs ys : List X) (i : ℕ) (x : X) → slice_get xs i ≡ Some x → slice_get (xs ++ ys) i ≡ Some x
+appended_within [] ys i x is = absurd (none-some x is)
+appended_within (y ∷ xs) ys zero x is = is
+appended_within (y ∷ xs) ys (suc i) x is = appended_within xs ys i x is
+
+-- What is put behind a list stands at its length.
+pub appended_at : {X : Type 0} (xs : List X) (x : X) → slice_get (xs ++ x ∷ []) (length xs) ≡ Some x
+appended_at [] x = refl
+appended_at (y ∷ xs) x = appended_at xs x
+
+-- What a mapped option holds is the image of what the option holds.
+pub option_map_some : {A B P : Type 0} (f : A → B) (o : Option A) (y : B) → option_map f o ≡ Some y → ((x : A) → o ≡ Some x → f x ≡ y → P) → P
+option_map_some f None y is next = absurd (none-some y is)
+option_map_some f (Some x) y is next = next x refl (same_Some (f x) y is)

@@ -16,7 +16,7 @@ use Rattle.jvms_program.specs.declared.key.FieldKey.{FieldKey}
 use Rattle.jvms_program.specs.BuiltIn.{is_built_in}
 use Rattle.jvms_program.specs.Resolution.{chain}
 use Rattle.jvms_machine.specs.declared.state.Initialisation.TheVariants as initialisation
-use Rattle.jvms_machine.specs.State.{Object, instance, IsValue, IsObject, Sound, default_of_element, default_value, field_key, fields_where, instance_fields, static_fields, keys, initialisation_frames, frames_in_progress}
+use Rattle.jvms_machine.specs.State.{Object, first_instance, IsValue, IsObject, Sound, default_of_element, default_value, field_key, fields_where, static_fields, keys, initialisation_frames, frames_in_progress}
 use Rattle.jvms_machine.specs.Limits.{are_limits}
 use Rattle.jvms_machine.specs.Opening.{opening_heap, is_system_out, opening_static, opening_initialisation, new_thread, opening}
 use Rattle.jvms_machine.proofs.ListLaws.{all_map, all_map_weaker, all_flat_map}
@@ -47,9 +47,9 @@ fields_have_values heap test c =
 all_fields_have_values : (heap : List Object) (test : Field → Bool) (classes : List Class) → AllByRecursion (HasValue heap) (flat_map (fields_where test) classes)
 all_fields_have_values heap test classes = all_flat_map (HasValue heap) (fields_where test) (fields_have_values heap test) classes
 
--- An object of the opening has its class's fields, and values in them.
-opening_object_is : (program : List Class) (heap : List Object) (class : List ℕ) → IsObject program heap (instance class (instance_fields program class))
-opening_object_is program heap class = (refl, all_fields_have_values heap (λ f. not f.is_static) (reverse (chain program class)))
+-- An object that is made has its class's fields, and values in them.
+pub first_instance_is : (program : List Class) (heap : List Object) (class : List ℕ) → IsObject program heap (first_instance program class)
+first_instance_is program heap class = (refl, all_fields_have_values heap (λ f. not f.is_static) (reverse (chain program class)))
 
 -- The static fields of the opening are the program's.
 opening_keys : (fields : List (FieldKey × Value)) → keys (map opening_static fields) ≡ keys fields
@@ -77,9 +77,9 @@ unfolding opening
 opening_is_sound program limits are =
     let room = limits_have_room limits are in
     let heap = opening_heap program in
-    let first = opening_object_is program heap (codes "java/lang/OutOfMemoryError") in
-    let second = opening_object_is program heap (codes "java/lang/StackOverflowError") in
-    let third = opening_object_is program heap (codes "java/io/PrintStream") in
+    let first = first_instance_is program heap (codes "java/lang/OutOfMemoryError") in
+    let second = first_instance_is program heap (codes "java/lang/StackOverflowError") in
+    let third = first_instance_is program heap (codes "java/io/PrintStream") in
     record {
       opened = omega arith;
       objects_are = (first, (second, (third, (tt, tt))));

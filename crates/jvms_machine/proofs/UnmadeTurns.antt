@@ -20,8 +20,12 @@ action_is_enabled (action.Begins class) = refl
 action_is_enabled (action.Finishes class) = refl
 action_is_enabled (action.Enters method code) = refl
 action_is_enabled (action.Ends method result) = refl
+action_is_enabled (action.Calls method code takes) = refl
+action_is_enabled (action.Returns method result) = refl
+action_is_enabled (action.Raises e) = refl
+action_is_enabled (action.Fails e) = refl
 
-unmade_keeps : (program : List Class) (start : Start) (s : State) (t : ℕ) (d : Decision Body) → is_enabled (outcome_of d) ≡ false → (state_after start s t d ≡ s) × (items_after program t d ≡ [])
+unmade_keeps : (program : List Class) (start : Start) (s : State) (t : ℕ) (d : Decision Body) → is_enabled (outcome_of d) ≡ false → (state_after program start s t d ≡ s) × (items_after program t d ≡ [])
 unmade_keeps program start s t (decision.Unmade o) disabled = (refl, refl)
 unmade_keeps program start s t decision.Later disabled = (refl, refl)
 unmade_keeps program start s t (decision.Makes act) disabled = absurd (cc (action_is_enabled act))

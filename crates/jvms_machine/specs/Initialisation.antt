@@ -1,5 +1,5 @@
 -- The initialisation of classes (JVMS 5.5).
-use Rattle.std.specs.Prelude.{ℕ, Bool, true, false, ◌==◌, ◌&&◌, ◌||◌, nat_le, if◌then◌else◌, List, length, Option, Some, None, is_some, slice_get, codes}
+use Rattle.std.specs.Prelude.{ℕ, Bool, true, false, ◌==◌, ◌&&◌, nat_le, if◌then◌else◌, List, length, Option, Some, None, is_some, slice_get, codes}
 use Rattle.std.specs.Option.{option_and_then}
 use Rattle.std.specs.List.{list_any}
 use Rattle.jvms_machine.specs.declared.machine.Outcome.TheVariants as outcome
@@ -9,6 +9,7 @@ use Rattle.jvms_machine.specs.declared.state.Initialisation.{Initialisation}
 use Rattle.jvms_machine.specs.declared.state.Initialisation.TheVariants as initialisation
 use Rattle.jvms_program.specs.declared.program.Class.{Class}
 use Rattle.jvms_program.specs.declared.program.Body.{Body}
+use Rattle.jvms_program.specs.declared.thrown.Thrown.TheVariants as thrown
 use Rattle.jvms_machine.specs.declared.action.Decision.{Decision}
 use Rattle.jvms_machine.specs.declared.action.Decision.TheVariants as decision
 use Rattle.jvms_machine.specs.declared.action.Action.TheVariants as action
@@ -16,6 +17,7 @@ use Rattle.jvms_program.specs.Program.{class_number, declared_number}
 use Rattle.jvms_program.specs.Resolution.{is_interface_kind}
 use Rattle.jvms_machine.specs.State.{State, Thread}
 use Rattle.jvms_machine.specs.Decisions.{never_seen}
+use Rattle.jvms_machine.specs.Exceptions.{throws}
 
 -- ---- A class is asked for
 
@@ -23,28 +25,30 @@ use Rattle.jvms_machine.specs.Decisions.{never_seen}
 abbrev pub has_static_constant : Class → Bool
 has_static_constant c = list_any (λ f. f.is_static && is_some f.constant) c.fields
 
--- The initialisation begins: the class is marked, and its frame pushed; the instruction is run again later.
--- Constants of static fields, and the errors of the limits, are yet to come.
-abbrev pub begin_decision : Limits → Thread → ℕ → Option Class → Decision Body
-begin_decision limits thread class None = never_seen
-begin_decision limits thread class (Some c) =
-    if has_static_constant c || nat_le limits.frames (length thread.frames) then decision.Later
-    else decision.Makes (action.Begins class)
+-- The initialisation begins: the class is marked, and its frame pushed, if there is room for one; the instruction is run
+-- again later. Constants of static fields are yet to come.
+abbrev pub begin_decision : Limits → State → Thread → ℕ → Option Class → Decision Body
+begin_decision limits s thread class None = never_seen
+begin_decision limits s thread class (Some c) =
+    if has_static_constant c then decision.Later
+    else (if nat_le limits.frames (length thread.frames) then throws limits s thread thrown.StackOverflowError
+    else decision.Makes (action.Begins class))
 
 -- What a turn that asks for the initialisation of a class does first: `go_on` where it is done or in progress by
 -- the turn's own thread.
-abbrev pub asking_at : List Class → Limits → ℕ → Thread → ℕ → Option Initialisation → Decision Body → Decision Body
-asking_at program limits t thread class None go_on = never_seen
-asking_at program limits t thread class (Some initialisation.NotBegun) go_on =
-    begin_decision limits thread class (slice_get program class)
-asking_at program limits t thread class (Some (initialisation.InProgress u)) go_on =
+abbrev pub asking_at : List Class → Limits → State → ℕ → Thread → ℕ → Option Initialisation → Decision Body → Decision Body
+asking_at program limits s t thread class None go_on = never_seen
+asking_at program limits s t thread class (Some initialisation.NotBegun) go_on =
+    begin_decision limits s thread class (slice_get program class)
+asking_at program limits s t thread class (Some (initialisation.InProgress u)) go_on =
     if u == t then go_on else decision.Unmade (outcome.Blocked (blocked.Initialisation class u))
-asking_at program limits t thread class (Some initialisation.Done) go_on = go_on
-asking_at program limits t thread class (Some initialisation.Erroneous) go_on = decision.Later
+asking_at program limits s t thread class (Some initialisation.Done) go_on = go_on
+asking_at program limits s t thread class (Some initialisation.Erroneous) go_on =
+    throws limits s thread thrown.NoClassDefFoundError
 
 abbrev pub asking : List Class → Limits → State → ℕ → Thread → ℕ → Decision Body → Decision Body
 asking program limits s t thread class go_on =
-    asking_at program limits t thread class (slice_get s.initialisations class) go_on
+    asking_at program limits s t thread class (slice_get s.initialisations class) go_on
 
 -- ---- An initialisation frame is on top
 

@@ -6,6 +6,7 @@ pub mod Calls
 pub mod Constants
 pub mod Decisions
 pub mod Examples
+pub mod Exceptions
 pub mod Initialisation
 pub mod Limits
 pub mod Locals

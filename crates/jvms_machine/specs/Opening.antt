@@ -1,5 +1,5 @@
 -- A machine at its opening, or why there is none.
-use Rattle.std.specs.Prelude.{ℕ, Bool, false, ◌&&◌, if◌then◌else◌, List, [], ◌∷◌, map, Option, Some, None, codes, Result, Ok, Err}
+use Rattle.std.specs.Prelude.{Bool, false, ◌&&◌, if◌then◌else◌, List, [], ◌∷◌, map, Option, Some, None, codes, Result, Ok, Err}
 use Rattle.jvms_machine.specs.declared.value.Value.{Value}
 use Rattle.jvms_machine.specs.declared.value.Value.TheVariants as value
 use Rattle.jvms_machine.specs.declared.machine.Entry.{Entry}
@@ -10,7 +10,7 @@ use Rattle.jvms_program.specs.declared.program.Class.{Class}
 use Rattle.jvms_program.specs.declared.key.FieldKey.{FieldKey}
 use Rattle.jvms_file.specs.Names.{same_text}
 use Rattle.jvms_program.specs.BuiltIn.{is_built_in}
-use Rattle.jvms_machine.specs.State.{State, Object, instance, array, Thread, instance_fields, static_fields}
+use Rattle.jvms_machine.specs.State.{State, Object, array, Thread, first_instance, static_fields}
 use Rattle.jvms_machine.specs.Start.{Start, start_of}
 use Rattle.jvms_machine.specs.Limits.{are_limits}
 
@@ -32,15 +32,12 @@ made program limits e = start_within limits (start_of program e)
 
 -- ---- The opening state
 
-abbrev pub opening_object : List Class → List ℕ → Object
-opening_object program class = instance class (instance_fields program class)
-
 -- References 1 to 4: the error of too many objects, that of too many frames, System.out, and main's argument.
 abbrev pub opening_heap : List Class → List Object
 opening_heap program =
-    opening_object program (codes "java/lang/OutOfMemoryError")
-    ∷ opening_object program (codes "java/lang/StackOverflowError")
-    ∷ opening_object program (codes "java/io/PrintStream")
+    first_instance program (codes "java/lang/OutOfMemoryError")
+    ∷ first_instance program (codes "java/lang/StackOverflowError")
+    ∷ first_instance program (codes "java/io/PrintStream")
     ∷ array (codes "[Ljava/lang/String;") []
     ∷ []
 

@@ -30,9 +30,17 @@ pub enum FrameDecision {
     Throws(Thrown),
     /// The turn can't be made.
     Stops(BadCause),
-    /// The frame alone doesn't tell: the instruction touches more than it, as a return does, or is one of a later
-    /// version of the instruction table.
-    Later,
+    /// The frame alone doesn't tell: the instruction touches more than it, as a return does.
+    Beyond,
+}
+
+/// An exception that is thrown (JVMS 2.10).
+#[derive(Clone, Copy, Debug, PartialEq, Eq)]
+pub enum Exception {
+    /// An object of this class is made, with a null message.
+    New(Thrown),
+    /// The object of this reference is thrown, which is there.
+    Held { reference: u32 },
 }
 
 /// How a turn changes the state, with what its making needs. `C` is a method's code, or what leads to it.
@@ -58,6 +66,21 @@ pub enum Action<C> {
         method: MethodNumber,
         result: Option<Value>,
     },
+    /// A method is called, which has this code: so many operands of the call on top are its arguments.
+    Calls {
+        method: MethodNumber,
+        code: C,
+        takes: u16,
+    },
+    /// The call on top, of this method, returns to the frame below.
+    Returns {
+        method: MethodNumber,
+        result: Option<Value>,
+    },
+    /// An exception is pending.
+    Raises(Exception),
+    /// The first call throws an exception, and the thread ends.
+    Fails(Exception),
 }
 
 /// What a turn comes to.

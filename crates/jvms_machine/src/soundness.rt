@@ -6,6 +6,7 @@ ghost use Rattle.std.specs.Prelude.{◌≡◌, ℕ, List, [], IsTrue, false, Som
 ghost use Rattle.jvms_machine.specs.declared.machine.Entry.{Entry};
 ghost use Rattle.jvms_machine.specs.declared.machine.Limits.{Limits};
 ghost use Rattle.jvms_program.specs.declared.program.Class.{Class};
+ghost use Rattle.jvms_program.specs.Program.{IsProgram};
 ghost use Rattle.jvms_machine.specs.State.{State, Sound};
 ghost use Rattle.jvms_machine.specs.Start.{Start, IsStart, start_of};
 ghost use Rattle.jvms_machine.specs.Limits.{are_limits};
@@ -14,9 +15,9 @@ ghost use Rattle.jvms_machine.specs.Status.{is_enabled};
 ghost use Rattle.jvms_machine.specs.Marks.{calls_of, marks_between};
 ghost use Rattle.jvms_machine.specs.Turn.{turn};
 
-/// The state after a turn of any thread is sound, if the state before it is.
+/// The state after a turn of any thread is sound, if the state before it is and the classes are a program.
 pub fn a_turn_keeps_a_state_sound()
-    ensures { (program : List Class) (limits : Limits) (start : Start) (s : State) (t : ℕ) → IsTrue (are_limits limits) → IsStart start → Sound program limits s → Sound program limits (turn program limits start s t).state }
+    ensures { (program : List Class) (limits : Limits) (start : Start) (s : State) (t : ℕ) → IsProgram program → IsTrue (are_limits limits) → IsStart start → Sound program limits s → Sound program limits (turn program limits start s t).state }
 {}
 
 /// The opening state is sound.

@@ -1,19 +1,42 @@
 -- Programs (JVMS 5.3): a map from class name to class, as the list of its classes. No two have one name.
-use Rattle.std.specs.Prelude.{ℕ, ◌&&◌, List, ◌++◌, map, Option, slice_get}
+use Rattle.std.specs.Prelude.{◌≡◌, ℕ, ◌&&◌, List, ◌++◌, map, Option, IfSome, slice_get}
 use Rattle.std.specs.Option.{option_and_then, option_map}
-use Rattle.std.specs.List.{find, position}
+use Rattle.std.specs.List.{AllByRecursion, find, position}
 use Rattle.jvms_file.specs.declared.class_file.ClassFile.{ClassFile}
 use Rattle.jvms_program.specs.declared.program.Class.{Class}
 use Rattle.jvms_program.specs.declared.program.Method.{Method}
+use Rattle.jvms_program.specs.declared.program.Instruction.{Instruction}
+use Rattle.jvms_program.specs.declared.program.Instruction.TheVariants as instruction
 use Rattle.jvms_program.specs.declared.number.MethodNumber.{MethodNumber}
 use Rattle.jvms_program.specs.declared.key.MethodKey.{MethodKey}
 use Rattle.jvms_file.specs.Names.{same_text}
+use Rattle.jvms_file.specs.Descriptors.{field_type, method_type}
 use Rattle.jvms_program.specs.Meaning.{meaning}
 use Rattle.jvms_program.specs.BuiltIn.{built_in_classes}
 
 -- The program of class files: the built-in classes, then theirs in order.
 unfoldable pub program_of : List ClassFile → List Class
 program_of files = built_in_classes ++ map meaning files
+
+-- What an instruction keeps of the descriptor that it names is what that spells.
+abbrev pub IsSpelledInstruction : Instruction → Type 0
+IsSpelledInstruction (instruction.Field how r) = r.field_type ≡ field_type r.descriptor
+IsSpelledInstruction (instruction.Invoke how r) = r.method_type ≡ method_type r.descriptor
+IsSpelledInstruction _ = Unit {0}
+
+-- So do fields and methods, and the instructions of a method's code.
+abbrev pub IsSpelledMethod : Method → Type 0
+IsSpelledMethod m =
+    (m.method_type ≡ method_type m.descriptor) × IfSome m.body (λ b. AllByRecursion IsSpelledInstruction b.instructions)
+
+abbrev pub IsSpelledClass : Class → Type 0
+IsSpelledClass c = AllByRecursion (λ f. f.field_type ≡ field_type f.descriptor) c.fields × AllByRecursion IsSpelledMethod c.methods
+
+-- What holds of every list of classes that is a program: the built-in classes stand first, and types are those that
+-- descriptors spell.
+pub record IsProgram (program : List Class) : Type 0 where
+  pub built_ins : (own : List Class) × (program ≡ built_in_classes ++ own)
+  pub spelled : AllByRecursion IsSpelledClass program
 
 -- The class of a name.
 abbrev pub class_named : List Class → List ℕ → Option Class

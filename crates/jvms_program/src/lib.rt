@@ -3,6 +3,7 @@
 #![tactic(auto)]
 
 pub mod key;
+pub mod laws;
 pub mod number;
 pub mod program;
 pub mod thrown;

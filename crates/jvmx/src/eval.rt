@@ -47,7 +47,7 @@ pub enum EvalFault {
     /// C01 to C18, J01 to J12, A01 to A08: the file of this place, from 0, is no class, or there was no memory for it.
     #[error("file {file}: {fault}")]
     Input { file: usize, fault: InputFault },
-    /// K01 to K07: the classes make no program.
+    /// K01 to K06: the classes make no program, or there was no memory for it.
     #[error("{0}")]
     Link(LinkFault),
     /// M01 to M03: there is no machine for the entry.

@@ -26,7 +26,7 @@ pub(crate) enum Refusal<'w> {
     Input { file: &'w str, fault: InputFault },
     /// L01 to L03: the class of a file can't be listed.
     List { file: &'w str, fault: ListFault },
-    /// K01 to K07: the class of a file can't be linked.
+    /// K01 to K05: the class of a file can't be linked.
     Link { file: &'w str, fault: LinkFault },
     /// K06: there was no memory for the program.
     LinkMemory,
@@ -80,7 +80,9 @@ impl<'w> Refusal<'w> {
         match fault {
             LinkFault::BuiltInName { class }
             | LinkFault::RepeatedClass { class }
-            | LinkFault::Later { class } => Refusal::Link {
+            | LinkFault::MissingSuper { class }
+            | LinkFault::SuperKind { class }
+            | LinkFault::Circular { class } => Refusal::Link {
                 file: words.file(class),
                 fault,
             },

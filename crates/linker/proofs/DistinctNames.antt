@@ -1,5 +1,5 @@
 -- No two classes of a program that is linked have one name.
-use Rattle.std.proofs.Common.{◌≡◌, ℕ, zero, suc, ◌+◌, ◌<◌, ◌≤◌, Bool, true, false, cond, ◌||◌, nat_lt, List, [], ◌∷◌, ◌++◌, length, get_or, take, Option, Some, None, Ok, refl, sym, ap, subst, ◌∙◌, arith, append_assoc, ⊎_elim}
+use Rattle.std.proofs.Common.{◌≡◌, ℕ, zero, suc, ◌+◌, ◌<◌, ◌≤◌, Bool, true, false, cond, ◌||◌, nat_lt, List, [], ◌∷◌, ◌++◌, length, get_or, take, Option, Some, None, Result, Ok, refl, sym, ap, subst, ◌∙◌, arith, append_assoc, ⊎_elim}
 use Rattle.std.proofs.Math.Seq.{take-suc, take-length}
 use Rattle.std.specs.List.{find, list_any, position, position_from, position_or_len, range_with_len, IsDistinct}
 use Rattle.std.proofs.lemmas.Bool.{cases_eq}
@@ -16,17 +16,17 @@ use Rattle.jvms_file.specs.Names.{same_text}
 use Rattle.jvms_file.specs.Results.{◌>>=◌}
 use Rattle.jvms_program.specs.BuiltIn.{built_in_classes, is_built_in}
 use Rattle.linker.specs.declared.fault.LinkFault.{LinkFault}
-use Rattle.linker.specs.Linking.{names_of, repeats, repeated_name, built_in_name, later, refused, refusal, HaveDistinctNames}
+use Rattle.linker.specs.Linking.{names_of, repeats, repeated_name, built_in_name, refused, refusal, HaveDistinctNames}
 
 -- ---- What no refusal says
 
 abbrev NoneOf : Option ℕ → Option ℕ → Type 0
 NoneOf a b = (a ≡ None) × (b ≡ None)
 
-none_refused : (f g h : ℕ → LinkFault) (a b c : Option ℕ) → (refused f a >>= λ x. refused g b >>= λ y. refused h c) ≡ Ok tt → NoneOf a b
-none_refused f g h None None c passes = (refl, refl)
-none_refused f g h None (Some n) c passes = absurd cc
-none_refused f g h (Some n) b c passes = absurd cc
+none_refused : (f g : ℕ → LinkFault) (a b : Option ℕ) (others : Result (Unit {0}) LinkFault) → (refused f a >>= λ x. refused g b >>= λ y. others) ≡ Ok tt → NoneOf a b
+none_refused f g None None others passes = (refl, refl)
+none_refused f g None (Some n) others passes = absurd cc
+none_refused f g (Some n) b others passes = absurd cc
 
 -- A range in which the first number that passes a test isn't found has none.
 cond_none : (b : Bool) (n : ℕ) (r : Option ℕ) → cond b (Some n) r ≡ None → (b ≡ false) × (r ≡ None)
@@ -90,7 +90,7 @@ built_in_when name = sym (any_by_name name built_in_classes)
 -- Classes that pass the tests have distinct names, and so have the built-in classes with them.
 pub distinct_names : (classes : List Class) → refusal classes ≡ Ok tt → HaveDistinctNames (built_in_classes ++ classes)
 distinct_names classes passes =
-    let parts = none_refused _ _ _ (built_in_name classes) (repeated_name (names_of classes)) (later classes) passes in
+    let parts = none_refused _ _ (built_in_name classes) (repeated_name (names_of classes)) _ passes in
     let own : position is_built_in (names_of classes) ≡ None = position_by_name is_built_in classes ∙ parts.0 in
     let apart = distinct_behind (names_of built_in_classes) (names_of classes) (length (names_of classes)) (omega arith) built_in_distinct
     (λ i within. sym (built_in_when _) ∙ nowhere is_built_in (names_of classes) i own within)

@@ -1,3 +1,6 @@
+pub mod AncestryLaws
 pub mod DistinctNames
+pub mod FirstPlaces
 pub mod RepeatedNames
+pub mod SetLaws
 pub mod SpelledTexts

@@ -1,2 +1,3 @@
 pub mod Linking
 pub mod Spelled
+pub mod Supers

@@ -1,14 +1,15 @@
 -- Linking (JVMS 5.3): the program of class files, or the first test that one of their classes fails. Each
 -- test is made of all classes, in order, before the next.
-use Rattle.std.specs.Prelude.{◌≡◌, ℕ, Bool, true, false, not, ◌||◌, List, [], ◌∷◌, map, length, take, Option, Some, None, Result, Ok, Err, slice_index_or}
+use Rattle.std.specs.Prelude.{◌≡◌, ℕ, Bool, true, false, not, ◌||◌, ◌&&◌, List, [], ◌∷◌, ◌++◌, is_some, codes, map, length, take, Option, Some, None, Result, Ok, Err, slice_index_or}
 use Rattle.std.specs.List.{find, list_any, position, range_with_len, IsDistinct}
 use Rattle.jvms_file.specs.declared.class_file.ClassFile.{ClassFile}
 use Rattle.jvms_program.specs.declared.program.Class.{Class}
 use Rattle.jvms_file.specs.Results.{◌>>=◌}
 use Rattle.jvms_file.specs.Names.{same_text}
-use Rattle.jvms_program.specs.BuiltIn.{object, is_built_in}
+use Rattle.jvms_program.specs.BuiltIn.{object, is_built_in, built_in_classes}
 use Rattle.jvms_program.specs.Meaning.{meaning}
-use Rattle.jvms_program.specs.Program.{program_of}
+use Rattle.jvms_program.specs.Program.{class_named, program_of}
+use Rattle.jvms_program.specs.Resolution.{ancestry, is_interface_kind, names_class, names_interface}
 use Rattle.linker.specs.declared.fault.LinkFault.{LinkFault}
 use Rattle.linker.specs.declared.fault.LinkFault.TheVariants as fault
 
@@ -33,23 +34,56 @@ repeated_name names = find (repeats names) (range_with_len 0 (length names))
 abbrev pub built_in_name : List Class → Option ℕ
 built_in_name classes = position (λ c. is_built_in c.name) classes
 
--- ---- What waits for a later version
+-- ---- Superclasses and superinterfaces (JVMS 5.3.5)
 
-abbrev pub has_some : {A : Type 0} → List A → Bool
-has_some [] = false
-has_some (x ∷ xs) = true
+-- The names of a class's superinterfaces and of its superclass.
+abbrev pub supers_of : Class → List (List ℕ)
+supers_of c = c.interfaces ++ listed c.superclass
+  where
+    listed : Option (List ℕ) → List (List ℕ)
+    listed None = []
+    listed (Some name) = name ∷ []
 
-abbrev pub extends_object : Option (List ℕ) → Bool
-extends_object None = false
-extends_object (Some name) = same_text name object
+-- Its superclass or a superinterface isn't there.
+abbrev pub lacks_super : List Class → Class → Bool
+lacks_super program c = list_any (λ name. not (is_some (class_named program name))) (supers_of c)
 
--- A class with interfaces, with fields, or with a superclass other than java/lang/Object.
-abbrev pub is_later : Class → Bool
-is_later c = has_some c.interfaces || has_some c.fields || not (extends_object c.superclass)
+-- The first place of a class that lacks one.
+abbrev pub missing_super : List Class → List Class → Option ℕ
+missing_super program classes = position (lacks_super program) classes
+
+-- The built-in classes that no class extends (own).
+abbrev pub is_never_extended : List ℕ → Bool
+is_never_extended name =
+    same_text name (codes "java/lang/String") || same_text name (codes "java/lang/Class")
+    || same_text name (codes "java/lang/System") || same_text name (codes "java/io/PrintStream")
+
+-- There is no superclass; or it is an interface, or one that no class extends; or the class is an interface and extends
+-- another than java/lang/Object.
+abbrev pub has_wrong_superclass : List Class → Class → Bool
+has_wrong_superclass program c = is_wrong c.superclass
+  where
+    is_wrong : Option (List ℕ) → Bool
+    is_wrong None = true
+    is_wrong (Some name) =
+        names_interface program name || is_never_extended name || (is_interface_kind c.kind && not (same_text name object))
+
+-- A superinterface is no interface.
+abbrev pub has_wrong_interface : List Class → Class → Bool
+has_wrong_interface program c = list_any (λ name. not (names_interface program name)) c.interfaces
+
+-- The first place of a class with a superclass or superinterface of a wrong kind.
+abbrev pub wrong_super : List Class → List Class → Option ℕ
+wrong_super program classes = position (λ c. has_wrong_superclass program c || has_wrong_interface program c) classes
+
+-- A class that stands in the ancestry of one of its own: it is its own superclass or superinterface, over one or more
+-- steps.
+abbrev pub is_circular : List Class → Class → Bool
+is_circular program c = list_any (λ super. names_class c.name (ancestry program super)) (supers_of c)
 
 -- The first place of such a class.
-abbrev pub later : List Class → Option ℕ
-later classes = position is_later classes
+abbrev pub circular : List Class → List Class → Option ℕ
+circular program classes = position (is_circular program) classes
 
 -- ---- Linking
 
@@ -63,7 +97,9 @@ abbrev pub refusal : List Class → Result (Unit {0}) LinkFault
 refusal classes = do
   _ ← refused (λ n. fault.BuiltInName n) (built_in_name classes)
   _ ← refused (λ n. fault.RepeatedClass n) (repeated_name (names_of classes))
-  refused (λ n. fault.Later n) (later classes)
+  _ ← refused (λ n. fault.MissingSuper n) (missing_super (built_in_classes ++ classes) classes)
+  _ ← refused (λ n. fault.SuperKind n) (wrong_super (built_in_classes ++ classes) classes)
+  refused (λ n. fault.Circular n) (circular (built_in_classes ++ classes) classes)
 
 -- The program of class files, or the first test that one of their classes fails.
 unfoldable pub linked : List ClassFile → Result (List Class) LinkFault

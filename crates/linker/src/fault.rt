@@ -15,10 +15,16 @@ pub enum LinkFault {
     /// K01: the class has the name of one before it.
     #[error("K01 RepeatedClass")]
     RepeatedClass { class: usize },
-    /// K07: the class has interfaces, fields or a superclass other than `java/lang/Object`, which are not
-    /// linked yet.
-    #[error("K07 Later")]
-    Later { class: usize },
+    /// K02: the superclass or a superinterface isn't there.
+    #[error("K02 MissingSuper")]
+    MissingSuper { class: usize },
+    /// K03: the class is its own superclass or superinterface, over one or more steps.
+    #[error("K03 Circular")]
+    Circular { class: usize },
+    /// K04: there is no superclass; or it is an interface, or String, Class, System or PrintStream; or a superinterface is
+    /// a class; or the class is an interface and extends another class than `java/lang/Object`.
+    #[error("K04 SuperKind")]
+    SuperKind { class: usize },
     /// K06: there was no memory for the program.
     #[error("K06 Memory")]
     Memory,

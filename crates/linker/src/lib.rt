@@ -1,6 +1,7 @@
 //! Linking (JVMS 5.3): the program that class files and the built-in classes make, or why they make none.
 #![tactic(auto)]
 
+mod circles;
 mod class;
 mod code;
 mod fault;
@@ -9,9 +10,12 @@ mod instruction;
 mod linking;
 mod loadable;
 mod method;
+mod number_set;
+mod ranks;
 mod reference;
 mod refusals;
 mod spelled;
+mod supers;
 mod texts;
 
 pub use class::meaning;

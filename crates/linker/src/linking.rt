@@ -1,12 +1,14 @@
 //! Linking (JVMS 5.3).
 
-ghost use Rattle.std.specs.Prelude.{◌≡◌, IfOk, map};
+ghost use Rattle.std.specs.Prelude.{◌≡◌, ◌++◌, ◌-◌, IfOk, drop, length, map};
+ghost use Rattle.jvms_program.specs.BuiltIn.{built_in_classes};
 ghost use Rattle.jvms_program.specs.Meaning.{meaning};
 ghost use Rattle.linker.specs.Linking.{Answers, HaveDistinctNames, linked, refusal};
 
+use crate::circles::circular;
 use crate::class::meaning;
 use crate::fault::LinkFault;
-use crate::refusals::{built_in_name, later, repeated_name};
+use crate::refusals::{built_in_name, missing_super, repeated_name, wrong_super};
 use jvms_file::class_file::ClassFile;
 use jvms_program::program::Class;
 use program::Program;
@@ -23,9 +25,18 @@ fn classes_of(alloc: Global, files: Vec<ClassFile>) -> Result<Vec<Class>, AllocE
     Ok(classes)
 }
 
-/// Tests all classes: of the tests in their order, the first that one fails, with the first class that
-/// fails it.
-fn check(alloc: Global, classes: &[Class]) -> Result<(), LinkFault>
+/// The last classes of a program, so many.
+fn last_classes(program: &Program, count: usize) -> &[Class]
+    ensures { result.now ≡ drop (length program.now - count) program.now }
+{
+    let classes = program.classes();
+    classes.split_at(classes.len().saturating_sub(count)).1
+}
+
+/// Tests all classes, which stand behind the built-in ones: of the tests in their order, the first that one fails, with
+/// the first class that fails it.
+fn check(alloc: Global, program: &Program, classes: &[Class]) -> Result<(), LinkFault>
+    requires { program.now ≡ built_in_classes ++ classes.now }
     ensures { Answers result (refusal classes.now) }
 {
     if let Some(class) = built_in_name(classes) {
@@ -34,15 +45,21 @@ fn check(alloc: Global, classes: &[Class]) -> Result<(), LinkFault>
     if let Some(class) = repeated_name(alloc, classes)? {
         return Err(LinkFault::RepeatedClass { class });
     }
-    if let Some(class) = later(classes) {
-        return Err(LinkFault::Later { class });
+    if let Some(class) = missing_super(program, classes) {
+        return Err(LinkFault::MissingSuper { class });
+    }
+    if let Some(class) = wrong_super(program, classes) {
+        return Err(LinkFault::SuperKind { class });
+    }
+    if let Some(class) = circular(alloc, program, classes)? {
+        return Err(LinkFault::Circular { class });
     }
     Ok(())
 }
 
 /// The program of class files with the built-in classes (JVMS 5.3), or the first test that one of their
 /// classes fails, want of memory aside.
-#[tactic(auto, unfolding(crate::specs::Linking::linked, jvms_program::specs::Program::program_of))]
+#[tactic(auto, unfolding(crate::specs::Linking::linked, jvms_program::specs::Program::program_of), using(jvms_program::proofs::ProgramLaws::files_are_program))]
 pub fn link(alloc: Global, files: Vec<ClassFile>) -> Result<Program, LinkFault>
     // The built-in classes and those of the files in order, or the first test that fails.
     ensures exact { Answers result (linked files.items) }
@@ -50,6 +67,8 @@ pub fn link(alloc: Global, files: Vec<ClassFile>) -> Result<Program, LinkFault>
     ensures distinct { IfOk result (λ p. HaveDistinctNames p) }
 {
     let classes = classes_of(alloc, files)?;
-    check(alloc, classes.as_slice())?;
-    Ok(Program::new(alloc, classes)?)
+    let count = classes.len();
+    let program = Program::new(alloc, classes)?;
+    check(alloc, &program, last_classes(&program, count))?;
+    Ok(program)
 }

@@ -1,11 +1,14 @@
-//! The tests of linking, each of which finds the first class that fails it.
+//! The tests of names, superclasses and superinterfaces, each of which finds the first class that fails it.
 
-ghost use Rattle.std.specs.Prelude.{◌≡◌, IfOk};
-ghost use Rattle.linker.specs.Linking.{built_in_name, extends_object, is_later, later, names_of, repeated_name};
+ghost use Rattle.std.specs.Prelude.{◌≡◌, ◌||◌, IfOk, is_some, not};
+ghost use Rattle.std.specs.List.{list_any};
+ghost use Rattle.jvms_program.specs.Program.{class_named};
+ghost use Rattle.jvms_program.specs.Resolution.{is_interface_kind, names_interface};
+ghost use Rattle.linker.specs.Linking.{built_in_name, has_wrong_interface, has_wrong_superclass, is_never_extended, lacks_super, missing_super, names_of, repeated_name, wrong_super};
 
 use held::shared::Text;
-use jvms_program::program::Class;
-use program::{OBJECT, is_built_in, same_text};
+use jvms_program::program::{Class, ClassKind};
+use program::{OBJECT, Program, is_built_in, is_named, same_text};
 use std::alloc::{AllocError, Global};
 use std::collections::BTreeSet;
 
@@ -16,32 +19,6 @@ pub(crate) fn built_in_name(classes: &[Class]) -> Option<usize>
     classes
         .iter()
         .position(|class| is_built_in(class.name.as_slice()))
-}
-
-/// Whether a superclass is `java/lang/Object`.
-fn extends_object(superclass: &Option<Text>) -> bool
-    ensures { result ≡ extends_object superclass.now }
-{
-    match superclass {
-        None => false,
-        Some(name) => same_text(name.as_slice(), &OBJECT),
-    }
-}
-
-/// Whether a class is one that a later version links.
-fn is_later(class: &Class) -> bool
-    ensures { result ≡ is_later class.now }
-{
-    !class.interfaces.as_slice().is_empty()
-        || !class.fields.as_slice().is_empty()
-        || !extends_object(&class.superclass)
-}
-
-/// The first class that a later version links.
-pub(crate) fn later(classes: &[Class]) -> Option<usize>
-    ensures { result ≡ later classes.now }
-{
-    classes.iter().position(|class| is_later(class))
 }
 
 /// The first class with the name of one before it. The names stand in a tree, so that none can be chosen that
@@ -56,4 +33,86 @@ pub(crate) fn repeated_name(alloc: Global, classes: &[Class]) -> Result<Option<u
         }
     }
     Ok(None)
+}
+
+/// Whether there is no class of a name.
+fn is_missing(program: &Program, name: &Text) -> bool
+    ensures { result ≡ not (is_some (class_named program.now name.now)) }
+{
+    program.class_named(name.as_slice()).is_none()
+}
+
+/// Whether a superinterface of a class isn't there.
+fn lacks_interface(program: &Program, class: &Class) -> bool
+    ensures { result ≡ list_any (λ name. not (is_some (class_named program.now name))) class.now.interfaces }
+{
+    let interfaces = class.interfaces.as_slice();
+    interfaces.iter().any(|name| is_missing(program, name))
+}
+
+/// Whether the superclass of a class or a superinterface isn't there.
+fn lacks_super(program: &Program, class: &Class) -> bool
+    ensures { result ≡ lacks_super program.now class.now }
+{
+    let lacks_interface = lacks_interface(program, class);
+    match &class.superclass {
+        None => lacks_interface,
+        Some(name) => lacks_interface || is_missing(program, name),
+    }
+}
+
+/// The first class whose superclass or a superinterface isn't there.
+pub(crate) fn missing_super(program: &Program, classes: &[Class]) -> Option<usize>
+    ensures { result ≡ missing_super program.now classes.now }
+{
+    classes.iter().position(|class| lacks_super(program, class))
+}
+
+/// Whether a class is one of those built-in ones that no class extends.
+fn is_never_extended(name: &[u16]) -> bool
+    ensures { result ≡ is_never_extended name.now }
+{
+    is_named(name, "java/lang/String")
+        || is_named(name, "java/lang/Class")
+        || is_named(name, "java/lang/System")
+        || is_named(name, "java/io/PrintStream")
+}
+
+/// Whether the superclass of a class is missing or of a wrong kind.
+fn has_wrong_superclass(program: &Program, class: &Class) -> bool
+    ensures { result ≡ has_wrong_superclass program.now class.now }
+{
+    let Some(superclass) = &class.superclass else {
+        return true;
+    };
+    let name = superclass.as_slice();
+    program.names_interface(name)
+        || is_never_extended(name)
+        || (matches!(class.kind, ClassKind::Interface) && !same_text(name, &OBJECT))
+}
+
+/// Whether a superinterface of a class is no interface.
+fn has_wrong_interface(program: &Program, class: &Class) -> bool
+    ensures { result ≡ has_wrong_interface program.now class.now }
+{
+    let interfaces = class.interfaces.as_slice();
+    interfaces
+        .iter()
+        .any(|name| !program.names_interface(name.as_slice()))
+}
+
+/// Whether the superclass of a class or a superinterface is of a wrong kind.
+fn has_wrong_super(program: &Program, class: &Class) -> bool
+    ensures { result ≡ (has_wrong_superclass program.now class.now || has_wrong_interface program.now class.now) }
+{
+    has_wrong_superclass(program, class) || has_wrong_interface(program, class)
+}
+
+/// The first class whose superclass or a superinterface is of a wrong kind.
+pub(crate) fn wrong_super(program: &Program, classes: &[Class]) -> Option<usize>
+    ensures { result ≡ wrong_super program.now classes.now }
+{
+    classes
+        .iter()
+        .position(|class| has_wrong_super(program, class))
 }

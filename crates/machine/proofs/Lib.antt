@@ -1,9 +1,10 @@
 mod Answered
+mod Callers
 mod Deciding
 mod EntryLaws
 mod FieldLaws
-mod Making
-mod OpeningLaws
+mod HeapLaws
+mod Made
 mod RunLaws
 mod Stacks
 mod StatusLaws

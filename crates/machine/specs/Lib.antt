@@ -1,7 +1,10 @@
+pub mod Calling
 pub mod Decided
 pub mod Entries
+pub mod Heap
 pub mod Machine
 pub mod Marks
+pub mod Ready
 pub mod Runs
 pub mod Started
 pub mod Statuses

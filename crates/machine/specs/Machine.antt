@@ -7,6 +7,7 @@ use Rattle.jvms_machine.specs.declared.action.Decision.{Decision}
 use Rattle.jvms_program.specs.declared.program.Body.{Body}
 use Rattle.jvms_program.specs.declared.program.Class.{Class}
 use Rattle.jvms_machine.specs.declared.trace.Item.{Item}
+use Rattle.jvms_program.specs.Program.{IsProgram}
 use Rattle.jvms_machine.specs.State.{State, Thread, Sound}
 use Rattle.jvms_machine.specs.Start.{Start, IsStart}
 use Rattle.jvms_machine.specs.Limits.{are_limits}
@@ -24,6 +25,7 @@ pub record Machine : Type 0 where
 pub record IsMachine (m : Machine) : Type 0 where
   pub limits : IsTrue (are_limits m.limits)
   pub start : IsStart m.start
+  pub classes : IsProgram m.program
   pub sound : Sound m.program m.limits m.state
 
 -- ---- Turns
@@ -41,14 +43,15 @@ with_state m s = record m { state = s }
 
 -- The machine after an action of a thread's turn.
 abbrev pub after : Machine → ℕ → Action Body → Machine
-after m t act = with_state m (applied_to m.start m.state t act)
+after m t act = with_state m (applied_to m.program m.start m.state t act)
 
 -- How many frames a thread has.
 abbrev pub height : Option Thread → ℕ
 height None = 0
 height (Some t) = length t.frames
 
--- A row that gives no item and pushes no frame: such a turn takes no memory.
+-- A row that gives no item, pushes no frame and makes no object: such a turn takes no memory.
 abbrev pub TakesNone : Machine → ℕ → Type 0
 TakesNone m t =
     ((row_of m t).items ≡ []) × (height (slice_get (row_of m t).state.threads t) ≤ height (slice_get m.state.threads t))
+    × (length (row_of m t).state.heap ≤ length m.state.heap)

@@ -1,10 +1,10 @@
 //! Words of decisions: what a turn comes to, before it is made.
 
 ghost use Rattle.std.specs.Prelude.{◌≡◌};
-ghost use Rattle.jvms_machine.specs.Decisions.{bad as bad_turn, never_seen as no_turn, of_frame as frame_turn, outcome_of};
+ghost use Rattle.jvms_machine.specs.Decisions.{bad as bad_turn, never_seen as no_turn, outcome_of};
 ghost use Rattle.machine.specs.Decided.{seen};
 
-use jvms_machine::action::{Action, Decision, FrameDecision};
+use jvms_machine::action::{Action, Decision};
 use jvms_machine::machine::{BadCause, Outcome};
 use jvms_program::program::Body;
 
@@ -22,17 +22,6 @@ pub(crate) fn never_seen<'p>() -> Decision<&'p Body>
     bad(BadCause::OutOfProfile)
 }
 
-/// What the decision on an instruction that touches its frame alone makes of the turn.
-pub(crate) fn of_frame<'p>(decision: FrameDecision) -> Decision<&'p Body>
-    ensures { seen result ≡ frame_turn decision }
-{
-    match decision {
-        FrameDecision::Does(action) => Decision::Makes(Action::Goes(action)),
-        FrameDecision::Throws(_) | FrameDecision::Later => Decision::Later,
-        FrameDecision::Stops(cause) => bad(cause),
-    }
-}
-
 /// The outcome of what was decided. What a later version makes is out of the profile of this one: said here alone.
 pub(crate) fn outcome(decision: Decision<&Body>) -> Outcome
     ensures { result ≡ outcome_of (seen decision.entry) }
@@ -42,7 +31,8 @@ pub(crate) fn outcome(decision: Decision<&Body>) -> Outcome
         Decision::Later => Outcome::Bad {
             cause: BadCause::OutOfProfile,
         },
-        Decision::Makes(Action::Ends { .. }) => Outcome::Ended { last: true },
+        Decision::Makes(Action::Ends { .. } | Action::Fails(_)) => Outcome::Ended { last: true },
+        Decision::Makes(Action::Raises(_)) => Outcome::Raised,
         Decision::Makes(_) => Outcome::Ran,
     }
 }

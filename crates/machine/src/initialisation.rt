@@ -11,6 +11,7 @@ use jvms_machine::action::{Action, Decision};
 use jvms_machine::machine::{BlockedOn, Outcome};
 use jvms_machine::state::Initialisation;
 use jvms_program::program::{Body, Class, ClassKind};
+use jvms_program::thrown::Thrown;
 use program::{Program, declared_number};
 
 /// The name of the method that initialises a class, `<clinit>`.
@@ -60,18 +61,20 @@ fn initializer_decision<'p>(c: &Class, class: usize) -> Decision<&'p Body>
 }
 
 impl<'p> Parts<'p> {
-    /// The initialisation of a class begins.
+    /// The initialisation of a class begins, if there is room for its frame. Constants of static fields are yet to come.
     fn begin_decision(&self, thread: &Thread, class: usize) -> Decision<&'p Body>
-        ensures { seen result ≡ begins self.now.limits thread.now class (slice_get self.now.program class) }
+        ensures { seen result ≡ begins self.now.limits self.now.state thread.now class (slice_get self.now.program class) }
     {
         let Some(c) = self.program.class(class) else {
             return never_seen();
         };
-        if has_static_constant(c) || self.limits.frames as usize <= thread.height() {
-            Decision::Later
-        } else {
-            Decision::Makes(Action::Begins { class })
+        if has_static_constant(c) {
+            return Decision::Later;
         }
+        if self.limits.frames as usize <= thread.height() {
+            return self.throws(thread, Thrown::StackOverflowError);
+        }
+        Decision::Makes(Action::Begins { class })
     }
 
     /// A turn that asks for the initialisation of a class, and then goes on.
@@ -86,7 +89,7 @@ impl<'p> Parts<'p> {
     {
         match self.initialisations.as_slice().get(class) {
             None => never_seen(),
-            Some(Initialisation::Erroneous) => Decision::Later,
+            Some(Initialisation::Erroneous) => self.throws(thread, Thrown::NoClassDefFoundError),
             Some(Initialisation::NotBegun) => self.begin_decision(thread, class),
             Some(Initialisation::Done) => go_on,
             Some(Initialisation::InProgress { thread: owner }) => {

@@ -2,13 +2,14 @@
 //! table.
 #![tactic(auto)]
 
-mod actions;
 mod calls;
 mod decision;
+mod exceptions;
 mod fault;
 mod initialisation;
 mod limits;
 mod machine;
+mod making;
 mod opening;
 mod parts;
 mod returns;

@@ -60,6 +60,7 @@ impl<'p> Machine<'p> {
         if !are_limits(limits) {
             return Err(MachineFault::Limits);
         }
+        program.is_program();
         let parts = Parts::open(alloc, program, limits, method, entry)?;
         Ok(Machine { parts })
     }
@@ -72,7 +73,7 @@ impl<'p> Machine<'p> {
         ensures items { OnOk result (trace.new ≡ trace.old ++ (row_of self.old t).items) }
         ensures kept { OnErr result (self.new ≡ self.old) }
         ensures no_items { OnErr result (trace.new ≡ trace.old) }
-        // A turn that pushes no frame and gives no item takes no memory.
+        // A turn that pushes no frame, makes no object and gives no item takes no memory.
         ensures none { TakesNone self.old t → IsOk result }
     {
         self.parts.step(t, trace)

@@ -64,7 +64,7 @@ fn initialisations(alloc: Global, classes: &[Class]) -> Result<Vec<Initialisatio
 
 impl<'p> Parts<'p> {
     /// The parts of a machine at its opening: thread 0 has no frame yet.
-    #[tactic(auto, unfolding(jvms_machine::specs::Opening::opening))]
+    #[tactic(auto, unfolding(jvms_machine::specs::Opening::opening, crate::specs::Heap::heap_with))]
     pub(crate) fn open(
         alloc: Global,
         program: &'p Program,
@@ -83,6 +83,7 @@ impl<'p> Parts<'p> {
             limits,
             method,
             arguments,
+            exceptions: Vec::new(alloc),
             initialisations,
             threads,
             result: None,

@@ -1,4 +1,4 @@
-//! Returns (JVMS 2.6.4, 6.5 ireturn, areturn, return): so far the return that ends a thread's first call.
+//! Returns (JVMS 2.6.4, 6.5 ireturn, areturn, return).
 
 ghost use Rattle.std.specs.Prelude.{◌≡◌, drop};
 ghost use Rattle.jvms_program.specs.Program.{method_at};
@@ -30,7 +30,7 @@ fn kind_of_element(element: &Element) -> Kind
 }
 
 /// The kind of value that a type's values are on the stack.
-fn kind_of_type(t: &FieldType) -> Kind
+pub(crate) fn kind_of_type(t: &FieldType) -> Kind
     ensures { result ≡ type_kind t.now }
 {
     if t.dimensions == 0 {
@@ -58,18 +58,23 @@ fn gives_nothing(given: &ResultType) -> bool
 }
 
 impl Thread<'_> {
-    /// The call on top returns this.
+    /// The call on top returns this: the first call ends the thread, another goes back to the frame below.
     fn returned_decision<'p>(&self, frame: &Frame, value: Option<Value>) -> Decision<&'p Body>
         ensures { seen result ≡ returned frame.now.method (drop 1 self.now.frames) value }
     {
-        if self.height() <= 1 {
-            Decision::Makes(Action::Ends {
-                method: frame.method(),
+        let method = frame.method();
+        let action = if self.height() <= 1 {
+            Action::Ends {
+                method,
                 result: value,
-            })
+            }
         } else {
-            Decision::Later
-        }
+            Action::Returns {
+                method,
+                result: value,
+            }
+        };
+        Decision::Makes(action)
     }
 
     /// A return of a value of this kind, which is the top of the operands.
@@ -120,7 +125,7 @@ impl Thread<'_> {
 }
 
 impl<'p> Parts<'p> {
-    /// The call of this frame, which is on top, returns.
+    /// The call of this frame, which is on top, returns. A synchronized method's leaves its monitor, which is yet to come.
     pub(crate) fn method_return_decision(
         &self,
         thread: &Thread,
@@ -129,9 +134,12 @@ impl<'p> Parts<'p> {
     ) -> Decision<&'p Body>
         ensures { seen result ≡ method_returns frame.now (drop 1 thread.now.frames) how (method_at self.now.program frame.now.method) }
     {
-        match self.program.method(frame.method()) {
-            None => never_seen(),
-            Some(method) => thread.return_decision(frame, &method.method_type.get().result, how),
+        let Some(method) = self.program.method(frame.method()) else {
+            return never_seen();
+        };
+        if method.flags.is_synchronized {
+            return Decision::Later;
         }
+        thread.return_decision(frame, &method.method_type.get().result, how)
     }
 }

@@ -209,7 +209,7 @@ fn steps(machine: &mut Machine<'_>, trace: &mut Trace) -> Result<(Outcome, Outco
 #[test]
 fn a_step_makes_a_turn(rt: HostRuntime) -> Result<(), Fail> {
     let program = program(rt.alloc())?;
-    let mut machine = opened(rt.alloc(), &program, gcd(0))?;
+    let mut machine = opened(rt.alloc(), &program, gcd(0), LIMITS)?;
     let steps = steps(&mut machine, &mut Trace::new(rt.alloc()))?;
     assert_eq!(rt; steps, (Outcome::NoThread, Outcome::Ran));
     Ok(())

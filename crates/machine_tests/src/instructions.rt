@@ -155,7 +155,7 @@ static UNMADE: [(Simple, &[Value], FrameDecision); 10] = [
         &[],
         FrameDecision::Stops(BadCause::OutOfProfile),
     ),
-    (Simple::Array(ArrayInsn::Length), &[], FrameDecision::Later),
+    (Simple::Array(ArrayInsn::Length), &[], FrameDecision::Beyond),
     (
         Simple::Array(ArrayInsn::Load(ArrayKind::Float)),
         &[],
@@ -164,7 +164,7 @@ static UNMADE: [(Simple, &[Value], FrameDecision); 10] = [
     (
         Simple::Array(ArrayInsn::New(ArrayType::Int)),
         &[],
-        FrameDecision::Later,
+        FrameDecision::Beyond,
     ),
 ];
 
@@ -223,7 +223,7 @@ fn classes_outside_of_the_profile(rt: HostRuntime) -> Result<(), Fail> {
         assert_class_use(&rt, rt.alloc(), *how, name, outside)?;
     }
     for (how, name) in &INSIDE {
-        assert_class_use(&rt, rt.alloc(), *how, name, FrameDecision::Later)?;
+        assert_class_use(&rt, rt.alloc(), *how, name, FrameDecision::Beyond)?;
     }
     Ok(())
 }

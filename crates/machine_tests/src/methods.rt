@@ -85,6 +85,68 @@ End:
 .method static text(Ljava/lang/String;)V
   return
 .end method
+; These call.
+.method static sum(I)I
+.limit stack 3
+  iload_0
+  ifeq End
+  iload_0
+  iload_0
+  iconst_m1
+  iadd
+  invokestatic R/sum(I)I
+  iadd
+  ireturn
+End:
+  iload_0
+  ireturn
+.end method
+.method static quotient()I
+.limit stack 2
+  bipush 9
+  iconst_4
+  invokestatic R/div(II)I
+  ireturn
+.end method
+.method static nothing()V
+  return
+.end method
+.method static after()I
+  invokestatic R/nothing()V
+  bipush 7
+  ireturn
+.end method
+.method static main([Ljava/lang/String;)V
+  aload_0
+  invokespecial java/lang/Object/<init>()V
+  return
+.end method
+; These throw.
+.method static again()V
+  invokestatic R/again()V
+  return
+.end method
+.method static no_object()V
+  aconst_null
+  invokevirtual R/own()V
+  return
+.end method
+.method static no_method()V
+  invokestatic R/none()V
+.end method
+.method static no_class()V
+  invokestatic H/none()V
+.end method
+.method static no_static()V
+  invokestatic R/own()V
+.end method
+; An int is no object.
+.method static no_kind()V
+  iconst_0
+  invokevirtual R/own()V
+.end method
+.method static native native()V
+.end method
 ";
 
 /// The program of class R.
@@ -115,14 +177,19 @@ pub const LIMITS: Limits = Limits {
     frames: 1024,
 };
 
-/// A method of R with its arguments, and how many turns are asked for, 25 at most. The first two initialise R, and the
+/// A method of R with its arguments, and how many turns are asked for, 100 at most. The first two initialise R, and the
 /// third is the call.
 pub type Run = (&'static str, &'static str, &'static [i32], usize);
 
 /// A machine at the opening of a run.
-pub fn opened<'p>(alloc: Global, program: &'p Program, run: Run) -> Result<Machine<'p>, Fail> {
+pub fn opened<'p>(
+    alloc: Global,
+    program: &'p Program,
+    run: Run,
+    limits: Limits,
+) -> Result<Machine<'p>, Fail> {
     let entry = entry(alloc, "R", run.0, run.1, run.2)?;
-    Ok(Machine::new(alloc, program, LIMITS, &entry)?)
+    Ok(Machine::new(alloc, program, limits, &entry)?)
 }
 
 /// What there is after a run.
@@ -133,17 +200,22 @@ pub struct After<'p> {
     pub outcomes: Vec<Outcome>,
 }
 
-static CHOICES: [ThreadId; 25] = [0; 25];
+static CHOICES: [ThreadId; 100] = [0; 100];
 
-/// Makes the turns of a run.
-pub fn ran<'p>(alloc: Global, program: &'p Program, run: Run) -> Result<After<'p>, Fail> {
-    let mut machine = opened(alloc, program, run)?;
+/// Makes so many turns of a machine.
+pub fn turns(alloc: Global, machine: Machine<'_>, count: usize) -> Result<After<'_>, Fail> {
+    let mut machine = machine;
     let mut trace = Trace::new(alloc);
-    let choices = CHOICES.get(..run.3).unwrap_or(&CHOICES);
+    let choices = CHOICES.get(..count).unwrap_or(&CHOICES);
     let outcomes = machine.run(choices, &mut trace)?;
     Ok(After {
         machine,
         trace,
         outcomes,
     })
+}
+
+/// Makes the turns of a run.
+pub fn ran<'p>(alloc: Global, program: &'p Program, run: Run) -> Result<After<'p>, Fail> {
+    turns(alloc, opened(alloc, program, run, LIMITS)?, run.3)
 }

@@ -11,24 +11,30 @@ use std::test::Fail;
 enum End {
     Gives(i32),
     Stalls(BadCause),
+    /// An exception is pending, whose unwinding is yet to come.
+    Raises,
 }
 
-static RUNS: [(Run, End); 12] = [
+static RUNS: [(Run, End); 18] = [
     (("gcd", "(II)I", &[48, 36], 25), End::Gives(12)),
     (("add", "(II)I", &[i32::MAX, 1], 7), End::Gives(i32::MIN)),
     (("add", "(II)I", &[7, -9], 7), End::Gives(-2)),
     (("div", "(II)I", &[i32::MIN, -1], 7), End::Gives(i32::MIN)),
     (("div", "(II)I", &[-7, 2], 7), End::Gives(-3)),
-    (
-        ("div", "(II)I", &[1, 0], 6),
-        End::Stalls(BadCause::OutOfProfile),
-    ),
+    (("div", "(II)I", &[1, 0], 6), End::Raises),
     (("pop", "()V", &[], 4), End::Stalls(BadCause::Depth)),
     (("deep", "()V", &[], 4), End::Stalls(BadCause::Depth)),
     (("fell", "(I)I", &[5], 5), End::Stalls(BadCause::FellOff)),
     (("local", "()V", &[], 4), End::Stalls(BadCause::Local)),
     (("wide", "(II)V", &[1, 2], 3), End::Stalls(BadCause::Local)),
     (("kind", "(I)V", &[1], 4), End::Stalls(BadCause::Kind)),
+    // Three turns until the first call, nine for each further one, and four for the last.
+    (("sum", "(I)I", &[0], 7), End::Gives(0)),
+    (("sum", "(I)I", &[10], 97), End::Gives(55)),
+    (("quotient", "()I", &[], 11), End::Gives(2)),
+    (("after", "()I", &[], 7), End::Gives(7)),
+    (("no_object", "()V", &[], 5), End::Raises),
+    (("no_kind", "()V", &[], 5), End::Stalls(BadCause::Kind)),
 ];
 
 /// How many turns were answered, if all but the last ran; the last answer, the status, the result, and what a further
@@ -48,6 +54,14 @@ fn wanted(turns: usize, end: End) -> Answer {
             let bad = Outcome::Bad { cause };
             (Some((turns, bad)), Status::Stalled, None, bad)
         }
+        End::Raises => (
+            Some((turns, Outcome::Raised)),
+            Status::Stalled,
+            None,
+            Outcome::Bad {
+                cause: BadCause::OutOfProfile,
+            },
+        ),
     }
 }
 

@@ -1,5 +1,7 @@
 pub mod BuiltInLaws
+pub mod MarkLaws
 pub mod MethodLaws
+pub mod NumberLaws
 mod NamedLaws
 pub mod PlaceLaws
 pub mod WalkLaws

@@ -1,18 +1,16 @@
 -- Steps of a search that remembers the classes above which nothing is found.
-use Rattle.std.proofs.Common.{◌≡◌, ℕ, zero, suc, Bool, true, false, ◌+◌, ◌-◌, ◌<◌, ◌≤◌, List, [], ◌∷◌, length, take, get_or, Option, Some, None, refl, sym, ap, subst, ◌∙◌, ◌⊎◌, ⊎_elim, arith, append-nil}
-use Rattle.std.specs.Prelude.{slice_get}
+use Rattle.std.proofs.Common.{◌≡◌, ℕ, zero, suc, Bool, true, ◌+◌, ◌-◌, ◌<◌, ◌≤◌, List, [], ◌∷◌, length, take, get_or, Option, Some, None, refl, sym, ap, subst, ◌∙◌, ◌⊎◌, ⊎_elim, arith, append-nil}
 use Rattle.std.specs.List.{flat_map}
-use Rattle.std.specs.Option.{unwrap_or}
 use Rattle.std.proofs.lemmas.Grind.{flat_map-append}
-use Rattle.std.proofs.Math.ListN.{replicate}
 use Rattle.std.proofs.lemmas.List.{take_more, take_all}
 use Rattle.jvms_program.specs.declared.program.Class.{Class}
 use Rattle.jvms_program.specs.Program.{class_named, class_number}
 use Rattle.jvms_program.specs.Resolution.{ancestry_within, first_in}
+use Rattle.program.specs.Marks.{is_marked}
 use Rattle.program.specs.Places.{class_place, placed}
 use Rattle.program.specs.Searches.{IsVain, AreVain, AreMarkedVain}
 use Rattle.program.proofs.PlaceLaws.{one_name}
-use Rattle.program.proofs.WalkLaws.{first_in-append_none, above_nowhere, above_missing, above_found, above_interfaces, above_top, above_next, names_past, names_found, names_end}
+use Rattle.program.proofs.WalkLaws.{first_in-append_none, above_nowhere, above_missing, above_found, above_interfaces, above_top, above_next, names_past, names_found, names_end, first_in-flat_map, up_nowhere, up_missing, up_found, up_top, up_next}
 
 module _ (program : List Class) (look : Class → Option (ℕ × ℕ)) where
   -- ---- A class
@@ -59,21 +57,21 @@ module _ (program : List Class) (look : Class → Option (ℕ × ℕ)) where
 
   -- ---- Marks
 
-  marked_by : (marks : List Bool) (new : List Bool) (name other : List ℕ) (number n : ℕ) → AreMarkedVain program look marks → IsVain program look name → Some number ≡ class_number program name
-      → Some n ≡ class_number program other → (n ≡ number) ⊎ (slice_get marks n ≡ Some true) → IsVain program look other
-  marked_by marks new name other number n old v is there which =
+  marked_by : (marks : List ℕ) (name other : List ℕ) (number n : ℕ) → AreMarkedVain program look marks → IsVain program look name → Some number ≡ class_number program name
+      → Some n ≡ class_number program other → (n ≡ number) ⊎ (is_marked marks n ≡ true) → IsVain program look other
+  marked_by marks name other number n old v is there which =
       ⊎_elim
       (λ (same : n ≡ number). subst (IsVain program look) (one_name program name other number is (ap (λ (k : ℕ). Some k) (sym same) ∙ there)) v)
-      (λ (before : slice_get marks n ≡ Some true). old.vain other n there before)
+      (λ (before : is_marked marks n ≡ true). old.vain other n there before)
       which
 
-  pub marked_more : (marks new : List Bool) (name : List ℕ) (number : ℕ) → AreMarkedVain program look marks → IsVain program look name → Some number ≡ class_number program name
-      → ((n : ℕ) → slice_get new n ≡ Some true → (n ≡ number) ⊎ (slice_get marks n ≡ Some true)) → AreMarkedVain program look new
+  pub marked_more : (marks new : List ℕ) (name : List ℕ) (number : ℕ) → AreMarkedVain program look marks → IsVain program look name → Some number ≡ class_number program name
+      → ((n : ℕ) → is_marked new n ≡ true → (n ≡ number) ⊎ (is_marked marks n ≡ true)) → AreMarkedVain program look new
   marked_more marks new name number old v is added =
-      record { vain = λ other n there marked. marked_by marks new name other number n old v is there (added n marked) }
+      record { vain = λ other n there marked. marked_by marks name other number n old v is there (added n marked) }
 
   -- Without marks nothing is known.
-  pub unmarked : (marks : List Bool) → ((n : ℕ) → slice_get marks n ≡ Some true → ⊥) → AreMarkedVain program look marks
+  pub unmarked : (marks : List ℕ) → ((n : ℕ) → is_marked marks n ≡ true → ⊥) → AreMarkedVain program look marks
   unmarked marks none = record { vain = λ name n there marked. absurd (none n marked) }
 
   -- All names were gone through.
@@ -84,15 +82,6 @@ module _ (program : List Class) (look : Class → Option (ℕ × ℕ)) where
 pub unplaced : (program : List Class) (gives : ℕ → Class → Option (ℕ × ℕ)) (number : ℕ) (c : Class) → None ≡ gives number c → number ≡ class_place program c → None ≡ placed program gives c
 unplaced program gives number c none here = none ∙ ap (λ n. gives n c) here
 
-pub marked_is : (o : Option Bool) → unwrap_or o false ≡ true → o ≡ Some true
-marked_is None h = absurd cc
-marked_is (Some b) h = ap (λ (x : Bool). Some x) h
-
-pub never_marked : (m n : ℕ) → slice_get (replicate m false) n ≡ Some true → ⊥
-never_marked zero n h = cc
-never_marked (suc m) zero h = cc
-never_marked (suc m) (suc n) h = never_marked m n h
-
 pub ruleset searches = (vain_missing, vain_top, vain_next, vain_none, vain_more, marked_more, above_nowhere, above_missing, above_found, above_interfaces, above_top, above_next, names_past, names_found, names_end)
 
-pub ruleset all_names = (unmarked, names_past, names_found, names_end)
+pub ruleset interfaces_up = (unmarked, first_in-flat_map, up_nowhere, up_missing, up_found, up_top, up_next)

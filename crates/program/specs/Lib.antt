@@ -1,4 +1,6 @@
+pub mod Marks
 pub mod Named
+pub mod Numbers
 pub mod Ordinary
 pub mod Places
 pub mod Searches

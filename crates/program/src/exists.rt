@@ -5,26 +5,25 @@ ghost use Rattle.jvms_program.specs.Program.{class_named};
 ghost use Rattle.jvms_program.specs.Resolution.{class_exists};
 
 use crate::class_type::class_type;
-use crate::lookup::named;
+use crate::list::Program;
 use descriptor::Innermost;
-use jvms_program::program::Class;
 
 /// Whether there is a class of a name, which is no array's.
-fn is_there(classes: &[Class], name: &[u16]) -> bool
-    ensures { result ≡ is_some (class_named classes.now name.now) }
+fn is_there(program: &Program, name: &[u16]) -> bool
+    ensures { result ≡ is_some (class_named program.now name.now) }
 {
-    named(classes, name).is_some()
+    program.class_named(name).is_some()
 }
 
 /// Whether the class of a name is there: of an array, its elements' class.
-pub(crate) fn class_exists(classes: &[Class], name: &[u16]) -> bool
-    ensures { result ≡ class_exists classes.now name.now }
+pub(crate) fn class_exists(program: &Program, name: &[u16]) -> bool
+    ensures { result ≡ class_exists program.now name.now }
 {
     match class_type(name) {
         None => false,
         Some(t) => match t.innermost {
             Innermost::Primitive(_) => true,
-            Innermost::Object(element) => is_there(classes, element),
+            Innermost::Object(element) => is_there(program, element),
         },
     }
 }

@@ -10,18 +10,18 @@ use crate::look::DeclaredField;
 use crate::lookup::field_at;
 use crate::names::members_class;
 use crate::walk::first_in_ancestry;
-use jvms_program::program::{Class, FieldReference};
+use jvms_program::program::FieldReference;
 use jvms_program::thrown::Thrown;
 
 /// The field that a reference finds.
-fn found_field(classes: &[Class], r: &FieldReference) -> Option<(usize, usize)>
-    ensures { Locates (IsFieldAt classes.now) (found_field classes.now r.now) result }
+fn found_field(program: &Program, r: &FieldReference) -> Option<(usize, usize)>
+    ensures { Locates (IsFieldAt program.now) (found_field program.now r.now) result }
 {
     let look = DeclaredField {
         name: r.name.as_slice(),
         descriptor: r.descriptor.as_slice(),
     };
-    first_in_ancestry(classes, members_class(r.class.as_slice()), &look)
+    first_in_ancestry(program, members_class(r.class.as_slice()), &look)
 }
 
 impl Program {
@@ -33,14 +33,13 @@ impl Program {
     ) -> Result<(usize, usize), Thrown>
         ensures { Resolves (IsFieldAt self.now) (resolved_field self.now is_static r.now) result }
     {
-        let classes = self.classes();
-        if !class_exists(classes, r.class.as_slice()) {
+        if !class_exists(self, r.class.as_slice()) {
             return Err(Thrown::NoClassDefFoundError);
         }
-        let Some(place) = found_field(classes, r) else {
+        let Some(place) = found_field(self, r) else {
             return Err(Thrown::NoSuchFieldError);
         };
-        match field_at(classes, place) {
+        match field_at(self, place) {
             Some(field) if field.is_static == is_static => Ok(place),
             _ => Err(Thrown::IncompatibleClassChangeError),
         }

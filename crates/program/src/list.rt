@@ -3,15 +3,17 @@
 ghost use Rattle.std.specs.Prelude.{◌≡◌, ◌++◌, IfOk, IsOk, None, false, map, option_copied, slice_get};
 ghost use Rattle.std.specs.Option.{option_map, unwrap_or};
 ghost use Rattle.jvms_program.specs.BuiltIn.{built_in_classes, is_built_in};
-ghost use Rattle.jvms_program.specs.Program.{class_named, class_number, method_at, key_of};
+ghost use Rattle.jvms_program.specs.Program.{IsProgram, class_named, class_number, method_at, key_of};
 
 use crate::all::{built_in_classes, is_built_in};
-use crate::lookup::{method_of, named, number_of};
+use crate::lookup::method_of;
+use crate::numbers::numbers_by_name;
 use held::items::Items;
 use jvms_program::key::MethodKey;
 use jvms_program::number::MethodNumber;
 use jvms_program::program::{Class, Method};
 use std::alloc::{AllocError, Global};
+use std::collections::BTreeMap;
 use std::marker::Model;
 
 /// A program: the built-in classes, then others. Contracts see the list of its classes.
@@ -20,18 +22,22 @@ pub struct Program {
     classes: Vec<Class>,
     /// Whether each class is built in.
     built_in: Vec<bool>,
+    /// The number of each class by its name.
+    by_name: BTreeMap<Vec<u16>, usize>,
 }
 
 impl Model for Program {
     ghost use Rattle.std.specs.Prelude.{List, ◌≡◌, map};
     ghost use Rattle.jvms_program.specs.declared.program.Class.{Class};
     ghost use Rattle.jvms_program.specs.BuiltIn.{is_built_in};
+    ghost use Rattle.jvms_program.specs.Program.{IsProgram};
+    ghost use Rattle.program.specs.Numbers.{AreNumbersOf};
 
     ghost Value = { List Class };
 
     ghost view = { λ p. p.classes.items };
 
-    ghost invariant = { λ p. p.built_in.items ≡ map (λ c. is_built_in c.name) p.classes.items };
+    ghost invariant = { λ p. (p.built_in.items ≡ map (λ c. is_built_in c.name) p.classes.items) × AreNumbersOf p.classes.items p.by_name × IsProgram p.classes.items };
 }
 
 /// Whether each of these classes is built in.
@@ -48,13 +54,28 @@ fn built_in_marks(alloc: Global, classes: &[Class]) -> Result<Vec<bool>, AllocEr
 impl Program {
     /// The program of these classes and the built-in ones, which come first.
     pub fn new(alloc: Global, own: Vec<Class>) -> Result<Program, AllocError>
+        // Types are those that descriptors spell, as in classes that class files mean.
+        requires { IsProgram (built_in_classes ++ own.items) }
         ensures { IfOk result (λ p. p ≡ built_in_classes ++ own.items) }
     {
         let mut own = own;
         let mut classes = built_in_classes(alloc)?;
         classes.append(&mut own)?;
         let built_in = built_in_marks(alloc, classes.as_slice())?;
-        Ok(Program { classes, built_in })
+        let by_name = numbers_by_name(alloc, classes.as_slice())?;
+        Ok(Program {
+            classes,
+            built_in,
+            by_name,
+        })
+    }
+
+    /// The classes are a program: the built-in classes stand first, and types are those that descriptors spell. Nothing
+    /// is done.
+    pub fn is_program(&self)
+        ensures { IsProgram self.now }
+    {
+        let _ = &self.classes;
     }
 
     /// The classes in order.
@@ -79,17 +100,18 @@ impl Program {
     }
 
     /// The class of a name.
+    #[tactic(auto, using(crate::proofs::PlaceLaws::found_by_number))]
     pub fn class_named(&self, name: &[u16]) -> Option<&Class>
         ensures { option_copied result ≡ class_named self.now name.now }
     {
-        named(self.classes(), name)
+        self.class(self.class_number(name)?)
     }
 
     /// The number of the class of a name: its place in the list.
     pub fn class_number(&self, name: &[u16]) -> Option<usize>
         ensures { result ≡ class_number self.now name.now }
     {
-        number_of(self.classes(), name)
+        self.by_name.get(name).copied()
     }
 
     /// The method of a number.

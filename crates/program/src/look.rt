@@ -1,14 +1,12 @@
 //! What a search looks for in one class.
 
 ghost use Rattle.std.specs.Prelude.{◌≡◌, ℕ, List, Option, Some, None, if◌then◌else◌};
-ghost use Rattle.std.specs.List.{flat_map};
 ghost use Rattle.jvms_program.specs.declared.program.Class.{Class};
 ghost use Rattle.jvms_file.specs.Names.{same_text};
-ghost use Rattle.jvms_program.specs.Resolution.{ancestry, first_in};
-ghost use Rattle.program.specs.Places.{field_in, method_in, placed, selectable_in};
+ghost use Rattle.program.specs.Places.{field_in, method_in, selectable_in};
 
 use crate::lookup::{declared_field_number, declared_number};
-use crate::walk::{Look, first_in_ancestries};
+use crate::walk::Look;
 use descriptor::same_text;
 use jvms_program::program::Class;
 
@@ -79,20 +77,5 @@ impl Look for Named<'_> {
         } else {
             None
         }
-    }
-}
-
-/// What is found in the ancestries of a class's superinterfaces.
-#[derive(Clone, Copy)]
-pub(crate) struct InInterfaces<'a, L> {
-    pub(crate) classes: &'a [Class],
-    pub(crate) look: &'a L,
-}
-
-impl<L: Look> Look for InInterfaces<'_, L> {
-    ghost gives = { λ s class c. first_in (placed s.classes.now (L.gives s.look.now)) (flat_map (ancestry s.classes.now) c.interfaces) };
-
-    fn look(&self, _number: usize, class: &Class) -> Option<(usize, usize)> {
-        first_in_ancestries(self.classes, class.interfaces.as_slice(), self.look)
     }
 }

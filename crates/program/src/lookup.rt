@@ -5,6 +5,7 @@ ghost use Rattle.std.specs.Option.{option_map};
 ghost use Rattle.jvms_program.specs.Program.{class_named, class_number, declared_number, method_at};
 ghost use Rattle.program.specs.Places.{class_place, declared_field_number, field_at};
 
+use crate::list::Program;
 use descriptor::same_text;
 use jvms_program::number::MethodNumber;
 use jvms_program::program::{Class, Field, Method};
@@ -32,34 +33,16 @@ pub(crate) fn declared_field_number(
     })
 }
 
-/// The number of the class of a name: its place in the list.
-pub(crate) fn number_of(classes: &[Class], name: &[u16]) -> Option<usize>
-    ensures { result ≡ class_number classes.now name.now }
-{
-    classes
-        .iter()
-        .position(|class| same_text(class.name.as_slice(), name))
-}
-
 /// The class of a name, with its number.
 #[tactic(auto, using(crate::proofs::PlaceLaws::found_by_number))]
-pub(crate) fn numbered<'a>(classes: &'a [Class], name: &[u16]) -> Option<(usize, &'a Class)>
-    ensures class { option_map (λ found. found.1.now) result ≡ class_named classes.now name.now }
-    ensures number { option_map (λ found. found.0) result ≡ class_number classes.now name.now }
-    ensures place { IfSome result (λ found. found.0 ≡ class_place classes.now found.1.now) }
+pub(crate) fn numbered<'a>(program: &'a Program, name: &[u16]) -> Option<(usize, &'a Class)>
+    ensures class { option_map (λ found. found.1.now) result ≡ class_named program.now name.now }
+    ensures number { option_map (λ found. found.0) result ≡ class_number program.now name.now }
+    ensures place { IfSome result (λ found. found.0 ≡ class_place program.now found.1.now) }
 {
-    let number = number_of(classes, name)?;
-    let class = classes.get(number)?;
+    let number = program.class_number(name)?;
+    let class = program.class(number)?;
     Some((number, class))
-}
-
-/// The class of a name.
-pub(crate) fn named<'a>(classes: &'a [Class], name: &[u16]) -> Option<&'a Class>
-    ensures { option_copied result ≡ class_named classes.now name.now }
-{
-    classes
-        .iter()
-        .find(|class| same_text(class.name.as_slice(), name))
 }
 
 /// The method of a number.
@@ -71,9 +54,9 @@ pub(crate) fn method_of(classes: &[Class], n: MethodNumber) -> Option<&Method>
 }
 
 /// The field of these numbers, of a class and of it there.
-pub(crate) fn field_at(classes: &[Class], place: (usize, usize)) -> Option<&Field>
-    ensures { option_copied result ≡ field_at classes.now place }
+pub(crate) fn field_at(program: &Program, place: (usize, usize)) -> Option<&Field>
+    ensures { option_copied result ≡ field_at program.now place }
 {
-    let class = classes.get(place.0)?;
+    let class = program.class(place.0)?;
     class.fields.as_slice().get(place.1)
 }

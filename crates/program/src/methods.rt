@@ -6,13 +6,14 @@ ghost use Rattle.jvms_program.specs.Resolution.{names_interface, members_class, 
 ghost use Rattle.program.specs.Named.{reference};
 ghost use Rattle.program.specs.Places.{IsMethodAt, Locates};
 
+use crate::list::Program;
 use crate::look::DeclaredMethod;
-use crate::lookup::{named, numbered};
+use crate::lookup::numbered;
 use crate::names::members_class;
 use crate::order::{first_for_class, first_for_interface};
 use crate::walk::Look;
 use descriptor::is_constructor_name;
-use jvms_program::program::{Class, ClassKind};
+use jvms_program::program::ClassKind;
 
 /// A method by its names: what resolution asks of a reference.
 #[derive(Clone, Copy)]
@@ -24,39 +25,41 @@ pub struct Named<'a> {
     pub descriptor: &'a [u16],
 }
 
-/// Whether the class of a name is an interface.
-pub(crate) fn names_interface(classes: &[Class], name: &[u16]) -> bool
-    ensures { result ≡ names_interface classes.now name.now }
-{
-    match named(classes, name) {
-        Some(class) => matches!(class.kind, ClassKind::Interface),
-        None => false,
+impl Program {
+    /// Whether the class of a name is there, and an interface.
+    pub fn names_interface(&self, name: &[u16]) -> bool
+        ensures { result ≡ names_interface self.now name.now }
+    {
+        match self.class_named(name) {
+            Some(class) => matches!(class.kind, ClassKind::Interface),
+            None => false,
+        }
     }
 }
 
 /// The method that a reference finds in the order of the classes above.
-fn found_in_order(classes: &[Class], r: Named) -> Option<(usize, usize)>
-    ensures { Locates (IsMethodAt classes.now) (found_in_order classes.now (reference r.entry)) result }
+fn found_in_order(program: &Program, r: Named) -> Option<(usize, usize)>
+    ensures { Locates (IsMethodAt program.now) (found_in_order program.now (reference r.entry)) result }
 {
     let look = DeclaredMethod {
         name: r.name,
         descriptor: r.descriptor,
     };
     if r.is_interface {
-        first_for_interface(classes, r.class, &look)
+        first_for_interface(program, r.class, &look)
     } else {
-        first_for_class(classes, members_class(r.class), &look)
+        first_for_class(program, members_class(r.class), &look)
     }
 }
 
 /// The method that a reference finds. A constructor is looked for in the named class alone.
-pub(crate) fn found_method(classes: &[Class], r: Named) -> Option<(usize, usize)>
-    ensures { Locates (IsMethodAt classes.now) (found_method classes.now (reference r.entry)) result }
+pub(crate) fn found_method(program: &Program, r: Named) -> Option<(usize, usize)>
+    ensures { Locates (IsMethodAt program.now) (found_method program.now (reference r.entry)) result }
 {
     if !is_constructor_name(r.name) {
-        return found_in_order(classes, r);
+        return found_in_order(program, r);
     }
-    let (number, class) = numbered(classes, r.class)?;
+    let (number, class) = numbered(program, r.class)?;
     let look = DeclaredMethod {
         name: r.name,
         descriptor: r.descriptor,

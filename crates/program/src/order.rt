@@ -4,43 +4,42 @@ ghost use Rattle.std.specs.Prelude.{◌≡◌};
 ghost use Rattle.jvms_program.specs.Resolution.{class_method_order, interface_method_order, first_in};
 ghost use Rattle.program.specs.Places.{placed};
 
-use crate::look::InInterfaces;
+use crate::list::Program;
 use crate::lookup::numbered;
 use crate::names::OBJECT;
-use crate::walk::{Look, first_in_ancestries, first_up};
-use jvms_program::program::Class;
+use crate::walk::{Look, first_in_ancestries, first_in_interfaces_up, first_up};
 
 /// What is found first where a method of a class is looked for (JVMS 5.4.3.3).
 #[tactic(auto, using(crate::proofs::WalkLaws::appended))]
 pub(crate) fn first_for_class<L: Look>(
-    classes: &[Class],
+    program: &Program,
     name: &[u16],
     look: &L,
 ) -> Option<(usize, usize)>
-    ensures { result ≡ first_in (placed classes.now (L.gives look.now)) (class_method_order classes.now name.now) }
+    ensures { result ≡ first_in (placed program.now (L.gives look.now)) (class_method_order program.now name.now) }
 {
-    if let Some(found) = first_up(classes, name, look) {
+    if let Some(found) = first_up(program, name, look) {
         return Some(found);
     }
-    first_up(classes, name, &InInterfaces { classes, look })
+    first_in_interfaces_up(program, name, look)
 }
 
 /// What is found first where a method of an interface is looked for (JVMS 5.4.3.4).
 pub(crate) fn first_for_interface<L: Look>(
-    classes: &[Class],
+    program: &Program,
     name: &[u16],
     look: &L,
 ) -> Option<(usize, usize)>
-    ensures { result ≡ first_in (placed classes.now (L.gives look.now)) (interface_method_order classes.now name.now) }
+    ensures { result ≡ first_in (placed program.now (L.gives look.now)) (interface_method_order program.now name.now) }
 {
-    let (number, interface) = numbered(classes, name)?;
+    let (number, interface) = numbered(program, name)?;
     if let Some(found) = look.look(number, interface) {
         return Some(found);
     }
-    if let Some((number, object)) = numbered(classes, &OBJECT) {
+    if let Some((number, object)) = numbered(program, &OBJECT) {
         if let Some(found) = look.look(number, object) {
             return Some(found);
         }
     }
-    first_in_ancestries(classes, interface.interfaces.as_slice(), look)
+    first_in_ancestries(program, interface.interfaces.as_slice(), look)
 }

@@ -6,8 +6,7 @@ ghost use Rattle.program.specs.Places.{IsMethodAt, Resolves};
 
 use crate::exists::class_exists;
 use crate::list::Program;
-use crate::lookup::method_of;
-use crate::methods::{Named, found_method, names_interface};
+use crate::methods::{Named, found_method};
 use jvms_program::number::MethodNumber;
 use jvms_program::program::MethodReference;
 use jvms_program::thrown::Thrown;
@@ -18,21 +17,20 @@ impl Program {
     pub fn resolve_named(&self, is_static: bool, r: Named) -> Result<(usize, usize), Thrown>
         ensures { Resolves (IsMethodAt self.now) (resolved_method self.now is_static (reference r.entry)) result }
     {
-        let classes = self.classes();
-        if !class_exists(classes, r.class) {
+        if !class_exists(self, r.class) {
             return Err(Thrown::NoClassDefFoundError);
         }
-        if r.is_interface != names_interface(classes, r.class) {
+        if r.is_interface != self.names_interface(r.class) {
             return Err(Thrown::IncompatibleClassChangeError);
         }
-        let Some(place) = found_method(classes, r) else {
+        let Some(place) = found_method(self, r) else {
             return Err(Thrown::NoSuchMethodError);
         };
         let number = MethodNumber {
             class: place.0,
             method: place.1,
         };
-        match method_of(classes, number) {
+        match self.method(number) {
             Some(method) if method.flags.is_static == is_static => Ok(place),
             _ => Err(Thrown::IncompatibleClassChangeError),
         }

@@ -6,25 +6,24 @@ ghost use Rattle.program.specs.Places.{IsMethodAt, Locates};
 
 use crate::list::Program;
 use crate::look::{Named, Selectable};
-use crate::lookup::method_of;
 use crate::names::members_class;
 use crate::walk::{first_up, superclass_name};
 use descriptor::{is_constructor_name, same_text};
 use jvms_program::number::MethodNumber;
-use jvms_program::program::{Class, MethodReference};
+use jvms_program::program::MethodReference;
 
 /// Whether a class is a proper superclass of another.
-fn is_superclass(classes: &[Class], above: &[u16], class: &[u16]) -> bool
-    ensures { result ≡ is_superclass classes.now above.now class.now }
+fn is_superclass(program: &Program, above: &[u16], class: &[u16]) -> bool
+    ensures { result ≡ is_superclass program.now above.now class.now }
 {
-    !same_text(above, class) && is_up(classes, above, class)
+    !same_text(above, class) && is_up(program, above, class)
 }
 
 /// Whether a class or one up its superclasses has a name.
-fn is_up(classes: &[Class], name: &[u16], class: &[u16]) -> bool
-    ensures { result ≡ names_class name.now (chain classes.now class.now) }
+fn is_up(program: &Program, name: &[u16], class: &[u16]) -> bool
+    ensures { result ≡ names_class name.now (chain program.now class.now) }
 {
-    first_up(classes, class, &Named { name }).is_some()
+    first_up(program, class, &Named { name }).is_some()
 }
 
 impl Program {
@@ -32,7 +31,7 @@ impl Program {
     pub fn is_or_extends(&self, class: &[u16], name: &[u16]) -> bool
         ensures { result ≡ names_class name.now (chain self.now class.now) }
     {
-        is_up(self.classes(), name, class)
+        is_up(self, name, class)
     }
 
     /// The method that a call of the method at a place selects, from the class of a name up: itself where
@@ -40,12 +39,11 @@ impl Program {
     pub fn select_from(&self, class: &[u16], place: (usize, usize)) -> Option<(usize, usize)>
         ensures { (found : MethodFound) → IsMethodAt self.now found place → Locates (IsMethodAt self.now) (selected_from self.now class.now found) result }
     {
-        let classes = self.classes();
         let number = MethodNumber {
             class: place.0,
             method: place.1,
         };
-        let method = method_of(classes, number)?;
+        let method = self.method(number)?;
         if method.flags.is_private {
             return Some(place);
         }
@@ -53,7 +51,7 @@ impl Program {
             name: method.name.as_slice(),
             descriptor: method.descriptor.as_slice(),
         };
-        first_up(classes, members_class(class), &look)
+        first_up(self, members_class(class), &look)
     }
 
     /// The method that an invokespecial in the class `current` selects: the one at the place, but where it
@@ -68,7 +66,7 @@ impl Program {
         ensures { (found : MethodFound) → IsMethodAt self.now found place → Locates (IsMethodAt self.now) (selected_special self.now current.now r.now found) result }
     {
         if is_constructor_name(r.name.as_slice())
-            || !is_superclass(self.classes(), r.class.as_slice(), current)
+            || !is_superclass(self, r.class.as_slice(), current)
         {
             return Some(place);
         }

@@ -12,7 +12,6 @@ use crate::text::is_named;
 use crate::walk::first_in_ancestry;
 use descriptor::{Innermost, Spelled};
 use jvms_file::descriptor::Primitive;
-use jvms_program::program::Class;
 
 /// The letter of a primitive type (JVMS table 4.3-A).
 fn letter_of(primitive: Primitive) -> u16
@@ -31,10 +30,10 @@ fn letter_of(primitive: Primitive) -> u16
 }
 
 /// Whether a class or one above it has a name.
-fn is_above(classes: &[Class], name: &[u16], class: &[u16]) -> bool
-    ensures { result ≡ names_class name.now (ancestry classes.now class.now) }
+fn is_above(program: &Program, name: &[u16], class: &[u16]) -> bool
+    ensures { result ≡ names_class name.now (ancestry program.now class.now) }
 {
-    first_in_ancestry(classes, class, &Named { name }).is_some()
+    first_in_ancestry(program, class, &Named { name }).is_some()
 }
 
 /// Whether a name is that of a class that every array fits.
@@ -47,8 +46,8 @@ fn is_array_ancestor(name: &[u16]) -> bool
 }
 
 /// Whether an element fits another.
-fn element_fits(classes: &[Class], a: Innermost<'_>, b: Innermost<'_>) -> bool
-    ensures { result ≡ element_fits classes.now (element_of a.entry) (element_of b.entry) }
+fn element_fits(program: &Program, a: Innermost<'_>, b: Innermost<'_>) -> bool
+    ensures { result ≡ element_fits program.now (element_of a.entry) (element_of b.entry) }
 {
     match a {
         Innermost::Primitive(p) => match b {
@@ -57,7 +56,7 @@ fn element_fits(classes: &[Class], a: Innermost<'_>, b: Innermost<'_>) -> bool
         },
         Innermost::Object(name) => match b {
             Innermost::Primitive(_) => false,
-            Innermost::Object(above) => is_above(classes, above, name),
+            Innermost::Object(above) => is_above(program, above, name),
         },
     }
 }
@@ -73,13 +72,13 @@ fn takes_arrays(element: Innermost<'_>) -> bool
 }
 
 /// Whether a type fits another.
-fn type_fits(classes: &[Class], a: Spelled<'_>, b: Spelled<'_>) -> bool
-    ensures { result ≡ type_fits classes.now (type_of a.entry) (type_of b.entry) }
+fn type_fits(program: &Program, a: Spelled<'_>, b: Spelled<'_>) -> bool
+    ensures { result ≡ type_fits program.now (type_of a.entry) (type_of b.entry) }
 {
     if b.dimensions < a.dimensions {
         takes_arrays(b.innermost)
     } else if a.dimensions == b.dimensions {
-        element_fits(classes, a.innermost, b.innermost)
+        element_fits(program, a.innermost, b.innermost)
     } else {
         false
     }
@@ -97,6 +96,6 @@ impl Program {
         let Some(b) = class_type(b) else {
             return false;
         };
-        type_fits(self.classes(), a, b)
+        type_fits(self, a, b)
     }
 }

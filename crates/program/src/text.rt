@@ -39,7 +39,7 @@ pub(crate) fn is_text(ascii: &str, units: &[u16]) -> bool
 }
 
 /// Whether a name is an ASCII text.
-pub(crate) fn is_named(name: &[u16], ascii: &str) -> bool
+pub fn is_named(name: &[u16], ascii: &str) -> bool
     ensures { result ≡ same_text name.now ascii.now }
 {
     is_text(ascii, name)

@@ -1,15 +1,16 @@
 //! Searches up the superclasses and superinterfaces of a class.
 
-ghost use Rattle.std.specs.Prelude.{◌≡◌, ◌⊎◌, ℕ, List, Option, Some, true, false, option_copied, slice_get};
-ghost use Rattle.std.specs.Option.{unwrap_or};
+ghost use Rattle.std.specs.Prelude.{◌≡◌, ℕ, List, Option, option_copied, if◌then◌else◌};
 ghost use Rattle.std.specs.List.{flat_map};
 ghost use Rattle.jvms_program.specs.declared.program.Class.{Class};
 ghost use Rattle.jvms_program.specs.Resolution.{chain, ancestry, first_in};
 ghost use Rattle.program.specs.Places.{placed};
-ghost use Rattle.program.specs.Searches.{AreMarkedVain, IsSearched};
+ghost use Rattle.program.specs.Searches.{AreMarkedVain, AreSearched, IsSearched};
+ghost use Rattle.program.specs.declared.walk.Searched.TheVariants as searched;
 
+use crate::list::Program;
 use crate::lookup::numbered;
-use held::items::Items;
+use crate::marks::Marks;
 use held::shared::Text;
 use jvms_program::program::Class;
 
@@ -34,14 +35,14 @@ pub(crate) fn superclass_name(class: &Class) -> Option<&[u16]>
 
 /// What is found first in a class, its superclass, and so on.
 #[tactic(auto, using(crate::proofs::WalkLaws::ups))]
-pub(crate) fn first_up<L: Look>(classes: &[Class], name: &[u16], look: &L) -> Option<(usize, usize)>
-    ensures { result ≡ first_in (placed classes.now (L.gives look.now)) (chain classes.now name.now) }
+pub(crate) fn first_up<L: Look>(program: &Program, name: &[u16], look: &L) -> Option<(usize, usize)>
+    ensures { result ≡ first_in (placed program.now (L.gives look.now)) (chain program.now name.now) }
 {
-    let mut most = classes.len();
+    let mut most = program.classes().len();
     let mut name = name;
     while most > 0 {
         most -= 1;
-        let (number, class) = numbered(classes, name)?;
+        let (number, class) = numbered(program, name)?;
         if let Some(found) = look.look(number, class) {
             return Some(found);
         }
@@ -50,13 +51,9 @@ pub(crate) fn first_up<L: Look>(classes: &[Class], name: &[u16], look: &L) -> Op
     None
 }
 
-/// How many classes a search marks, those of the least numbers. A class without a mark may be searched more
-/// than once.
-const MOST_MARKS: usize = 16_384;
-
 /// What a search through an ancestry came to.
 #[derive(Clone, Copy)]
-enum Searched {
+pub(crate) enum Searched {
     /// It was found first here.
     Found((usize, usize)),
     /// It is nowhere, however many classes up.
@@ -65,109 +62,175 @@ enum Searched {
     CutShort,
 }
 
-/// The marks of a search that hasn't begun.
-fn no_marks() -> [bool; MOST_MARKS]
-    ensures { (number : ℕ) → slice_get result number ≡ Some true → ⊥ }
+/// What a search came to that found nothing.
+fn found_nothing(is_cut_short: bool) -> Searched
+    ensures { result ≡ (if is_cut_short then searched.CutShort else searched.Nowhere) }
 {
-    [false; MOST_MARKS]
-}
-
-/// Whether a class is marked.
-fn is_marked(marks: &[bool], number: usize) -> bool
-    ensures { result ≡ unwrap_or (slice_get marks.now number) false }
-{
-    marks.get(number).copied().unwrap_or(false)
-}
-
-/// Marks a class, if there is a mark for it.
-fn mark(marks: &mut [bool], number: usize)
-    ensures { (n : ℕ) → slice_get marks.new n ≡ Some true → (n ≡ number) ⊎ (slice_get marks.old n ≡ Some true) }
-{
-    if number < marks.len() {
-        marks[number] = true;
+    if is_cut_short {
+        Searched::CutShort
+    } else {
+        Searched::Nowhere
     }
 }
 
 /// What is found first in a class, in its superinterfaces and what is above them, and in its superclass
-/// and what is above that, so many classes up at most. Classes above which it is nowhere are marked, and
-/// aren't searched again.
+/// and what is above that, so many classes up at most. A class above which it is nowhere is marked, and isn't
+/// searched again.
+#[cycle(above)]
 #[tactic(auto, using(crate::proofs::SearchLaws::searches))]
 fn first_above<L: Look>(
-    classes: &[Class],
+    program: &Program,
     most: usize,
     name: &[u16],
     look: &L,
-    marks: &mut [bool],
+    marks: &mut Marks,
 ) -> Searched
-    requires { AreMarkedVain classes.now (placed classes.now (L.gives look.now)) marks.old }
-    ensures searched { IsSearched classes.now (placed classes.now (L.gives look.now)) most name.now result }
-    ensures marked { AreMarkedVain classes.now (placed classes.now (L.gives look.now)) marks.new }
+    requires { AreMarkedVain program.now (placed program.now (L.gives look.now)) marks.old }
+    ensures searched { IsSearched program.now (placed program.now (L.gives look.now)) most name.now result }
+    ensures marked { AreMarkedVain program.now (placed program.now (L.gives look.now)) marks.new }
 {
-    let Some((number, class)) = numbered(classes, name) else {
+    let Some(number) = program.class_number(name) else {
         return Searched::Nowhere;
     };
-    if is_marked(marks, number) {
+    if marks.has(number) {
         return Searched::Nowhere;
     }
-    if most == 0 {
-        return Searched::CutShort;
+    let came_to = first_along(program, most, name, look, marks);
+    if let Searched::Nowhere = came_to {
+        marks.add(number);
     }
-    if let Some(found) = look.look(number, class) {
-        return Searched::Found(found);
-    }
+    came_to
+}
+
+/// The same, from superclass to superclass.
+#[cycle(above)]
+#[tactic(auto, using(crate::proofs::SearchLaws::searches))]
+fn first_along<L: Look>(
+    program: &Program,
+    most: usize,
+    name: &[u16],
+    look: &L,
+    marks: &mut Marks,
+) -> Searched
+    requires { AreMarkedVain program.now (placed program.now (L.gives look.now)) marks.old }
+    ensures searched { IsSearched program.now (placed program.now (L.gives look.now)) most name.now result }
+    ensures marked { AreMarkedVain program.now (placed program.now (L.gives look.now)) marks.new }
+{
+    let mut left = most;
+    let mut name = name;
     let mut is_cut_short = false;
-    for interface in class.interfaces.as_slice() {
-        match first_above(classes, most - 1, interface.as_slice(), look, marks) {
+    while left > 0 {
+        left -= 1;
+        let Some((number, class)) = numbered(program, name) else {
+            return found_nothing(is_cut_short);
+        };
+        if let Some(found) = look.look(number, class) {
+            return Searched::Found(found);
+        }
+        match first_in_each(program, left, class.interfaces.as_slice(), look, marks) {
+            Searched::Found(found) => return Searched::Found(found),
+            Searched::Nowhere => {}
+            Searched::CutShort => is_cut_short = true,
+        }
+        let Some(superclass) = superclass_name(class) else {
+            return found_nothing(is_cut_short);
+        };
+        name = superclass;
+    }
+    Searched::CutShort
+}
+
+/// What is found first in classes of these names and above them, so many classes up at most.
+#[cycle(above)]
+#[tactic(auto, using(crate::proofs::SearchLaws::searches))]
+fn first_in_each<L: Look>(
+    program: &Program,
+    most: usize,
+    names: &[Text],
+    look: &L,
+    marks: &mut Marks,
+) -> Searched
+    requires { AreMarkedVain program.now (placed program.now (L.gives look.now)) marks.old }
+    ensures searched { AreSearched program.now (placed program.now (L.gives look.now)) most names.now result }
+    ensures marked { AreMarkedVain program.now (placed program.now (L.gives look.now)) marks.new }
+{
+    let mut is_cut_short = false;
+    for name in names {
+        match first_above(program, most, name.as_slice(), look, marks) {
             Searched::Found(found) => return Searched::Found(found),
             Searched::Nowhere => {}
             Searched::CutShort => is_cut_short = true,
         }
     }
-    if let Some(superclass) = superclass_name(class) {
-        match first_above(classes, most - 1, superclass, look, marks) {
-            Searched::Found(found) => return Searched::Found(found),
-            Searched::Nowhere => {}
-            Searched::CutShort => return Searched::CutShort,
-        }
-    }
-    if is_cut_short {
-        return Searched::CutShort;
-    }
-    mark(marks, number);
-    Searched::Nowhere
+    found_nothing(is_cut_short)
 }
 
 /// What is found first in the ancestry of a class.
 #[tactic(auto, using(crate::proofs::SearchLaws::unmarked))]
 pub(crate) fn first_in_ancestry<L: Look>(
-    classes: &[Class],
+    program: &Program,
     name: &[u16],
     look: &L,
 ) -> Option<(usize, usize)>
-    ensures { result ≡ first_in (placed classes.now (L.gives look.now)) (ancestry classes.now name.now) }
+    ensures { result ≡ first_in (placed program.now (L.gives look.now)) (ancestry program.now name.now) }
 {
-    let mut marks = no_marks();
-    match first_above(classes, classes.len(), name, look, &mut marks) {
+    let mut marks = Marks::none();
+    match first_above(program, program.classes().len(), name, look, &mut marks) {
         Searched::Found(found) => Some(found),
         Searched::Nowhere | Searched::CutShort => None,
     }
 }
 
+/// What is found first in the ancestries of classes of these names, but for those that are marked.
+fn first_in_unmarked<L: Look>(
+    program: &Program,
+    names: &[Text],
+    look: &L,
+    marks: &mut Marks,
+) -> Option<(usize, usize)>
+    requires { AreMarkedVain program.now (placed program.now (L.gives look.now)) marks.old }
+    ensures found { result ≡ first_in (placed program.now (L.gives look.now)) (flat_map (ancestry program.now) names.now) }
+    ensures marked { AreMarkedVain program.now (placed program.now (L.gives look.now)) marks.new }
+{
+    match first_in_each(program, program.classes().len(), names, look, marks) {
+        Searched::Found(found) => Some(found),
+        Searched::Nowhere => None,
+        Searched::CutShort => None,
+    }
+}
+
 /// What is found first in the ancestries of classes of these names.
-#[tactic(auto, using(crate::proofs::SearchLaws::all_names))]
+#[tactic(auto, using(crate::proofs::SearchLaws::unmarked))]
 pub(crate) fn first_in_ancestries<L: Look>(
-    classes: &[Class],
+    program: &Program,
     names: &[Text],
     look: &L,
 ) -> Option<(usize, usize)>
-    ensures { result ≡ first_in (placed classes.now (L.gives look.now)) (flat_map (ancestry classes.now) names.now) }
+    ensures { result ≡ first_in (placed program.now (L.gives look.now)) (flat_map (ancestry program.now) names.now) }
 {
-    let mut marks = no_marks();
-    for name in names {
-        match first_above(classes, classes.len(), name.as_slice(), look, &mut marks) {
-            Searched::Found(found) => return Some(found),
-            Searched::Nowhere | Searched::CutShort => {}
+    first_in_unmarked(program, names, look, &mut Marks::none())
+}
+
+/// What is found first in the ancestries of a class's superinterfaces, then of its superclass's, and so on.
+#[tactic(auto, using(crate::proofs::SearchLaws::interfaces_up))]
+pub(crate) fn first_in_interfaces_up<L: Look>(
+    program: &Program,
+    name: &[u16],
+    look: &L,
+) -> Option<(usize, usize)>
+    ensures { result ≡ first_in (placed program.now (L.gives look.now)) (flat_map (λ c. flat_map (ancestry program.now) c.interfaces) (chain program.now name.now)) }
+{
+    let mut marks = Marks::none();
+    let mut most = program.classes().len();
+    let mut name = name;
+    while most > 0 {
+        most -= 1;
+        let (_, class) = numbered(program, name)?;
+        let interfaces = class.interfaces.as_slice();
+        if let Some(found) = first_in_unmarked(program, interfaces, look, &mut marks) {
+            return Some(found);
         }
+        name = superclass_name(class)?;
     }
     None
 }

@@ -5,3 +5,5 @@
 mod linking;
 #[cfg(test)]
 mod lookup;
+#[cfg(test)]
+mod shapes;

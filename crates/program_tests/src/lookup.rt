@@ -1,37 +1,30 @@
 //! What is looked up in programs, by the Java Virtual Machine Specification (JVMS 5.4.3, 6.5).
 
-use fixtures::classes::{class, interface};
-use fixtures::members::{field_reference, method, method_reference};
-use fixtures::texts::units;
+use fixtures::members::{field_reference, method_reference};
+use fixtures::texts::{text, units};
 use jvms_program::number::MethodNumber;
-use jvms_program::program::Class;
+use jvms_program::program::{Class, ClassKind};
 use jvms_program::thrown::Thrown;
 use program::{OBJECT, Program, is_built_in};
+use source_programs::program_of;
 use std::alloc::{AllocError, Global};
 use std::test::Fail;
 
 /// The name of a class.
 const A: [u16; 1] = [65];
 
-/// A class with one method of no parameters and no result.
-fn with_method(
-    alloc: Global,
-    name: &str,
-    superclass: &str,
-    member: &str,
-    is_static: bool,
-) -> Result<Class, AllocError> {
-    let methods = vec![in alloc; method(alloc, member, "()V", is_static, None)?]?;
-    class(alloc, name, superclass, Vec::new(alloc), methods)
-}
+/// 37, A, extends 38, B, extends Object, and 39, I, extends Runnable; A has the static `own`, B has `up`. 40, C, extends
+/// A and implements I.
+const SOURCES: [&str; 4] = [
+    ".class A\n.super B\n.method static own()V\nreturn\n.end method",
+    ".class B\n.method up()V\nreturn\n.end method",
+    ".interface I\n.implements java/lang/Runnable",
+    ".class C\n.super A\n.implements I",
+];
 
-/// 37, A, extends 38, B, extends Object, and 39, I, extends Runnable; A has the static `own`, B has `up`.
-fn program(alloc: Global) -> Result<Program, AllocError> {
-    let mut classes = Vec::new(alloc);
-    classes.push(with_method(alloc, "A", "B", "own", true)?)?;
-    classes.push(with_method(alloc, "B", "java/lang/Object", "up", false)?)?;
-    classes.push(interface(alloc, "I", "java/lang/Runnable")?)?;
-    Program::new(alloc, classes)
+/// The program of these.
+fn program(alloc: Global) -> Result<Program, Fail> {
+    program_of(alloc, &SOURCES)
 }
 
 /// How many classes there are, the number of class A, and whether it and its method are found.
@@ -51,12 +44,12 @@ fn found(program: &Program) -> (usize, Option<usize>, bool, bool) {
 #[test]
 fn looks_up_by_name(rt: HostRuntime) -> Result<(), Fail> {
     let program = program(rt.alloc())?;
-    assert_eq!(rt; found(&program), (40, Some(37), true, true));
+    assert_eq!(rt; found(&program), (41, Some(37), true, true));
     Ok(())
 }
 
 /// Numbers of classes, and whether each is built in.
-static BUILT_IN: [(usize, bool); 4] = [(0, true), (36, true), (37, false), (40, false)];
+static BUILT_IN: [(usize, bool); 4] = [(0, true), (36, true), (37, false), (41, false)];
 
 #[test]
 fn knows_the_built_in_classes(rt: HostRuntime) -> Result<(), Fail> {
@@ -74,7 +67,7 @@ type Place = Result<(usize, usize), Thrown>;
 /// A class, a name, a descriptor, whether they are asked as an interface's and as a static method's, and the answer.
 type Case = (&'static str, &'static str, &'static str, bool, bool, Place);
 
-static METHODS: [Case; 7] = [
+static METHODS: [Case; 9] = [
     ("A", "up", "()V", false, false, Ok((38, 0))),
     (
         "A",
@@ -117,6 +110,8 @@ static METHODS: [Case; 7] = [
         Err(Thrown::IncompatibleClassChangeError),
     ),
     ("I", "run", "()V", true, false, Ok((6, 0))),
+    ("C", "up", "()V", false, false, Ok((38, 0))),
+    ("C", "run", "()V", false, false, Ok((6, 0))),
 ];
 
 /// What a method resolves to.
@@ -155,9 +150,13 @@ fn resolves_fields(rt: HostRuntime) -> Result<(), Fail> {
 }
 
 /// Classes, and whether a value of the first fits the second.
-static FIT: [(&str, &str, bool); 3] = [
+static FIT: [(&str, &str, bool); 7] = [
     ("A", "B", true),
     ("B", "A", false),
+    ("C", "java/lang/Runnable", true),
+    ("C", "B", true),
+    ("I", "C", false),
+    ("[[LC;", "[[LI;", true),
     ("[LA;", "java/lang/Cloneable", true),
 ];
 

@@ -1,6 +1,7 @@
 //! Refusals: their lines, their statuses and their order.
 
 use super::harness::{File, ran, ran_with_room};
+use super::sources::WIDE;
 use std::test::Fail;
 
 const EVAL_GCD: [&str; 6] = ["eval", "--entry", "G.gcd.(II)I", "--args", "48,36", "F"];
@@ -28,6 +29,33 @@ fn tells_what_is_wrong_with_a_class_file(rt: HostRuntime) -> Result<(), Fail> {
     ];
     for (file, line) in faults {
         let ran = ran(rt.alloc(), &EVAL_GCD, &[("F", file)])?;
+        assert!(rt; ran.is(2, "", line), "{line}");
+    }
+    Ok(())
+}
+
+#[test]
+fn names_the_class_that_is_not_linked(rt: HostRuntime) -> Result<(), Fail> {
+    let faults = [
+        (File::With(30, b'o'), "jvmx: H: K02 MissingSuper\n"),
+        (File::With(65, 2), "jvmx: H: K03 Circular\n"),
+        (File::With(65, 0), "jvmx: H: K04 SuperKind\n"),
+    ];
+    let words = [
+        "eval",
+        "--entry",
+        "Wide.same.(I)I",
+        "--args",
+        "7",
+        "F.j",
+        "H",
+    ];
+    for (file, line) in faults {
+        let ran = ran(
+            rt.alloc(),
+            &words,
+            &[("F.j", File::Text(WIDE)), ("H", file)],
+        )?;
         assert!(rt; ran.is(2, "", line), "{line}");
     }
     Ok(())

@@ -49,7 +49,7 @@ L9:
 ";
 
 /// A local above 255, whose instructions take `wide`, behind a branch over a nop.
-const WIDE: &[u8] = b".class Wide
+pub const WIDE: &[u8] = b".class Wide
 .method static same(I)I
 .limit locals 300
   iload 0

@@ -1,28 +1,19 @@
-//! The objects and the static fields of the opening, which no row changes yet.
+//! The objects of the opening and the exceptions that were made since, and the static fields, which no row changes yet.
 
-ghost use Rattle.std.specs.Prelude.{◌≡◌, length};
+ghost use Rattle.std.specs.Prelude.{◌≡◌, length, slice_get};
 ghost use Rattle.std.specs.Option.{option_and_then, option_map};
 ghost use Rattle.jvms_machine.specs.State.{object_at, monitor_at, text_reference, class_reference};
+ghost use Rattle.jvms_machine.specs.Exceptions.{thrown_class};
 ghost use Rattle.jvms_machine.specs.Opening.{is_system_out};
 ghost use Rattle.machine.specs.Views.{class_at, field_of, length_of, element_of, units_of, named_by, value_of};
 
+use crate::exceptions::thrown_name;
 use crate::parts::Parts;
 use crate::state::{FieldName, declared};
 use jvms_machine::state::Hold;
 use jvms_machine::value::Value;
-use program::same_text;
-
-/// `java/lang/OutOfMemoryError`, the class of reference 1.
-const OUT_OF_MEMORY_ERROR: [u16; 26] = [
-    106, 97, 118, 97, 47, 108, 97, 110, 103, 47, 79, 117, 116, 79, 102, 77, 101, 109, 111, 114,
-    121, 69, 114, 114, 111, 114,
-];
-
-/// `java/lang/StackOverflowError`, the class of reference 2.
-const STACK_OVERFLOW_ERROR: [u16; 28] = [
-    106, 97, 118, 97, 47, 108, 97, 110, 103, 47, 83, 116, 97, 99, 107, 79, 118, 101, 114, 102, 108,
-    111, 119, 69, 114, 114, 111, 114,
-];
+use jvms_program::thrown::Thrown;
+use program::{Program, same_text};
 
 /// `java/io/PrintStream`, the class of reference 3.
 const PRINT_STREAM: [u16; 19] = [
@@ -37,8 +28,11 @@ const STRINGS: [u16; 19] = [
 /// How many objects there are at the opening.
 const OPENING_OBJECTS: usize = 4;
 
-/// The last reference that leads to an instance.
-const LAST_INSTANCE: u32 = 3;
+/// The reference of the one array.
+const NO_STRINGS: u32 = 4;
+
+/// The reference of the first exception that was made.
+const FIRST_EXCEPTION: usize = 5;
 
 /// `java/lang/System`, the class that declares `out`.
 const SYSTEM: [u16; 16] = [
@@ -58,13 +52,25 @@ fn is_system_out(key: &FieldName) -> bool
     same_text(key.class, &SYSTEM) && same_text(key.name, &OUT)
 }
 
+/// The class of the exception at a place among those that were made.
+fn exception_class<'p>(
+    program: &'p Program,
+    exceptions: &[Thrown],
+    place: usize,
+) -> Option<&'p [u16]>
+    ensures { option_map (λ c. c.now) result ≡ option_map (λ class. thrown_class class) (slice_get exceptions.now place) }
+{
+    let class = exceptions.get(place)?;
+    Some(thrown_name(program, *class))
+}
+
 impl Parts<'_> {
-    /// How many references were ever made: those of the opening.
-    pub(super) fn object_count(&self) -> usize
+    /// How many references were ever made.
+    #[tactic(auto, using(crate::proofs::HeapLaws::length_heap))]
+    pub(crate) fn object_count(&self) -> usize
         ensures { result ≡ length self.now.state.heap }
     {
-        let _ = &self.program;
-        OPENING_OBJECTS
+        OPENING_OBJECTS + self.exceptions.len()
     }
 
     /// How many elements their arrays have.
@@ -93,26 +99,31 @@ impl Parts<'_> {
     }
 
     /// The class of the object of a reference.
-    pub(super) fn class_of(&self, reference: u32) -> Option<&[u16]>
+    #[tactic(auto, using(crate::proofs::HeapLaws::out_of_memory_at, crate::proofs::HeapLaws::stack_overflow_at, crate::proofs::HeapLaws::opened_at, crate::proofs::HeapLaws::exception_at))]
+    pub(crate) fn class_of(&self, reference: u32) -> Option<&[u16]>
         ensures { option_map (λ c. c.now) result ≡ class_at self.now.state.heap reference }
     {
-        let _ = &self.program;
         match reference {
-            1 => Some(&OUT_OF_MEMORY_ERROR),
-            2 => Some(&STACK_OVERFLOW_ERROR),
+            0 => None,
+            1 => Some(thrown_name(self.program, Thrown::OutOfMemoryError)),
+            2 => Some(thrown_name(self.program, Thrown::StackOverflowError)),
             3 => Some(&PRINT_STREAM),
             4 => Some(&STRINGS),
-            _ => None,
+            _ => exception_class(
+                self.program,
+                self.exceptions.as_slice(),
+                reference as usize - FIRST_EXCEPTION,
+            ),
         }
     }
 
     /// The value of a field of an instance. None was stored in yet.
-    #[tactic(auto, using(crate::proofs::OpeningLaws::no_instance, crate::proofs::OpeningLaws::no_object, crate::proofs::OpeningLaws::field_of_class))]
+    #[tactic(auto, using(crate::proofs::HeapLaws::no_object, crate::proofs::HeapLaws::field_of_class))]
     pub(super) fn field(&self, reference: u32, key: &FieldName) -> Option<Value>
         ensures { result ≡ option_and_then (field_of key.now) (object_at self.now.state.heap reference) }
     {
         let _ = &self.program;
-        if reference > LAST_INSTANCE {
+        if reference == NO_STRINGS {
             return None;
         }
         let class = self.class_of(reference)?;
@@ -120,16 +131,19 @@ impl Parts<'_> {
     }
 
     /// How many elements an array has: the one that there is has none.
-    #[tactic(auto, using(crate::proofs::OpeningLaws::no_other_array))]
+    #[tactic(auto, using(crate::proofs::HeapLaws::the_array, crate::proofs::HeapLaws::no_other_array))]
     pub(super) fn array_length(&self, reference: u32) -> Option<usize>
         ensures { result ≡ option_and_then length_of (object_at self.now.state.heap reference) }
     {
         let _ = &self.program;
-        if reference == 4 { Some(0) } else { None }
+        if reference == NO_STRINGS {
+            Some(0)
+        } else {
+            None
+        }
     }
 
     /// An element of an array: there is none.
-    #[tactic(auto, using(crate::proofs::OpeningLaws::no_element))]
     pub(super) fn element(&self, reference: u32, index: usize) -> Option<Value>
         ensures { result ≡ option_and_then (element_of index) (object_at self.now.state.heap reference) }
     {
@@ -139,7 +153,7 @@ impl Parts<'_> {
     }
 
     /// The units of a string: there is none.
-    #[tactic(auto, using(crate::proofs::OpeningLaws::no_text))]
+    #[tactic(auto, using(crate::proofs::HeapLaws::no_text))]
     pub(super) fn text(&self, reference: u32) -> Option<&[u16]>
         ensures { option_map (λ units. units.now) result ≡ option_and_then units_of (object_at self.now.state.heap reference) }
     {
@@ -149,7 +163,7 @@ impl Parts<'_> {
     }
 
     /// The name of the class of a class object: there is none.
-    #[tactic(auto, using(crate::proofs::OpeningLaws::no_class_object))]
+    #[tactic(auto, using(crate::proofs::HeapLaws::no_class_object))]
     pub(super) fn class_object(&self, reference: u32) -> Option<&[u16]>
         ensures { option_map (λ name. name.now) result ≡ option_and_then named_by (object_at self.now.state.heap reference) }
     {
@@ -159,7 +173,6 @@ impl Parts<'_> {
     }
 
     /// The reference of a text's string: there is none.
-    #[tactic(auto, using(crate::proofs::OpeningLaws::no_string))]
     pub(super) fn text_reference(&self, units: &[u16]) -> Option<u32>
         ensures { result ≡ text_reference self.now.state.heap units.now }
     {
@@ -169,7 +182,6 @@ impl Parts<'_> {
     }
 
     /// The reference of a class's object: there is none.
-    #[tactic(auto, using(crate::proofs::OpeningLaws::no_object_of_class))]
     pub(super) fn class_reference(&self, name: &[u16]) -> Option<u32>
         ensures { result ≡ class_reference self.now.state.heap name.now }
     {

@@ -6,4 +6,4 @@ use Rattle.program.proofs.select.is_up.Goals as goal
 
 pub returns : goal.returns
 returns c =
-    c.is_some.ensures ∙ ap (λ o. is_some {T = ℕ × ℕ} o) c.first_up.ensures ∙ first_in_named c.args.name.now (chain c.args.classes.now c.args.class.now)
+    c.is_some.ensures ∙ ap (λ o. is_some {T = ℕ × ℕ} o) c.first_up.ensures ∙ first_in_named c.args.name.now (chain c.args.program.now c.args.class.now)

@@ -6,4 +6,4 @@ use Rattle.program.proofs.subtypes.is_above.Goals as goal
 
 pub returns : goal.returns
 returns c =
-    c.is_some.ensures ∙ ap (λ o. is_some {T = ℕ × ℕ} o) c.first_in_ancestry.ensures ∙ first_in_named c.args.name.now (ancestry c.args.classes.now c.args.class.now)
+    c.is_some.ensures ∙ ap (λ o. is_some {T = ℕ × ℕ} o) c.first_in_ancestry.ensures ∙ first_in_named c.args.name.now (ancestry c.args.program.now c.args.class.now)

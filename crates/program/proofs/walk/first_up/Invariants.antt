@@ -9,5 +9,5 @@ decreases-loop-most g l = l.most
 -- what is left to search
 abbrev pub invariant-loop-most : goal.invariant-loop-most
 invariant-loop-most g l =
-    first_in (placed l.classes (g.L.Look.gives l.look)) (chain l.classes l.fn.name)
-    ≡ first_in (placed l.classes (g.L.Look.gives l.look)) (chain_within l.most l.classes l.name)
+    first_in (placed l.program (g.L.Look.gives l.look)) (chain l.program l.fn.name)
+    ≡ first_in (placed l.program (g.L.Look.gives l.look)) (chain_within l.most l.program l.name)

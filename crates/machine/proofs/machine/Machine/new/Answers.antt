@@ -15,7 +15,7 @@ invariant_of-result c =
     let starts : start_of c.args.program.now c.args.entry.now ≡ Some start = sym c.in-Some.ensures in
     let are : IsTrue (are_limits c.args.limits) = search rules in
     subst IsMachine (sym c.in_ok-parts.ensures)
-    (record { limits = are; start = entry_is_start c.args.program.now c.args.entry.now start starts; sound = opening_is_sound c.args.program.now c.args.limits are })
+    (record { limits = are; start = entry_is_start c.args.program.now c.args.entry.now start starts; classes = c.is_program.ensures; sound = opening_is_sound c.args.program.now c.args.limits are })
 
 pub returns : goal.returns
 returns c =

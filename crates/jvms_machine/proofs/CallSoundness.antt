@@ -1,0 +1,268 @@
+-- A turn of a call leaves a sound state sound: the frame that comes is one of the called method, with the operands of its
+-- caller as its arguments, and stands on its caller.
+use Rattle.std.proofs.Common.{◌≡◌, ℕ, ◌+◌, ◌-◌, ◌<◌, ◌≤◌, true, false, not, ◌&&◌, ◌==◌, nat_le, nat_lt, leb-true, leb-false, ltb-false, eqb, eq-eqb, List, [], ◌∷◌, ◌++◌, length, replicate, reverse, take, Option, Some, None, IfSome, IsTrue, slice_get, option_and_then, option_map, unwrap_or, refl, sym, ap, ◌∙◌, subst, arith, length-drop}
+use Rattle.std.specs.Prelude.{Result, Ok, Err}
+use Rattle.std.specs.List.{AllByRecursion}
+use Rattle.std.proofs.lemmas.Bool.{cond_both, and_parts, and_from, not-false}
+use Rattle.std.proofs.lemmas.Option.{slice_get_within}
+use Rattle.std.proofs.lemmas.List.{length-append, length-replicate, length-reverse, length-take-le}
+use Rattle.jvms_machine.specs.declared.value.Value.{Value}
+use Rattle.jvms_machine.specs.declared.value.Value.TheVariants as value
+use Rattle.jvms_machine.specs.declared.machine.Limits.{Limits}
+use Rattle.jvms_machine.specs.declared.state.StackFrame.TheVariants as stack_frame
+use Rattle.jvms_machine.specs.declared.action.Action.TheVariants as action
+use Rattle.jvms_machine.specs.declared.action.Decision.{Decision}
+use Rattle.jvms_machine.specs.declared.action.Decision.TheVariants as decision
+use Rattle.jvms_file.specs.declared.insn.Invoke.{Invoke}
+use Rattle.jvms_file.specs.declared.insn.Invoke.TheVariants as invoke
+use Rattle.jvms_file.specs.declared.descriptor.MethodType.{MethodType}
+use Rattle.jvms_file.specs.Names.{same_text}
+use Rattle.jvms_program.specs.declared.number.MethodNumber.{MethodNumber}
+use Rattle.jvms_program.specs.declared.thrown.Thrown.{Thrown}
+use Rattle.jvms_program.specs.declared.thrown.Thrown.TheVariants as thrown
+use Rattle.jvms_program.specs.declared.program.Class.{Class}
+use Rattle.jvms_program.specs.declared.program.Method.{Method}
+use Rattle.jvms_program.specs.declared.program.Body.{Body}
+use Rattle.jvms_program.specs.declared.program.MethodReference.{MethodReference}
+use Rattle.jvms_program.specs.declared.program.Instruction.TheVariants as instruction
+use Rattle.jvms_program.specs.Program.{IsProgram, method_at}
+use Rattle.jvms_program.specs.BuiltIn.{is_built_in}
+use Rattle.jvms_program.specs.Resolution.{MethodFound, fits, resolved_method, method_number}
+use Rattle.jvms_machine.specs.State.{State, Object, Thread, Frame, MethodFrame, object_at, class_of, IsValue, body_at, is_synchronized_at, IsFrame, StandsOn, result_length}
+use Rattle.jvms_machine.specs.Start.{Start, IsArgument, IsStart}
+use Rattle.jvms_machine.specs.Activations.{has_depth}
+use Rattle.jvms_machine.specs.Steps.{instruction_at}
+use Rattle.jvms_machine.specs.Profile.{is_outside_method}
+use Rattle.jvms_machine.specs.Calls.{entered, enter_decision, with_body, native_decision, called_decision, entry_decision, first_call_decision, is_static_call, taken, receiver_of, are_of_call, numbered, call_decision, static_call_decision, selected, selected_decision, wrong_receiver, object_call_decision, receiver_call_decision, resolved_call_decision, invoke_decision}
+use Rattle.jvms_machine.specs.Actions.{called, given, top_given, calling, top_operands, arguments_of, applied_to, items_of}
+use Rattle.jvms_machine.specs.Marks.{calls_in, calls_of}
+use Rattle.jvms_machine.proofs.ListLaws.{all_weaker, all_append, all_replicate, all_drop, all_take, all_reverse}
+use Rattle.jvms_machine.proofs.InitialisationOrder.{count_call}
+use Rattle.jvms_machine.proofs.MarkLaws.{entered_mark, changed_calls, given_calls}
+use Rattle.jvms_machine.proofs.ThreadChanges.{Stands, frames_are_stack, moved_is_sound, stack_goes_on}
+use Rattle.jvms_machine.proofs.KeptStates.{Keeps, still}
+use Rattle.jvms_machine.proofs.ExceptionSoundness.{throws_keeps}
+use Rattle.jvms_machine.proofs.InitialisationSoundness.{asking_keeps}
+use Rattle.jvms_machine.proofs.CallDescriptors.{IsFound, resolved_is_found, selected_is_found, numbered_has_descriptor, called_has_type}
+
+-- ---- The frame of a call
+
+-- An argument of an entry is a value, in a heap with the objects of the opening.
+argument_is_value : (heap : List Object) → 4 ≤ length heap → (v : Value) → IsArgument v → IsValue heap v
+argument_is_value heap opened (value.Reference r) is = (is.0, omega arith)
+argument_is_value heap opened _ is = tt
+
+-- A call that is entered with arguments that its locals have room for is a frame, where it enters no monitor.
+entered_is_frame : (program : List Class) (heap : List Object) (method : MethodNumber) (body : Body) (arguments : List Value) → length arguments ≤ body.max_locals → AllByRecursion (IsValue heap) arguments → body_at program method ≡ Some body → is_synchronized_at program method ≡ false → IsFrame program heap (stack_frame.Call (entered method body arguments))
+entered_is_frame program heap method body arguments few values body_is plain =
+    let unset : List Value = replicate (body.max_locals - length arguments) value.Unset in
+    let as_many : length (arguments ++ unset) ≡ body.max_locals = omega (arith, length-append arguments unset, length-replicate (body.max_locals - length arguments) value.Unset) in
+    (body_is, (as_many, omega arith), all_append (IsValue heap) arguments unset values (all_replicate (IsValue heap) (body.max_locals - length arguments) value.Unset tt), tt, tt, sym plain)
+
+-- The code at a number is that of the method at it.
+body_of : (program : List Class) (method : MethodNumber) (m : Method) (body : Body) → method_at program method ≡ Some m → m.body ≡ Some body → body_at program method ≡ Some body
+body_of program method m body m_is body_is = ap (option_and_then (λ (n : Method). n.body)) m_is ∙ body_is
+
+-- The flag at a number is that of the method at it.
+flag_of : (program : List Class) (method : MethodNumber) (m : Method) → method_at program method ≡ Some m → m.flags.is_synchronized ≡ false → is_synchronized_at program method ≡ false
+flag_of program method m m_is plain = ap (λ o. unwrap_or (option_map (λ (n : Method). n.flags.is_synchronized) o) false) m_is ∙ plain
+
+-- Its caller, without the operands that it took, is a frame.
+given_is_frame : (program : List Class) (heap : List Object) (takes : ℕ) (frame : MethodFrame) → IsFrame program heap (stack_frame.Call frame) → IsFrame program heap (stack_frame.Call (given takes frame))
+given_is_frame program heap takes frame is =
+    let few : length frame.activation.operands ≤ frame.body.max_stack = is.1.1 in
+    (is.0, (is.1.0, omega (arith, length-drop takes frame.activation.operands)), is.2, all_drop (IsValue heap) takes frame.activation.operands is.3, is.4, is.5)
+
+-- What a call's test of the depth tells.
+record HasDepth (frame : MethodFrame) (takes gives : ℕ) : Type 0 where
+  pub there : takes ≤ length frame.activation.operands
+  pub room : length frame.activation.operands - takes + gives ≤ frame.body.max_stack
+
+depth_is : (frame : MethodFrame) (takes gives : ℕ) → not (has_depth frame.body takes gives frame.activation) ≡ false → HasDepth frame takes gives
+depth_is frame takes gives is =
+    let there = nat_le takes (length frame.activation.operands) in
+    let room = nat_le (length frame.activation.operands - takes + gives) frame.body.max_stack in
+    let both = and_parts there room (not-false (there && room) is) in
+    record {
+      there = leb-true takes (length frame.activation.operands) both.0;
+      room = leb-true (length frame.activation.operands - takes + gives) frame.body.max_stack both.1;
+    }
+
+-- A text is the same as itself.
+same_as_itself : (text : List ℕ) → same_text text text ≡ true
+same_as_itself [] = refl
+same_as_itself (u ∷ us) = and_from (eqb u u) (same_text us us) (eq-eqb u u refl) (same_as_itself us)
+
+-- The call stands on its caller.
+stands_on_caller : (program : List Class) (heap : List Object) (frame callee : MethodFrame) (m : Method) (how : Invoke) (r : MethodReference) (takes : ℕ) → IsProgram program → IsFrame program heap (stack_frame.Call frame) → instruction_at frame ≡ Some (instruction.Invoke how r) → method_at program callee.method ≡ Some m → m.descriptor ≡ r.descriptor → HasDepth frame takes (result_length r.method_type.result) → StandsOn program (stack_frame.Call callee) (stack_frame.Call (given takes frame))
+stands_on_caller program heap frame callee m how r takes of_program is at m_is same depth =
+    let type : m.method_type ≡ r.method_type = called_has_type program frame.method frame.body frame.activation.place how r callee.method m of_program is.0 at m_is same in
+    let lengths : result_length m.method_type.result ≡ result_length r.method_type.result = ap (λ (t : MethodType). result_length t.result) type in
+    let room = depth.room in
+    (m, m_is, (instruction.Invoke how r, at, subst (λ d. IsTrue (same_text r.descriptor d)) (sym same) (same_as_itself r.descriptor), omega (arith, length-drop takes frame.activation.operands)))
+
+-- ---- The turn
+
+module _ (program : List Class) (limits : Limits) (start : Start) (s : State) (t : ℕ) (thread : Thread) where
+  abbrev KeepsSound : Decision Body → Type 0
+  KeepsSound d = Keeps program limits start s t d
+
+  abbrev HasFrames : List Frame → Type 0
+  HasFrames frames = Stands program limits s t thread frames
+
+  -- ---- How a method is entered
+
+  -- What is known where a method's code is entered with so many arguments.
+  record Enters (arguments : ℕ) (m : Method) (body : Body) : Type 0 where
+    pub body_is : m.body ≡ Some body
+    pub plain : m.flags.is_synchronized ≡ false
+    pub room : length thread.frames < limits.frames
+    pub few : arguments ≤ body.max_locals
+
+  enter_keeps : {frames : List Frame} → HasFrames frames → (arguments : ℕ) (m : Method) (body : Body) (make : Decision Body) → m.body ≡ Some body → (Enters arguments m body → KeepsSound make) → KeepsSound (enter_decision limits s thread arguments m body make)
+  enter_keeps stands arguments m body make body_is keeps =
+      cond_both (nat_le limits.frames (length thread.frames)) _ _ KeepsSound
+      (λ _. throws_keeps start stands thrown.StackOverflowError)
+      (λ room. cond_both (nat_lt body.max_locals arguments) _ _ KeepsSound
+      (λ _. still t stands.sound)
+      (λ few. cond_both m.flags.is_synchronized _ _ KeepsSound
+      (λ _. still t stands.sound)
+      (λ plain. keeps (record { body_is = body_is; plain = plain; room = leb-false limits.frames (length thread.frames) room; few = ltb-false body.max_locals arguments few }))))
+
+  with_body_keeps : {frames : List Frame} → HasFrames frames → (o : Option Body) (make : Body → Decision Body) → ((body : Body) → o ≡ Some body → KeepsSound (make body)) → KeepsSound (with_body o make)
+  with_body_keeps stands None make keeps = still t stands.sound
+  with_body_keeps stands (Some body) make keeps = keeps body refl
+
+  native_by : {frames : List Frame} → HasFrames frames → (n : MethodNumber) (o : Option Class) → o ≡ slice_get program n.class → KeepsSound (native_decision program limits s thread n)
+  native_by stands n None e = rw (← e) (throws_keeps start stands thrown.UnsatisfiedLinkError)
+  native_by stands n (Some c) e =
+      rw (← e) (cond_both (is_built_in c.name) _ _ KeepsSound (λ _. still t stands.sound) (λ _. throws_keeps start stands thrown.UnsatisfiedLinkError))
+
+  called_keeps : {frames : List Frame} → HasFrames frames → (arguments : ℕ) (n : MethodNumber) (m : Method) (make : Body → Decision Body) → ((body : Body) → Enters arguments m body → KeepsSound (make body)) → KeepsSound (called_decision program limits s thread arguments n m make)
+  called_keeps stands arguments n m make keeps =
+      cond_both m.flags.is_abstract _ _ KeepsSound
+      (λ _. throws_keeps start stands thrown.AbstractMethodError)
+      (λ _. cond_both m.flags.is_native _ _ KeepsSound
+      (λ _. native_by stands n (slice_get program n.class) refl)
+      (λ _. with_body_keeps stands m.body (λ body. enter_decision limits s thread arguments m body (make body))
+      (λ body body_is. enter_keeps stands arguments m body (make body) body_is (keeps body))))
+
+  -- ---- The first call
+
+  -- A method is entered.
+  enters_keeps : HasFrames [] → (m : Method) (body : Body) → IsStart start → method_at program start.method ≡ Some m → Enters (length start.arguments) m body → KeepsSound (decision.Makes (action.Enters start.method body))
+  unfolding applied_to items_of
+  enters_keeps stands m body starts m_is enters =
+      let frame = entered start.method body start.arguments in
+      let are : (called frame thread).frames ≡ stack_frame.Call frame ∷ [] = ap (λ (fs : List Frame). stack_frame.Call frame ∷ fs) stands.frames_are in
+      let values = all_weaker IsArgument (IsValue s.heap) (argument_is_value s.heap stands.sound.opened) start.arguments starts in
+      let room = enters.room in (
+        (λ _. moved_is_sound stands (called frame) (stack_frame.Call frame ∷ []) are refl refl
+            (entered_is_frame program s.heap start.method body start.arguments enters.few values (body_of program start.method m body m_is enters.body_is) (flag_of program start.method m m_is enters.plain), tt)
+            tt (omega arith) (λ c. count_call c frame [])),
+        (slice_get_within s.threads t thread stands.given_out, enters.few),
+        entered_mark program t (calls_of s t) _ start.method
+            (changed_calls s.threads t thread (called frame) stands.given_out ∙ ap (λ (ms : List MethodNumber). start.method ∷ ms) (sym (ap calls_in stands.given_out))),
+      )
+
+  entry_keeps : HasFrames [] → (o : Option Method) → IsStart start → method_at program start.method ≡ o → KeepsSound (entry_decision program limits start s t thread o)
+  entry_keeps stands None starts is = still t stands.sound
+  entry_keeps stands (Some m) starts is =
+      cond_both (is_outside_method m.method_type) _ _ KeepsSound
+      (λ _. still t stands.sound)
+      (λ _. asking_keeps program limits start s t thread stands start.method.class _
+      (called_keeps stands (length start.arguments) start.method m (λ body. decision.Makes (action.Enters start.method body))
+      (λ body enters. enters_keeps stands m body starts is enters)))
+
+  pub first_call_keeps : HasFrames [] → IsStart start → KeepsSound (first_call_decision program limits start s t thread)
+  first_call_keeps stands starts =
+      cond_both (t == 0) _ _ KeepsSound (λ _. entry_keeps stands (method_at program start.method) starts refl) (λ _. still t stands.sound)
+
+  -- ---- The four calls
+
+  module _ (frame : MethodFrame) (below : List Frame) (how : Invoke) (r : MethodReference) (stands : Stands program limits s t thread (stack_frame.Call frame ∷ below)) (at : instruction_at frame ≡ Some (instruction.Invoke how r)) (depth : HasDepth frame (taken how r.method_type) (result_length r.method_type.result)) where
+    -- The operands that are the arguments.
+    arguments_are : (takes : ℕ) → arguments_of takes (slice_get s.threads t) ≡ reverse (take takes frame.activation.operands)
+    arguments_are takes = ap (arguments_of takes) stands.given_out ∙ ap (λ (fs : List Frame). reverse (take takes (top_operands fs))) stands.frames_are
+
+    -- A method is called.
+    calls_keeps : (n : MethodNumber) (m : Method) (body : Body) → method_at program n ≡ Some m → m.descriptor ≡ r.descriptor → Enters (taken how r.method_type) m body → KeepsSound (decision.Makes (action.Calls n body (taken how r.method_type)))
+    unfolding applied_to items_of
+    calls_keeps n m body m_is same enters =
+        let takes = taken how r.method_type in
+        let arguments = arguments_of takes (slice_get s.threads t) in
+        let callee = entered n body arguments in
+        let frames = frames_are_stack stands in
+        let now = stack_frame.Call callee ∷ stack_frame.Call (given takes frame) ∷ below in
+        let are : (calling callee takes thread).frames ≡ now = ap (λ (fs : List Frame). stack_frame.Call callee ∷ top_given takes fs) stands.frames_are in
+        let as_many : length arguments ≡ takes = ap length (arguments_are takes) ∙ length-reverse (take takes frame.activation.operands) ∙ length-take-le takes frame.activation.operands depth.there in
+        let values : AllByRecursion (IsValue s.heap) arguments = subst (AllByRecursion (IsValue s.heap)) (sym (arguments_are takes)) (all_reverse (IsValue s.heap) (take takes frame.activation.operands) (all_take (IsValue s.heap) takes frame.activation.operands frames.0.0.3)) in
+        let few : length arguments ≤ body.max_locals = subst (λ k. k ≤ body.max_locals) (sym as_many) enters.few in
+        let there : length thread.frames ≡ length (stack_frame.Call frame ∷ below) = ap length stands.frames_are in
+        let room = enters.room in (
+          (λ of_program. moved_is_sound stands (calling callee takes) now are refl refl
+              (entered_is_frame program s.heap n body arguments few values (body_of program n m body m_is enters.body_is) (flag_of program n m m_is enters.plain), (given_is_frame program s.heap takes frame frames.0.0, frames.0.1))
+              (stands_on_caller program s.heap frame callee m how r takes of_program frames.0.0 at m_is same depth, stack_goes_on program frame (given takes frame).activation below frames.1)
+              (omega arith)
+              (λ c. count_call c callee (stack_frame.Call (given takes frame) ∷ below) ∙ count_call c (given takes frame) below ∙ sym (count_call c frame below))),
+          (slice_get_within s.threads t thread stands.given_out, enters.few, subst (λ o. IfSome o (λ (th : Thread). takes ≤ length (top_operands th.frames))) (sym stands.given_out) (subst (λ (fs : List Frame). takes ≤ length (top_operands fs)) (sym stands.frames_are) depth.there)),
+          entered_mark program t (calls_of s t) _ n
+              (changed_calls s.threads t thread (calling callee takes) stands.given_out ∙ ap (λ (ms : List MethodNumber). n ∷ ms) (given_calls takes thread.frames ∙ sym (ap calls_in stands.given_out))),
+        )
+
+    call_keeps : (n : MethodNumber) (m : Method) → method_at program n ≡ Some m → m.descriptor ≡ r.descriptor → KeepsSound (call_decision program limits s thread (taken how r.method_type) n m)
+    call_keeps n m m_is same =
+        called_keeps stands (taken how r.method_type) n m (λ body. decision.Makes (action.Calls n body (taken how r.method_type)))
+        (λ body enters. calls_keeps n m body m_is same enters)
+
+    -- What the number of a method leads to.
+    numbered_by : (n : MethodNumber) (o : Option Method) (make : MethodNumber → Method → Decision Body) → o ≡ method_at program n → ((m : Method) → o ≡ Some m → KeepsSound (make n m)) → KeepsSound (numbered program (Some n) make)
+    numbered_by n None make e keeps = rw (← e) (still t stands.sound)
+    numbered_by n (Some m) make e keeps = rw (← e) (keeps m refl)
+
+    numbered_keeps : (found : MethodFound) (o : Option MethodNumber) (make : MethodNumber → Method → Decision Body) → IsFound program r.descriptor found → method_number program found ≡ o → ((n : MethodNumber) (m : Method) → method_at program n ≡ Some m → m.descriptor ≡ r.descriptor → KeepsSound (make n m)) → KeepsSound (numbered program o make)
+    numbered_keeps found None make is number keeps = still t stands.sound
+    numbered_keeps found (Some n) make is number keeps =
+        numbered_by n (method_at program n) make refl (λ m m_is. keeps n m m_is (numbered_has_descriptor program r.descriptor found n m is number m_is))
+
+    static_keeps : (found : MethodFound) → IsFound program r.descriptor found → KeepsSound (static_call_decision program limits s t thread (taken how r.method_type) found)
+    static_keeps found is =
+        numbered_keeps found (method_number program found) _ is refl
+        (λ n m m_is same. asking_keeps program limits start s t thread stands n.class _ (call_keeps n m m_is same))
+
+    selected_keeps : (o : Option MethodFound) → ((f : MethodFound) → o ≡ Some f → IsFound program r.descriptor f) → KeepsSound (selected_decision program limits s thread (taken how r.method_type) o)
+    selected_keeps None is = throws_keeps start stands thrown.AbstractMethodError
+    selected_keeps (Some found) is = numbered_keeps found (method_number program found) _ (is found refl) refl call_keeps
+
+    wrong_receiver_keeps : (kind : Invoke) → KeepsSound (wrong_receiver limits s thread kind)
+    wrong_receiver_keeps invoke.Interface = throws_keeps start stands thrown.IncompatibleClassChangeError
+    wrong_receiver_keeps _ = still t stands.sound
+
+    object_call_keeps : (found : MethodFound) (o : Option Object) → IsFound program r.descriptor found → KeepsSound (object_call_decision program limits s thread frame how r found o)
+    object_call_keeps found None is = still t stands.sound
+    object_call_keeps found (Some o) is =
+        cond_both (fits program (class_of o) found.class.name) _ _ KeepsSound
+        (λ _. selected_keeps (selected program frame how r (class_of o) found) (λ f f_is. selected_is_found program frame how r (class_of o) r.descriptor found f is f_is))
+        (λ _. wrong_receiver_keeps how)
+
+    receiver_keeps : (found : MethodFound) (o : Option Value) → IsFound program r.descriptor found → KeepsSound (receiver_call_decision program limits s thread frame how r found o)
+    receiver_keeps found (Some (value.Reference q)) is = object_call_keeps found (object_at s.heap q) is
+    receiver_keeps found (Some value.Null) is = throws_keeps start stands thrown.NullPointerException
+    receiver_keeps found _ is = still t stands.sound
+
+    resolved_keeps : (o : Result MethodFound Thrown) → resolved_method program (is_static_call how) r ≡ o → KeepsSound (resolved_call_decision program limits s t thread frame how r o)
+    resolved_keeps (Err class) is = throws_keeps start stands class
+    resolved_keeps (Ok found) is =
+        let found_is = resolved_is_found program (is_static_call how) r found is in
+        cond_both (is_static_call how) _ _ KeepsSound
+        (λ _. static_keeps found found_is)
+        (λ _. receiver_keeps found (receiver_of r.method_type frame.activation.operands) found_is)
+
+  pub invoke_keeps : (frame : MethodFrame) (below : List Frame) (how : Invoke) (r : MethodReference) → HasFrames (stack_frame.Call frame ∷ below) → instruction_at frame ≡ Some (instruction.Invoke how r) → KeepsSound (invoke_decision program limits s t thread frame how r)
+  unfolding invoke_decision
+  invoke_keeps frame below how r stands at =
+      cond_both (not (has_depth frame.body (taken how r.method_type) (result_length r.method_type.result) frame.activation)) _ _ KeepsSound
+      (λ _. still t stands.sound)
+      (λ depth. cond_both (not (are_of_call how r.method_type frame.activation.operands)) _ _ KeepsSound
+      (λ _. still t stands.sound)
+      (λ _. resolved_keeps frame below how r stands at (depth_is frame (taken how r.method_type) (result_length r.method_type.result) depth) (resolved_method program (is_static_call how) r) refl))

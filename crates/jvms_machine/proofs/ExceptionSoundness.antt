@@ -1,0 +1,105 @@
+-- A turn that throws an exception leaves a sound state sound.
+use Rattle.std.proofs.Common.{◌≡◌, ℕ, ◌+◌, ◌<◌, ◌≤◌, Bool, true, leb-true, add-one, List, [], ◌∷◌, ◌++◌, length, Some, IfSome, IsTrue, codes, refl, sym, ap, ◌∙◌, subst, arith}
+use Rattle.std.proofs.lemmas.Bool.{cond_both}
+use Rattle.jvms_machine.specs.declared.machine.Limits.{Limits}
+use Rattle.jvms_machine.specs.declared.action.Exception.{Exception}
+use Rattle.jvms_machine.specs.declared.action.Exception.TheVariants as exception
+use Rattle.jvms_program.specs.declared.program.Class.{Class}
+use Rattle.jvms_program.specs.declared.thrown.Thrown.{Thrown}
+use Rattle.jvms_program.specs.declared.thrown.Thrown.TheVariants as thrown
+use Rattle.jvms_program.specs.Program.{IsProgram}
+use Rattle.jvms_program.specs.Resolution.{fits}
+use Rattle.jvms_machine.specs.State.{State, Object, instance, object_at, class_of, first_instance, Thread, Frame, IsThrowable, Sound}
+use Rattle.jvms_machine.specs.Start.{Start}
+use Rattle.jvms_machine.specs.Exceptions.{thrown_class, has_room_for, exception_of, exception_reference, raising, throws}
+use Rattle.jvms_machine.specs.Actions.{with_changed, with_exception, applied_to, items_of}
+use Rattle.jvms_machine.specs.Marks.{calls_in, calls_of}
+use Rattle.jvms_machine.proofs.ListLaws.{appended_at}
+use Rattle.jvms_machine.proofs.InitialisationOrder.{order_with_thread}
+use Rattle.jvms_machine.proofs.OpeningSoundness.{first_instance_is}
+use Rattle.jvms_machine.proofs.HeapGrowth.{grown_length, grown_is_sound}
+use Rattle.jvms_machine.proofs.ThrowableClasses.{thrown_fits}
+use Rattle.jvms_machine.proofs.MarkLaws.{unmarked_by, changed_calls}
+use Rattle.jvms_machine.proofs.ThreadChanges.{Stands, thread_is, changed_is_sound}
+use Rattle.jvms_machine.proofs.KeptStates.{Keeps}
+
+-- ---- What is thrown
+
+-- An object of a class that fits Throwable is one.
+throwable_by : (program : List Class) (heap : List Object) (r : ℕ) (o : Object) → object_at heap r ≡ Some o → IsTrue (fits program (class_of o) (codes "java/lang/Throwable")) → (0 < r) × (r ≤ length heap) → IsThrowable program heap r
+throwable_by program heap r o at is reference =
+    (subst (λ p. IfSome p (λ (q : Object). IsTrue (fits program (class_of q) (codes "java/lang/Throwable")))) (sym at) is, reference)
+
+-- There is room for an object that is made; one that is there is a Throwable.
+abbrev IsThrown : List Class → Limits → State → Exception → Type 0
+IsThrown program limits s (exception.New class) = length s.heap + 1 ≤ limits.objects
+IsThrown program limits s (exception.Held r) = IsProgram program → IsThrowable program s.heap r
+
+memory_is_thrown : (program : List Class) (limits : Limits) (s : State) → Sound program limits s → IsThrown program limits s (exception.Held 1)
+unfolding thrown_class
+memory_is_thrown program limits s sound = λ is.
+    let opened = sound.opened in
+    throwable_by program s.heap 1 (instance (codes "java/lang/OutOfMemoryError") sound.out_of_memory.0) sound.out_of_memory.1 (thrown_fits program thrown.OutOfMemoryError is) (omega arith, omega arith)
+
+overflow_is_thrown : (program : List Class) (limits : Limits) (s : State) → Sound program limits s → IsThrown program limits s (exception.Held 2)
+unfolding thrown_class
+overflow_is_thrown program limits s sound = λ is.
+    let opened = sound.opened in
+    throwable_by program s.heap 2 (instance (codes "java/lang/StackOverflowError") sound.stack_overflow.0) sound.stack_overflow.1 (thrown_fits program thrown.StackOverflowError is) (omega arith, omega arith)
+
+exception_is_thrown : (program : List Class) (limits : Limits) (s : State) → Sound program limits s → (class : Thrown) → IsThrown program limits s (exception_of limits s class)
+exception_is_thrown program limits s sound thrown.OutOfMemoryError = memory_is_thrown program limits s sound
+exception_is_thrown program limits s sound thrown.StackOverflowError = overflow_is_thrown program limits s sound
+exception_is_thrown program limits s sound class =
+    cond_both (has_room_for 1 limits s) (exception.New class) (exception.Held 1) (IsThrown program limits s)
+    (λ room. leb-true (length s.heap + 1) limits.objects room) (λ _. memory_is_thrown program limits s sound)
+
+-- A new object of a thrown class is a Throwable.
+new_is_throwable : (program : List Class) (heap : List Object) (class : Thrown) → IsProgram program → IsThrowable program (heap ++ first_instance program (thrown_class class) ∷ []) (length heap + 1)
+new_is_throwable program heap class is =
+    let new = first_instance program (thrown_class class) in
+    let longer = grown_length heap new in
+    throwable_by program (heap ++ new ∷ []) (length heap + 1) new (rw add-one (appended_at heap new)) (thrown_fits program class is) (omega arith, omega arith)
+
+-- ---- Its thread
+
+-- A thread with an exception pending, which may have ended with it.
+abbrev struck : (Bool → Bool) → ℕ → Thread → Thread
+struck finish r thread = record thread { pending = Some r; ended = finish thread.ended }
+
+module _ (program : List Class) (limits : Limits) (t : ℕ) (thread : Thread) (frames : List Frame) (finish : Bool → Bool) where
+  struck_is_sound : (s : State) → Stands program limits s t thread frames → (r : ℕ) → IsThrowable program s.heap r → Sound program limits (with_changed s t (struck finish r))
+  struck_is_sound s stands r is =
+      let was = thread_is stands in
+      changed_is_sound stands (struck finish r) s.initialisations s.result refl (was.0, was.1, was.2, is, was.4) refl
+      (order_with_thread s.threads s.initialisations t thread (struck finish r thread) stands.given_out stands.sound.initialised (λ c. refl))
+      stands.sound.result
+
+  thrown_is_sound : (s : State) → Stands program limits s t thread frames → (e : Exception) → IsThrown program limits s e → IsProgram program → Sound program limits (with_changed (with_exception program s e) t (struck finish (exception_reference s e)))
+  thrown_is_sound s stands (exception.New class) room is =
+      let new = first_instance program (thrown_class class) in
+      let grown : State = record s { heap = s.heap ++ new ∷ [] } in
+      let grown_sound : Sound program limits grown = grown_is_sound program limits s new stands.sound (first_instance_is program (s.heap ++ new ∷ []) (thrown_class class)) room in
+      struck_is_sound grown (record { sound = grown_sound; given_out = stands.given_out; frames_are = stands.frames_are }) (length s.heap + 1) (new_is_throwable program s.heap class is)
+  thrown_is_sound s stands (exception.Held r) throwable is = struck_is_sound s stands r (throwable is)
+
+  -- It has the calls that it had.
+  thrown_calls : (s : State) → Stands program limits s t thread frames → (e : Exception) (r : ℕ) → calls_of (with_changed (with_exception program s e) t (struck finish r)) t ≡ calls_of s t
+  thrown_calls s stands (exception.New class) r = changed_calls s.threads t thread (struck finish r) stands.given_out ∙ sym (ap calls_in stands.given_out)
+  thrown_calls s stands (exception.Held q) r = changed_calls s.threads t thread (struck finish r) stands.given_out ∙ sym (ap calls_in stands.given_out)
+
+-- ---- The turn
+
+module _ (program : List Class) (limits : Limits) (start : Start) (s : State) (t : ℕ) (thread : Thread) (frames : List Frame) (stands : Stands program limits s t thread frames) where
+  raising_keeps : (fs : List Frame) (e : Exception) → IsThrown program limits s e → Keeps program limits start s t (raising fs e)
+  unfolding applied_to items_of
+  raising_keeps [] e is =
+      ((λ of_program. thrown_is_sound program limits t thread frames (λ _. true) s stands e is of_program), tt, unmarked_by program t (calls_of s t) _ (thrown_calls program limits t thread frames (λ _. true) s stands e (exception_reference s e)))
+  raising_keeps (f ∷ below) e is =
+      ((λ of_program. thrown_is_sound program limits t thread frames (λ b. b) s stands e is of_program), tt, unmarked_by program t (calls_of s t) _ (thrown_calls program limits t thread frames (λ b. b) s stands e (exception_reference s e)))
+
+-- The turn of a thread that throws an exception keeps a state sound.
+pub throws_keeps : {program : List Class} {limits : Limits} {s : State} {t : ℕ} {thread : Thread} {frames : List Frame} (start : Start) → Stands program limits s t thread frames → (class : Thrown) → Keeps program limits start s t (throws limits s thread class)
+unfolding throws
+throws_keeps {program = program} {limits = limits} {s = s} {t = t} {thread = thread} {frames = frames} start stands class =
+    raising_keeps program limits start s t thread frames stands thread.frames (exception_of limits s class) (exception_is_thrown program limits s stands.sound class)

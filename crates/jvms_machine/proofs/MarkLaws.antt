@@ -1,0 +1,73 @@
+-- The marks of a turn that changes one thread's calls by at most one.
+use Rattle.std.proofs.Common.{◌≡◌, ℕ, ◌-◌, ◌==◌, List, [], ◌∷◌, ◌++◌, length, Option, Some, slice_get, flat_map, take, refl, sym, ap, ◌∙◌, arith}
+use Rattle.std.proofs.lemmas.Bool.{cond_both}
+use Rattle.std.proofs.lemmas.List.{append-nil}
+use Rattle.jvms_machine.specs.declared.value.Value.{Value}
+use Rattle.jvms_machine.specs.declared.state.StackFrame.TheVariants as stack_frame
+use Rattle.jvms_machine.specs.declared.action.FrameAction.{FrameAction}
+use Rattle.jvms_program.specs.declared.number.MethodNumber.{MethodNumber}
+use Rattle.jvms_program.specs.declared.program.Class.{Class}
+use Rattle.jvms_machine.specs.State.{State, Thread, Frame}
+use Rattle.jvms_machine.specs.Actions.{enter_items, exit_items, changed_to, top_gone_on, top_given, caller_gone_on, with_result}
+use Rattle.jvms_machine.specs.Marks.{calls, calls_in, calls_of, marks_between}
+use Rattle.jvms_machine.proofs.ListLaws.{get_set_same}
+
+-- ---- Marks
+
+-- Where no call comes or goes, there are no marks.
+pub unmarked : (program : List Class) (t : ℕ) (before : List MethodNumber) → [] ≡ marks_between program t before before
+unmarked program t before =
+    let none : length before - length before ≡ 0 = omega arith in
+    sym (ap (λ n. flat_map (exit_items program t) (take n before) ++ flat_map (enter_items program t) (take n before)) none)
+
+pub unmarked_by : (program : List Class) (t : ℕ) (before after : List MethodNumber) → after ≡ before → [] ≡ marks_between program t before after
+unmarked_by program t before after same = unmarked program t before ∙ sym (ap (marks_between program t before) same)
+
+-- A call that comes.
+pub entered_mark : (program : List Class) (t : ℕ) (before after : List MethodNumber) (m : MethodNumber) → after ≡ m ∷ before → enter_items program t m ≡ marks_between program t before after
+entered_mark program t before after m one =
+    let none : length before - length (m ∷ before) ≡ 0 = omega arith in
+    let more : length (m ∷ before) - length before ≡ 1 = omega arith in
+    sym (ap (marks_between program t before) one
+    ∙ ap (λ n. flat_map (exit_items program t) (take n before) ++ flat_map (enter_items program t) (take (length (m ∷ before) - length before) (m ∷ before))) none
+    ∙ ap (λ n. flat_map (enter_items program t) (take n (m ∷ before))) more
+    ∙ append-nil (enter_items program t m))
+
+-- A call that goes.
+pub left_mark : (program : List Class) (t : ℕ) (before after : List MethodNumber) (m : MethodNumber) → before ≡ m ∷ after → exit_items program t m ≡ marks_between program t before after
+left_mark program t before after m one =
+    let none : length after - length (m ∷ after) ≡ 0 = omega arith in
+    let more : length (m ∷ after) - length after ≡ 1 = omega arith in
+    sym (ap (λ b. marks_between program t b after) one
+    ∙ ap (λ n. flat_map (exit_items program t) (take (length (m ∷ after) - length after) (m ∷ after)) ++ flat_map (enter_items program t) (take n after)) none
+    ∙ append-nil (flat_map (exit_items program t) (take (length (m ∷ after) - length after) (m ∷ after)))
+    ∙ ap (λ n. flat_map (exit_items program t) (take n (m ∷ after))) more
+    ∙ append-nil (exit_items program t m))
+
+-- ---- Calls
+
+-- The calls of a changed thread.
+pub changed_calls : (threads : List Thread) (t : ℕ) (thread : Thread) (change : Thread → Thread) → slice_get threads t ≡ Some thread → calls_in (slice_get (changed_to threads t change (slice_get threads t)) t) ≡ calls (change thread).frames
+changed_calls threads t thread change given =
+    ap calls_in (ap (λ o. slice_get (changed_to threads t change o) t) given ∙ get_set_same threads t thread (change thread) given)
+
+-- A call that goes on is one of the same method.
+pub gone_on_calls : (act : FrameAction) (frames : List Frame) → calls (top_gone_on act frames) ≡ calls frames
+gone_on_calls act [] = refl
+gone_on_calls act (stack_frame.Call f ∷ below) = refl
+gone_on_calls act (stack_frame.Initialisation class called ∷ below) = refl
+
+-- So is a caller.
+pub given_calls : (takes : ℕ) (frames : List Frame) → calls (top_given takes frames) ≡ calls frames
+given_calls takes [] = refl
+given_calls takes (stack_frame.Call f ∷ below) = refl
+given_calls takes (stack_frame.Initialisation class called ∷ below) = refl
+
+pub returned_calls : (result : Option Value) (frames : List Frame) → calls (caller_gone_on result frames) ≡ calls frames
+returned_calls result [] = refl
+returned_calls result (stack_frame.Call f ∷ below) = refl
+returned_calls result (stack_frame.Initialisation class called ∷ below) = refl
+
+-- The run's result is no thread's.
+pub result_calls : (s : State) (t : ℕ) (result : Option Value) → calls_of (with_result s t result) t ≡ calls_of s t
+result_calls s t result = cond_both (t == 0) (record s { result = result }) s (λ (r : State). calls_of r t ≡ calls_of s t) (λ _. refl) (λ _. refl)

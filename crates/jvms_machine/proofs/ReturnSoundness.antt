@@ -1,0 +1,155 @@
+-- A turn of a return leaves a sound state sound: the thread ends, or its caller goes on with the result, for which it has
+-- room.
+use Rattle.std.proofs.Common.{◌≡◌, ℕ, ◌+◌, ◌≤◌, true, ◌&&◌, ◌==◌, List, [], ◌∷◌, length, drop, Option, Some, None, IfSome, slice_get, count_by, refl, sym, ap, ◌∙◌, subst, arith}
+use Rattle.std.specs.List.{AllByRecursion}
+use Rattle.std.proofs.lemmas.Bool.{cond_both, and_parts}
+use Rattle.std.proofs.lemmas.Option.{same_Some, slice_get_within}
+use Rattle.jvms_machine.specs.declared.value.Value.{Value}
+use Rattle.jvms_machine.specs.declared.machine.Limits.{Limits}
+use Rattle.jvms_machine.specs.declared.state.StackFrame.TheVariants as stack_frame
+use Rattle.jvms_machine.specs.declared.action.Action.TheVariants as action
+use Rattle.jvms_machine.specs.declared.action.Decision.{Decision}
+use Rattle.jvms_machine.specs.declared.action.Decision.TheVariants as decision
+use Rattle.jvms_file.specs.declared.descriptor.ResultType.{ResultType}
+use Rattle.jvms_file.specs.declared.descriptor.ResultType.TheVariants as result_type
+use Rattle.jvms_file.specs.declared.insn.Kind.{Kind}
+use Rattle.jvms_file.specs.declared.insn.Kind.TheVariants as kind
+use Rattle.jvms_file.specs.declared.insn.ReturnInsn.{ReturnInsn}
+use Rattle.jvms_file.specs.declared.insn.ReturnInsn.TheVariants as returns
+use Rattle.jvms_program.specs.declared.number.MethodNumber.{MethodNumber}
+use Rattle.jvms_program.specs.declared.program.Class.{Class}
+use Rattle.jvms_program.specs.declared.program.Method.{Method}
+use Rattle.jvms_program.specs.declared.program.Body.{Body}
+use Rattle.jvms_program.specs.Program.{method_at}
+use Rattle.jvms_machine.specs.State.{State, Object, Thread, Frame, MethodFrame, IsValue, IsFrame, IsStack, StandsOn, result_length, is_initialisation_of, Sound}
+use Rattle.jvms_machine.specs.Start.{Start}
+use Rattle.jvms_machine.specs.Locals.{is_loaded}
+use Rattle.jvms_machine.specs.Returns.{gives_kind, gives_nothing, returned_decision, return_top_decision, return_decision, method_return_decision}
+use Rattle.jvms_machine.specs.Actions.{changed_to, ended, with_returned, returned_to, caller_gone_on, returned, with_changed, applied_to, items_of}
+use Rattle.jvms_machine.specs.Marks.{calls, calls_in, calls_of}
+use Rattle.jvms_machine.specs.Turn.{HasRoomFor}
+use Rattle.jvms_machine.proofs.InitialisationOrder.{order_with_thread, count_call}
+use Rattle.jvms_machine.proofs.MarkLaws.{left_mark, changed_calls, returned_calls, result_calls}
+use Rattle.jvms_machine.proofs.ThreadChanges.{Stands, thread_is, frames_are_stack, changed_is_sound, moved_is_sound, stack_goes_on}
+use Rattle.jvms_machine.proofs.KeptStates.{Keeps, still}
+
+-- ---- The caller of a call that returns
+
+-- A result is one that a method of this type gives.
+abbrev IsResultOf : ResultType → Option Value → Type 0
+IsResultOf type None = Unit {0}
+IsResultOf type (Some v) = result_length type ≡ 1
+
+gives_one : (type : ResultType) (k : Kind) → gives_kind type k ≡ true → result_length type ≡ 1
+gives_one result_type.Void k gives = absurd (cc)
+gives_one (result_type.Value t) k gives = refl
+
+-- The caller has room for it.
+has_room_for_result : (program : List Class) (frame : MethodFrame) (m : Method) (result : Option Value) (f : Frame) (below : List Frame) → method_at program frame.method ≡ Some m → IsResultOf m.method_type.result result → StandsOn program (stack_frame.Call frame) f → HasRoomFor result (f ∷ below)
+has_room_for_result program frame m None f below m_is gives on = tt
+has_room_for_result program frame m (Some v) (stack_frame.Initialisation class called) below m_is gives on = tt
+has_room_for_result program frame m (Some v) (stack_frame.Call lower) below m_is gives on =
+    let same : on.0 ≡ m = same_Some on.0 m (sym on.1 ∙ m_is) in
+    let one : result_length on.0.method_type.result ≡ 1 = ap (λ (k : Method). result_length k.method_type.result) same ∙ gives in
+    let room : length lower.activation.operands + result_length on.0.method_type.result ≤ lower.body.max_stack = on.2.3 in
+    omega arith
+
+-- The caller with the result on top of its operands is a frame.
+returned_operands : (heap : List Object) (result : Option Value) (lower : MethodFrame) (below : List Frame) → HasRoomFor result (stack_frame.Call lower ∷ below) → length lower.activation.operands ≤ lower.body.max_stack → IfSome result (IsValue heap) → AllByRecursion (IsValue heap) lower.activation.operands → (length (with_returned result lower.activation.operands) ≤ lower.body.max_stack) × AllByRecursion (IsValue heap) (with_returned result lower.activation.operands)
+returned_operands heap None lower below room few is values = (few, values)
+returned_operands heap (Some v) lower below room few is values = (omega arith, (is, values))
+
+returned_frames : (program : List Class) (heap : List Object) (result : Option Value) (f : Frame) (below : List Frame) → HasRoomFor result (f ∷ below) → IfSome result (IsValue heap) → AllByRecursion (IsFrame program heap) (f ∷ below) → AllByRecursion (IsFrame program heap) (caller_gone_on result (f ∷ below))
+returned_frames program heap result (stack_frame.Initialisation class called) below room is all = all
+returned_frames program heap result (stack_frame.Call lower) below room is all =
+    let operands = returned_operands heap result lower below room all.0.1.1 is all.0.3 in
+    ((all.0.0, (all.0.1.0, operands.0), all.0.2, operands.1, all.0.4, all.0.5), all.1)
+
+-- It stands where it stood.
+returned_stack : (program : List Class) (result : Option Value) (frames : List Frame) → IsStack program frames → IsStack program (caller_gone_on result frames)
+returned_stack program result [] stack = stack
+returned_stack program result (stack_frame.Initialisation class called ∷ below) stack = stack
+returned_stack program result (stack_frame.Call lower ∷ below) stack = stack_goes_on program lower (returned_to result lower).activation below stack
+
+returned_length : (result : Option Value) (frames : List Frame) → length (caller_gone_on result frames) ≡ length frames
+returned_length result [] = refl
+returned_length result (stack_frame.Initialisation class called ∷ below) = refl
+returned_length result (stack_frame.Call lower ∷ below) = refl
+
+returned_count : (result : Option Value) (c : ℕ) (frames : List Frame) → count_by (is_initialisation_of c) (caller_gone_on result frames) ≡ count_by (is_initialisation_of c) frames
+returned_count result c [] = refl
+returned_count result c (stack_frame.Initialisation class called ∷ below) = refl
+returned_count result c (stack_frame.Call lower ∷ below) = count_call c (returned_to result lower) below ∙ sym (count_call c lower below)
+
+-- ---- The turn
+
+module _ (program : List Class) (limits : Limits) (start : Start) (s : State) (t : ℕ) (thread : Thread) where
+  abbrev KeepsSound : Decision Body → Type 0
+  KeepsSound d = Keeps program limits start s t d
+
+  abbrev HasFrames : List Frame → Type 0
+  HasFrames frames = Stands program limits s t thread frames
+
+  -- The thread ends, with a result that is a value.
+  ended_is_sound : (frame : MethodFrame) (result : Option Value) → HasFrames (stack_frame.Call frame ∷ []) → IfSome result (IsValue s.heap) → Sound program limits (record s { threads = changed_to s.threads t ended (slice_get s.threads t); result = result })
+  ended_is_sound frame result stands result_is =
+      let was = thread_is stands in
+      changed_is_sound stands ended s.initialisations result refl
+      (tt, tt, omega arith, was.3, was.4)
+      refl
+      (order_with_thread s.threads s.initialisations t thread (ended thread) stands.given_out stands.sound.initialised
+      (λ c. sym (count_call c frame []) ∙ sym (ap (count_by (is_initialisation_of c)) stands.frames_are)))
+      result_is
+
+  -- The caller goes on.
+  returns_keeps : (frame : MethodFrame) (f : Frame) (below : List Frame) (result : Option Value) → HasFrames (stack_frame.Call frame ∷ f ∷ below) → IfSome result (IsValue s.heap) → HasRoomFor result (f ∷ below) → KeepsSound (decision.Makes (action.Returns frame.method result))
+  unfolding applied_to items_of
+  returns_keeps frame f below result stands result_is room =
+      let frames = frames_are_stack stands in
+      let now = caller_gone_on result (f ∷ below) in
+      let are : (returned result thread).frames ≡ now = ap (λ (fs : List Frame). caller_gone_on result (drop 1 fs)) stands.frames_are in
+      let as_many : length now ≡ length (f ∷ below) = returned_length result (f ∷ below) in
+      let few = frames.2 in (
+        (λ _. moved_is_sound stands (returned result) now are refl refl
+            (returned_frames program s.heap result f below room result_is frames.0.1)
+            (returned_stack program result (f ∷ below) frames.1.1)
+            (omega arith)
+            (λ c. returned_count result c (f ∷ below) ∙ sym (count_call c frame (f ∷ below)))),
+        (slice_get_within s.threads t thread stands.given_out, subst (λ o. IfSome o (λ (th : Thread). HasRoomFor result (drop 1 th.frames))) (sym stands.given_out) (subst (λ (fs : List Frame). HasRoomFor result (drop 1 fs)) (sym stands.frames_are) room)),
+        left_mark program t (calls_of s t) _ frame.method
+            (ap calls_in stands.given_out ∙ ap calls stands.frames_are
+            ∙ ap (λ (ms : List MethodNumber). frame.method ∷ ms) (sym (changed_calls s.threads t thread (returned result) stands.given_out ∙ ap calls are ∙ returned_calls result (f ∷ below)))),
+      )
+
+  returned_keeps : (frame : MethodFrame) (below : List Frame) (m : Method) (result : Option Value) → HasFrames (stack_frame.Call frame ∷ below) → method_at program frame.method ≡ Some m → IsResultOf m.method_type.result result → IfSome result (IsValue s.heap) → KeepsSound (returned_decision frame.method below result)
+  unfolding applied_to items_of
+  returned_keeps frame [] m result stands m_is gives result_is = (
+    (λ _. cond_both (t == 0) _ _ (Sound program limits) (λ _. ended_is_sound frame result stands result_is) (λ _. ended_is_sound frame s.result stands stands.sound.result)),
+    tt,
+    left_mark program t (calls_of s t) _ frame.method
+        (ap calls_in stands.given_out ∙ ap calls stands.frames_are
+        ∙ ap (λ (ms : List MethodNumber). frame.method ∷ ms) (sym (result_calls (with_changed s t ended) t result ∙ changed_calls s.threads t thread ended stands.given_out))),
+  )
+  returned_keeps frame (f ∷ below) m result stands m_is gives result_is =
+      returns_keeps frame f below result stands result_is (has_room_for_result program frame m result f below m_is gives (frames_are_stack stands).1.0)
+
+  return_top_keeps : (frame : MethodFrame) (below : List Frame) (m : Method) (k : Kind) (operands : List Value) → HasFrames (stack_frame.Call frame ∷ below) → method_at program frame.method ≡ Some m → AllByRecursion (IsValue s.heap) operands → KeepsSound (return_top_decision frame.method below m.method_type.result k operands)
+  return_top_keeps frame below m k [] stands m_is values = still t stands.sound
+  return_top_keeps frame below m k (v ∷ vs) stands m_is values =
+      cond_both (is_loaded k v && gives_kind m.method_type.result k) _ _ KeepsSound
+      (λ both. returned_keeps frame below m (Some v) stands m_is (gives_one m.method_type.result k (and_parts (is_loaded k v) (gives_kind m.method_type.result k) both).1) values.0)
+      (λ _. still t stands.sound)
+
+  return_keeps : (frame : MethodFrame) (below : List Frame) (m : Method) (operands : List Value) (how : ReturnInsn) → HasFrames (stack_frame.Call frame ∷ below) → method_at program frame.method ≡ Some m → AllByRecursion (IsValue s.heap) operands → KeepsSound (return_decision frame.method below operands m.method_type.result how)
+  return_keeps frame below m operands returns.Void stands m_is values =
+      cond_both (gives_nothing m.method_type.result) _ _ KeepsSound (λ _. returned_keeps frame below m None stands m_is tt tt) (λ _. still t stands.sound)
+  return_keeps frame below m operands (returns.Value kind.Int) stands m_is values = return_top_keeps frame below m kind.Int operands stands m_is values
+  return_keeps frame below m operands (returns.Value kind.Reference) stands m_is values = return_top_keeps frame below m kind.Reference operands stands m_is values
+  return_keeps frame below m operands (returns.Value _) stands m_is values = still t stands.sound
+
+  pub method_return_keeps : (frame : MethodFrame) (below : List Frame) (how : ReturnInsn) (o : Option Method) → HasFrames (stack_frame.Call frame ∷ below) → method_at program frame.method ≡ o → AllByRecursion (IsValue s.heap) frame.activation.operands → KeepsSound (method_return_decision frame below how o)
+  method_return_keeps frame below how None stands m_is values = still t stands.sound
+  method_return_keeps frame below how (Some m) stands m_is values =
+      cond_both m.flags.is_synchronized _ _ KeepsSound
+      (λ _. still t stands.sound)
+      (λ _. return_keeps frame below m frame.activation.operands how stands m_is values)

@@ -1,0 +1,20 @@
+-- What a search of a list finds.
+use Rattle.std.proofs.Common.{◌≡◌, ℕ, Bool, true, false, cond, nat_lt, List, [], ◌∷◌, length, Some, slice_get, refl, sym, ap, ◌∙◌, subst}
+use Rattle.std.specs.List.{find, position, position_or_len}
+use Rattle.std.proofs.lemmas.List.Folds.{find_at}
+use Rattle.std.proofs.lemmas.Option.{same_Some, none-some, cond_some}
+
+-- What is found passes the test.
+passes_by : {X : Type 0} (test : X → Bool) (b : Bool) (y x : X) (xs : List X) → b ≡ test y → (find test xs ≡ Some x → test x ≡ true) → cond b (Some y) (find test xs) ≡ Some x → test x ≡ true
+passes_by test true y x xs e more is = subst (λ z. test z ≡ true) (same_Some y x is) (sym e)
+passes_by test false y x xs e more is = more is
+
+pub find_passes : {X : Type 0} (test : X → Bool) (xs : List X) (x : X) → find test xs ≡ Some x → test x ≡ true
+find_passes test [] x is = absurd (none-some x is)
+find_passes test (y ∷ xs) x is = passes_by test (test y) y x xs refl (find_passes test xs x) is
+
+-- At the place of a search stands what it finds.
+pub position_leads : {X : Type 0} (test : X → Bool) (xs : List X) (n : ℕ) → position test xs ≡ Some n → slice_get xs n ≡ find test xs
+position_leads test xs n is =
+    let same = cond_some (nat_lt (position_or_len test xs) (length xs)) (position_or_len test xs) n is in
+    ap (slice_get xs) (sym same.1) ∙ sym (find_at test xs)

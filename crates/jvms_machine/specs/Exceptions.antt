@@ -1,0 +1,63 @@
+-- Exceptions that the machine throws (JVMS 2.10). A test that throws changes nothing but the object that it makes and
+-- what is pending: operands, local variables and place stay.
+use Rattle.std.specs.Prelude.{ℕ, ◌+◌, nat_le, Bool, if◌then◌else◌, List, [], ◌∷◌, length, codes}
+use Rattle.jvms_program.specs.declared.program.Body.{Body}
+use Rattle.jvms_program.specs.declared.thrown.Thrown.{Thrown}
+use Rattle.jvms_program.specs.declared.thrown.Thrown.TheVariants as thrown
+use Rattle.jvms_machine.specs.declared.machine.Limits.{Limits}
+use Rattle.jvms_machine.specs.declared.action.Action.TheVariants as action
+use Rattle.jvms_machine.specs.declared.action.Decision.{Decision}
+use Rattle.jvms_machine.specs.declared.action.Decision.TheVariants as decision
+use Rattle.jvms_machine.specs.declared.action.Exception.{Exception}
+use Rattle.jvms_machine.specs.declared.action.Exception.TheVariants as exception
+use Rattle.jvms_machine.specs.State.{State, Frame, Thread}
+
+-- The name of an exception's class.
+unfoldable pub thrown_class : Thrown → List ℕ
+thrown_class thrown.ArithmeticException = codes "java/lang/ArithmeticException"
+thrown_class thrown.ArrayStoreException = codes "java/lang/ArrayStoreException"
+thrown_class thrown.ClassCastException = codes "java/lang/ClassCastException"
+thrown_class thrown.IllegalMonitorStateException = codes "java/lang/IllegalMonitorStateException"
+thrown_class thrown.IllegalThreadStateException = codes "java/lang/IllegalThreadStateException"
+thrown_class thrown.NegativeArraySizeException = codes "java/lang/NegativeArraySizeException"
+thrown_class thrown.NullPointerException = codes "java/lang/NullPointerException"
+thrown_class thrown.ArrayIndexOutOfBoundsException = codes "java/lang/ArrayIndexOutOfBoundsException"
+thrown_class thrown.NoClassDefFoundError = codes "java/lang/NoClassDefFoundError"
+thrown_class thrown.IncompatibleClassChangeError = codes "java/lang/IncompatibleClassChangeError"
+thrown_class thrown.UnsatisfiedLinkError = codes "java/lang/UnsatisfiedLinkError"
+thrown_class thrown.ExceptionInInitializerError = codes "java/lang/ExceptionInInitializerError"
+thrown_class thrown.AbstractMethodError = codes "java/lang/AbstractMethodError"
+thrown_class thrown.InstantiationError = codes "java/lang/InstantiationError"
+thrown_class thrown.NoSuchFieldError = codes "java/lang/NoSuchFieldError"
+thrown_class thrown.NoSuchMethodError = codes "java/lang/NoSuchMethodError"
+thrown_class thrown.OutOfMemoryError = codes "java/lang/OutOfMemoryError"
+thrown_class thrown.StackOverflowError = codes "java/lang/StackOverflowError"
+
+-- ---- Which object is thrown
+
+-- Whether so many objects more are within the limits.
+abbrev pub has_room_for : ℕ → Limits → State → Bool
+has_room_for count limits s = nat_le (length s.heap + count) limits.objects
+
+-- Where too many objects, elements, threads or entries of a monitor would be there, reference 1 is thrown, and where
+-- too many frames, reference 2. Others are made anew, unless there is no room for one more object.
+abbrev pub exception_of : Limits → State → Thrown → Exception
+exception_of limits s thrown.OutOfMemoryError = exception.Held 1
+exception_of limits s thrown.StackOverflowError = exception.Held 2
+exception_of limits s class = if has_room_for 1 limits s then exception.New class else exception.Held 1
+
+-- The reference of what is thrown.
+abbrev pub exception_reference : State → Exception → ℕ
+exception_reference s (exception.New class) = length s.heap + 1
+exception_reference s (exception.Held r) = r
+
+-- ---- The turn that throws
+
+-- With a frame the exception is pending after the turn; without one the thread has ended.
+abbrev pub raising : List Frame → Exception → Decision Body
+raising [] e = decision.Makes (action.Fails e)
+raising (f ∷ below) e = decision.Makes (action.Raises e)
+
+-- The turn of this thread throws an exception of this class.
+unfoldable pub throws : Limits → State → Thread → Thrown → Decision Body
+throws limits s thread class = raising thread.frames (exception_of limits s class)

@@ -1,0 +1,67 @@
+-- Superclasses and superinterfaces by their numbers.
+use Rattle.std.specs.Prelude.{◌≡◌, ℕ, Bool, true, false, nat_eq, nat_le, if◌then◌else◌, List, [], ◌∷◌, ◌++◌, map, length, Option, Some, None, slice_get, slice_index_or, unwrap_or}
+use Rattle.std.specs.List.{flat_map, fold, list_all, list_any, IsDistinct}
+use Rattle.jvms_program.specs.declared.program.Class.{Class}
+use Rattle.jvms_program.specs.Program.{class_number}
+use Rattle.jvms_program.specs.Resolution.{ancestry_within, names_class}
+use Rattle.linker.specs.Linking.{supers_of}
+
+-- ---- Numbers
+
+abbrev pub to_list : Option ℕ → List ℕ
+to_list None = []
+to_list (Some n) = n ∷ []
+
+-- The numbers of the classes of these names that are there.
+abbrev pub numbers_of : List Class → List (List ℕ) → List ℕ
+numbers_of program names = flat_map (λ name. to_list (class_number program name)) names
+
+abbrev pub super_numbers : List Class → Class → List ℕ
+super_numbers program c = numbers_of program (supers_of c)
+
+-- The same of each class of the program.
+abbrev pub super_rows : List Class → List (List ℕ)
+super_rows program = map (super_numbers program) program
+
+-- Whether a class of a name stands in the ancestry of one of these names, so many classes up at most.
+abbrev pub is_above : List Class → ℕ → List ℕ → List (List ℕ) → Bool
+is_above program most name names = list_any (λ super. names_class name (ancestry_within most program super)) names
+
+-- ---- Ranks
+
+abbrev pub rank : List ℕ → ℕ → ℕ
+rank ranks number = unwrap_or (slice_get ranks number) 0
+
+-- ---- Sets of numbers, in the order in which they came
+
+abbrev pub is_in : List ℕ → ℕ → Bool
+is_in numbers n = list_any (nat_eq n) numbers
+
+abbrev pub with_number : List ℕ → ℕ → List ℕ
+with_number numbers n = if is_in numbers n then numbers else numbers ++ n ∷ []
+
+abbrev pub with_numbers : List ℕ → List ℕ → List ℕ
+with_numbers numbers more = fold with_number numbers more
+
+-- Some numbers, all below a limit.
+pub record Numbers : Type 0 where
+  pub limit : ℕ
+  pub numbers : List ℕ
+
+-- Each of these numbers is marked, and no other; each is there once.
+pub record AreMarked (marks : List Bool) (numbers : List ℕ) : Type 0 where
+  pub marked : (n : ℕ) → unwrap_or (slice_get marks n) false ≡ is_in numbers n
+  pub once : IsDistinct nat_eq numbers
+
+-- No class has a superclass or superinterface of a higher rank.
+pub record Fall (rows : List (List ℕ)) (ranks : List ℕ) : Type 0 where
+  pub fall : (m : ℕ) → list_all (λ n. nat_le (rank ranks n) (rank ranks m)) (slice_index_or rows m []) ≡ true
+
+-- What is kept of a program: for each class the numbers of its supers, and ranks that fall, if that was found.
+pub record AreSupersOf (program : List Class) (rows : List (List ℕ)) (ranks : List ℕ) (falls : Bool) : Type 0 where
+  pub rows_are : rows ≡ super_rows program
+  pub ranks_fall : falls ≡ true → Fall rows ranks
+
+-- Of all classes those that stand above these names have their numbers here.
+pub record AreAllAbove (program : List Class) (names : List (List ℕ)) (numbers : List ℕ) : Type 0 where
+  pub all : (name : List ℕ) (n : ℕ) → class_number program name ≡ Some n → is_in numbers n ≡ is_above program (length program) name names

@@ -1,0 +1,99 @@
+//! Exceptions that the machine throws (JVMS 2.10).
+
+ghost use Rattle.std.specs.Prelude.{◌≡◌, Some, slice_get};
+ghost use Rattle.std.specs.Option.{option_map};
+ghost use Rattle.jvms_program.specs.BuiltIn.{built_in_classes};
+ghost use Rattle.jvms_machine.specs.Exceptions.{thrown_class, has_room_for, exception_of as thrown_as, throws as throwing};
+ghost use Rattle.machine.specs.Decided.{seen};
+
+use crate::parts::Parts;
+use crate::thread::Thread;
+use jvms_machine::action::{Action, Decision, Exception};
+use jvms_program::program::Body;
+use jvms_program::thrown::Thrown;
+use program::Program;
+
+/// The error of too many objects.
+const OUT_OF_MEMORY: Exception = Exception::Held { reference: 1 };
+
+/// The error of too many frames.
+const STACK_OVERFLOW: Exception = Exception::Held { reference: 2 };
+
+/// The place of an exception's class among the built-in classes.
+#[tactic(auto, unfolding(jvms_program::specs::BuiltIn::built_in_classes, jvms_machine::specs::Exceptions::thrown_class))]
+fn built_in_place(class: Thrown) -> usize
+    ensures { option_map (λ c. c.name) (slice_get built_in_classes result) ≡ Some (thrown_class class) }
+{
+    match class {
+        Thrown::ArithmeticException => 14,
+        Thrown::ArrayStoreException => 15,
+        Thrown::ClassCastException => 16,
+        Thrown::IllegalMonitorStateException => 17,
+        Thrown::NegativeArraySizeException => 21,
+        Thrown::NullPointerException => 22,
+        Thrown::ArrayIndexOutOfBoundsException => 23,
+        Thrown::IllegalThreadStateException => 24,
+        Thrown::NoClassDefFoundError => 27,
+        Thrown::IncompatibleClassChangeError => 28,
+        Thrown::UnsatisfiedLinkError => 29,
+        Thrown::ExceptionInInitializerError => 30,
+        Thrown::AbstractMethodError => 31,
+        Thrown::InstantiationError => 32,
+        Thrown::NoSuchFieldError => 33,
+        Thrown::NoSuchMethodError => 34,
+        Thrown::OutOfMemoryError => 35,
+        Thrown::StackOverflowError => 36,
+    }
+}
+
+/// The name of an exception's class, which every program has.
+#[tactic(auto, using(crate::proofs::HeapLaws::named_there))]
+pub(crate) fn thrown_name(program: &Program, class: Thrown) -> &[u16]
+    ensures { result.now ≡ thrown_class class }
+{
+    program.is_program();
+    match program.class(built_in_place(class)) {
+        Some(class) => class.name.as_slice(),
+        None => &[],
+    }
+}
+
+impl<'p> Parts<'p> {
+    /// Whether there is room for one object more.
+    fn has_room(&self) -> bool
+        ensures { result ≡ has_room_for 1 self.now.limits self.now.state }
+    {
+        self.object_count() < self.limits.objects as usize
+    }
+
+    /// Which object is thrown.
+    fn exception_of(&self, class: Thrown) -> Exception
+        ensures { result ≡ thrown_as self.now.limits self.now.state class }
+    {
+        match class {
+            Thrown::OutOfMemoryError => OUT_OF_MEMORY,
+            Thrown::StackOverflowError => STACK_OVERFLOW,
+            _ => {
+                if self.has_room() {
+                    Exception::New(class)
+                } else {
+                    OUT_OF_MEMORY
+                }
+            }
+        }
+    }
+
+    /// The turn of this thread throws an exception of this class.
+    #[tactic(auto, unfolding(jvms_machine::specs::Exceptions::throws))]
+    pub(crate) fn throws(&self, thread: &Thread, class: Thrown) -> Decision<&'p Body>
+        ensures { seen result ≡ throwing self.now.limits self.now.state thread.now class }
+    {
+        let exception = self.exception_of(class);
+        let action = if thread.height() == 0 {
+            Action::Fails(exception)
+        } else {
+            Action::Raises(exception)
+        };
+        Decision::Makes(action)
+    }
+}
