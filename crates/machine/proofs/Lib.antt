@@ -1,9 +1,5 @@
 mod Answered
-mod Asked
 mod Callers
-mod ComponentLaws
-mod ConstantTexts
-mod CountLaws
 mod Deciding
 mod EntryLaws
 mod FieldLaws
