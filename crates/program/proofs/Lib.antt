@@ -1,10 +1,8 @@
 pub mod BuiltInLaws
-pub mod ClimbLaws
 pub mod MarkLaws
 pub mod MethodLaws
 pub mod NumberLaws
 mod NamedLaws
 pub mod PlaceLaws
 pub mod WalkLaws
-pub mod WayLaws
 pub mod SearchLaws

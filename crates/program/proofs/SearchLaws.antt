@@ -82,12 +82,6 @@ module _ (program : List Class) (look : Class → Option (ℕ × ℕ)) where
 pub unplaced : (program : List Class) (gives : ℕ → Class → Option (ℕ × ℕ)) (number : ℕ) (c : Class) → None ≡ gives number c → number ≡ class_place program c → None ≡ placed program gives c
 unplaced program gives number c none here = none ∙ ap (λ n. gives n c) here
 
--- What the class of a number gives.
-pub as_placed : (program : List Class) (gives : ℕ → Class → Option (ℕ × ℕ)) (number : ℕ) (c : Class) (place : ℕ × ℕ) → Some place ≡ gives number c → number ≡ class_place program c → Some place ≡ placed program gives c
-as_placed program gives number c place given here = given ∙ ap (λ n. gives n c) here
-
 pub ruleset searches = (vain_missing, vain_top, vain_next, vain_none, vain_more, marked_more, above_nowhere, above_missing, above_found, above_interfaces, above_top, above_next, names_past, names_found, names_end)
 
 pub ruleset interfaces_up = (unmarked, first_in-flat_map, up_nowhere, up_missing, up_found, up_top, up_next)
-
-pub ruleset along = (unmarked, above_nowhere, above_missing, above_found, above_interfaces, above_top, above_next)

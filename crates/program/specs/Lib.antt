@@ -1,4 +1,3 @@
-pub mod Climbs
 pub mod Marks
 pub mod Named
 pub mod Numbers

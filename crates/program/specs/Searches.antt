@@ -25,3 +25,9 @@ abbrev pub IsSearched : List Class → (Class → Option (ℕ × ℕ)) → ℕ �
 IsSearched program look most name (searched.Found place) = Some place ≡ first_in look (ancestry_within most program name)
 IsSearched program look most name searched.Nowhere = IsVain program look name
 IsSearched program look most name searched.CutShort = None ≡ first_in look (ancestry_within most program name)
+
+-- The same of classes of these names.
+abbrev pub AreSearched : List Class → (Class → Option (ℕ × ℕ)) → ℕ → List (List ℕ) → Searched → Type 0
+AreSearched program look most names (searched.Found place) = Some place ≡ first_in look (flat_map (ancestry_within most program) names)
+AreSearched program look most names searched.Nowhere = AreVain program look names
+AreSearched program look most names searched.CutShort = None ≡ first_in look (flat_map (ancestry_within most program) names)

@@ -5,7 +5,6 @@
 mod all;
 mod built_in;
 mod class_type;
-mod climb;
 mod code;
 mod exists;
 mod fields;
@@ -18,14 +17,12 @@ mod methods;
 mod names;
 mod numbers;
 mod order;
-mod recursion;
 mod resolve;
 mod select;
 mod subtypes;
 mod text;
 mod throwables;
 mod walk;
-mod way;
 
 pub use all::is_built_in;
 pub use descriptor::same_text;

@@ -1,18 +1,16 @@
 //! Searches up the superclasses and superinterfaces of a class.
 
-ghost use Rattle.std.specs.Prelude.{◌≡◌, ℕ, Option, option_copied};
+ghost use Rattle.std.specs.Prelude.{◌≡◌, ℕ, List, Option, option_copied, if◌then◌else◌};
 ghost use Rattle.std.specs.List.{flat_map};
 ghost use Rattle.jvms_program.specs.declared.program.Class.{Class};
-ghost use Rattle.jvms_program.specs.Resolution.{chain, ancestry, ancestry_within, first_in};
+ghost use Rattle.jvms_program.specs.Resolution.{chain, ancestry, first_in};
 ghost use Rattle.program.specs.Places.{placed};
-ghost use Rattle.program.specs.Searches.{AreMarkedVain, IsSearched};
+ghost use Rattle.program.specs.Searches.{AreMarkedVain, AreSearched, IsSearched};
+ghost use Rattle.program.specs.declared.walk.Searched.TheVariants as searched;
 
-use crate::climb::climb;
 use crate::list::Program;
 use crate::lookup::numbered;
 use crate::marks::Marks;
-use crate::recursion::by_recursion;
-use crate::way::Way;
 use held::shared::Text;
 use jvms_program::program::Class;
 
@@ -64,53 +62,111 @@ pub(crate) enum Searched {
     CutShort,
 }
 
+/// What a search came to that found nothing.
+fn found_nothing(is_cut_short: bool) -> Searched
+    ensures { result ≡ (if is_cut_short then searched.CutShort else searched.Nowhere) }
+{
+    if is_cut_short {
+        Searched::CutShort
+    } else {
+        Searched::Nowhere
+    }
+}
+
 /// What is found first in a class, in its superinterfaces and what is above them, and in its superclass
-/// and what is above that, so many classes up at most. Classes above which it is nowhere are marked, and
-/// aren't searched again.
+/// and what is above that, so many classes up at most. A class above which it is nowhere is marked, and isn't
+/// searched again.
+#[cycle(above)]
+#[tactic(auto, using(crate::proofs::SearchLaws::searches))]
 fn first_above<L: Look>(
     program: &Program,
     most: usize,
     name: &[u16],
     look: &L,
     marks: &mut Marks,
-    way: &mut Way,
 ) -> Searched
     requires { AreMarkedVain program.now (placed program.now (L.gives look.now)) marks.old }
     ensures searched { IsSearched program.now (placed program.now (L.gives look.now)) most name.now result }
     ensures marked { AreMarkedVain program.now (placed program.now (L.gives look.now)) marks.new }
 {
-    match climb(program, most, name, look, marks, way) {
-        Some(searched) => searched,
-        None => by_recursion(program, most, name, look, marks),
+    let Some(number) = program.class_number(name) else {
+        return Searched::Nowhere;
+    };
+    if marks.has(number) {
+        return Searched::Nowhere;
     }
+    let came_to = first_along(program, most, name, look, marks);
+    if let Searched::Nowhere = came_to {
+        marks.add(number);
+    }
+    came_to
 }
 
-/// What is found first in the ancestries of classes of these names, so many classes up at most. Classes above which it is
-/// nowhere are marked.
-#[tactic(auto, using(crate::proofs::WalkLaws::names))]
+/// The same, from superclass to superclass.
+#[cycle(above)]
+#[tactic(auto, using(crate::proofs::SearchLaws::searches))]
+fn first_along<L: Look>(
+    program: &Program,
+    most: usize,
+    name: &[u16],
+    look: &L,
+    marks: &mut Marks,
+) -> Searched
+    requires { AreMarkedVain program.now (placed program.now (L.gives look.now)) marks.old }
+    ensures searched { IsSearched program.now (placed program.now (L.gives look.now)) most name.now result }
+    ensures marked { AreMarkedVain program.now (placed program.now (L.gives look.now)) marks.new }
+{
+    let mut left = most;
+    let mut name = name;
+    let mut is_cut_short = false;
+    while left > 0 {
+        left -= 1;
+        let Some((number, class)) = numbered(program, name) else {
+            return found_nothing(is_cut_short);
+        };
+        if let Some(found) = look.look(number, class) {
+            return Searched::Found(found);
+        }
+        match first_in_each(program, left, class.interfaces.as_slice(), look, marks) {
+            Searched::Found(found) => return Searched::Found(found),
+            Searched::Nowhere => {}
+            Searched::CutShort => is_cut_short = true,
+        }
+        let Some(superclass) = superclass_name(class) else {
+            return found_nothing(is_cut_short);
+        };
+        name = superclass;
+    }
+    Searched::CutShort
+}
+
+/// What is found first in classes of these names and above them, so many classes up at most.
+#[cycle(above)]
+#[tactic(auto, using(crate::proofs::SearchLaws::searches))]
 fn first_in_each<L: Look>(
     program: &Program,
     most: usize,
     names: &[Text],
     look: &L,
     marks: &mut Marks,
-    way: &mut Way,
-) -> Option<(usize, usize)>
+) -> Searched
     requires { AreMarkedVain program.now (placed program.now (L.gives look.now)) marks.old }
-    ensures found { result ≡ first_in (placed program.now (L.gives look.now)) (flat_map (ancestry_within most program.now) names.now) }
+    ensures searched { AreSearched program.now (placed program.now (L.gives look.now)) most names.now result }
     ensures marked { AreMarkedVain program.now (placed program.now (L.gives look.now)) marks.new }
 {
+    let mut is_cut_short = false;
     for name in names {
-        match first_above(program, most, name.as_slice(), look, marks, way) {
-            Searched::Found(found) => return Some(found),
-            Searched::Nowhere | Searched::CutShort => {}
+        match first_above(program, most, name.as_slice(), look, marks) {
+            Searched::Found(found) => return Searched::Found(found),
+            Searched::Nowhere => {}
+            Searched::CutShort => is_cut_short = true,
         }
     }
-    None
+    found_nothing(is_cut_short)
 }
 
 /// What is found first in the ancestry of a class.
-#[tactic(auto, using(crate::proofs::SearchLaws::along))]
+#[tactic(auto, using(crate::proofs::SearchLaws::unmarked))]
 pub(crate) fn first_in_ancestry<L: Look>(
     program: &Program,
     name: &[u16],
@@ -119,37 +175,28 @@ pub(crate) fn first_in_ancestry<L: Look>(
     ensures { result ≡ first_in (placed program.now (L.gives look.now)) (ancestry program.now name.now) }
 {
     let mut marks = Marks::none();
-    let mut way = Way::new();
-    let mut most = program.classes().len();
-    let mut name = name;
-    while most > 0 {
-        most -= 1;
-        let (number, class) = numbered(program, name)?;
-        if let Some(found) = look.look(number, class) {
-            return Some(found);
-        }
-        let interfaces = class.interfaces.as_slice();
-        if let Some(found) = first_in_each(program, most, interfaces, look, &mut marks, &mut way) {
-            return Some(found);
-        }
-        name = superclass_name(class)?;
+    match first_above(program, program.classes().len(), name, look, &mut marks) {
+        Searched::Found(found) => Some(found),
+        Searched::Nowhere | Searched::CutShort => None,
     }
-    None
 }
 
-/// The same, however many classes up.
-fn first_in_whole<L: Look>(
+/// What is found first in the ancestries of classes of these names, but for those that are marked.
+fn first_in_unmarked<L: Look>(
     program: &Program,
     names: &[Text],
     look: &L,
     marks: &mut Marks,
-    way: &mut Way,
 ) -> Option<(usize, usize)>
     requires { AreMarkedVain program.now (placed program.now (L.gives look.now)) marks.old }
     ensures found { result ≡ first_in (placed program.now (L.gives look.now)) (flat_map (ancestry program.now) names.now) }
     ensures marked { AreMarkedVain program.now (placed program.now (L.gives look.now)) marks.new }
 {
-    first_in_each(program, program.classes().len(), names, look, marks, way)
+    match first_in_each(program, program.classes().len(), names, look, marks) {
+        Searched::Found(found) => Some(found),
+        Searched::Nowhere => None,
+        Searched::CutShort => None,
+    }
 }
 
 /// What is found first in the ancestries of classes of these names.
@@ -161,8 +208,7 @@ pub(crate) fn first_in_ancestries<L: Look>(
 ) -> Option<(usize, usize)>
     ensures { result ≡ first_in (placed program.now (L.gives look.now)) (flat_map (ancestry program.now) names.now) }
 {
-    let mut marks = Marks::none();
-    first_in_whole(program, names, look, &mut marks, &mut Way::new())
+    first_in_unmarked(program, names, look, &mut Marks::none())
 }
 
 /// What is found first in the ancestries of a class's superinterfaces, then of its superclass's, and so on.
@@ -175,14 +221,13 @@ pub(crate) fn first_in_interfaces_up<L: Look>(
     ensures { result ≡ first_in (placed program.now (L.gives look.now)) (flat_map (λ c. flat_map (ancestry program.now) c.interfaces) (chain program.now name.now)) }
 {
     let mut marks = Marks::none();
-    let mut way = Way::new();
     let mut most = program.classes().len();
     let mut name = name;
     while most > 0 {
         most -= 1;
         let (_, class) = numbered(program, name)?;
         let interfaces = class.interfaces.as_slice();
-        if let Some(found) = first_in_whole(program, interfaces, look, &mut marks, &mut way) {
+        if let Some(found) = first_in_unmarked(program, interfaces, look, &mut marks) {
             return Some(found);
         }
         name = superclass_name(class)?;

@@ -1,4 +1,4 @@
-use Rattle.std.proofs.Common.{◌≡◌, length}
+use Rattle.std.proofs.Common.{◌≡◌}
 use Rattle.std.specs.List.{flat_map}
 use Rattle.jvms_program.specs.Resolution.{ancestry, chain, chain_within, first_in}
 use Rattle.program.specs.Places.{placed}
