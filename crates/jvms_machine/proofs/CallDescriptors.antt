@@ -24,7 +24,7 @@ use Rattle.jvms_program.specs.Resolution.{MethodFound, chain_within, chain, ance
 use Rattle.jvms_machine.specs.State.{MethodFrame, body_at}
 use Rattle.jvms_machine.specs.Calls.{selected}
 use Rattle.jvms_machine.proofs.ListLaws.{all_at, all_append, all_flat_map, option_map_some}
-use Rattle.jvms_machine.proofs.SearchLaws.{find_passes, position_leads}
+use Rattle.jvms_machine.proofs.SearchLaws.{find_passes, position_leads, found_at}
 
 -- The class that the program has by its name.
 abbrev IsNamed : List Class → Class → Type 0
@@ -34,6 +34,7 @@ IsNamed program c = class_named program c.name ≡ Some c
 pub record IsFound (program : List Class) (descriptor : List ℕ) (found : MethodFound) : Type 0 where
   pub class_is : class_named program found.class.name ≡ Some found.class
   pub descriptor_is : found.method.descriptor ≡ descriptor
+  pub place : (i : ℕ) × (slice_get found.class.methods i ≡ Some found.method)
 
 -- ---- Classes by name
 
@@ -116,7 +117,7 @@ declared_is_found program name descriptor c f named is =
     option_map_some (λ (m : Method). let found : MethodFound = record { class = c; method = m } in found) (find test c.methods) f is
     (λ m m_is same.
     let both = and_parts (same_text m.name name) (same_text m.descriptor descriptor) (find_passes test c.methods m m_is) in
-    subst (IsFound program descriptor) same (record { class_is = named; descriptor_is = texts_are_same m.descriptor descriptor (sym both.1) }))
+    subst (IsFound program descriptor) same (record { class_is = named; descriptor_is = texts_are_same m.descriptor descriptor (sym both.1); place = found_at test c.methods m m_is }))
 
 -- What a class of the program has that is selected.
 selectable_by : (name descriptor : List ℕ) (c : Class) (f : MethodFound) (o : Option MethodFound) → o ≡ declared_method name descriptor c → selectable_in name descriptor c ≡ Some f → declared_method name descriptor c ≡ Some f
@@ -158,6 +159,10 @@ present_there : {A B : Type 0} (o : Option B) (fault : Thrown) (next : B → Res
 present_there None fault next x is = absurd (cc)
 present_there (Some y) fault next x is = (y, refl, is)
 
+want_true : {A : Type 0} (test : Bool) (fault : Thrown) (next : Result A Thrown) (x : A) → (want test fault >>= λ _. next) ≡ Ok x → test ≡ true
+want_true true fault next x is = refl
+want_true false fault next x is = absurd (cc)
+
 pub resolved_is_found : (program : List Class) (static : Bool) (r : MethodReference) (f : MethodFound) → resolved_method program static r ≡ Ok f → IsFound program r.descriptor f
 resolved_is_found program static r f is =
     let of_kind = want_passed (class_exists program r.class) thrown.NoClassDefFoundError _ f is in
@@ -166,6 +171,17 @@ resolved_is_found program static r f is =
     let same : Ok found.0 ≡ Ok f = want_passed (cond static found.0.method.flags.is_static (not found.0.method.flags.is_static)) thrown.IncompatibleClassChangeError _ f found.2 in
     let is_it : found.0 ≡ f = cc in
     found_is_found program r f (found.1 ∙ ap (λ g. Some g) is_it)
+
+-- What a static call finds is static.
+pub resolved_is_static : (program : List Class) (r : MethodReference) (f : MethodFound) → resolved_method program true r ≡ Ok f → f.method.flags.is_static ≡ true
+resolved_is_static program r f is =
+    let of_kind = want_passed (class_exists program r.class) thrown.NoClassDefFoundError _ f is in
+    let there = want_passed (cond r.is_interface (names_interface program r.class) (not (names_interface program r.class))) thrown.IncompatibleClassChangeError _ f of_kind in
+    let found = present_there (found_method program r) thrown.NoSuchMethodError _ f there in
+    let static : found.0.method.flags.is_static ≡ true = want_true found.0.method.flags.is_static thrown.IncompatibleClassChangeError _ f found.2 in
+    let same : Ok found.0 ≡ Ok f = want_passed found.0.method.flags.is_static thrown.IncompatibleClassChangeError _ f found.2 in
+    let is_it : found.0 ≡ f = cc in
+    sym (ap (λ (g : MethodFound). g.method.flags.is_static) is_it) ∙ static
 
 -- ---- Selection
 
@@ -200,6 +216,16 @@ selected_is_found program frame invoke.Interface r class descriptor found f was 
 selected_is_found program frame invoke.Special r class descriptor found f was is = special_by program frame r class descriptor found f (slice_get program frame.method.class) refl was is
 
 -- ---- The number of what is found
+
+-- The class at it is the one that declares it.
+pub numbered_in_class : (program : List Class) (descriptor : List ℕ) (found : MethodFound) (n : MethodNumber) → IsFound program descriptor found → method_number program found ≡ Some n → slice_get program n.class ≡ Some found.class
+numbered_in_class program descriptor found n was number =
+    let numbered_by = λ (class method : ℕ). let made : MethodNumber = record { class = class; method = method } in made in
+    option_and_then_some (λ (class : ℕ). option_map (numbered_by class) (declared_number found.class found.method.name found.method.descriptor)) (class_number program found.class.name) n number
+    (λ class class_is rest. option_map_some (numbered_by class) (declared_number found.class found.method.name found.method.descriptor) n rest
+    (λ method method_is same.
+    let there : slice_get program class ≡ Some found.class = position_leads (λ (c : Class). same_text c.name found.class.name) program class class_is ∙ was.class_is in
+    sym (ap (λ (k : MethodNumber). slice_get program k.class) same) ∙ there))
 
 -- The method at it has the same descriptor.
 pub numbered_has_descriptor : (program : List Class) (descriptor : List ℕ) (found : MethodFound) (n : MethodNumber) (m : Method) → IsFound program descriptor found → method_number program found ≡ Some n → method_at program n ≡ Some m → m.descriptor ≡ descriptor

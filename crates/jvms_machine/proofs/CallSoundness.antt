@@ -1,17 +1,16 @@
 -- A turn of a call leaves a sound state sound: the frame that comes is one of the called method, with the operands of its
 -- caller as its arguments, and stands on its caller.
-use Rattle.std.proofs.Common.{◌≡◌, ℕ, ◌+◌, ◌-◌, ◌<◌, ◌≤◌, true, false, not, ◌&&◌, ◌==◌, nat_le, nat_lt, leb-true, leb-false, ltb-false, eqb, eq-eqb, List, [], ◌∷◌, ◌++◌, length, replicate, reverse, take, Option, Some, None, IfSome, IsTrue, slice_get, option_and_then, option_map, unwrap_or, refl, sym, ap, ◌∙◌, subst, arith, length-drop}
+use Rattle.std.proofs.Common.{◌≡◌, ℕ, ◌+◌, ◌-◌, ◌<◌, ◌≤◌, true, false, not, ◌==◌, nat_le, nat_lt, leb-false, ltb-false, eqb, eq-eqb, List, [], ◌∷◌, ◌++◌, length, replicate, reverse, take, Option, Some, None, IfSome, IsTrue, codes, slice_get, option_and_then, option_map, unwrap_or, refl, sym, ap, ◌∙◌, subst, arith, length-drop}
 use Rattle.std.specs.Prelude.{Result, Ok, Err}
 use Rattle.std.specs.List.{AllByRecursion}
-use Rattle.std.proofs.lemmas.Bool.{cond_both, and_parts, and_from, not-false}
-use Rattle.std.proofs.lemmas.Option.{slice_get_within}
+use Rattle.std.proofs.lemmas.Bool.{cond_both, cond-false, and_from, not-false}
+use Rattle.std.proofs.lemmas.Option.{same_Some, slice_get_within}
 use Rattle.std.proofs.lemmas.List.{length-append, length-replicate, length-reverse, length-take-le}
 use Rattle.jvms_machine.specs.declared.value.Value.{Value}
 use Rattle.jvms_machine.specs.declared.value.Value.TheVariants as value
 use Rattle.jvms_machine.specs.declared.machine.Limits.{Limits}
 use Rattle.jvms_machine.specs.declared.state.StackFrame.TheVariants as stack_frame
 use Rattle.jvms_machine.specs.declared.action.Action.TheVariants as action
-use Rattle.jvms_machine.specs.declared.action.Decision.{Decision}
 use Rattle.jvms_machine.specs.declared.action.Decision.TheVariants as decision
 use Rattle.jvms_file.specs.declared.insn.Invoke.{Invoke}
 use Rattle.jvms_file.specs.declared.insn.Invoke.TheVariants as invoke
@@ -26,14 +25,15 @@ use Rattle.jvms_program.specs.declared.program.Body.{Body}
 use Rattle.jvms_program.specs.declared.program.MethodReference.{MethodReference}
 use Rattle.jvms_program.specs.declared.program.Instruction.TheVariants as instruction
 use Rattle.jvms_program.specs.Program.{IsProgram, method_at}
-use Rattle.jvms_program.specs.BuiltIn.{is_built_in}
+use Rattle.jvms_program.specs.BuiltIn.{print_stream_class}
 use Rattle.jvms_program.specs.Resolution.{MethodFound, fits, resolved_method, method_number}
+use Rattle.jvms_machine.specs.Decisions.{TurnDecision}
 use Rattle.jvms_machine.specs.State.{State, Object, Thread, Frame, MethodFrame, object_at, class_of, IsValue, body_at, is_synchronized_at, IsFrame, StandsOn, result_length}
 use Rattle.jvms_machine.specs.Start.{Start, IsArgument, IsStart}
 use Rattle.jvms_machine.specs.Activations.{has_depth}
 use Rattle.jvms_machine.specs.Steps.{instruction_at}
 use Rattle.jvms_machine.specs.Profile.{is_outside_method}
-use Rattle.jvms_machine.specs.Calls.{entered, enter_decision, with_body, native_decision, called_decision, entry_decision, first_call_decision, is_static_call, taken, receiver_of, are_of_call, numbered, call_decision, static_call_decision, selected, selected_decision, wrong_receiver, object_call_decision, receiver_call_decision, resolved_call_decision, invoke_decision}
+use Rattle.jvms_machine.specs.Calls.{entered, enter_decision, with_body, called_decision, entry_decision, first_call_decision, is_static_call, taken, receiver_of, are_of_call, numbered, call_decision, static_call_decision, selected, selected_decision, wrong_receiver, object_call_decision, receiver_call_decision, resolved_call_decision, invoke_decision}
 use Rattle.jvms_machine.specs.Actions.{called, given, top_given, calling, top_operands, arguments_of, applied_to, items_of}
 use Rattle.jvms_machine.specs.Marks.{calls_in, calls_of}
 use Rattle.jvms_machine.proofs.ListLaws.{all_weaker, all_append, all_replicate, all_drop, all_take, all_reverse}
@@ -43,7 +43,9 @@ use Rattle.jvms_machine.proofs.ThreadChanges.{Stands, frames_are_stack, moved_is
 use Rattle.jvms_machine.proofs.KeptStates.{Keeps, still}
 use Rattle.jvms_machine.proofs.ExceptionSoundness.{throws_keeps}
 use Rattle.jvms_machine.proofs.InitialisationSoundness.{asking_keeps}
-use Rattle.jvms_machine.proofs.CallDescriptors.{IsFound, resolved_is_found, selected_is_found, numbered_has_descriptor, called_has_type}
+use Rattle.jvms_machine.proofs.CallDescriptors.{IsFound, resolved_is_found, resolved_is_static, selected_is_found, numbered_has_descriptor, numbered_in_class, called_has_type}
+use Rattle.jvms_machine.proofs.EffectSoundness.{HasDepth, depth_is}
+use Rattle.jvms_machine.proofs.NativeSoundness.{HasPrinted, is_print_stream, method_has_parameters, method_is_instance, native_keeps}
 
 -- ---- The frame of a call
 
@@ -73,21 +75,6 @@ given_is_frame program heap takes frame is =
     let few : length frame.activation.operands ≤ frame.body.max_stack = is.1.1 in
     (is.0, (is.1.0, omega (arith, length-drop takes frame.activation.operands)), is.2, all_drop (IsValue heap) takes frame.activation.operands is.3, is.4, is.5)
 
--- What a call's test of the depth tells.
-record HasDepth (frame : MethodFrame) (takes gives : ℕ) : Type 0 where
-  pub there : takes ≤ length frame.activation.operands
-  pub room : length frame.activation.operands - takes + gives ≤ frame.body.max_stack
-
-depth_is : (frame : MethodFrame) (takes gives : ℕ) → not (has_depth frame.body takes gives frame.activation) ≡ false → HasDepth frame takes gives
-depth_is frame takes gives is =
-    let there = nat_le takes (length frame.activation.operands) in
-    let room = nat_le (length frame.activation.operands - takes + gives) frame.body.max_stack in
-    let both = and_parts there room (not-false (there && room) is) in
-    record {
-      there = leb-true takes (length frame.activation.operands) both.0;
-      room = leb-true (length frame.activation.operands - takes + gives) frame.body.max_stack both.1;
-    }
-
 -- A text is the same as itself.
 same_as_itself : (text : List ℕ) → same_text text text ≡ true
 same_as_itself [] = refl
@@ -104,7 +91,7 @@ stands_on_caller program heap frame callee m how r takes of_program is at m_is s
 -- ---- The turn
 
 module _ (program : List Class) (limits : Limits) (start : Start) (s : State) (t : ℕ) (thread : Thread) where
-  abbrev KeepsSound : Decision Body → Type 0
+  abbrev KeepsSound : TurnDecision → Type 0
   KeepsSound d = Keeps program limits start s t d
 
   abbrev HasFrames : List Frame → Type 0
@@ -119,7 +106,7 @@ module _ (program : List Class) (limits : Limits) (start : Start) (s : State) (t
     pub room : length thread.frames < limits.frames
     pub few : arguments ≤ body.max_locals
 
-  enter_keeps : {frames : List Frame} → HasFrames frames → (arguments : ℕ) (m : Method) (body : Body) (make : Decision Body) → m.body ≡ Some body → (Enters arguments m body → KeepsSound make) → KeepsSound (enter_decision limits s thread arguments m body make)
+  enter_keeps : {frames : List Frame} → HasFrames frames → (arguments : ℕ) (m : Method) (body : Body) (make : TurnDecision) → m.body ≡ Some body → (Enters arguments m body → KeepsSound make) → KeepsSound (enter_decision limits s thread arguments m body make)
   enter_keeps stands arguments m body make body_is keeps =
       cond_both (nat_le limits.frames (length thread.frames)) _ _ KeepsSound
       (λ _. throws_keeps start stands thrown.StackOverflowError)
@@ -129,21 +116,16 @@ module _ (program : List Class) (limits : Limits) (start : Start) (s : State) (t
       (λ _. still t stands.sound)
       (λ plain. keeps (record { body_is = body_is; plain = plain; room = leb-false limits.frames (length thread.frames) room; few = ltb-false body.max_locals arguments few }))))
 
-  with_body_keeps : {frames : List Frame} → HasFrames frames → (o : Option Body) (make : Body → Decision Body) → ((body : Body) → o ≡ Some body → KeepsSound (make body)) → KeepsSound (with_body o make)
+  with_body_keeps : {frames : List Frame} → HasFrames frames → (o : Option Body) (make : Body → TurnDecision) → ((body : Body) → o ≡ Some body → KeepsSound (make body)) → KeepsSound (with_body o make)
   with_body_keeps stands None make keeps = still t stands.sound
   with_body_keeps stands (Some body) make keeps = keeps body refl
 
-  native_by : {frames : List Frame} → HasFrames frames → (n : MethodNumber) (o : Option Class) → o ≡ slice_get program n.class → KeepsSound (native_decision program limits s thread n)
-  native_by stands n None e = rw (← e) (throws_keeps start stands thrown.UnsatisfiedLinkError)
-  native_by stands n (Some c) e =
-      rw (← e) (cond_both (is_built_in c.name) _ _ KeepsSound (λ _. still t stands.sound) (λ _. throws_keeps start stands thrown.UnsatisfiedLinkError))
-
-  called_keeps : {frames : List Frame} → HasFrames frames → (arguments : ℕ) (n : MethodNumber) (m : Method) (make : Body → Decision Body) → ((body : Body) → Enters arguments m body → KeepsSound (make body)) → KeepsSound (called_decision program limits s thread arguments n m make)
-  called_keeps stands arguments n m make keeps =
+  called_keeps : {frames : List Frame} → HasFrames frames → (arguments : ℕ) (m : Method) (native : TurnDecision) (make : Body → TurnDecision) → KeepsSound native → ((body : Body) → Enters arguments m body → KeepsSound (make body)) → KeepsSound (called_decision limits s thread arguments m native make)
+  called_keeps stands arguments m native make native_keep keeps =
       cond_both m.flags.is_abstract _ _ KeepsSound
       (λ _. throws_keeps start stands thrown.AbstractMethodError)
       (λ _. cond_both m.flags.is_native _ _ KeepsSound
-      (λ _. native_by stands n (slice_get program n.class) refl)
+      (λ _. native_keep)
       (λ _. with_body_keeps stands m.body (λ body. enter_decision limits s thread arguments m body (make body))
       (λ body body_is. enter_keeps stands arguments m body (make body) body_is (keeps body))))
 
@@ -160,7 +142,7 @@ module _ (program : List Class) (limits : Limits) (start : Start) (s : State) (t
         (λ _. moved_is_sound stands (called frame) (stack_frame.Call frame ∷ []) are refl refl
             (entered_is_frame program s.heap start.method body start.arguments enters.few values (body_of program start.method m body m_is enters.body_is) (flag_of program start.method m m_is enters.plain), tt)
             tt (omega arith) (λ c. count_call c frame [])),
-        (slice_get_within s.threads t thread stands.given_out, enters.few),
+        (λ _ _. (slice_get_within s.threads t thread stands.given_out, enters.few)),
         entered_mark program t (calls_of s t) _ start.method
             (changed_calls s.threads t thread (called frame) stands.given_out ∙ ap (λ (ms : List MethodNumber). start.method ∷ ms) (sym (ap calls_in stands.given_out))),
       )
@@ -171,7 +153,7 @@ module _ (program : List Class) (limits : Limits) (start : Start) (s : State) (t
       cond_both (is_outside_method m.method_type) _ _ KeepsSound
       (λ _. still t stands.sound)
       (λ _. asking_keeps program limits start s t thread stands start.method.class _
-      (called_keeps stands (length start.arguments) start.method m (λ body. decision.Makes (action.Enters start.method body))
+      (called_keeps stands (length start.arguments) m _ (λ body. decision.Makes (action.Enters start.method body)) (throws_keeps start stands thrown.UnsatisfiedLinkError)
       (λ body enters. enters_keeps stands m body starts is enters)))
 
   pub first_call_keeps : HasFrames [] → IsStart start → KeepsSound (first_call_decision program limits start s t thread)
@@ -205,64 +187,86 @@ module _ (program : List Class) (limits : Limits) (start : Start) (s : State) (t
               (stands_on_caller program s.heap frame callee m how r takes of_program frames.0.0 at m_is same depth, stack_goes_on program frame (given takes frame).activation below frames.1)
               (omega arith)
               (λ c. count_call c callee (stack_frame.Call (given takes frame) ∷ below) ∙ count_call c (given takes frame) below ∙ sym (count_call c frame below))),
-          (slice_get_within s.threads t thread stands.given_out, enters.few, subst (λ o. IfSome o (λ (th : Thread). takes ≤ length (top_operands th.frames))) (sym stands.given_out) (subst (λ (fs : List Frame). takes ≤ length (top_operands fs)) (sym stands.frames_are) depth.there)),
+          (λ _ _. (slice_get_within s.threads t thread stands.given_out, enters.few, subst (λ o. IfSome o (λ (th : Thread). takes ≤ length (top_operands th.frames))) (sym stands.given_out) (subst (λ (fs : List Frame). takes ≤ length (top_operands fs)) (sym stands.frames_are) depth.there))),
           entered_mark program t (calls_of s t) _ n
               (changed_calls s.threads t thread (calling callee takes) stands.given_out ∙ ap (λ (ms : List MethodNumber). n ∷ ms) (given_calls takes thread.frames ∙ sym (ap calls_in stands.given_out))),
         )
 
-    call_keeps : (n : MethodNumber) (m : Method) → method_at program n ≡ Some m → m.descriptor ≡ r.descriptor → KeepsSound (call_decision program limits s thread (taken how r.method_type) n m)
-    call_keeps n m m_is same =
-        called_keeps stands (taken how r.method_type) n m (λ body. decision.Makes (action.Calls n body (taken how r.method_type)))
+    -- What a native method of PrintStream prints is among the operands, if its call is of no static method.
+    printed_is_there : (found : MethodFound) (n : MethodNumber) (m : Method) → IsFound program r.descriptor found → method_number program found ≡ Some n → method_at program n ≡ Some m → m.descriptor ≡ r.descriptor → (found.class ≡ print_stream_class → is_static_call how ≡ false) → (c : Class) → slice_get program n.class ≡ Some c → same_text c.name (codes "java/io/PrintStream") ≡ true → IsProgram program → HasPrinted (taken how r.method_type) m
+    printed_is_there found n m is number m_is same dynamic c c_is named of_program =
+        let there = numbered_in_class program r.descriptor found n is number in
+        let its_class : c ≡ found.class = same_Some c found.class (sym c_is ∙ there) in
+        let stream = is_print_stream program found.class of_program is.class_is (ap (λ (d : Class). same_text d.name (codes "java/io/PrintStream")) (sym its_class) ∙ named) in
+        let in_class : slice_get found.class.methods n.method ≡ Some m = sym (ap (option_and_then (λ (d : Class). slice_get d.methods n.method)) there) ∙ m_is in
+        let type : m.method_type ≡ r.method_type = called_has_type program frame.method frame.body frame.activation.place how r n m of_program (frames_are_stack stands).0.0.0 at m_is same in
+        let as_many : length m.method_type.parameters + 1 ≡ taken how r.method_type =
+        ap (λ (k : MethodType). length k.parameters + 1) type ∙ sym (cond-false (is_static_call how) (length r.method_type.parameters) (length r.method_type.parameters + 1) (dynamic stream)) in
+        subst (λ k. HasPrinted k m) as_many (method_has_parameters found.class n.method m stream in_class)
+
+    call_keeps : (found : MethodFound) (n : MethodNumber) (m : Method) → IsFound program r.descriptor found → method_number program found ≡ Some n → method_at program n ≡ Some m → m.descriptor ≡ r.descriptor → (found.class ≡ print_stream_class → is_static_call how ≡ false) → KeepsSound (call_decision program limits s thread frame.activation (taken how r.method_type) n m)
+    call_keeps found n m is number m_is same dynamic =
+        called_keeps stands (taken how r.method_type) m _ (λ body. decision.Makes (action.Calls n body (taken how r.method_type)))
+        (native_keeps program limits start s t thread frame below stands (taken how r.method_type) m (slice_get program n.class) depth.there (printed_is_there found n m is number m_is same dynamic))
         (λ body enters. calls_keeps n m body m_is same enters)
 
     -- What the number of a method leads to.
-    numbered_by : (n : MethodNumber) (o : Option Method) (make : MethodNumber → Method → Decision Body) → o ≡ method_at program n → ((m : Method) → o ≡ Some m → KeepsSound (make n m)) → KeepsSound (numbered program (Some n) make)
+    numbered_by : (n : MethodNumber) (o : Option Method) (make : MethodNumber → Method → TurnDecision) → o ≡ method_at program n → ((m : Method) → o ≡ Some m → KeepsSound (make n m)) → KeepsSound (numbered program (Some n) make)
     numbered_by n None make e keeps = rw (← e) (still t stands.sound)
     numbered_by n (Some m) make e keeps = rw (← e) (keeps m refl)
 
-    numbered_keeps : (found : MethodFound) (o : Option MethodNumber) (make : MethodNumber → Method → Decision Body) → IsFound program r.descriptor found → method_number program found ≡ o → ((n : MethodNumber) (m : Method) → method_at program n ≡ Some m → m.descriptor ≡ r.descriptor → KeepsSound (make n m)) → KeepsSound (numbered program o make)
+    numbered_keeps : (found : MethodFound) (o : Option MethodNumber) (make : MethodNumber → Method → TurnDecision) → IsFound program r.descriptor found → method_number program found ≡ o → ((n : MethodNumber) (m : Method) → method_number program found ≡ Some n → method_at program n ≡ Some m → m.descriptor ≡ r.descriptor → KeepsSound (make n m)) → KeepsSound (numbered program o make)
     numbered_keeps found None make is number keeps = still t stands.sound
     numbered_keeps found (Some n) make is number keeps =
-        numbered_by n (method_at program n) make refl (λ m m_is. keeps n m m_is (numbered_has_descriptor program r.descriptor found n m is number m_is))
+        numbered_by n (method_at program n) make refl (λ m m_is. keeps n m number m_is (numbered_has_descriptor program r.descriptor found n m is number m_is))
 
-    static_keeps : (found : MethodFound) → IsFound program r.descriptor found → KeepsSound (static_call_decision program limits s t thread (taken how r.method_type) found)
-    static_keeps found is =
+    -- A method of PrintStream isn't static, so no static call finds it.
+    static_is_not_of_stream : (found : MethodFound) → IsFound program r.descriptor found → found.method.flags.is_static ≡ true → found.class ≡ print_stream_class → is_static_call how ≡ false
+    static_is_not_of_stream found is static stream =
+        let instance : found.method.flags.is_static ≡ false = method_is_instance found.class is.place.0 found.method stream is.place.1 in
+        absurd (cc)
+
+    static_keeps : (found : MethodFound) → IsFound program r.descriptor found → found.method.flags.is_static ≡ true → KeepsSound (static_call_decision program limits s t thread frame.activation (taken how r.method_type) found)
+    static_keeps found is static =
         numbered_keeps found (method_number program found) _ is refl
-        (λ n m m_is same. asking_keeps program limits start s t thread stands n.class _ (call_keeps n m m_is same))
+        (λ n m number m_is same. asking_keeps program limits start s t thread stands n.class _ (call_keeps found n m is number m_is same (static_is_not_of_stream found is static)))
 
-    selected_keeps : (o : Option MethodFound) → ((f : MethodFound) → o ≡ Some f → IsFound program r.descriptor f) → KeepsSound (selected_decision program limits s thread (taken how r.method_type) o)
-    selected_keeps None is = throws_keeps start stands thrown.AbstractMethodError
-    selected_keeps (Some found) is = numbered_keeps found (method_number program found) _ (is found refl) refl call_keeps
+    selected_keeps : (o : Option MethodFound) → is_static_call how ≡ false → ((f : MethodFound) → o ≡ Some f → IsFound program r.descriptor f) → KeepsSound (selected_decision program limits s thread frame.activation (taken how r.method_type) o)
+    selected_keeps None dynamic is = throws_keeps start stands thrown.AbstractMethodError
+    selected_keeps (Some found) dynamic is =
+        numbered_keeps found (method_number program found) _ (is found refl) refl
+        (λ n m number m_is same. call_keeps found n m (is found refl) number m_is same (λ _. dynamic))
 
     wrong_receiver_keeps : (kind : Invoke) → KeepsSound (wrong_receiver limits s thread kind)
     wrong_receiver_keeps invoke.Interface = throws_keeps start stands thrown.IncompatibleClassChangeError
     wrong_receiver_keeps _ = still t stands.sound
 
-    object_call_keeps : (found : MethodFound) (o : Option Object) → IsFound program r.descriptor found → KeepsSound (object_call_decision program limits s thread frame how r found o)
-    object_call_keeps found None is = still t stands.sound
-    object_call_keeps found (Some o) is =
+    object_call_keeps : (found : MethodFound) (o : Option Object) → IsFound program r.descriptor found → is_static_call how ≡ false → KeepsSound (object_call_decision program limits s thread frame how r found o)
+    object_call_keeps found None is dynamic = still t stands.sound
+    object_call_keeps found (Some o) is dynamic =
         cond_both (fits program (class_of o) found.class.name) _ _ KeepsSound
-        (λ _. selected_keeps (selected program frame how r (class_of o) found) (λ f f_is. selected_is_found program frame how r (class_of o) r.descriptor found f is f_is))
+        (λ _. selected_keeps (selected program frame how r (class_of o) found) dynamic (λ f f_is. selected_is_found program frame how r (class_of o) r.descriptor found f is f_is))
         (λ _. wrong_receiver_keeps how)
 
-    receiver_keeps : (found : MethodFound) (o : Option Value) → IsFound program r.descriptor found → KeepsSound (receiver_call_decision program limits s thread frame how r found o)
-    receiver_keeps found (Some (value.Reference q)) is = object_call_keeps found (object_at s.heap q) is
-    receiver_keeps found (Some value.Null) is = throws_keeps start stands thrown.NullPointerException
-    receiver_keeps found _ is = still t stands.sound
+    receiver_keeps : (found : MethodFound) (o : Option Value) → IsFound program r.descriptor found → is_static_call how ≡ false → KeepsSound (receiver_call_decision program limits s thread frame how r found o)
+    receiver_keeps found (Some (value.Reference q)) is dynamic = object_call_keeps found (object_at s.heap q) is dynamic
+    receiver_keeps found (Some value.Null) is dynamic = throws_keeps start stands thrown.NullPointerException
+    receiver_keeps found _ is dynamic = still t stands.sound
 
     resolved_keeps : (o : Result MethodFound Thrown) → resolved_method program (is_static_call how) r ≡ o → KeepsSound (resolved_call_decision program limits s t thread frame how r o)
     resolved_keeps (Err class) is = throws_keeps start stands class
     resolved_keeps (Ok found) is =
         let found_is = resolved_is_found program (is_static_call how) r found is in
         cond_both (is_static_call how) _ _ KeepsSound
-        (λ _. static_keeps found found_is)
-        (λ _. receiver_keeps found (receiver_of r.method_type frame.activation.operands) found_is)
+        (λ static. static_keeps found found_is (resolved_is_static program r found (ap (λ b. resolved_method program b r) (sym static) ∙ is)))
+        (λ dynamic. receiver_keeps found (receiver_of r.method_type frame.activation.operands) found_is dynamic)
 
   pub invoke_keeps : (frame : MethodFrame) (below : List Frame) (how : Invoke) (r : MethodReference) → HasFrames (stack_frame.Call frame ∷ below) → instruction_at frame ≡ Some (instruction.Invoke how r) → KeepsSound (invoke_decision program limits s t thread frame how r)
   unfolding invoke_decision
   invoke_keeps frame below how r stands at =
-      cond_both (not (has_depth frame.body (taken how r.method_type) (result_length r.method_type.result) frame.activation)) _ _ KeepsSound
+      let deep = has_depth frame.body (taken how r.method_type) (result_length r.method_type.result) frame.activation in
+      cond_both (not deep) _ _ KeepsSound
       (λ _. still t stands.sound)
-      (λ depth. cond_both (not (are_of_call how r.method_type frame.activation.operands)) _ _ KeepsSound
+      (λ is_deep. cond_both (not (are_of_call how r.method_type frame.activation.operands)) _ _ KeepsSound
       (λ _. still t stands.sound)
-      (λ _. resolved_keeps frame below how r stands at (depth_is frame (taken how r.method_type) (result_length r.method_type.result) depth) (resolved_method program (is_static_call how) r) refl))
+      (λ _. resolved_keeps frame below how r stands at (depth_is frame (taken how r.method_type) (result_length r.method_type.result) (not-false deep is_deep)) (resolved_method program (is_static_call how) r) refl))

@@ -17,7 +17,7 @@ use Rattle.jvms_machine.specs.Marks.{calls_in, calls_of}
 use Rattle.jvms_machine.proofs.ListLaws.{appended_at}
 use Rattle.jvms_machine.proofs.InitialisationOrder.{order_with_thread}
 use Rattle.jvms_machine.proofs.OpeningSoundness.{first_instance_is}
-use Rattle.jvms_machine.proofs.HeapGrowth.{grown_length, grown_is_sound}
+use Rattle.jvms_machine.proofs.HeapGrowth.{grown_length, appended_is_sound}
 use Rattle.jvms_machine.proofs.ThrowableClasses.{thrown_fits}
 use Rattle.jvms_machine.proofs.MarkLaws.{unmarked_by, changed_calls}
 use Rattle.jvms_machine.proofs.ThreadChanges.{Stands, thread_is, changed_is_sound}
@@ -58,7 +58,7 @@ exception_is_thrown program limits s sound class =
 new_is_throwable : (program : List Class) (heap : List Object) (class : Thrown) → IsProgram program → IsThrowable program (heap ++ first_instance program (thrown_class class) ∷ []) (length heap + 1)
 new_is_throwable program heap class is =
     let new = first_instance program (thrown_class class) in
-    let longer = grown_length heap new in
+    let longer = grown_length heap (new ∷ []) in
     throwable_by program (heap ++ new ∷ []) (length heap + 1) new (rw add-one (appended_at heap new)) (thrown_fits program class is) (omega arith, omega arith)
 
 -- ---- Its thread
@@ -79,7 +79,7 @@ module _ (program : List Class) (limits : Limits) (t : ℕ) (thread : Thread) (f
   thrown_is_sound s stands (exception.New class) room is =
       let new = first_instance program (thrown_class class) in
       let grown : State = record s { heap = s.heap ++ new ∷ [] } in
-      let grown_sound : Sound program limits grown = grown_is_sound program limits s new stands.sound (first_instance_is program (s.heap ++ new ∷ []) (thrown_class class)) room in
+      let grown_sound : Sound program limits grown = appended_is_sound stands.sound (new ∷ []) s.elements (first_instance_is program (s.heap ++ new ∷ []) (thrown_class class), tt) room stands.sound.elements in
       struck_is_sound grown (record { sound = grown_sound; given_out = stands.given_out; frames_are = stands.frames_are }) (length s.heap + 1) (new_is_throwable program s.heap class is)
   thrown_is_sound s stands (exception.Held r) throwable is = struck_is_sound s stands r (throwable is)
 
@@ -94,9 +94,9 @@ module _ (program : List Class) (limits : Limits) (start : Start) (s : State) (t
   raising_keeps : (fs : List Frame) (e : Exception) → IsThrown program limits s e → Keeps program limits start s t (raising fs e)
   unfolding applied_to items_of
   raising_keeps [] e is =
-      ((λ of_program. thrown_is_sound program limits t thread frames (λ _. true) s stands e is of_program), tt, unmarked_by program t (calls_of s t) _ (thrown_calls program limits t thread frames (λ _. true) s stands e (exception_reference s e)))
+      ((λ of_program. thrown_is_sound program limits t thread frames (λ _. true) s stands e is of_program), (λ _ _. tt), unmarked_by program t (calls_of s t) _ (thrown_calls program limits t thread frames (λ _. true) s stands e (exception_reference s e)))
   raising_keeps (f ∷ below) e is =
-      ((λ of_program. thrown_is_sound program limits t thread frames (λ b. b) s stands e is of_program), tt, unmarked_by program t (calls_of s t) _ (thrown_calls program limits t thread frames (λ b. b) s stands e (exception_reference s e)))
+      ((λ of_program. thrown_is_sound program limits t thread frames (λ b. b) s stands e is of_program), (λ _ _. tt), unmarked_by program t (calls_of s t) _ (thrown_calls program limits t thread frames (λ b. b) s stands e (exception_reference s e)))
 
 -- The turn of a thread that throws an exception keeps a state sound.
 pub throws_keeps : {program : List Class} {limits : Limits} {s : State} {t : ℕ} {thread : Thread} {frames : List Frame} (start : Start) → Stands program limits s t thread frames → (class : Thrown) → Keeps program limits start s t (throws limits s thread class)

@@ -1,22 +1,24 @@
 -- A turn that asks for the initialisation of a class, or goes on with one, leaves a sound state sound.
-use Rattle.std.proofs.Common.{◌≡◌, ℕ, ◌<◌, ◌≤◌, Bool, true, false, ◌==◌, nat_le, leb-false, List, ◌∷◌, length, Option, Some, None, slice_get, slice_set, drop, refl, sym, ap, ◌∙◌, arith, length-set}
-use Rattle.std.proofs.lemmas.Bool.{cond_both}
+use Rattle.std.proofs.Common.{◌≡◌, ℕ, ◌+◌, ◌<◌, ◌≤◌, Bool, true, false, not, ◌==◌, nat_le, leb-false, List, ◌∷◌, length, Option, Some, None, slice_get, slice_set, drop, refl, sym, ap, ◌∙◌, arith, length-set}
+use Rattle.std.proofs.lemmas.Bool.{cond_both, not-false}
 use Rattle.std.proofs.lemmas.Option.{slice_get_within}
 use Rattle.jvms_machine.specs.declared.machine.Limits.{Limits}
 use Rattle.jvms_machine.specs.declared.state.Initialisation.{Initialisation}
 use Rattle.jvms_machine.specs.declared.state.Initialisation.TheVariants as initialisation
 use Rattle.jvms_machine.specs.declared.state.StackFrame.TheVariants as stack_frame
 use Rattle.jvms_machine.specs.declared.action.Action.TheVariants as action
-use Rattle.jvms_machine.specs.declared.action.Decision.{Decision}
 use Rattle.jvms_machine.specs.declared.action.Decision.TheVariants as decision
 use Rattle.jvms_program.specs.declared.program.Class.{Class}
-use Rattle.jvms_program.specs.declared.program.Body.{Body}
 use Rattle.jvms_program.specs.declared.thrown.Thrown.TheVariants as thrown
-use Rattle.jvms_machine.specs.State.{State, Thread, Frame}
+use Rattle.jvms_machine.specs.Decisions.{TurnDecision}
+use Rattle.jvms_machine.specs.State.{State, Thread, Frame, Sound}
+use Rattle.jvms_machine.specs.Exceptions.{has_room_for}
 use Rattle.jvms_machine.specs.Start.{Start}
-use Rattle.jvms_machine.specs.Initialisation.{has_static_constant, begin_decision, asking_at, asking, has_initializer, asked_superclass, initializer_decision, superclass_decision, initialisation_decision}
-use Rattle.jvms_machine.specs.Actions.{begun, popped, applied_to, items_of}
+use Rattle.jvms_machine.specs.Initialisation.{constants_of, new_texts, begin_decision, asking_at, asking, has_initializer, asked_superclass, initializer_decision, superclass_decision, initialisation_decision}
+use Rattle.jvms_machine.specs.Actions.{with_changed, with_class_constants, with_initialisation, begun, popped, applied_to, items_of}
 use Rattle.jvms_machine.specs.Marks.{calls, calls_in, calls_of}
+use Rattle.jvms_machine.proofs.LimitLaws.{room_is}
+use Rattle.jvms_machine.proofs.ConstantSoundness.{class_constants_are_sound}
 use Rattle.jvms_machine.proofs.InitialisationOrder.{order_begun, order_done}
 use Rattle.jvms_machine.proofs.MarkLaws.{unmarked_by, changed_calls}
 use Rattle.jvms_machine.proofs.ThreadChanges.{Stands, thread_is, frames_are_stack, thread_with_frames, changed_is_sound, stack_below, stack_begun}
@@ -24,7 +26,7 @@ use Rattle.jvms_machine.proofs.KeptStates.{Keeps, still}
 use Rattle.jvms_machine.proofs.ExceptionSoundness.{throws_keeps}
 
 module _ (program : List Class) (limits : Limits) (start : Start) (s : State) (t : ℕ) (thread : Thread) where
-  abbrev KeepsSound : Decision Body → Type 0
+  abbrev KeepsSound : TurnDecision → Type 0
   KeepsSound d = Keeps program limits start s t d
 
   abbrev HasFrames : List Frame → Type 0
@@ -32,30 +34,39 @@ module _ (program : List Class) (limits : Limits) (start : Start) (s : State) (t
 
   -- ---- A class is asked for
 
-  -- A class that begins.
-  begins_keeps : {frames : List Frame} → HasFrames frames → (class : ℕ) (c : Class) → slice_get s.initialisations class ≡ Some initialisation.NotBegun → slice_get program class ≡ Some c → length thread.frames < limits.frames → KeepsSound (decision.Makes (action.Begins class))
+  -- A class that begins, in the state with its constants.
+  begun_is_sound : {frames : List Frame} (made : State) → Stands program limits made t thread frames → made.initialisations ≡ s.initialisations → (class : ℕ) (c : Class) → slice_get s.initialisations class ≡ Some initialisation.NotBegun → slice_get program class ≡ Some c → length thread.frames < limits.frames → Sound program limits (with_initialisation (with_changed made t (begun class)) class (initialisation.InProgress t))
+  begun_is_sound made stands same class c begins is room =
+      let was = thread_is stands in
+      let begins_there : slice_get made.initialisations class ≡ Some initialisation.NotBegun = ap (λ (is : List Initialisation). slice_get is class) same ∙ begins in
+      changed_is_sound stands (begun class) (slice_set made.initialisations class (initialisation.InProgress t)) made.result refl
+      ((slice_get_within program class c is, was.0), stack_begun program class false thread.frames was.1, omega arith, was.3, was.4)
+      (length-set made.initialisations class (initialisation.InProgress t))
+      (order_begun made.threads made.initialisations t thread (begun class thread) stands.given_out stands.sound.initialised class begins_there refl)
+      stands.sound.result
+
+  begins_keeps : {frames : List Frame} → HasFrames frames → (class : ℕ) (c : Class) → slice_get s.initialisations class ≡ Some initialisation.NotBegun → slice_get program class ≡ Some c → length s.heap + length (new_texts s.heap (constants_of c.fields)) ≤ limits.objects → length thread.frames < limits.frames → KeepsSound (decision.Makes (action.Begins class))
   unfolding applied_to items_of
-  begins_keeps stands class c begins is room =
-      let was = thread_is stands in (
-        (λ _. changed_is_sound stands (begun class) (slice_set s.initialisations class (initialisation.InProgress t)) s.result refl
-            ((slice_get_within program class c is, was.0), stack_begun program class false thread.frames was.1, omega arith, was.3, was.4)
-            (length-set s.initialisations class (initialisation.InProgress t))
-            (order_begun s.threads s.initialisations t thread (begun class thread) stands.given_out stands.sound.initialised class begins refl)
-            stands.sound.result),
-        tt,
+  begins_keeps {frames = frames} stands class c begins is has_room room =
+      let made = with_class_constants s (Some c) in
+      let stands_there : Stands program limits made t thread frames = record { sound = class_constants_are_sound stands.sound c has_room; given_out = stands.given_out; frames_are = stands.frames_are } in
+      rw is (
+        (λ _. begun_is_sound made stands_there refl class c begins is room),
+        (λ _ _. tt),
         unmarked_by program t (calls_of s t) _ (changed_calls s.threads t thread (begun class) stands.given_out ∙ sym (ap calls_in stands.given_out)),
       )
 
   begin_keeps : {frames : List Frame} → HasFrames frames → (class : ℕ) (o : Option Class) → slice_get s.initialisations class ≡ Some initialisation.NotBegun → slice_get program class ≡ o → KeepsSound (begin_decision limits s thread class o)
   begin_keeps stands class None begins is = still t stands.sound
   begin_keeps stands class (Some c) begins is =
-      cond_both (has_static_constant c) _ _ KeepsSound
-      (λ _. still t stands.sound)
-      (λ _. cond_both (nat_le limits.frames (length thread.frames)) _ _ KeepsSound
+      let texts = length (new_texts s.heap (constants_of c.fields)) in
+      cond_both (not (has_room_for texts limits s)) _ _ KeepsSound
+      (λ _. throws_keeps start stands thrown.OutOfMemoryError)
+      (λ has. cond_both (nat_le limits.frames (length thread.frames)) _ _ KeepsSound
       (λ _. throws_keeps start stands thrown.StackOverflowError)
-      (λ room. begins_keeps stands class c begins is (leb-false limits.frames (length thread.frames) room)))
+      (λ room. begins_keeps stands class c begins is (room_is texts limits s (not-false (has_room_for texts limits s) has)) (leb-false limits.frames (length thread.frames) room)))
 
-  asking_at_keeps : {frames : List Frame} → HasFrames frames → (class : ℕ) (o : Option Initialisation) (go_on : Decision Body) → slice_get s.initialisations class ≡ o → KeepsSound go_on → KeepsSound (asking_at program limits s t thread class o go_on)
+  asking_at_keeps : {frames : List Frame} → HasFrames frames → (class : ℕ) (o : Option Initialisation) (go_on : TurnDecision) → slice_get s.initialisations class ≡ o → KeepsSound go_on → KeepsSound (asking_at program limits s t thread class o go_on)
   asking_at_keeps stands class None go_on is keeps = still t stands.sound
   asking_at_keeps stands class (Some initialisation.NotBegun) go_on is keeps = begin_keeps stands class (slice_get program class) is refl
   asking_at_keeps stands class (Some (initialisation.InProgress u)) go_on is keeps =
@@ -64,7 +75,7 @@ module _ (program : List Class) (limits : Limits) (start : Start) (s : State) (t
   asking_at_keeps stands class (Some initialisation.Erroneous) go_on is keeps = throws_keeps start stands thrown.NoClassDefFoundError
 
   -- A turn that asks for the initialisation of a class.
-  pub asking_keeps : {frames : List Frame} → HasFrames frames → (class : ℕ) (go_on : Decision Body) → KeepsSound go_on → KeepsSound (asking program limits s t thread class go_on)
+  pub asking_keeps : {frames : List Frame} → HasFrames frames → (class : ℕ) (go_on : TurnDecision) → KeepsSound go_on → KeepsSound (asking program limits s t thread class go_on)
   asking_keeps stands class go_on keeps = asking_at_keeps stands class (slice_get s.initialisations class) go_on refl keeps
 
   -- ---- An initialisation frame is on top
@@ -82,11 +93,11 @@ module _ (program : List Class) (limits : Limits) (start : Start) (s : State) (t
             (order_done s.threads s.initialisations t thread (popped thread) stands.given_out stands.sound.initialised class called
             (stands.frames_are ∙ ap (λ (fs : List Frame). stack_frame.Initialisation class called ∷ fs) (sym below_is)))
             stands.sound.result),
-        tt,
+        (λ _ _. tt),
         unmarked_by program t (calls_of s t) _ (changed_calls s.threads t thread popped stands.given_out ∙ ap (λ (fs : List Frame). calls (drop 1 fs)) stands.frames_are ∙ sym (ap calls stands.frames_are) ∙ sym (ap calls_in stands.given_out)),
       )
 
-  superclass_keeps : {frames : List Frame} → HasFrames frames → (o : Option ℕ) (go_on : Decision Body) → KeepsSound go_on → KeepsSound (superclass_decision program limits s t thread o go_on)
+  superclass_keeps : {frames : List Frame} → HasFrames frames → (o : Option ℕ) (go_on : TurnDecision) → KeepsSound go_on → KeepsSound (superclass_decision program limits s t thread o go_on)
   superclass_keeps stands None go_on keeps = keeps
   superclass_keeps stands (Some super) go_on keeps = asking_keeps stands super go_on keeps
 

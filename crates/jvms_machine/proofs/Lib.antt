@@ -1,6 +1,11 @@
+pub mod ArraySoundness
 pub mod CallDescriptors
 pub mod CallSoundness
+pub mod ClassSoundness
+pub mod ConstantSoundness
+pub mod EffectSoundness
 pub mod ExceptionSoundness
+pub mod FieldSoundness
 pub mod FrameSoundness
 pub mod HeapGrowth
 pub mod InitialisationOrder
@@ -9,10 +14,14 @@ pub mod KeptStates
 pub mod LimitLaws
 pub mod ListLaws
 pub mod MarkLaws
+pub mod NativeSoundness
+pub mod NewArrays
+pub mod ObjectSoundness
 pub mod OpeningSoundness
 pub mod ReturnSoundness
 pub mod SearchLaws
 pub mod StartLaws
+pub mod StoredValues
 pub mod ThreadChanges
 pub mod ThrowableClasses
 pub mod TurnSoundness

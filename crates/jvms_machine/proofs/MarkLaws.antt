@@ -1,5 +1,6 @@
 -- The marks of a turn that changes one thread's calls by at most one.
-use Rattle.std.proofs.Common.{◌≡◌, ℕ, ◌-◌, ◌==◌, List, [], ◌∷◌, ◌++◌, length, Option, Some, slice_get, flat_map, take, refl, sym, ap, ◌∙◌, arith}
+use Rattle.std.proofs.Common.{◌≡◌, ℕ, ◌-◌, ◌==◌, List, [], ◌∷◌, ◌++◌, length, Option, None, Some, slice_get, flat_map, take, refl, sym, ap, ◌∙◌, arith}
+use Rattle.std.specs.List.{filter}
 use Rattle.std.proofs.lemmas.Bool.{cond_both}
 use Rattle.std.proofs.lemmas.List.{append-nil}
 use Rattle.jvms_machine.specs.declared.value.Value.{Value}
@@ -7,9 +8,13 @@ use Rattle.jvms_machine.specs.declared.state.StackFrame.TheVariants as stack_fra
 use Rattle.jvms_machine.specs.declared.action.FrameAction.{FrameAction}
 use Rattle.jvms_program.specs.declared.number.MethodNumber.{MethodNumber}
 use Rattle.jvms_program.specs.declared.program.Class.{Class}
+use Rattle.jvms_program.specs.declared.key.MethodKey.{MethodKey}
+use Rattle.jvms_program.specs.BuiltIn.{is_built_in}
+use Rattle.jvms_program.specs.Program.{key_of}
+use Rattle.jvms_machine.specs.declared.trace.Item.TheVariants as item
 use Rattle.jvms_machine.specs.State.{State, Thread, Frame}
-use Rattle.jvms_machine.specs.Actions.{enter_items, exit_items, changed_to, top_gone_on, top_given, caller_gone_on, with_result}
-use Rattle.jvms_machine.specs.Marks.{calls, calls_in, calls_of, marks_between}
+use Rattle.jvms_machine.specs.Actions.{mark, enter_items, exit_items, changed_to, top_gone_on, top_given, caller_gone_on, with_result}
+use Rattle.jvms_machine.specs.Marks.{is_mark, calls, calls_in, calls_of, marks_between}
 use Rattle.jvms_machine.proofs.ListLaws.{get_set_same}
 
 -- ---- Marks
@@ -23,22 +28,31 @@ unmarked program t before =
 pub unmarked_by : (program : List Class) (t : ℕ) (before after : List MethodNumber) → after ≡ before → [] ≡ marks_between program t before after
 unmarked_by program t before after same = unmarked program t before ∙ sym (ap (marks_between program t before) same)
 
+-- Entries and exits are marks.
+enters_are_marks : (t : ℕ) (o : Option MethodKey) → filter is_mark (mark (λ key. item.Enter t key) o) ≡ mark (λ key. item.Enter t key) o
+enters_are_marks t None = refl
+enters_are_marks t (Some key) = cond_both (is_built_in key.class) _ _ (λ items. filter is_mark items ≡ items) (λ _. refl) (λ _. refl)
+
+exits_are_marks : (t : ℕ) (o : Option MethodKey) → filter is_mark (mark (λ key. item.Exit t key) o) ≡ mark (λ key. item.Exit t key) o
+exits_are_marks t None = refl
+exits_are_marks t (Some key) = cond_both (is_built_in key.class) _ _ (λ items. filter is_mark items ≡ items) (λ _. refl) (λ _. refl)
+
 -- A call that comes.
-pub entered_mark : (program : List Class) (t : ℕ) (before after : List MethodNumber) (m : MethodNumber) → after ≡ m ∷ before → enter_items program t m ≡ marks_between program t before after
+pub entered_mark : (program : List Class) (t : ℕ) (before after : List MethodNumber) (m : MethodNumber) → after ≡ m ∷ before → filter is_mark (enter_items program t m) ≡ marks_between program t before after
 entered_mark program t before after m one =
     let none : length before - length (m ∷ before) ≡ 0 = omega arith in
     let more : length (m ∷ before) - length before ≡ 1 = omega arith in
-    sym (ap (marks_between program t before) one
+    enters_are_marks t (key_of program m) ∙ sym (ap (marks_between program t before) one
     ∙ ap (λ n. flat_map (exit_items program t) (take n before) ++ flat_map (enter_items program t) (take (length (m ∷ before) - length before) (m ∷ before))) none
     ∙ ap (λ n. flat_map (enter_items program t) (take n (m ∷ before))) more
     ∙ append-nil (enter_items program t m))
 
 -- A call that goes.
-pub left_mark : (program : List Class) (t : ℕ) (before after : List MethodNumber) (m : MethodNumber) → before ≡ m ∷ after → exit_items program t m ≡ marks_between program t before after
+pub left_mark : (program : List Class) (t : ℕ) (before after : List MethodNumber) (m : MethodNumber) → before ≡ m ∷ after → filter is_mark (exit_items program t m) ≡ marks_between program t before after
 left_mark program t before after m one =
     let none : length after - length (m ∷ after) ≡ 0 = omega arith in
     let more : length (m ∷ after) - length after ≡ 1 = omega arith in
-    sym (ap (λ b. marks_between program t b after) one
+    exits_are_marks t (key_of program m) ∙ sym (ap (λ b. marks_between program t b after) one
     ∙ ap (λ n. flat_map (exit_items program t) (take (length (m ∷ after) - length after) (m ∷ after)) ++ flat_map (enter_items program t) (take n after)) none
     ∙ append-nil (flat_map (exit_items program t) (take (length (m ∷ after) - length after) (m ∷ after)))
     ∙ ap (λ n. flat_map (exit_items program t) (take n (m ∷ after))) more

@@ -14,9 +14,10 @@ use Rattle.jvms_program.specs.declared.program.Field.{Field}
 use Rattle.jvms_machine.specs.declared.machine.Limits.{Limits}
 use Rattle.jvms_program.specs.declared.key.FieldKey.{FieldKey}
 use Rattle.jvms_program.specs.BuiltIn.{is_built_in}
+use Rattle.jvms_program.specs.Program.{field_key}
 use Rattle.jvms_program.specs.Resolution.{chain}
 use Rattle.jvms_machine.specs.declared.state.Initialisation.TheVariants as initialisation
-use Rattle.jvms_machine.specs.State.{Object, first_instance, IsValue, IsObject, Sound, default_of_element, default_value, field_key, fields_where, static_fields, keys, initialisation_frames, frames_in_progress}
+use Rattle.jvms_machine.specs.State.{Object, first_instance, IsValue, IsObject, Sound, default_of_element, default_value, fields_where, static_fields, keys, initialisation_frames, frames_in_progress}
 use Rattle.jvms_machine.specs.Limits.{are_limits}
 use Rattle.jvms_machine.specs.Opening.{opening_heap, is_system_out, opening_static, opening_initialisation, new_thread, opening}
 use Rattle.jvms_machine.proofs.ListLaws.{all_map, all_map_weaker, all_flat_map}
@@ -31,7 +32,7 @@ element_default_is_value heap (element.Primitive primitive.Long) = tt
 element_default_is_value heap (element.Primitive _) = tt
 
 -- The value that any field begins with is a value in any heap.
-default_is_value : (heap : List Object) (t : FieldType) → IsValue heap (default_value t)
+pub default_is_value : (heap : List Object) (t : FieldType) → IsValue heap (default_value t)
 default_is_value heap t = cond_both (t.dimensions == 0) _ _ (IsValue heap) (λ _. element_default_is_value heap t.element) (λ _. tt)
 
 -- A field's value is one of the heap.

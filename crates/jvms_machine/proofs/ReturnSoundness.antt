@@ -8,7 +8,6 @@ use Rattle.jvms_machine.specs.declared.value.Value.{Value}
 use Rattle.jvms_machine.specs.declared.machine.Limits.{Limits}
 use Rattle.jvms_machine.specs.declared.state.StackFrame.TheVariants as stack_frame
 use Rattle.jvms_machine.specs.declared.action.Action.TheVariants as action
-use Rattle.jvms_machine.specs.declared.action.Decision.{Decision}
 use Rattle.jvms_machine.specs.declared.action.Decision.TheVariants as decision
 use Rattle.jvms_file.specs.declared.descriptor.ResultType.{ResultType}
 use Rattle.jvms_file.specs.declared.descriptor.ResultType.TheVariants as result_type
@@ -19,8 +18,8 @@ use Rattle.jvms_file.specs.declared.insn.ReturnInsn.TheVariants as returns
 use Rattle.jvms_program.specs.declared.number.MethodNumber.{MethodNumber}
 use Rattle.jvms_program.specs.declared.program.Class.{Class}
 use Rattle.jvms_program.specs.declared.program.Method.{Method}
-use Rattle.jvms_program.specs.declared.program.Body.{Body}
 use Rattle.jvms_program.specs.Program.{method_at}
+use Rattle.jvms_machine.specs.Decisions.{TurnDecision}
 use Rattle.jvms_machine.specs.State.{State, Object, Thread, Frame, MethodFrame, IsValue, IsFrame, IsStack, StandsOn, result_length, is_initialisation_of, Sound}
 use Rattle.jvms_machine.specs.Start.{Start}
 use Rattle.jvms_machine.specs.Locals.{is_loaded}
@@ -84,7 +83,7 @@ returned_count result c (stack_frame.Call lower ∷ below) = count_call c (retur
 -- ---- The turn
 
 module _ (program : List Class) (limits : Limits) (start : Start) (s : State) (t : ℕ) (thread : Thread) where
-  abbrev KeepsSound : Decision Body → Type 0
+  abbrev KeepsSound : TurnDecision → Type 0
   KeepsSound d = Keeps program limits start s t d
 
   abbrev HasFrames : List Frame → Type 0
@@ -115,7 +114,7 @@ module _ (program : List Class) (limits : Limits) (start : Start) (s : State) (t
             (returned_stack program result (f ∷ below) frames.1.1)
             (omega arith)
             (λ c. returned_count result c (f ∷ below) ∙ sym (count_call c frame (f ∷ below)))),
-        (slice_get_within s.threads t thread stands.given_out, subst (λ o. IfSome o (λ (th : Thread). HasRoomFor result (drop 1 th.frames))) (sym stands.given_out) (subst (λ (fs : List Frame). HasRoomFor result (drop 1 fs)) (sym stands.frames_are) room)),
+        (λ _ _. (slice_get_within s.threads t thread stands.given_out, subst (λ o. IfSome o (λ (th : Thread). HasRoomFor result (drop 1 th.frames))) (sym stands.given_out) (subst (λ (fs : List Frame). HasRoomFor result (drop 1 fs)) (sym stands.frames_are) room))),
         left_mark program t (calls_of s t) _ frame.method
             (ap calls_in stands.given_out ∙ ap calls stands.frames_are
             ∙ ap (λ (ms : List MethodNumber). frame.method ∷ ms) (sym (changed_calls s.threads t thread (returned result) stands.given_out ∙ ap calls are ∙ returned_calls result (f ∷ below)))),
@@ -125,7 +124,7 @@ module _ (program : List Class) (limits : Limits) (start : Start) (s : State) (t
   unfolding applied_to items_of
   returned_keeps frame [] m result stands m_is gives result_is = (
     (λ _. cond_both (t == 0) _ _ (Sound program limits) (λ _. ended_is_sound frame result stands result_is) (λ _. ended_is_sound frame s.result stands stands.sound.result)),
-    tt,
+    (λ _ _. tt),
     left_mark program t (calls_of s t) _ frame.method
         (ap calls_in stands.given_out ∙ ap calls stands.frames_are
         ∙ ap (λ (ms : List MethodNumber). frame.method ∷ ms) (sym (result_calls (with_changed s t ended) t result ∙ changed_calls s.threads t thread ended stands.given_out))),

@@ -1,5 +1,5 @@
 -- What a search of a list finds.
-use Rattle.std.proofs.Common.{◌≡◌, ℕ, Bool, true, false, cond, nat_lt, List, [], ◌∷◌, length, Some, slice_get, refl, sym, ap, ◌∙◌, subst}
+use Rattle.std.proofs.Common.{◌≡◌, ℕ, zero, suc, Bool, true, false, cond, nat_lt, List, [], ◌∷◌, length, Some, slice_get, refl, sym, ap, ◌∙◌, subst}
 use Rattle.std.specs.List.{find, position, position_or_len}
 use Rattle.std.proofs.lemmas.List.Folds.{find_at}
 use Rattle.std.proofs.lemmas.Option.{same_Some, none-some, cond_some}
@@ -18,3 +18,12 @@ pub position_leads : {X : Type 0} (test : X → Bool) (xs : List X) (n : ℕ) �
 position_leads test xs n is =
     let same = cond_some (nat_lt (position_or_len test xs) (length xs)) (position_or_len test xs) n is in
     ap (slice_get xs) (sym same.1) ∙ sym (find_at test xs)
+
+-- What is found stands at a place.
+place_by : {X : Type 0} (test : X → Bool) (b : Bool) (y x : X) (xs : List X) → (find test xs ≡ Some x → (i : ℕ) × (slice_get xs i ≡ Some x)) → cond b (Some y) (find test xs) ≡ Some x → (i : ℕ) × (slice_get (y ∷ xs) i ≡ Some x)
+place_by test true y x xs more is = (zero, is)
+place_by test false y x xs more is = let place = more is in (suc place.0, place.1)
+
+pub found_at : {X : Type 0} (test : X → Bool) (xs : List X) (x : X) → find test xs ≡ Some x → (i : ℕ) × (slice_get xs i ≡ Some x)
+found_at test [] x is = absurd (none-some x is)
+found_at test (y ∷ xs) x is = place_by test (test y) y x xs (found_at test xs x) is

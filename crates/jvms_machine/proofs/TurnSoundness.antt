@@ -1,39 +1,42 @@
 -- A turn of any thread leaves a sound state sound, and what it makes is ready to be made.
 use Rattle.std.proofs.Common.{◌≡◌, ℕ, Bool, true, false, List, [], ◌∷◌, Option, Some, None, IfSome, IsTrue, slice_get, refl, sym, ap, ◌∙◌, subst}
+use Rattle.std.specs.List.{filter}
 use Rattle.jvms_machine.specs.declared.machine.Limits.{Limits}
 use Rattle.jvms_machine.specs.declared.state.StackFrame.TheVariants as stack_frame
 use Rattle.jvms_machine.specs.declared.action.FrameAction.{FrameAction}
 use Rattle.jvms_machine.specs.declared.action.FrameDecision.{FrameDecision}
 use Rattle.jvms_machine.specs.declared.action.FrameDecision.TheVariants as frame_decided
 use Rattle.jvms_machine.specs.declared.action.Action.TheVariants as action
-use Rattle.jvms_machine.specs.declared.action.Decision.{Decision}
 use Rattle.jvms_machine.specs.declared.action.Decision.TheVariants as decision
 use Rattle.jvms_file.specs.declared.insn.Simple.TheVariants as simple
 use Rattle.jvms_program.specs.declared.program.Class.{Class}
-use Rattle.jvms_program.specs.declared.program.Body.{Body}
 use Rattle.jvms_program.specs.declared.program.Instruction.{Instruction}
 use Rattle.jvms_program.specs.declared.program.Instruction.TheVariants as instruction
 use Rattle.jvms_program.specs.Program.{IsProgram, method_at}
+use Rattle.jvms_machine.specs.Decisions.{TurnDecision}
 use Rattle.jvms_machine.specs.State.{State, Thread, Frame, MethodFrame, Sound}
 use Rattle.jvms_machine.specs.Start.{Start, IsStart}
 use Rattle.jvms_machine.specs.Limits.{are_limits}
 use Rattle.jvms_machine.specs.Steps.{frame_decision, instruction_at, step_at, top_step}
-use Rattle.jvms_machine.specs.Actions.{call_gone_on, top_gone_on, gone_on, applied_to, items_of}
-use Rattle.jvms_machine.specs.Marks.{calls_in, calls_of, marks_between}
+use Rattle.jvms_machine.specs.Actions.{gone_on, applied_to, items_of}
+use Rattle.jvms_machine.specs.Marks.{calls_in, calls_of, is_mark, marks_between}
 use Rattle.jvms_machine.specs.Turn.{IsReadyToMake, reaching_decision, instruction_decision, frame_turn_decision, frames_decision, live_decision, given_out_decision, thread_decision, decide, turn}
-use Rattle.jvms_machine.proofs.InitialisationOrder.{count_call}
-use Rattle.jvms_machine.proofs.FrameSoundness.{IsFit, applied_is_fit, frame_decision_keeps}
+use Rattle.jvms_machine.proofs.FrameSoundness.{frame_decision_keeps}
 use Rattle.jvms_machine.proofs.FrameSoundness as frame_soundness
 use Rattle.jvms_machine.proofs.MarkLaws.{unmarked_by, changed_calls, gone_on_calls}
-use Rattle.jvms_machine.proofs.ThreadChanges.{Stands, frames_are_stack, moved_is_sound, stack_goes_on}
+use Rattle.jvms_machine.proofs.ThreadChanges.{Stands}
 use Rattle.jvms_machine.proofs.KeptStates.{Keeps, still}
 use Rattle.jvms_machine.proofs.ExceptionSoundness.{throws_keeps}
 use Rattle.jvms_machine.proofs.InitialisationSoundness.{initialisation_keeps}
 use Rattle.jvms_machine.proofs.CallSoundness.{first_call_keeps, invoke_keeps}
 use Rattle.jvms_machine.proofs.ReturnSoundness.{method_return_keeps}
+use Rattle.jvms_machine.proofs.EffectSoundness.{frame_is_fit, gone_on_is_sound}
+use Rattle.jvms_machine.proofs.FieldSoundness.{field_keeps}
+use Rattle.jvms_machine.proofs.ArraySoundness.{array_keeps, new_arrays_keeps}
+use Rattle.jvms_machine.proofs.ClassSoundness.{class_keeps, loadable_keeps}
 
 module _ (program : List Class) (limits : Limits) (start : Start) (s : State) (t : ℕ) where
-  abbrev KeepsSound : Decision Body → Type 0
+  abbrev KeepsSound : TurnDecision → Type 0
   KeepsSound d = Keeps program limits start s t d
 
   module _ (thread : Thread) where
@@ -42,28 +45,14 @@ module _ (program : List Class) (limits : Limits) (start : Start) (s : State) (t
 
     -- ---- Instructions
 
-    -- The call on top fits its code.
-    frame_is_fit : (frame : MethodFrame) (below : List Frame) → HasFrames (stack_frame.Call frame ∷ below) → IsFit s.heap frame.body frame.activation
-    frame_is_fit frame below stands =
-        let is = (frames_are_stack stands).0.0 in
-        record { locals_fit = is.1.0; operands_fit = is.1.1; locals = is.2; operands = is.3 }
-
     -- The call on top goes on.
     goes_keeps : (frame : MethodFrame) (below : List Frame) (act : FrameAction) → HasFrames (stack_frame.Call frame ∷ below) → top_step thread.frames ≡ frame_decided.Does act → frame_soundness.Keeps s.heap frame.body frame.activation (frame_decided.Does act) → KeepsSound (decision.Makes (action.Goes act))
     unfolding applied_to items_of
-    goes_keeps frame below act stands does keeps =
-        let frames = frames_are_stack stands in
-        let fit = applied_is_fit s.heap frame.body frame.activation (frame_is_fit frame below stands) act keeps.0 keeps.1 in
-        let now = stack_frame.Call (call_gone_on act frame) ∷ below in
-        let are : (gone_on act thread).frames ≡ now = ap (top_gone_on act) stands.frames_are in (
-          (λ _. moved_is_sound stands (gone_on act) now are refl refl
-              ((frames.0.0.0, (fit.locals_fit, fit.operands_fit), fit.locals, fit.operands, frames.0.0.4, frames.0.0.5), frames.0.1)
-              (stack_goes_on program frame (call_gone_on act frame).activation below frames.1)
-              frames.2
-              (λ c. count_call c (call_gone_on act frame) below ∙ sym (count_call c frame below))),
-          subst (λ o. IfSome o (λ (th : Thread). top_step th.frames ≡ frame_decided.Does act)) (sym stands.given_out) does,
-          unmarked_by program t (calls_of s t) _ (changed_calls s.threads t thread (gone_on act) stands.given_out ∙ gone_on_calls act thread.frames ∙ sym (ap calls_in stands.given_out)),
-        )
+    goes_keeps frame below act stands does keeps = (
+      (λ _. gone_on_is_sound frame below act stands keeps.0 keeps.1),
+      (λ _ _. subst (λ o. IfSome o (λ (th : Thread). top_step th.frames ≡ frame_decided.Does act)) (sym stands.given_out) does),
+      unmarked_by program t (calls_of s t) _ (changed_calls s.threads t thread (gone_on act) stands.given_out ∙ gone_on_calls act thread.frames ∙ sym (ap calls_in stands.given_out)),
+    )
 
     -- An instruction that touches more than its frame.
     reaching_keeps : (frame : MethodFrame) (below : List Frame) (i : Instruction) → HasFrames (stack_frame.Call frame ∷ below) → instruction_at frame ≡ Some i → KeepsSound (reaching_decision program limits s t thread frame below i)
@@ -71,6 +60,11 @@ module _ (program : List Class) (limits : Limits) (start : Start) (s : State) (t
     reaching_keeps frame below (instruction.Simple (simple.Return how)) stands at =
         method_return_keeps program limits start s t thread frame below how (method_at program frame.method) stands refl (frame_is_fit frame below stands).operands
     reaching_keeps frame below (instruction.Invoke how r) stands at = invoke_keeps program limits start s t thread frame below how r stands at
+    reaching_keeps frame below (instruction.Simple (simple.Array i)) stands at = array_keeps program limits start s t thread frame below stands i
+    reaching_keeps frame below (instruction.Constant c) stands at = loadable_keeps program limits start s t thread frame below stands c
+    reaching_keeps frame below (instruction.Field how r) stands at = field_keeps program limits start s t thread frame below stands how r
+    reaching_keeps frame below (instruction.Class how name) stands at = class_keeps program limits start s t thread frame below stands how name
+    reaching_keeps frame below (instruction.MultiNewArray name dimensions) stands at = new_arrays_keeps program limits start s t thread frame below stands name dimensions
     reaching_keeps frame below _ stands at = still t stands.sound
 
     instruction_keeps : (frame : MethodFrame) (below : List Frame) (i : Instruction) (d : FrameDecision) → HasFrames (stack_frame.Call frame ∷ below) → instruction_at frame ≡ Some i → top_step thread.frames ≡ d → frame_soundness.Keeps s.heap frame.body frame.activation d → KeepsSound (instruction_decision program limits s t thread frame below i d)
@@ -114,10 +108,10 @@ unfolding turn
 turn_keeps program limits start s t is are starts sound = (decide_keeps program limits start s t starts sound).0 is
 
 -- What is decided in a sound state is ready to be made.
-pub decided_is_ready : (program : List Class) (limits : Limits) (start : Start) (s : State) (t : ℕ) → IsTrue (are_limits limits) → IsStart start → Sound program limits s → IsReadyToMake start s t (decide program limits start s t)
-decided_is_ready program limits start s t are starts sound = (decide_keeps program limits start s t starts sound).1
+pub decided_is_ready : (program : List Class) (limits : Limits) (start : Start) (s : State) (t : ℕ) → IsProgram program → IsTrue (are_limits limits) → IsStart start → Sound program limits s → IsReadyToMake start s t (decide program limits start s t)
+decided_is_ready program limits start s t is are starts sound = (decide_keeps program limits start s t starts sound).1 is are
 
--- The items of a turn mark the calls that come and go.
-pub turn_marks : (program : List Class) (limits : Limits) (start : Start) (s : State) (t : ℕ) → IsTrue (are_limits limits) → IsStart start → Sound program limits s → (turn program limits start s t).items ≡ marks_between program t (calls_of s t) (calls_of (turn program limits start s t).state t)
+-- The marks of a turn are of the calls that come and go.
+pub turn_marks : (program : List Class) (limits : Limits) (start : Start) (s : State) (t : ℕ) → IsTrue (are_limits limits) → IsStart start → Sound program limits s → filter is_mark (turn program limits start s t).items ≡ marks_between program t (calls_of s t) (calls_of (turn program limits start s t).state t)
 unfolding turn
 turn_marks program limits start s t are starts sound = (decide_keeps program limits start s t starts sound).2

@@ -1,21 +1,19 @@
 -- The turn of a thread that isn't enabled changes nothing: what is made is enabled.
 use Rattle.std.proofs.Common.{◌≡◌, ℕ, true, false, List, [], refl}
 use Rattle.jvms_machine.specs.declared.machine.Limits.{Limits}
-use Rattle.jvms_program.specs.declared.program.Body.{Body}
 use Rattle.jvms_program.specs.declared.program.Class.{Class}
-use Rattle.jvms_machine.specs.declared.action.Action.{Action}
 use Rattle.jvms_machine.specs.declared.action.Action.TheVariants as action
-use Rattle.jvms_machine.specs.declared.action.Decision.{Decision}
 use Rattle.jvms_machine.specs.declared.action.Decision.TheVariants as decision
 use Rattle.jvms_machine.specs.State.{State}
 use Rattle.jvms_machine.specs.Start.{Start}
-use Rattle.jvms_machine.specs.Decisions.{outcome_of, outcome_of_action}
+use Rattle.jvms_machine.specs.Decisions.{TurnAction, TurnDecision, outcome_of, outcome_of_action}
 use Rattle.jvms_machine.specs.Turn.{decide, turn, state_after, items_after}
 use Rattle.jvms_machine.specs.Status.{is_enabled}
 
 -- What is made is the turn of an enabled thread.
-action_is_enabled : (act : Action Body) → is_enabled (outcome_of_action act) ≡ true
+action_is_enabled : (act : TurnAction) → is_enabled (outcome_of_action act) ≡ true
 action_is_enabled (action.Goes act) = refl
+action_is_enabled (action.Reaches effect act) = refl
 action_is_enabled (action.Begins class) = refl
 action_is_enabled (action.Finishes class) = refl
 action_is_enabled (action.Enters method code) = refl
@@ -25,7 +23,7 @@ action_is_enabled (action.Returns method result) = refl
 action_is_enabled (action.Raises e) = refl
 action_is_enabled (action.Fails e) = refl
 
-unmade_keeps : (program : List Class) (start : Start) (s : State) (t : ℕ) (d : Decision Body) → is_enabled (outcome_of d) ≡ false → (state_after program start s t d ≡ s) × (items_after program t d ≡ [])
+unmade_keeps : (program : List Class) (start : Start) (s : State) (t : ℕ) (d : TurnDecision) → is_enabled (outcome_of d) ≡ false → (state_after program start s t d ≡ s) × (items_after program t d ≡ [])
 unmade_keeps program start s t (decision.Unmade o) disabled = (refl, refl)
 unmade_keeps program start s t decision.Later disabled = (refl, refl)
 unmade_keeps program start s t (decision.Makes act) disabled = absurd (cc (action_is_enabled act))

@@ -1,6 +1,7 @@
 -- Exceptions that the machine throws (JVMS 2.10). A test that throws changes nothing but the object that it makes and
 -- what is pending: operands, local variables and place stay.
 use Rattle.std.specs.Prelude.{ℕ, ◌+◌, nat_le, Bool, if◌then◌else◌, List, [], ◌∷◌, length, codes}
+use Rattle.jvms_program.specs.declared.program.Class.{Class}
 use Rattle.jvms_program.specs.declared.program.Body.{Body}
 use Rattle.jvms_program.specs.declared.thrown.Thrown.{Thrown}
 use Rattle.jvms_program.specs.declared.thrown.Thrown.TheVariants as thrown
@@ -10,6 +11,7 @@ use Rattle.jvms_machine.specs.declared.action.Decision.{Decision}
 use Rattle.jvms_machine.specs.declared.action.Decision.TheVariants as decision
 use Rattle.jvms_machine.specs.declared.action.Exception.{Exception}
 use Rattle.jvms_machine.specs.declared.action.Exception.TheVariants as exception
+use Rattle.jvms_machine.specs.Decisions.{TurnDecision}
 use Rattle.jvms_machine.specs.State.{State, Frame, Thread}
 
 -- The name of an exception's class.
@@ -54,10 +56,10 @@ exception_reference s (exception.Held r) = r
 -- ---- The turn that throws
 
 -- With a frame the exception is pending after the turn; without one the thread has ended.
-abbrev pub raising : List Frame → Exception → Decision Body
+abbrev pub raising : List Frame → Exception → TurnDecision
 raising [] e = decision.Makes (action.Fails e)
 raising (f ∷ below) e = decision.Makes (action.Raises e)
 
 -- The turn of this thread throws an exception of this class.
-unfoldable pub throws : Limits → State → Thread → Thrown → Decision Body
+unfoldable pub throws : Limits → State → Thread → Thrown → TurnDecision
 throws limits s thread class = raising thread.frames (exception_of limits s class)

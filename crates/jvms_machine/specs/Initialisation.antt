@@ -1,13 +1,15 @@
 -- The initialisation of classes (JVMS 5.5).
-use Rattle.std.specs.Prelude.{ℕ, Bool, true, false, ◌==◌, ◌&&◌, nat_le, if◌then◌else◌, List, length, Option, Some, None, is_some, slice_get, codes}
+use Rattle.std.specs.Prelude.{ℕ, Bool, true, false, not, ◌==◌, nat_le, if◌then◌else◌, List, [], ◌∷◌, ◌++◌, length, Option, Some, None, is_some, slice_get, codes}
 use Rattle.std.specs.Option.{option_and_then}
-use Rattle.std.specs.List.{list_any}
 use Rattle.jvms_machine.specs.declared.machine.Outcome.TheVariants as outcome
 use Rattle.jvms_machine.specs.declared.machine.BlockedOn.TheVariants as blocked
 use Rattle.jvms_machine.specs.declared.machine.Limits.{Limits}
 use Rattle.jvms_machine.specs.declared.state.Initialisation.{Initialisation}
 use Rattle.jvms_machine.specs.declared.state.Initialisation.TheVariants as initialisation
 use Rattle.jvms_program.specs.declared.program.Class.{Class}
+use Rattle.jvms_program.specs.declared.program.Field.{Field}
+use Rattle.jvms_program.specs.declared.program.Loadable.{Loadable}
+use Rattle.jvms_program.specs.declared.program.Loadable.TheVariants as loadable
 use Rattle.jvms_program.specs.declared.program.Body.{Body}
 use Rattle.jvms_program.specs.declared.thrown.Thrown.TheVariants as thrown
 use Rattle.jvms_machine.specs.declared.action.Decision.{Decision}
@@ -15,28 +17,41 @@ use Rattle.jvms_machine.specs.declared.action.Decision.TheVariants as decision
 use Rattle.jvms_machine.specs.declared.action.Action.TheVariants as action
 use Rattle.jvms_program.specs.Program.{class_number, declared_number}
 use Rattle.jvms_program.specs.Resolution.{is_interface_kind}
-use Rattle.jvms_machine.specs.State.{State, Thread}
-use Rattle.jvms_machine.specs.Decisions.{never_seen}
-use Rattle.jvms_machine.specs.Exceptions.{throws}
+use Rattle.jvms_machine.specs.State.{State, Thread, Object, text, text_reference}
+use Rattle.jvms_machine.specs.Decisions.{TurnDecision, never_seen}
+use Rattle.jvms_machine.specs.Exceptions.{throws, has_room_for}
 
 -- ---- A class is asked for
 
--- Whether a static field of a class has a constant.
-abbrev pub has_static_constant : Class → Bool
-has_static_constant c = list_any (λ f. f.is_static && is_some f.constant) c.fields
+-- The constants of static fields (JVMS 4.7.2), in the fields' order.
+abbrev pub constants_of : List Field → List Loadable
+constants_of [] = []
+constants_of (f ∷ fields) = listed f.is_static f.constant ++ constants_of fields
+  where
+    listed : Bool → Option Loadable → List Loadable
+    listed true (Some c) = c ∷ []
+    listed _ _ = []
 
--- The initialisation begins: the class is marked, and its frame pushed, if there is room for one; the instruction is run
--- again later. Constants of static fields are yet to come.
-abbrev pub begin_decision : Limits → State → Thread → ℕ → Option Class → Decision Body
+-- The strings among constants that have no object yet, each once.
+abbrev pub new_texts : List Object → List Loadable → List (List ℕ)
+new_texts heap [] = []
+new_texts heap (loadable.String units ∷ constants) =
+    if is_some (text_reference heap units) then new_texts heap constants
+    else units ∷ new_texts (heap ++ text units ∷ []) constants
+new_texts heap (c ∷ constants) = new_texts heap constants
+
+-- The initialisation begins: there is room for the strings of the constants, then for a frame; the class is marked, its
+-- constants are stored, and its frame is pushed. The instruction is run again later.
+abbrev pub begin_decision : Limits → State → Thread → ℕ → Option Class → TurnDecision
 begin_decision limits s thread class None = never_seen
 begin_decision limits s thread class (Some c) =
-    if has_static_constant c then decision.Later
+    if not (has_room_for (length (new_texts s.heap (constants_of c.fields))) limits s) then throws limits s thread thrown.OutOfMemoryError
     else (if nat_le limits.frames (length thread.frames) then throws limits s thread thrown.StackOverflowError
     else decision.Makes (action.Begins class))
 
 -- What a turn that asks for the initialisation of a class does first: `go_on` where it is done or in progress by
 -- the turn's own thread.
-abbrev pub asking_at : List Class → Limits → State → ℕ → Thread → ℕ → Option Initialisation → Decision Body → Decision Body
+abbrev pub asking_at : List Class → Limits → State → ℕ → Thread → ℕ → Option Initialisation → TurnDecision → TurnDecision
 asking_at program limits s t thread class None go_on = never_seen
 asking_at program limits s t thread class (Some initialisation.NotBegun) go_on =
     begin_decision limits s thread class (slice_get program class)
@@ -46,7 +61,7 @@ asking_at program limits s t thread class (Some initialisation.Done) go_on = go_
 asking_at program limits s t thread class (Some initialisation.Erroneous) go_on =
     throws limits s thread thrown.NoClassDefFoundError
 
-abbrev pub asking : List Class → Limits → State → ℕ → Thread → ℕ → Decision Body → Decision Body
+abbrev pub asking : List Class → Limits → State → ℕ → Thread → ℕ → TurnDecision → TurnDecision
 asking program limits s t thread class go_on =
     asking_at program limits s t thread class (slice_get s.initialisations class) go_on
 
@@ -61,17 +76,17 @@ asked_superclass program c =
     if is_interface_kind c.kind then None else option_and_then (class_number program) c.superclass
 
 -- Where no superclass is left to wait for: a <clinit>()V is called, which is yet to come, or the class is done.
-abbrev pub initializer_decision : Class → ℕ → Decision Body
+abbrev pub initializer_decision : Class → ℕ → TurnDecision
 initializer_decision c class = if has_initializer c then decision.Later else decision.Makes (action.Finishes class)
 
 -- The superclass is asked for first.
-abbrev pub superclass_decision : List Class → Limits → State → ℕ → Thread → Option ℕ → Decision Body → Decision Body
+abbrev pub superclass_decision : List Class → Limits → State → ℕ → Thread → Option ℕ → TurnDecision → TurnDecision
 superclass_decision program limits s t thread None go_on = go_on
 superclass_decision program limits s t thread (Some super) go_on = asking program limits s t thread super go_on
 
 -- The superclass is asked for; then <clinit> is called, or, where there is none or it has returned, the class is
 -- done.
-abbrev pub initialisation_decision : List Class → Limits → State → ℕ → Thread → ℕ → Bool → Option Class → Decision Body
+abbrev pub initialisation_decision : List Class → Limits → State → ℕ → Thread → ℕ → Bool → Option Class → TurnDecision
 initialisation_decision program limits s t thread class called None = never_seen
 initialisation_decision program limits s t thread class true (Some c) = decision.Makes (action.Finishes class)
 initialisation_decision program limits s t thread class false (Some c) =

@@ -1,13 +1,20 @@
--- The marks of a turn told from the states before and after it: a call is marked as its frame comes or goes. So far a
--- turn has no other items, and changes no other thread's frames.
-use Rattle.std.specs.Prelude.{ℕ, ◌-◌, List, [], ◌∷◌, ◌++◌, length, take, Option, Some, None, slice_get}
+-- The marks of a turn told from the states before and after it: a call is marked as its frame comes or goes. A turn changes
+-- no other thread's frames.
+use Rattle.std.specs.Prelude.{ℕ, ◌-◌, Bool, true, false, List, [], ◌∷◌, ◌++◌, length, take, Option, Some, None, slice_get}
 use Rattle.std.specs.List.{flat_map}
 use Rattle.jvms_program.specs.declared.program.Class.{Class}
 use Rattle.jvms_program.specs.declared.number.MethodNumber.{MethodNumber}
 use Rattle.jvms_machine.specs.declared.trace.Item.{Item}
+use Rattle.jvms_machine.specs.declared.trace.Item.TheVariants as item
 use Rattle.jvms_machine.specs.declared.state.StackFrame.TheVariants as stack_frame
 use Rattle.jvms_machine.specs.State.{State, Thread, Frame}
 use Rattle.jvms_machine.specs.Actions.{enter_items, exit_items}
+
+-- An entry or an exit; the other items are events.
+abbrev pub is_mark : Item → Bool
+is_mark (item.Enter t method) = true
+is_mark (item.Exit t method) = true
+is_mark _ = false
 
 -- The methods of the calls on a stack, the top first.
 abbrev pub calls : List Frame → List MethodNumber

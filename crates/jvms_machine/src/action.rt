@@ -3,7 +3,7 @@
 use crate::machine::{BadCause, Outcome};
 use crate::value::Value;
 use jvms_file::insn::StackForm;
-use jvms_program::number::MethodNumber;
+use jvms_program::number::{FieldNumber, MethodNumber};
 use jvms_program::thrown::Thrown;
 
 /// What an instruction does that touches its frame alone (JVMS 6.5). What it takes it takes off the top of the
@@ -43,11 +43,75 @@ pub enum Exception {
     Held { reference: u32 },
 }
 
-/// How a turn changes the state, with what its making needs. `C` is a method's code, or what leads to it.
+/// What is made on the heap (JVMS 2.4, 2.7). `T` is a text, or what leads to it.
 #[derive(Clone, Copy)]
-pub enum Action<C> {
+pub enum NewObject<T> {
+    /// An object of the class of a number.
+    Instance { class: usize },
+    /// An array of a class, each of whose elements has this value first.
+    Array { class: T, first: Value, length: u32 },
+    /// An array of a class and the arrays in it, whose lengths are so many operands.
+    Arrays { class: T, dimensions: u8 },
+    /// The string of these units.
+    Text { units: T },
+    /// The object of the class of this name.
+    ClassObject { name: T },
+}
+
+/// What is printed before the end of a line, if the line ends.
+#[derive(Clone, Copy, Debug, PartialEq, Eq)]
+pub enum Printed {
+    Nothing,
+    Int(i32),
+    Null,
+    /// The string of this reference.
+    Text { reference: u32 },
+}
+
+/// What an instruction does beside what it makes of its frame.
+#[derive(Clone, Copy)]
+pub enum Effect<T> {
+    Nothing,
+    GetField {
+        reference: u32,
+        field: FieldNumber,
+    },
+    PutField {
+        reference: u32,
+        field: FieldNumber,
+        value: Value,
+    },
+    GetStatic {
+        field: FieldNumber,
+    },
+    PutStatic {
+        field: FieldNumber,
+        value: Value,
+    },
+    LoadElement {
+        reference: u32,
+        index: u32,
+    },
+    StoreElement {
+        reference: u32,
+        index: u32,
+        value: Value,
+    },
+    Makes(NewObject<T>),
+    Prints {
+        what: Printed,
+        ends_line: bool,
+    },
+}
+
+/// How a turn changes the state, with what its making needs. `C` is a method's code, or what leads to it, and `T` a
+/// text.
+#[derive(Clone, Copy)]
+pub enum Action<C, T> {
     /// The call on top goes on by an instruction that touches its frame alone.
     Goes(FrameAction),
+    /// The call on top goes on by an instruction that touches more.
+    Reaches(Effect<T>, FrameAction),
     /// The initialisation of a class begins, and its frame is pushed.
     Begins {
         class: usize,
@@ -85,10 +149,10 @@ pub enum Action<C> {
 
 /// What a turn comes to.
 #[derive(Clone, Copy)]
-pub enum Decision<C> {
+pub enum Decision<C, T> {
     /// It isn't made: nothing changes.
     Unmade(Outcome),
     /// A later version of the instruction table makes it; this one says that it is out of the profile.
     Later,
-    Makes(Action<C>),
+    Makes(Action<C, T>),
 }

@@ -3,6 +3,7 @@
 //! and go. That a state and a thread have one row is that `turn` is a function.
 
 ghost use Rattle.std.specs.Prelude.{◌≡◌, ℕ, List, [], IsTrue, false, Some};
+ghost use Rattle.std.specs.List.{filter};
 ghost use Rattle.jvms_machine.specs.declared.machine.Entry.{Entry};
 ghost use Rattle.jvms_machine.specs.declared.machine.Limits.{Limits};
 ghost use Rattle.jvms_program.specs.declared.program.Class.{Class};
@@ -12,7 +13,7 @@ ghost use Rattle.jvms_machine.specs.Start.{Start, IsStart, start_of};
 ghost use Rattle.jvms_machine.specs.Limits.{are_limits};
 ghost use Rattle.jvms_machine.specs.Opening.{opening};
 ghost use Rattle.jvms_machine.specs.Status.{is_enabled};
-ghost use Rattle.jvms_machine.specs.Marks.{calls_of, marks_between};
+ghost use Rattle.jvms_machine.specs.Marks.{calls_of, is_mark, marks_between};
 ghost use Rattle.jvms_machine.specs.Turn.{turn};
 
 /// The state after a turn of any thread is sound, if the state before it is and the classes are a program.
@@ -37,8 +38,8 @@ pub fn an_unmade_turn_changes_nothing()
     ensures items { (program : List Class) (limits : Limits) (start : Start) (s : State) (t : ℕ) → is_enabled (turn program limits start s t).outcome ≡ false → (turn program limits start s t).items ≡ [] }
 {}
 
-/// The items of a turn mark the calls whose frames come or go: the exits of those that are gone, then the entries of
+/// The marks among the items of a turn are of the calls whose frames come or go: the exits of those that are gone, then the entries of
 /// those that have come, and none of a method of a built-in class.
 pub fn marks_are_those_of_frames()
-    ensures { (program : List Class) (limits : Limits) (start : Start) (s : State) (t : ℕ) → IsTrue (are_limits limits) → IsStart start → Sound program limits s → (turn program limits start s t).items ≡ marks_between program t (calls_of s t) (calls_of (turn program limits start s t).state t) }
+    ensures { (program : List Class) (limits : Limits) (start : Start) (s : State) (t : ℕ) → IsTrue (are_limits limits) → IsStart start → Sound program limits s → filter is_mark (turn program limits start s t).items ≡ marks_between program t (calls_of s t) (calls_of (turn program limits start s t).state t) }
 {}

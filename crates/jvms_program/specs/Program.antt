@@ -4,9 +4,12 @@ use Rattle.std.specs.Option.{option_and_then, option_map}
 use Rattle.std.specs.List.{AllByRecursion, find, position}
 use Rattle.jvms_file.specs.declared.class_file.ClassFile.{ClassFile}
 use Rattle.jvms_program.specs.declared.program.Class.{Class}
+use Rattle.jvms_program.specs.declared.program.Field.{Field}
 use Rattle.jvms_program.specs.declared.program.Method.{Method}
 use Rattle.jvms_program.specs.declared.program.Instruction.{Instruction}
 use Rattle.jvms_program.specs.declared.program.Instruction.TheVariants as instruction
+use Rattle.jvms_program.specs.declared.number.FieldNumber.{FieldNumber}
+use Rattle.jvms_program.specs.declared.key.FieldKey.{FieldKey}
 use Rattle.jvms_program.specs.declared.number.MethodNumber.{MethodNumber}
 use Rattle.jvms_program.specs.declared.key.MethodKey.{MethodKey}
 use Rattle.jvms_file.specs.Names.{same_text}
@@ -50,6 +53,23 @@ class_number program name = position (λ c. same_text c.name name) program
 abbrev pub declared_number : Class → List ℕ → List ℕ → Option ℕ
 declared_number c name descriptor =
     position (λ m. same_text m.name name && same_text m.descriptor descriptor) c.methods
+
+-- The number of a class's field of this name and descriptor.
+abbrev pub declared_field_number : Class → List ℕ → List ℕ → Option ℕ
+declared_field_number c name descriptor =
+    position (λ f. same_text f.name name && same_text f.descriptor descriptor) c.fields
+
+-- A field's key: with the class that declares it.
+abbrev pub field_key : Class → Field → FieldKey
+field_key c f = record { class = c.name; name = f.name; descriptor = f.descriptor }
+
+-- The field of a number, and its key.
+abbrev pub field_at : List Class → FieldNumber → Option Field
+field_at program n = option_and_then (λ c. slice_get c.fields n.field) (slice_get program n.class)
+
+abbrev pub field_key_at : List Class → FieldNumber → Option FieldKey
+field_key_at program n =
+    option_and_then (λ c. option_map (field_key c) (slice_get c.fields n.field)) (slice_get program n.class)
 
 -- The method of a number.
 abbrev pub method_at : List Class → MethodNumber → Option Method

@@ -20,7 +20,8 @@ use Rattle.jvms_file.specs.Names.{same_text, is_constructor_name}
 use Rattle.jvms_file.specs.Descriptors.{field_type_of, is_array_name, letter_of}
 use Rattle.jvms_file.specs.Results.{◌>>=◌, want, present}
 use Rattle.jvms_program.specs.declared.number.MethodNumber.{MethodNumber}
-use Rattle.jvms_program.specs.Program.{class_named, class_number, declared_number}
+use Rattle.jvms_program.specs.declared.number.FieldNumber.{FieldNumber}
+use Rattle.jvms_program.specs.Program.{class_named, class_number, declared_number, declared_field_number}
 use Rattle.jvms_program.specs.BuiltIn.{object}
 
 -- ---- Ancestors
@@ -239,6 +240,13 @@ selected_special program current r m =
     if not (is_constructor_name r.name) && is_superclass program r.class current
     then option_and_then (λ super. selected_from program super m) (superclass_of program current)
     else Some m
+
+-- The number of a field that was found.
+abbrev pub field_number : List Class → FieldFound → Option FieldNumber
+field_number program f =
+    option_and_then
+    (λ class. option_map (λ field. record { class = class; field = field }) (declared_field_number f.class f.field.name f.field.descriptor))
+    (class_number program f.class.name)
 
 -- The number of a method that was found.
 abbrev pub method_number : List Class → MethodFound → Option MethodNumber

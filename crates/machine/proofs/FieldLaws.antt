@@ -15,10 +15,12 @@ use Rattle.jvms_program.specs.declared.key.FieldKey.{FieldKey}
 use Rattle.jvms_file.specs.Names.{same_text}
 use Rattle.jvms_program.specs.Program.{class_named}
 use Rattle.jvms_program.specs.Resolution.{chain, names_class}
-use Rattle.jvms_machine.specs.State.{default_value, field_key, fields_where, instance_fields, static_fields}
+use Rattle.jvms_program.specs.Program.{field_key}
+use Rattle.jvms_machine.specs.State.{default_value, fields_where, instance_fields, static_fields}
 use Rattle.jvms_machine.specs.Opening.{is_system_out, opening_static}
 use Rattle.program.proofs.PlaceLaws.{IsNamed, chain_named}
-use Rattle.machine.specs.Views.{same_key, value_of, is_static_or_not, is_declared}
+use Rattle.jvms_machine.specs.Heap.{same_key, value_of}
+use Rattle.machine.specs.Views.{is_static_or_not, is_declared}
 
 -- ---- Look-ups in lists
 

@@ -15,7 +15,8 @@ use Rattle.jvms_machine.specs.State.{Object, object_at, class_of, instance_field
 use Rattle.jvms_machine.specs.Exceptions.{thrown_class}
 use Rattle.jvms_machine.specs.Opening.{opening_heap}
 use Rattle.machine.specs.Heap.{exception_object, heap_with}
-use Rattle.machine.specs.Views.{class_at, value_of, field_of, length_of, element_of, units_of, named_by}
+use Rattle.jvms_machine.specs.Heap.{value_of}
+use Rattle.machine.specs.Views.{class_at, field_of, length_of, element_of, units_of, named_by}
 
 -- ---- The built-in classes
 

@@ -1,5 +1,9 @@
 mod Answered
+mod Asked
 mod Callers
+mod ComponentLaws
+mod ConstantTexts
+mod CountLaws
 mod Deciding
 mod EntryLaws
 mod FieldLaws

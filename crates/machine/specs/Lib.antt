@@ -1,4 +1,7 @@
+pub mod Asked
 pub mod Calling
+pub mod Constants
+pub mod Counting
 pub mod Decided
 pub mod Entries
 pub mod Heap
@@ -8,5 +11,6 @@ pub mod Ready
 pub mod Runs
 pub mod Started
 pub mod Statuses
+pub mod Telling
 pub mod Tops
 pub mod Views

@@ -2,9 +2,7 @@
 use Rattle.std.specs.Prelude.{◌≡◌, ℕ, ◌≤◌, ◌++◌, List, [], length, Option, Some, None, IsTrue, slice_get}
 use Rattle.jvms_machine.specs.declared.machine.Limits.{Limits}
 use Rattle.jvms_machine.specs.declared.machine.Outcome.{Outcome}
-use Rattle.jvms_machine.specs.declared.action.Action.{Action}
-use Rattle.jvms_machine.specs.declared.action.Decision.{Decision}
-use Rattle.jvms_program.specs.declared.program.Body.{Body}
+use Rattle.jvms_machine.specs.Decisions.{TurnAction, TurnDecision}
 use Rattle.jvms_program.specs.declared.program.Class.{Class}
 use Rattle.jvms_machine.specs.declared.trace.Item.{Item}
 use Rattle.jvms_program.specs.Program.{IsProgram}
@@ -31,7 +29,7 @@ pub record IsMachine (m : Machine) : Type 0 where
 -- ---- Turns
 
 -- What a thread's turn comes to.
-abbrev pub decision_of : Machine → ℕ → Decision Body
+abbrev pub decision_of : Machine → ℕ → TurnDecision
 decision_of m t = decide m.program m.limits m.start m.state t
 
 -- The row of a thread's turn.
@@ -42,7 +40,7 @@ abbrev pub with_state : Machine → State → Machine
 with_state m s = record m { state = s }
 
 -- The machine after an action of a thread's turn.
-abbrev pub after : Machine → ℕ → Action Body → Machine
+abbrev pub after : Machine → ℕ → TurnAction → Machine
 after m t act = with_state m (applied_to m.program m.start m.state t act)
 
 -- How many frames a thread has.

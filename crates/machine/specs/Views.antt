@@ -1,11 +1,11 @@
 -- Parts of a machine's state, as they are asked for.
 use Rattle.std.specs.Prelude.{ℕ, zero, suc, Bool, true, false, not, ◌&&◌, List, length, Option, Some, None, slice_get}
 use Rattle.std.specs.Option.{option_and_then, option_map}
-use Rattle.std.specs.Map.{lookup}
 use Rattle.jvms_machine.specs.declared.value.Value.{Value}
 use Rattle.jvms_program.specs.declared.program.Field.{Field}
 use Rattle.jvms_program.specs.declared.key.FieldKey.{FieldKey}
 use Rattle.jvms_file.specs.Names.{same_text}
+use Rattle.jvms_machine.specs.Heap.{value_of}
 use Rattle.jvms_machine.specs.declared.state.StackFrame.TheVariants as stack_frame
 use Rattle.jvms_machine.specs.State.{Object, instance, array, text, class_object, Thread, Frame, object_at, class_of}
 use Rattle.machine.specs.declared.state.threads.FrameView.{FrameView}
@@ -36,13 +36,6 @@ asked {A} part m r = option_and_then part (object_at m.state.heap r)
 -- The class of the object of a reference.
 abbrev pub class_at : List Object → ℕ → Option (List ℕ)
 class_at heap r = option_map class_of (object_at heap r)
-
-abbrev pub same_key : FieldKey → FieldKey → Bool
-same_key a b = same_text a.class b.class && (same_text a.name b.name && same_text a.descriptor b.descriptor)
-
--- The value of the first field of a key.
-abbrev pub value_of : FieldKey → List (FieldKey × Value) → Option Value
-value_of key fields = lookup (λ k. same_key k key) fields
 
 -- An instance's field.
 abbrev pub field_of : FieldKey → Object → Option Value

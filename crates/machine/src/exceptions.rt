@@ -1,15 +1,15 @@
 //! Exceptions that the machine throws (JVMS 2.10).
 
-ghost use Rattle.std.specs.Prelude.{◌≡◌, Some, slice_get};
+ghost use Rattle.std.specs.Prelude.{◌≡◌, ◌+◌, ◌<◌, ◌^◌, IsTrue, Some, length, slice_get};
 ghost use Rattle.std.specs.Option.{option_map};
 ghost use Rattle.jvms_program.specs.BuiltIn.{built_in_classes};
 ghost use Rattle.jvms_machine.specs.Exceptions.{thrown_class, has_room_for, exception_of as thrown_as, throws as throwing};
 ghost use Rattle.machine.specs.Decided.{seen};
 
+use crate::decision::Decided;
 use crate::parts::Parts;
 use crate::thread::Thread;
 use jvms_machine::action::{Action, Decision, Exception};
-use jvms_program::program::Body;
 use jvms_program::thrown::Thrown;
 use program::Program;
 
@@ -60,10 +60,23 @@ pub(crate) fn thrown_name(program: &Program, class: Thrown) -> &[u16]
 
 impl<'p> Parts<'p> {
     /// Whether there is room for one object more.
-    fn has_room(&self) -> bool
-        ensures { result ≡ has_room_for 1 self.now.limits self.now.state }
+    pub(crate) fn has_room(&self) -> bool
+        ensures exact { result ≡ has_room_for 1 self.now.limits self.now.state }
+        // The reference of one more has a number.
+        ensures number { IsTrue result → length self.now.state.heap + 1 < 2 ^ 32 }
     {
         self.object_count() < self.limits.objects as usize
+    }
+
+    /// Whether there is room for so many objects more.
+    pub(crate) fn has_room_for(&self, count: usize) -> bool
+        ensures exact { result ≡ has_room_for count self.now.limits self.now.state }
+        // Each of their references has a number.
+        ensures number { IsTrue result → length self.now.state.heap + count < 2 ^ 32 }
+    {
+        let most = self.limits.objects as usize;
+        let held = self.object_count();
+        held <= most && count <= most - held
     }
 
     /// Which object is thrown.
@@ -85,7 +98,7 @@ impl<'p> Parts<'p> {
 
     /// The turn of this thread throws an exception of this class.
     #[tactic(auto, unfolding(jvms_machine::specs::Exceptions::throws))]
-    pub(crate) fn throws(&self, thread: &Thread, class: Thrown) -> Decision<&'p Body>
+    pub(crate) fn throws(&self, thread: &Thread, class: Thrown) -> Decided<'p>
         ensures { seen result ≡ throwing self.now.limits self.now.state thread.now class }
     {
         let exception = self.exception_of(class);

@@ -1,16 +1,20 @@
 //! The initialisation of classes (JVMS 5.5).
 
 ghost use Rattle.std.specs.Prelude.{◌≡◌, slice_get};
-ghost use Rattle.jvms_machine.specs.Initialisation.{has_static_constant as static_constant, has_initializer as initializer, asked_superclass as asked, begin_decision as begins, asking_at, asking as asks, initializer_decision as initialises_itself, superclass_decision as superclass_first, initialisation_decision as initialises};
+ghost use Rattle.jvms_machine.specs.Decisions.{TurnDecision};
+ghost use Rattle.jvms_machine.specs.Initialisation.{has_initializer as initializer, asked_superclass as asked, begin_decision as begins, asking as asks, initializer_decision as initialises_itself, superclass_decision as superclass_first, initialisation_decision as initialises};
+ghost use Rattle.machine.specs.Calling.{first_or};
 ghost use Rattle.machine.specs.Decided.{seen};
 
-use crate::decision::never_seen;
+mod constants;
+
+use crate::decision::{Decided, never_seen};
 use crate::parts::Parts;
 use crate::thread::Thread;
 use jvms_machine::action::{Action, Decision};
 use jvms_machine::machine::{BlockedOn, Outcome};
 use jvms_machine::state::Initialisation;
-use jvms_program::program::{Body, Class, ClassKind};
+use jvms_program::program::{Class, ClassKind};
 use jvms_program::thrown::Thrown;
 use program::{Program, declared_number};
 
@@ -19,17 +23,6 @@ const INITIALIZER: [u16; 8] = [60, 99, 108, 105, 110, 105, 116, 62];
 
 /// Its descriptor, `()V`.
 const INITIALIZER_DESCRIPTOR: [u16; 3] = [40, 41, 86];
-
-/// Whether a static field of a class has a constant.
-fn has_static_constant(class: &Class) -> bool
-    ensures { result ≡ static_constant class.now }
-{
-    class
-        .fields
-        .as_slice()
-        .iter()
-        .any(|field| field.is_static && field.constant.is_some())
-}
 
 /// Whether a class has a `<clinit>()V`.
 fn has_initializer(class: &Class) -> bool
@@ -50,7 +43,7 @@ fn asked_superclass(program: &Program, class: &Class) -> Option<usize>
 }
 
 /// Where no superclass is left to wait for: the class is done, if it has no `<clinit>`.
-fn initializer_decision<'p>(c: &Class, class: usize) -> Decision<&'p Body>
+fn initializer_decision<'p>(c: &Class, class: usize) -> Decided<'p>
     ensures { seen result ≡ initialises_itself c.now class }
 {
     if has_initializer(c) {
@@ -61,15 +54,22 @@ fn initializer_decision<'p>(c: &Class, class: usize) -> Decision<&'p Body>
 }
 
 impl<'p> Parts<'p> {
-    /// The initialisation of a class begins, if there is room for its frame. Constants of static fields are yet to come.
-    fn begin_decision(&self, thread: &Thread, class: usize) -> Decision<&'p Body>
+    /// How far the initialisation of the class of a number has come.
+    pub(crate) fn initialisation(&self, class: usize) -> Option<Initialisation>
+        ensures { result ≡ slice_get self.now.state.initialisations class }
+    {
+        self.initialisations.as_slice().get(class).copied()
+    }
+
+    /// The initialisation of a class begins, if there is room for the strings of its constants, and for its frame.
+    fn begin_decision(&self, thread: &Thread, class: usize) -> Decided<'p>
         ensures { seen result ≡ begins self.now.limits self.now.state thread.now class (slice_get self.now.program class) }
     {
         let Some(c) = self.program.class(class) else {
             return never_seen();
         };
-        if has_static_constant(c) {
-            return Decision::Later;
+        if !self.has_room_for(self.new_texts(c)) {
+            return self.throws(thread, Thrown::OutOfMemoryError);
         }
         if self.limits.frames as usize <= thread.height() {
             return self.throws(thread, Thrown::StackOverflowError);
@@ -77,30 +77,24 @@ impl<'p> Parts<'p> {
         Decision::Makes(Action::Begins { class })
     }
 
-    /// A turn that asks for the initialisation of a class, and then goes on.
-    pub(crate) fn asking(
-        &self,
-        t: usize,
-        thread: &Thread,
-        class: usize,
-        go_on: Decision<&'p Body>,
-    ) -> Decision<&'p Body>
-        ensures { seen result ≡ asks self.now.program self.now.limits self.now.state t thread.now class (seen go_on.entry) }
+    /// What a turn that asks for the initialisation of a class comes to before it goes on, if it doesn't go on at once.
+    pub(crate) fn asking(&self, t: usize, thread: &Thread, class: usize) -> Option<Decided<'p>>
+        ensures { (go_on : TurnDecision) → first_or go_on result ≡ asks self.now.program self.now.limits self.now.state t thread.now class go_on }
     {
-        match self.initialisations.as_slice().get(class) {
-            None => never_seen(),
-            Some(Initialisation::Erroneous) => self.throws(thread, Thrown::NoClassDefFoundError),
-            Some(Initialisation::NotBegun) => self.begin_decision(thread, class),
-            Some(Initialisation::Done) => go_on,
+        match self.initialisation(class) {
+            None => Some(never_seen()),
+            Some(Initialisation::Erroneous) => {
+                Some(self.throws(thread, Thrown::NoClassDefFoundError))
+            }
+            Some(Initialisation::NotBegun) => Some(self.begin_decision(thread, class)),
+            Some(Initialisation::Done) => None,
             Some(Initialisation::InProgress { thread: owner }) => {
-                let owner = *owner;
                 if owner as usize == t {
-                    go_on
-                } else {
-                    Decision::Unmade(Outcome::Blocked {
-                        on: BlockedOn::Initialisation { class, owner },
-                    })
+                    return None;
                 }
+                Some(Decision::Unmade(Outcome::Blocked {
+                    on: BlockedOn::Initialisation { class, owner },
+                }))
             }
         }
     }
@@ -111,13 +105,12 @@ impl<'p> Parts<'p> {
         t: usize,
         thread: &Thread,
         superclass: Option<usize>,
-        go_on: Decision<&'p Body>,
-    ) -> Decision<&'p Body>
-        ensures { seen result ≡ superclass_first self.now.program self.now.limits self.now.state t thread.now superclass (seen go_on.entry) }
+    ) -> Option<Decided<'p>>
+        ensures { (go_on : TurnDecision) → first_or go_on result ≡ superclass_first self.now.program self.now.limits self.now.state t thread.now superclass go_on }
     {
         match superclass {
-            None => go_on,
-            Some(class) => self.asking(t, thread, class, go_on),
+            None => None,
+            Some(class) => self.asking(t, thread, class),
         }
     }
 
@@ -128,7 +121,7 @@ impl<'p> Parts<'p> {
         thread: &Thread,
         class: usize,
         called: bool,
-    ) -> Decision<&'p Body>
+    ) -> Decided<'p>
         ensures { seen result ≡ initialises self.now.program self.now.limits self.now.state t thread.now class called (slice_get self.now.program class) }
     {
         let Some(c) = self.program.class(class) else {
@@ -138,6 +131,9 @@ impl<'p> Parts<'p> {
             return Decision::Makes(Action::Finishes { class });
         }
         let superclass = asked_superclass(self.program, c);
-        self.superclass_decision(t, thread, superclass, initializer_decision(c, class))
+        match self.superclass_decision(t, thread, superclass) {
+            Some(decision) => decision,
+            None => initializer_decision(c, class),
+        }
     }
 }

@@ -2,14 +2,18 @@
 //! table.
 #![tactic(auto)]
 
+mod arrays;
 mod calls;
 mod decision;
 mod exceptions;
 mod fault;
+mod fields;
 mod initialisation;
 mod limits;
 mod machine;
 mod making;
+mod natives;
+mod objects;
 mod opening;
 mod parts;
 mod returns;
@@ -17,6 +21,7 @@ mod run;
 mod start;
 mod state;
 mod status;
+mod stored;
 mod thread;
 mod turn;
 

@@ -5,7 +5,7 @@ ghost use Rattle.jvms_program.specs.Program.{method_at};
 ghost use Rattle.jvms_machine.specs.Returns.{kind_of_element as element_kind, kind_of_type as type_kind, gives_kind as gives, gives_nothing as nothing, returned_decision as returned, return_top_decision as returns_top, return_decision as returns, method_return_decision as method_returns};
 ghost use Rattle.machine.specs.Decided.{seen};
 
-use crate::decision::{bad, never_seen};
+use crate::decision::{Decided, bad, never_seen};
 use crate::parts::Parts;
 use crate::thread::Thread;
 use exec::is_loaded;
@@ -15,7 +15,6 @@ use jvms_file::insn::{Kind, ReturnInsn};
 use jvms_machine::action::{Action, Decision};
 use jvms_machine::machine::BadCause;
 use jvms_machine::value::Value;
-use jvms_program::program::Body;
 
 fn kind_of_element(element: &Element) -> Kind
     ensures { result ≡ element_kind element.now }
@@ -59,7 +58,7 @@ fn gives_nothing(given: &ResultType) -> bool
 
 impl Thread<'_> {
     /// The call on top returns this: the first call ends the thread, another goes back to the frame below.
-    fn returned_decision<'p>(&self, frame: &Frame, value: Option<Value>) -> Decision<&'p Body>
+    fn returned_decision<'p>(&self, frame: &Frame, value: Option<Value>) -> Decided<'p>
         ensures { seen result ≡ returned frame.now.method (drop 1 self.now.frames) value }
     {
         let method = frame.method();
@@ -78,12 +77,7 @@ impl Thread<'_> {
     }
 
     /// A return of a value of this kind, which is the top of the operands.
-    fn return_top_decision<'p>(
-        &self,
-        frame: &Frame,
-        given: &ResultType,
-        kind: Kind,
-    ) -> Decision<&'p Body>
+    fn return_top_decision<'p>(&self, frame: &Frame, given: &ResultType, kind: Kind) -> Decided<'p>
         ensures { seen result ≡ returns_top frame.now.method (drop 1 self.now.frames) given.now kind frame.now.activation.operands }
     {
         if frame.height() == 0 {
@@ -98,12 +92,7 @@ impl Thread<'_> {
     }
 
     /// A return of a method that gives this.
-    fn return_decision<'p>(
-        &self,
-        frame: &Frame,
-        given: &ResultType,
-        how: ReturnInsn,
-    ) -> Decision<&'p Body>
+    fn return_decision<'p>(&self, frame: &Frame, given: &ResultType, how: ReturnInsn) -> Decided<'p>
         ensures { seen result ≡ returns frame.now.method (drop 1 self.now.frames) frame.now.activation.operands given.now how }
     {
         match how {
@@ -131,7 +120,7 @@ impl<'p> Parts<'p> {
         thread: &Thread,
         frame: &Frame,
         how: ReturnInsn,
-    ) -> Decision<&'p Body>
+    ) -> Decided<'p>
         ensures { seen result ≡ method_returns frame.now (drop 1 thread.now.frames) how (method_at self.now.program frame.now.method) }
     {
         let Some(method) = self.program.method(frame.method()) else {

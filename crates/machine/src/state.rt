@@ -1,7 +1,7 @@
 //! The parts of a machine's state.
 
 ghost use Rattle.std.specs.Prelude.{◌≡◌, slice_get};
-ghost use Rattle.machine.specs.Views.{value_of};
+ghost use Rattle.jvms_machine.specs.Heap.{value_of};
 
 mod declared;
 mod field_name;
@@ -36,7 +36,7 @@ impl<'p> Machine<'p> {
     pub fn initialisation(&self, class: usize) -> Option<Initialisation>
         ensures { result ≡ slice_get self.now.state.initialisations class }
     {
-        self.parts.initialisations.as_slice().get(class).copied()
+        self.parts.initialisation(class)
     }
 
     /// The value of a static field. There is none where no class has such a static field.

@@ -27,3 +27,12 @@ pub(crate) fn class_exists(program: &Program, name: &[u16]) -> bool
         },
     }
 }
+
+impl Program {
+    /// Whether the class of a name is there: of an array, its elements' class.
+    pub fn has_class(&self, name: &[u16]) -> bool
+        ensures { result ≡ class_exists self.now name.now }
+    {
+        class_exists(self, name)
+    }
+}

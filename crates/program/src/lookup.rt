@@ -2,8 +2,8 @@
 
 ghost use Rattle.std.specs.Prelude.{◌≡◌, IfSome, option_copied, slice_get};
 ghost use Rattle.std.specs.Option.{option_map};
-ghost use Rattle.jvms_program.specs.Program.{class_named, class_number, declared_number, method_at};
-ghost use Rattle.program.specs.Places.{class_place, declared_field_number, field_at};
+ghost use Rattle.jvms_program.specs.Program.{class_named, class_number, declared_field_number, declared_number, method_at};
+ghost use Rattle.program.specs.Places.{class_place, field_at};
 
 use crate::list::Program;
 use descriptor::same_text;

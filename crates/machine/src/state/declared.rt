@@ -3,7 +3,8 @@
 ghost use Rattle.std.specs.Prelude.{◌≡◌, ◌&&◌, option_copied, map};
 ghost use Rattle.std.specs.List.{find};
 ghost use Rattle.jvms_machine.specs.State.{default_of_element, default_value, fields_where, instance_fields, static_fields};
-ghost use Rattle.machine.specs.Views.{value_of, is_declared, is_static_or_not};
+ghost use Rattle.jvms_machine.specs.Heap.{value_of};
+ghost use Rattle.machine.specs.Views.{is_declared, is_static_or_not};
 
 use crate::state::FieldName;
 use jvms_file::descriptor::{Element, FieldType, Primitive};

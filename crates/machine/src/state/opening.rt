@@ -1,11 +1,12 @@
 //! The objects of the opening and the exceptions that were made since, and the static fields, which no row changes yet.
 
-ghost use Rattle.std.specs.Prelude.{◌≡◌, length, slice_get};
+ghost use Rattle.std.specs.Prelude.{◌≡◌, ◌<◌, ◌^◌, IfSome, length, slice_get};
 ghost use Rattle.std.specs.Option.{option_and_then, option_map};
 ghost use Rattle.jvms_machine.specs.State.{object_at, monitor_at, text_reference, class_reference};
 ghost use Rattle.jvms_machine.specs.Exceptions.{thrown_class};
 ghost use Rattle.jvms_machine.specs.Opening.{is_system_out};
-ghost use Rattle.machine.specs.Views.{class_at, field_of, length_of, element_of, units_of, named_by, value_of};
+ghost use Rattle.jvms_machine.specs.Heap.{value_of};
+ghost use Rattle.machine.specs.Views.{class_at, field_of, length_of, element_of, units_of, named_by};
 
 use crate::exceptions::thrown_name;
 use crate::parts::Parts;
@@ -74,7 +75,7 @@ impl Parts<'_> {
     }
 
     /// How many elements their arrays have.
-    pub(super) fn element_count(&self) -> u32
+    pub(crate) fn element_count(&self) -> u32
         ensures { result ≡ self.now.state.elements }
     {
         let _ = &self.program;
@@ -82,7 +83,7 @@ impl Parts<'_> {
     }
 
     /// How a monitor is held: none is.
-    pub(super) fn monitor(&self, reference: u32) -> Option<Hold>
+    pub(crate) fn monitor(&self, reference: u32) -> Option<Hold>
         ensures { result ≡ monitor_at self.now.state.monitors reference }
     {
         let _ = &self.program;
@@ -119,7 +120,7 @@ impl Parts<'_> {
 
     /// The value of a field of an instance. None was stored in yet.
     #[tactic(auto, using(crate::proofs::HeapLaws::no_object, crate::proofs::HeapLaws::field_of_class))]
-    pub(super) fn field(&self, reference: u32, key: &FieldName) -> Option<Value>
+    pub(crate) fn field(&self, reference: u32, key: &FieldName) -> Option<Value>
         ensures { result ≡ option_and_then (field_of key.now) (object_at self.now.state.heap reference) }
     {
         let _ = &self.program;
@@ -132,8 +133,10 @@ impl Parts<'_> {
 
     /// How many elements an array has: the one that there is has none.
     #[tactic(auto, using(crate::proofs::HeapLaws::the_array, crate::proofs::HeapLaws::no_other_array))]
-    pub(super) fn array_length(&self, reference: u32) -> Option<usize>
-        ensures { result ≡ option_and_then length_of (object_at self.now.state.heap reference) }
+    pub(crate) fn array_length(&self, reference: u32) -> Option<usize>
+        ensures exact { result ≡ option_and_then length_of (object_at self.now.state.heap reference) }
+        // A length is an int.
+        ensures few { IfSome result (λ length. length < 2 ^ 31) }
     {
         let _ = &self.program;
         if reference == NO_STRINGS {
@@ -144,7 +147,7 @@ impl Parts<'_> {
     }
 
     /// An element of an array: there is none.
-    pub(super) fn element(&self, reference: u32, index: usize) -> Option<Value>
+    pub(crate) fn element(&self, reference: u32, index: usize) -> Option<Value>
         ensures { result ≡ option_and_then (element_of index) (object_at self.now.state.heap reference) }
     {
         let _ = &self.program;
@@ -154,7 +157,7 @@ impl Parts<'_> {
 
     /// The units of a string: there is none.
     #[tactic(auto, using(crate::proofs::HeapLaws::no_text))]
-    pub(super) fn text(&self, reference: u32) -> Option<&[u16]>
+    pub(crate) fn text(&self, reference: u32) -> Option<&[u16]>
         ensures { option_map (λ units. units.now) result ≡ option_and_then units_of (object_at self.now.state.heap reference) }
     {
         let _ = &self.program;
@@ -164,7 +167,7 @@ impl Parts<'_> {
 
     /// The name of the class of a class object: there is none.
     #[tactic(auto, using(crate::proofs::HeapLaws::no_class_object))]
-    pub(super) fn class_object(&self, reference: u32) -> Option<&[u16]>
+    pub(crate) fn class_object(&self, reference: u32) -> Option<&[u16]>
         ensures { option_map (λ name. name.now) result ≡ option_and_then named_by (object_at self.now.state.heap reference) }
     {
         let _ = &self.program;
@@ -173,7 +176,7 @@ impl Parts<'_> {
     }
 
     /// The reference of a text's string: there is none.
-    pub(super) fn text_reference(&self, units: &[u16]) -> Option<u32>
+    pub(crate) fn text_reference(&self, units: &[u16]) -> Option<u32>
         ensures { result ≡ text_reference self.now.state.heap units.now }
     {
         let _ = &self.program;
@@ -182,7 +185,7 @@ impl Parts<'_> {
     }
 
     /// The reference of a class's object: there is none.
-    pub(super) fn class_reference(&self, name: &[u16]) -> Option<u32>
+    pub(crate) fn class_reference(&self, name: &[u16]) -> Option<u32>
         ensures { result ≡ class_reference self.now.state.heap name.now }
     {
         let _ = &self.program;
@@ -192,7 +195,7 @@ impl Parts<'_> {
 
     /// The value of a static field. Nothing was stored in any but `System.out`.
     #[tactic(auto, using(crate::proofs::FieldLaws::nothing_opened, crate::proofs::FieldLaws::out_opened, crate::proofs::FieldLaws::other_opened))]
-    pub(super) fn static_value(&self, key: &FieldName) -> Option<Value>
+    pub(crate) fn static_value(&self, key: &FieldName) -> Option<Value>
         ensures { result ≡ value_of key.now (self.now.state.statics) }
     {
         let value = declared::static_value(self.program.classes(), key)?;

@@ -1,7 +1,6 @@
 use Rattle.std.proofs.Common.{◌≡◌, IsTrue, sym, ap, ◌∙◌, subst}
 use Rattle.std.specs.Prelude.{true, false, IsOk, is_ok, Result, Err}
-use Rattle.jvms_program.specs.declared.program.Body.{Body}
-use Rattle.jvms_machine.specs.declared.action.Decision.{Decision}
+use Rattle.jvms_machine.specs.Decisions.{TurnDecision}
 use Rattle.jvms_machine.specs.Turn.{items_after}
 use Rattle.machine.specs.Decided.{seen, makes_none}
 use Rattle.machine.specs.Machine.{decision_of}
@@ -18,5 +17,5 @@ returns-in_err-make-clause-none c = λ takes.
     let needs = needs_none m c.args.t takes in
     let same : seen c.decide-what.result ≡ decision_of m c.args.t = c.decide-what.ensures in
     let ok : IsOk c.make.result =
-    c.make.ensures.none (subst (λ (d : Decision Body). IsTrue (makes_none d)) (sym same) needs.0) (ap (items_after m.program c.args.t) same ∙ needs.1) in
+    c.make.ensures.none (subst (λ (d : TurnDecision). IsTrue (makes_none d)) (sym same) needs.0) (ap (items_after m.program c.args.t) same ∙ needs.1) in
     never_refused c.make.result _ ok c.in_err-make.was

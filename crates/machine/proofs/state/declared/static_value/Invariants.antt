@@ -1,6 +1,6 @@
 use Rattle.std.proofs.Common.{◌≡◌, drop}
 use Rattle.jvms_machine.specs.State.{static_fields}
-use Rattle.machine.specs.Views.{value_of}
+use Rattle.jvms_machine.specs.Heap.{value_of}
 use Rattle.machine.proofs.state.declared.static_value.Given as goal
 
 -- what the classes so far gave: nothing

@@ -1,0 +1,107 @@
+-- The objects that are held, by their references.
+use Rattle.std.proofs.Common.{◌≡◌, ◌≢◌, ℕ, zero, suc, ◌+◌, ◌-◌, ◌<◌, ◌≤◌, Bool, cond, List, [], ◌∷◌, length, map, Option, Some, None, option_map, slice_get, slice_set, get_or, refl, sym, ap, subst, ◌∙◌, arith}
+use Rattle.std.specs.Prelude.{option_copied, IfSome}
+use Rattle.std.specs.Borrow.{Bor}
+use Rattle.std.specs.List.{position_from}
+use Rattle.std.proofs.lemmas.List.{length-map}
+use Rattle.std.proofs.lemmas.Option.{same_Some, slice_get-get_or}
+use Rattle.jvms_program.specs.declared.program.Class.{Class}
+use Rattle.jvms_machine.specs.State.{Object, object_at, text_reference, class_reference, is_text, is_class_object}
+use Rattle.jvms_machine.specs.Heap.{with_object}
+use Rattle.jvms_machine.proofs.ListLaws.{all_set, all_at}
+use Rattle.heap.specs.declared.held_object.HeldObject.{HeldObject}
+use Rattle.heap.specs.declared.held_object.HeldObject.TheVariants as held
+use Rattle.heap.specs.Held.{shown, IsKept, Becomes, AreHeld, SuitsHeld, found}
+use Rattle.heap.specs.Kinds.{IsOfKind}
+use Rattle.heap.specs.Objects.{Suits}
+use Rattle.jvms_machine.specs.declared.value.Value.{Value}
+use Rattle.heap.proofs.Lists.{get_map, set_map}
+
+pub as_many_shown : (program : List Class) (objects : List HeldObject) → length objects ≡ length (map (shown program) objects)
+as_many_shown program objects = sym (length-map objects (shown program))
+
+pub shown_at : (program : List Class) (objects : List HeldObject) (r place : ℕ) → r ≢ 0 → place ≡ r - 1 → option_map (shown program) (slice_get objects place) ≡ object_at (map (shown program) objects) r
+shown_at program objects zero place other is = absurd (other refl)
+shown_at program objects (suc r) place other is = let same : place ≡ r = omega (arith, is) in ap (λ i. option_map (shown program) (slice_get objects i)) same ∙ sym (get_map (shown program) objects r)
+
+pub shown_of : (program : List Class) (objects : List HeldObject) (r place : ℕ) (o : Option (Bor HeldObject)) → r ≢ 0 → place ≡ r - 1 → option_copied o ≡ slice_get objects place
+    → option_map (λ x. shown program x.now) o ≡ object_at (map (shown program) objects) r
+shown_of program objects r place None other is at = ap (option_map (shown program)) at ∙ shown_at program objects r place other is
+shown_of program objects r place (Some o) other is at = ap (option_map (shown program)) at ∙ shown_at program objects r place other is
+
+pub kept_of : (program : List Class) (objects : List HeldObject) (texts classes : List (List ℕ × ℕ)) (place : ℕ) (o : Option (Bor HeldObject)) → AreHeld program objects texts classes → option_copied o ≡ slice_get objects place
+    → IfSome o (λ x. IsKept program x.now)
+kept_of program objects texts classes place None are at = tt
+kept_of program objects texts classes place (Some o) are at = all_at (IsKept program) objects place o.now (sym at) are.kept
+
+pub text_found : (program : List Class) (objects : List HeldObject) (texts classes : List (List ℕ × ℕ)) (units : List ℕ) (o : Option ℕ) → AreHeld program objects texts classes → o ≡ found texts units
+    → o ≡ text_reference (map (shown program) objects) units
+text_found program objects texts classes units o are is = is ∙ are.finds_texts units
+
+pub class_found : (program : List Class) (objects : List HeldObject) (texts classes : List (List ℕ × ℕ)) (name : List ℕ) (o : Option ℕ) → AreHeld program objects texts classes → o ≡ found classes name
+    → o ≡ class_reference (map (shown program) objects) name
+class_found program objects texts classes name o are is = is ∙ are.finds_classes name
+
+-- ---- An object that is changed
+
+-- A search passes an object that is changed as before.
+position_set : (program : List Class) (test : Object → Bool) (xs : List HeldObject) (i n : ℕ) (was now : HeldObject) → slice_get xs i ≡ Some was → test (shown program now) ≡ test (shown program was)
+    → position_from test n (map (shown program) (slice_set xs i now)) ≡ position_from test n (map (shown program) xs)
+position_set program test [] i n was now at same = refl
+position_set program test (x ∷ xs) zero n was now at same =
+    ap (λ b. cond b (Some n) (position_from test (n + 1) (map (shown program) xs))) (same ∙ ap (λ o. test (shown program o)) (sym (same_Some x was at)))
+position_set program test (x ∷ xs) (suc i) n was now at same =
+    ap (λ o. cond (test (shown program x)) (Some n) o) (position_set program test xs i (n + 1) was now at same)
+
+module _ (program : List Class) (objects : List HeldObject) (texts classes : List (List ℕ × ℕ)) (place : ℕ) (was now : HeldObject) (change : Object → Object)
+    (are : AreHeld program objects texts classes) (within : place < length objects) (is : was ≡ get_or objects place was) (becomes : IsKept program was → Becomes change program was now) where
+  stands : slice_get objects place ≡ Some was
+  stands = slice_get-get_or objects place was within ∙ ap (λ (o : HeldObject). Some o) (sym is)
+
+  was_kept : IsKept program was
+  was_kept = all_at (IsKept program) objects place was stands are.kept
+
+  pub still_held : AreHeld program (slice_set objects place now) texts classes
+  still_held =
+      let new = becomes was_kept in
+      record {
+        kept = all_set (IsKept program) objects place now new.kept are.kept;
+        finds_texts = λ units. are.finds_texts units ∙ sym (position_set program (is_text units) objects place 1 was now stands (new.text_stays units));
+        finds_classes = λ name. are.finds_classes name ∙ sym (position_set program (is_class_object name) objects place 1 was now stands (new.class_stays name));
+      }
+
+  pub changed : (r : ℕ) → r ≢ 0 → place ≡ r - 1 → map (shown program) (slice_set objects place now) ≡ with_object (map (shown program) objects) r change (object_at (map (shown program) objects) r)
+  changed r other at =
+      let new = becomes was_kept in
+      let heap = map (shown program) objects in
+      let it : object_at heap r ≡ Some (shown program was) = sym (shown_at program objects r place other at) ∙ ap (option_map (shown program)) stands in
+      sym (set_map (shown program) objects place now) ∙ ap (λ o. slice_set heap place o) new.shows ∙ ap (λ i. slice_set heap i (change (shown program was))) at
+      ∙ sym (ap (with_object heap r change) it)
+
+  pub suits_held : (v : Value) (r : ℕ) → r ≢ 0 → place ≡ r - 1 → IfSome (object_at (map (shown program) objects) r) (Suits v) → SuitsHeld v was
+  suits_held v r other at suits =
+      let it : object_at (map (shown program) objects) r ≡ Some (shown program was) = sym (shown_at program objects r place other at) ∙ ap (option_map (shown program)) stands in
+      by was was_kept (subst (λ o. IfSome o (Suits v)) it suits)
+    where
+      by : (o : HeldObject) → IsKept program o → Suits v (shown program o) → SuitsHeld v o
+      by (held.Array class elements) kept suits = subst (λ k. IsOfKind k v) (sym kept) suits
+      by (held.Instance class values) kept suits = tt
+      by (held.Text units) kept suits = tt
+      by (held.ClassObject name) kept suits = tt
+
+-- An object that is left as it is.
+pub unchanged : (program : List Class) (o : HeldObject) → IsKept program o → Becomes (λ x. x) program o o
+unchanged program o kept = record { shows = refl; kept = kept; text_stays = λ units. refl; class_stays = λ name. refl }
+
+past_get : (xs : List HeldObject) (i : ℕ) → length xs ≤ i → slice_get xs i ≡ None
+past_get [] i past = refl
+past_get (x ∷ xs) zero past = absurd (omega (arith, past))
+past_get (x ∷ xs) (suc i) past = past_get xs i (omega (arith, past))
+
+-- No object is changed where there is none.
+pub none_changed : (program : List Class) (objects : List HeldObject) (r : ℕ) (change : Object → Object) → length objects ≤ r - 1
+    → map (shown program) objects ≡ with_object (map (shown program) objects) r change (object_at (map (shown program) objects) r)
+none_changed program objects zero change past = refl
+none_changed program objects (suc r) change past =
+    let none : slice_get objects r ≡ None = past_get objects r (omega (arith, past)) in
+    sym (ap (with_object (map (shown program) objects) (suc r) change) (get_map (shown program) objects r ∙ ap (option_map (shown program)) none))

@@ -1,0 +1,10 @@
+pub mod ArrayLaws
+pub mod ChainLaws
+pub mod ElementLaws
+pub mod HeldLaws
+pub mod IndexLaws
+pub mod KeyLaws
+pub mod Lists
+pub mod MakingLaws
+pub mod OpeningLaws
+pub mod SlotLaws

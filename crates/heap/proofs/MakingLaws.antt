@@ -1,0 +1,99 @@
+-- Objects that are put behind the others.
+use Rattle.std.proofs.Common.{◌≡◌, ℕ, ◌+◌, Bool, true, false, cond, List, [], ◌∷◌, ◌++◌, length, map, Some, None, refl, sym, ap, ◌∙◌, arith, Vec, Global}
+use Rattle.jvms_machine.specs.declared.value.Value.{Value}
+use Rattle.std.specs.List.{position_from}
+use Rattle.std.proofs.lemmas.List.{length-map, map-append}
+use Rattle.std.proofs.lemmas.Option.{none-some}
+use Rattle.jvms_program.specs.declared.program.Class.{Class}
+use Rattle.jvms_file.specs.Names.{same_text}
+use Rattle.jvms_machine.specs.State.{Object, instance, instance_fields, first_instance, text_reference, class_reference, is_text, is_class_object}
+use Rattle.jvms_machine.proofs.ListLaws.{all_append}
+use Rattle.heap.specs.declared.held_object.HeldObject.{HeldObject}
+use Rattle.heap.specs.declared.held_object.HeldObject.TheVariants as held
+use Rattle.heap.specs.Held.{name_at, with_values, shown, IsKept, IsPlain, AreHeld, found}
+use Rattle.heap.proofs.IndexLaws.{same_is}
+use Rattle.heap.proofs.SlotLaws.{first_values_are}
+
+-- ---- Searches
+
+pub position_past : (test : Object → Bool) (n : ℕ) (xs : List Object) (x : Object) → test x ≡ false → position_from test n (xs ++ x ∷ []) ≡ position_from test n xs
+position_past test n [] x fails = ap (λ b. cond b (Some n) None) fails
+position_past test n (y ∷ xs) x fails = ap (λ o. cond (test y) (Some n) o) (position_past test (n + 1) xs x fails)
+
+at_end : (test : Object → Bool) (n : ℕ) (y x : Object) (xs : List Object) (b : Bool) → test y ≡ b → cond b (Some n) (position_from test (n + 1) xs) ≡ None → test x ≡ true
+    → (position_from test (n + 1) xs ≡ None → position_from test (n + 1) (xs ++ x ∷ []) ≡ Some ((n + 1) + length xs)) → cond b (Some n) (position_from test (n + 1) (xs ++ x ∷ [])) ≡ Some (n + length (y ∷ xs))
+at_end test n y x xs true is none passes more = absurd (none-some n (sym none))
+at_end test n y x xs false is none passes more = more none ∙ ap (λ k. Some k) (omega arith)
+
+pub position_new : (test : Object → Bool) (n : ℕ) (xs : List Object) (x : Object) → position_from test n xs ≡ None → test x ≡ true → position_from test n (xs ++ x ∷ []) ≡ Some (n + length xs)
+position_new test n [] x none passes = ap (λ b. cond b (Some n) None) passes ∙ ap (λ k. Some k) (omega arith)
+position_new test n (y ∷ xs) x none passes = at_end test n y x xs (test y) refl none passes (λ rest. position_new test (n + 1) xs x rest passes)
+
+-- ---- An instance or an array
+
+plain_no_text : (program : List Class) (o : HeldObject) (units : List ℕ) → IsPlain o → is_text units (shown program o) ≡ false
+plain_no_text program (held.Instance class values) units plain = refl
+plain_no_text program (held.Array class elements) units plain = refl
+plain_no_text program (held.Text t) units plain = absurd plain
+plain_no_text program (held.ClassObject t) units plain = absurd plain
+
+plain_no_class : (program : List Class) (o : HeldObject) (name : List ℕ) → IsPlain o → is_class_object name (shown program o) ≡ false
+plain_no_class program (held.Instance class values) name plain = refl
+plain_no_class program (held.Array class elements) name plain = refl
+plain_no_class program (held.Text t) name plain = absurd plain
+plain_no_class program (held.ClassObject t) name plain = absurd plain
+
+module _ (program : List Class) (objects : List HeldObject) where
+  pub shown_more : (o : HeldObject) → map (shown program) (objects ++ o ∷ []) ≡ map (shown program) objects ++ shown program o ∷ []
+  shown_more o = map-append (shown program) objects (o ∷ [])
+
+  still_past : (test : Object → Bool) (o : HeldObject) → test (shown program o) ≡ false → position_from test 1 (map (shown program) objects) ≡ position_from test 1 (map (shown program) (objects ++ o ∷ []))
+  still_past test o fails = sym (ap (position_from test 1) (shown_more o) ∙ position_past test 1 (map (shown program) objects) (shown program o) fails)
+
+  pub plain_added : (texts classes : List (List ℕ × ℕ)) (o : HeldObject) → AreHeld program objects texts classes → IsKept program o → IsPlain o → AreHeld program (objects ++ o ∷ []) texts classes
+  plain_added texts classes o are kept plain =
+      record {
+        kept = all_append (IsKept program) objects (o ∷ []) are.kept (kept, tt);
+        finds_texts = λ units. are.finds_texts units ∙ still_past (is_text units) o (plain_no_text program o units plain);
+        finds_classes = λ name. are.finds_classes name ∙ still_past (is_class_object name) o (plain_no_class program o name plain);
+      }
+
+  -- ---- A string or a class object
+
+  found_more : (test : List ℕ → Object → Bool) (entries new : List (List ℕ × ℕ)) (units : List ℕ) (o : HeldObject) → ((q : List ℕ) → found entries q ≡ position_from (test q) 1 (map (shown program) objects))
+      → ((q : List ℕ) → test q (shown program o) ≡ same_text units q) → position_from (test units) 1 (map (shown program) objects) ≡ None
+      → ((q : List ℕ) → found new q ≡ cond (same_text units q) (Some (length objects + 1)) (found entries q))
+      → (q : List ℕ) → found new q ≡ position_from (test q) 1 (map (shown program) (objects ++ o ∷ []))
+  found_more test entries new units o finds tests none puts q = puts q ∙ by (same_text units q) refl ∙ ap (position_from (test q) 1) (sym (shown_more o))
+    where
+      by : (b : Bool) → same_text units q ≡ b → cond b (Some (length objects + 1)) (found entries q) ≡ position_from (test q) 1 (map (shown program) objects ++ shown program o ∷ [])
+      by true is =
+          let nowhere : position_from (test q) 1 (map (shown program) objects) ≡ None = ap (λ u. position_from (test u) 1 (map (shown program) objects)) (sym (same_is units q is)) ∙ none in
+          let as_many = length-map objects (shown program) in
+          ap (λ k. Some k) (omega (arith, as_many)) ∙ sym (position_new (test q) 1 (map (shown program) objects) (shown program o) nowhere (tests q ∙ is))
+      by false is = finds q ∙ sym (position_past (test q) 1 (map (shown program) objects) (shown program o) (tests q ∙ is))
+
+  pub text_added : (texts new classes : List (List ℕ × ℕ)) (units t : List ℕ) → AreHeld program objects texts classes → t ≡ units → text_reference (map (shown program) objects) units ≡ None
+      → ((q : List ℕ) → found new q ≡ cond (same_text units q) (Some (length objects + 1)) (found texts q)) → AreHeld program (objects ++ held.Text t ∷ []) new classes
+  text_added texts new classes units t are is none puts =
+      record {
+        kept = all_append (IsKept program) objects (held.Text t ∷ []) are.kept (tt, tt);
+        finds_texts = found_more is_text texts new units (held.Text t) are.finds_texts (λ q. ap (λ l. same_text l q) is) none puts;
+        finds_classes = λ name. are.finds_classes name ∙ still_past (is_class_object name) (held.Text t) refl;
+      }
+
+  pub class_added : (texts classes new : List (List ℕ × ℕ)) (name t : List ℕ) → AreHeld program objects texts classes → t ≡ name → class_reference (map (shown program) objects) name ≡ None
+      → ((q : List ℕ) → found new q ≡ cond (same_text name q) (Some (length objects + 1)) (found classes q)) → AreHeld program (objects ++ held.ClassObject t ∷ []) texts new
+  class_added texts classes new name t are is none puts =
+      record {
+        kept = all_append (IsKept program) objects (held.ClassObject t ∷ []) are.kept (tt, tt);
+        finds_texts = λ units. are.finds_texts units ∙ still_past (is_text units) (held.ClassObject t) refl;
+        finds_classes = found_more is_class_object classes new name (held.ClassObject t) are.finds_classes (λ q. ap (λ l. same_text l q) is) none puts;
+      }
+
+-- An instance with the first values is a first instance.
+pub first_shown : (program : List Class) (class : ℕ) (values : Vec Value Global) → values.items ≡ map (λ f. f.1) (instance_fields program (name_at program class))
+    → shown program (held.Instance class values) ≡ first_instance program (name_at program class)
+first_shown program class values are =
+    let fields = instance_fields program (name_at program class) in
+    ap (instance (name_at program class)) (ap (with_values fields) are ∙ first_values_are fields)

@@ -1,0 +1,98 @@
+-- What is asked of objects, and what is put into them by a slot.
+use Rattle.std.specs.Prelude.{◌≡◌, ℕ, drop, zero, suc, List, [], ◌∷◌, ◌++◌, ◌+◌, length, Option, Some, None, slice_get}
+use Rattle.std.specs.Option.{option_and_then, option_map}
+use Rattle.std.specs.List.{position_from}
+use Rattle.jvms_program.specs.declared.program.Class.{Class}
+use Rattle.jvms_program.specs.declared.key.FieldKey.{FieldKey}
+use Rattle.jvms_machine.specs.declared.value.Value.{Value}
+use Rattle.jvms_machine.specs.State.{Object, instance, array, text, class_object, class_of, object_at, instance_fields, keys}
+use Rattle.jvms_machine.specs.Heap.{same_key, component_type}
+use Rattle.heap.specs.declared.kind.Kind.TheVariants as kind
+use Rattle.heap.specs.Kinds.{kind_of, IsOfKind}
+
+-- The class of the object of a reference.
+abbrev pub class_at : List Object → ℕ → Option (List ℕ)
+class_at heap r = option_map class_of (object_at heap r)
+
+-- What is asked of the object that a reference leads to.
+abbrev pub asked : {A : Type 0} → (Object → Option A) → List Object → ℕ → Option A
+asked {A} part heap r = option_and_then part (object_at heap r)
+
+-- The class of an instance.
+abbrev pub instance_class : Object → Option (List ℕ)
+instance_class (instance class fields) = Some class
+instance_class _ = None
+
+-- The class of an array.
+abbrev pub array_class : Object → Option (List ℕ)
+array_class (array class elements) = Some class
+array_class _ = None
+
+-- How many elements an array has.
+abbrev pub length_of : Object → Option ℕ
+length_of (array class elements) = Some (length elements)
+length_of _ = None
+
+-- An array's element.
+abbrev pub element_of : ℕ → Object → Option Value
+element_of index (array class elements) = slice_get elements index
+element_of index _ = None
+
+-- The units of a string.
+abbrev pub units_of : Object → Option (List ℕ)
+units_of (text units) = Some units
+units_of _ = None
+
+-- The name of the class whose class object an object is.
+abbrev pub named_by : Object → Option (List ℕ)
+named_by (class_object name) = Some name
+named_by _ = None
+
+-- A value can be put among the elements of an array.
+abbrev pub Suits : Value → Object → Type 0
+Suits v (array class elements) = IsOfKind (kind_of (component_type class)) v
+Suits v _ = Unit {0}
+
+-- Arrays of so many dimensions: the components of all but the innermost are arrays.
+abbrev pub HasDimensions : List ℕ → List ℕ → Type 0
+HasDimensions class [] = Unit {0}
+HasDimensions class (n ∷ []) = Unit {0}
+HasDimensions class (n ∷ m ∷ lengths) = (kind_of (component_type class) ≡ kind.Reference) × HasDimensions (drop 1 class) (m ∷ lengths)
+
+-- ---- Slots
+
+-- The slot of a field in an instance of a class: its place among all fields of the class's chain.
+abbrev pub slot_of : List Class → List ℕ → FieldKey → Option ℕ
+slot_of program class key = position_from (λ k. same_key k key) 0 (keys (instance_fields program class))
+
+-- The value of the field of a slot.
+abbrev pub value_in : ℕ → Object → Option Value
+value_in slot (instance class fields) = option_map (λ f. f.1) (slice_get fields slot)
+value_in slot _ = None
+
+-- The fields with a value in the one of a slot.
+abbrev pub with_value_in : ℕ → Value → List (FieldKey × Value) → List (FieldKey × Value)
+with_value_in slot v [] = []
+with_value_in zero v (f ∷ fields) = (f.0, v) ∷ fields
+with_value_in (suc slot) v (f ∷ fields) = f ∷ with_value_in slot v fields
+
+-- An instance with a value in the field of a slot.
+abbrev pub with_slot : ℕ → Value → Object → Object
+with_slot slot v (instance class fields) = instance class (with_value_in slot v fields)
+with_slot slot v o = o
+
+-- ---- The whole
+
+-- The objects of a program's machine, and how many elements its arrays have.
+pub record Heap : Type 0 where
+  pub program : List Class
+  pub objects : List Object
+  pub elements : ℕ
+
+-- A heap with new objects.
+abbrev pub with_new : List Object → Heap → Heap
+with_new new h = record h { objects = h.objects ++ new }
+
+-- A heap with new arrays, which have so many elements.
+abbrev pub with_arrays : List Object → ℕ → Heap → Heap
+with_arrays new count h = record h { objects = h.objects ++ new; elements = h.elements + count }

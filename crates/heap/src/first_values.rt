@@ -1,0 +1,97 @@
+//! The first values of the fields of an instance.
+
+ghost use Rattle.std.specs.Prelude.{◌≡◌, ◌++◌, IfOk, OnOk, map, option_copied, reverse};
+ghost use Rattle.std.specs.List.{flat_map};
+ghost use Rattle.jvms_program.specs.Resolution.{chain};
+ghost use Rattle.jvms_machine.specs.State.{default_of_element, default_value, instance_fields};
+ghost use Rattle.heap.specs.FirstValues.{own_values, values_down};
+
+use jvms_file::descriptor::{Element, FieldType, Primitive};
+use jvms_machine::value::Value;
+use jvms_program::program::{Class, Field};
+use program::Program;
+use std::alloc::{AllocError, Global};
+
+/// The first value of a type that is no array's (JVMS 2.3, 2.4).
+fn default_of_element(element: &Element) -> Value
+    ensures { result ≡ default_of_element element.now }
+{
+    match element {
+        Element::Object(_) => Value::Null,
+        Element::Primitive(Primitive::Float | Primitive::Double | Primitive::Long) => Value::Unset,
+        Element::Primitive(_) => Value::Int(0),
+    }
+}
+
+/// The first value of a type.
+fn default_value(field_type: &FieldType) -> Value
+    ensures { result ≡ default_value field_type.now }
+{
+    if field_type.dimensions == 0 {
+        default_of_element(&field_type.element)
+    } else {
+        Value::Null
+    }
+}
+
+/// Puts the first values of those of these fields that are not static, the last one's first. Without memory some
+/// may have been put.
+#[tactic(auto, using(crate::proofs::ChainLaws::none_put, crate::proofs::ChainLaws::static_passed, crate::proofs::ChainLaws::own_put, crate::proofs::ChainLaws::all_put))]
+fn push_values(fields: &[Field], values: &mut Vec<Value>) -> Result<(), AllocError>
+    ensures { OnOk result (values.new.items ≡ values.old.items ++ reverse (own_values fields.now)) }
+{
+    let mut left = fields.len();
+    while left > 0 {
+        left -= 1;
+        let field = &fields[left];
+        if !field.is_static {
+            values.push(default_value(field.field_type.get()))?;
+        }
+    }
+    Ok(())
+}
+
+/// The name of a class's superclass.
+fn superclass_name(class: &Class) -> Option<&[u16]>
+    ensures { option_copied result ≡ class.now.superclass }
+{
+    match &class.superclass {
+        Some(superclass) => Some(superclass.as_slice()),
+        None => None,
+    }
+}
+
+/// The first values of the fields of an instance of the class of a name, the last one's first.
+fn values_up(alloc: Global, program: &Program, name: &[u16]) -> Result<Vec<Value>, AllocError>
+    ensures { IfOk result (λ v. v.items ≡ flat_map values_down (chain program.now name.now)) }
+{
+    let mut values = Vec::new(alloc);
+    let mut most = program.classes().len();
+    let mut name = name;
+    while most > 0 {
+        most -= 1;
+        let Some(class) = program.class_named(name) else {
+            return Ok(values);
+        };
+        push_values(class.fields.as_slice(), &mut values)?;
+        let Some(superclass) = superclass_name(class) else {
+            return Ok(values);
+        };
+        name = superclass;
+    }
+    Ok(values)
+}
+
+/// The first values of the fields of an instance of the class of a name.
+#[tactic(auto, using(crate::proofs::ChainLaws::turned))]
+pub(crate) fn first_values(
+    alloc: Global,
+    program: &Program,
+    name: &[u16],
+) -> Result<Vec<Value>, AllocError>
+    ensures { IfOk result (λ v. v.items ≡ map (λ f. f.1) (instance_fields program.now name.now)) }
+{
+    let mut values = values_up(alloc, program, name)?;
+    values.reverse();
+    Ok(values)
+}

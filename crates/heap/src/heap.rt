@@ -1,0 +1,196 @@
+//! The objects of a machine.
+
+ghost use Rattle.std.specs.Prelude.{◌≡◌, ◌<◌, IfSome, length, option_copied, slice_get};
+ghost use Rattle.std.specs.Option.{option_map};
+ghost use Rattle.jvms_machine.specs.State.{object_at, text_reference, class_reference};
+ghost use Rattle.jvms_machine.specs.Heap.{array_of_type, with_element, with_object};
+ghost use Rattle.heap.specs.Objects.{Suits, class_at, asked, instance_class, array_class, length_of, element_of, units_of, named_by, value_in, with_slot};
+ghost use Rattle.heap.specs.Held.{name_at, shown, IsKept};
+
+use crate::held_object::HeldObject;
+use crate::index::Index;
+use crate::primitive_arrays::PrimitiveArrays;
+use held::shared::Text;
+use jvms_file::insn::ArrayType;
+use jvms_machine::value::Value;
+use program::Program;
+use std::alloc::Global;
+use std::marker::Model;
+
+/// The objects of a program's machine. Contracts see the objects themselves.
+#[derive(Drop)]
+pub struct Heap<'p> {
+    pub(crate) alloc: Global,
+    pub(crate) program: &'p Program,
+    pub(crate) objects: Vec<HeldObject>,
+    /// How many elements the arrays have.
+    pub(crate) elements: u32,
+    /// The references of strings.
+    pub(crate) texts: Index,
+    /// The references of class objects.
+    pub(crate) class_objects: Index,
+    pub(crate) primitive_arrays: PrimitiveArrays,
+}
+
+impl<'p> Model for Heap<'p> {
+    ghost use Rattle.std.specs.Prelude.{map};
+    ghost use Rattle.heap.specs.Objects.{Heap as Seen};
+    ghost use Rattle.heap.specs.Held.{shown, AreHeld};
+
+    ghost Value = { Seen };
+
+    ghost view = { λ h. record { program = h.program.now; objects = map (shown h.program.now) h.objects.items; elements = h.elements } };
+
+    ghost invariant = { λ h. AreHeld h.program.now h.objects.items h.texts h.class_objects };
+}
+
+/// The object at a place.
+fn object_at_place(objects: &[HeldObject], place: usize) -> Option<&HeldObject>
+    ensures { option_copied result ≡ slice_get objects.now place }
+{
+    objects.get(place)
+}
+
+impl<'p> Heap<'p> {
+    /// The program whose classes the objects are of.
+    pub fn program(&self) -> &'p Program
+        ensures { result.now ≡ self.now.program }
+    {
+        self.program
+    }
+
+    /// How many objects there are.
+    #[tactic(auto, using(crate::proofs::HeldLaws::as_many_shown))]
+    pub fn count(&self) -> usize
+        ensures { result ≡ length self.now.objects }
+    {
+        self.objects.len()
+    }
+
+    /// How many elements the arrays have together.
+    pub fn elements(&self) -> u32
+        ensures { result ≡ self.now.elements }
+    {
+        self.elements
+    }
+
+    /// The object that a reference leads to.
+    #[tactic(auto, using(crate::proofs::HeldLaws::shown_of, crate::proofs::HeldLaws::kept_of))]
+    fn object(&self, reference: u32) -> Option<&HeldObject>
+        ensures shown { option_map (λ o. shown self.now.program o.now) result ≡ object_at self.now.objects reference }
+        ensures kept { IfSome result (λ o. IsKept self.now.program o.now) }
+    {
+        if reference == 0 {
+            return None;
+        }
+        object_at_place(self.objects.as_slice(), reference as usize - 1)
+    }
+
+    /// The class of the object of a reference.
+    pub fn class_of(&self, reference: u32) -> Option<&[u16]>
+        ensures { option_map (λ c. c.now) result ≡ class_at self.now.objects reference }
+    {
+        let object = self.object(reference)?;
+        Some(object.class_name(self.program))
+    }
+
+    /// The number of the class of an instance.
+    pub fn instance_class(&self, reference: u32) -> Option<usize>
+        ensures name { option_map (name_at self.now.program) result ≡ asked instance_class self.now.objects reference }
+        ensures there { IfSome result (λ class. class < length self.now.program) }
+    {
+        self.object(reference)?.instance_class()
+    }
+
+    /// The class of an array.
+    pub fn array_class(&self, reference: u32) -> Option<&Text>
+        ensures { option_map (λ c. c.now) result ≡ asked array_class self.now.objects reference }
+    {
+        self.object(reference)?.array_class()
+    }
+
+    /// How many elements an array has.
+    pub fn array_length(&self, reference: u32) -> Option<usize>
+        ensures { result ≡ asked length_of self.now.objects reference }
+    {
+        self.object(reference)?.length()
+    }
+
+    /// An element of an array.
+    pub fn element(&self, reference: u32, index: usize) -> Option<Value>
+        ensures { result ≡ asked (element_of index) self.now.objects reference }
+    {
+        self.object(reference)?.element(index)
+    }
+
+    /// The value of the field of a slot, of an instance.
+    pub fn field(&self, reference: u32, slot: usize) -> Option<Value>
+        ensures { result ≡ asked (value_in slot) self.now.objects reference }
+    {
+        self.object(reference)?.value(slot)
+    }
+
+    /// The units of a string.
+    pub fn units_of(&self, reference: u32) -> Option<&Text>
+        ensures { option_map (λ units. units.now) result ≡ asked units_of self.now.objects reference }
+    {
+        self.object(reference)?.units()
+    }
+
+    /// The name of the class of a class object.
+    pub fn name_of(&self, reference: u32) -> Option<&Text>
+        ensures { option_map (λ name. name.now) result ≡ asked named_by self.now.objects reference }
+    {
+        self.object(reference)?.name()
+    }
+
+    /// The reference of a text's string.
+    #[tactic(auto, using(crate::proofs::HeldLaws::text_found))]
+    pub fn text_reference(&self, units: &[u16]) -> Option<u32>
+        ensures { result ≡ text_reference self.now.objects units.now }
+    {
+        self.texts.find(units)
+    }
+
+    /// The reference of the object of the class of a name.
+    #[tactic(auto, using(crate::proofs::HeldLaws::class_found))]
+    pub fn class_reference(&self, name: &[u16]) -> Option<u32>
+        ensures { result ≡ class_reference self.now.objects name.now }
+    {
+        self.class_objects.find(name)
+    }
+
+    /// The class of an array of a primitive type.
+    pub fn primitive_array_class(&self, array_type: ArrayType) -> &Text
+        ensures { result.now ≡ array_of_type array_type }
+    {
+        self.primitive_arrays.get(array_type)
+    }
+
+    /// Puts a value into the field of a slot, of an instance that has one.
+    pub fn put_field(&mut self, reference: u32, slot: usize, value: Value)
+        ensures { self.new ≡ record self.old { objects = with_object self.old.objects reference (with_slot slot value) (object_at self.old.objects reference) } }
+    {
+        if reference == 0 {
+            return;
+        }
+        let place = reference as usize - 1;
+        if place < self.objects.len() {
+            self.objects[place].put_value(slot, value);
+        }
+    }
+
+    /// Puts a value at an index of an array that has an element there.
+    pub fn put_element(&mut self, reference: u32, index: usize, value: Value)
+        requires { IfSome (object_at self.old.objects reference) (Suits value) }
+        ensures { self.new ≡ record self.old { objects = with_object self.old.objects reference (with_element index value) (object_at self.old.objects reference) } }
+    {
+        if reference == 0 {
+            return;
+        }
+        let place = reference as usize - 1;
+        if place < self.objects.len() {
+            self.objects[place].put_element(index, value);
+        }
+    }
+}

@@ -1,0 +1,154 @@
+//! One object.
+
+ghost use Rattle.std.specs.Prelude.{◌≡◌, ◌<◌, IfSome, List, length, slice_get};
+ghost use Rattle.std.specs.Option.{option_map};
+ghost use Rattle.jvms_program.specs.declared.program.Class.{Class};
+ghost use Rattle.jvms_machine.specs.State.{class_of};
+ghost use Rattle.jvms_machine.specs.Heap.{with_element};
+ghost use Rattle.heap.specs.Objects.{array_class, instance_class, length_of, element_of, units_of, named_by, value_in, with_slot};
+ghost use Rattle.heap.specs.Held.{name_at, shown, IsKept, SuitsHeld, Becomes};
+
+use crate::elements::Elements;
+use held::shared::Text;
+use jvms_machine::value::Value;
+use program::Program;
+
+/// `java/lang/String`, the class of a string.
+const STRING: [u16; 16] = [
+    106, 97, 118, 97, 47, 108, 97, 110, 103, 47, 83, 116, 114, 105, 110, 103,
+];
+
+/// `java/lang/Class`, the class of a class object.
+const CLASS: [u16; 15] = [
+    106, 97, 118, 97, 47, 108, 97, 110, 103, 47, 67, 108, 97, 115, 115,
+];
+
+/// An object.
+#[derive(Debug, Drop)]
+pub enum HeldObject {
+    /// An object of the class of a number, with the values of its fields by their slots.
+    Instance { class: usize, values: Vec<Value> },
+    /// An array of a class.
+    Array { class: Text, elements: Elements },
+    /// A string.
+    Text(Text),
+    /// The object of the class of this name.
+    ClassObject(Text),
+}
+
+/// The value at a place.
+fn value_at(values: &[Value], place: usize) -> Option<Value>
+    ensures { result ≡ slice_get values.now place }
+{
+    Some(*values.get(place)?)
+}
+
+impl HeldObject {
+    /// The name of its class.
+    pub(crate) fn class_name<'a>(&'a self, program: &'a Program) -> &'a [u16]
+        ensures { result.now ≡ class_of (shown program.now self.now) }
+    {
+        match self {
+            HeldObject::Instance { class, .. } => match program.class(*class) {
+                Some(class) => class.name.as_slice(),
+                None => &[],
+            },
+            HeldObject::Array { class, .. } => class.as_slice(),
+            HeldObject::Text(_) => &STRING,
+            HeldObject::ClassObject(_) => &CLASS,
+        }
+    }
+
+    /// The class of an array.
+    pub(crate) fn array_class(&self) -> Option<&Text>
+        ensures { (program : List Class) → option_map (λ c. c.now) result ≡ array_class (shown program self.now) }
+    {
+        match self {
+            HeldObject::Array { class, .. } => Some(class),
+            _ => None,
+        }
+    }
+
+    /// How many elements an array has.
+    pub(crate) fn length(&self) -> Option<usize>
+        ensures { (program : List Class) → result ≡ length_of (shown program self.now) }
+    {
+        match self {
+            HeldObject::Array { elements, .. } => Some(elements.len()),
+            _ => None,
+        }
+    }
+
+    /// An element of an array.
+    pub(crate) fn element(&self, index: usize) -> Option<Value>
+        ensures { (program : List Class) → result ≡ element_of index (shown program self.now) }
+    {
+        match self {
+            HeldObject::Array { elements, .. } => elements.get(index),
+            _ => None,
+        }
+    }
+
+    /// The units of a string.
+    pub(crate) fn units(&self) -> Option<&Text>
+        ensures { (program : List Class) → option_map (λ units. units.now) result ≡ units_of (shown program self.now) }
+    {
+        match self {
+            HeldObject::Text(units) => Some(units),
+            _ => None,
+        }
+    }
+
+    /// The name of the class of a class object.
+    pub(crate) fn name(&self) -> Option<&Text>
+        ensures { (program : List Class) → option_map (λ name. name.now) result ≡ named_by (shown program self.now) }
+    {
+        match self {
+            HeldObject::ClassObject(name) => Some(name),
+            _ => None,
+        }
+    }
+
+    /// The value of the field of a slot.
+    pub(crate) fn value(&self, slot: usize) -> Option<Value>
+        ensures { (program : List Class) → IsKept program self.now → result ≡ value_in slot (shown program self.now) }
+    {
+        match self {
+            HeldObject::Instance { values, .. } => value_at(values.as_slice(), slot),
+            _ => None,
+        }
+    }
+
+    /// The number of the class of an instance.
+    pub(crate) fn instance_class(&self) -> Option<usize>
+        ensures name { (program : List Class) → option_map (name_at program) result ≡ instance_class (shown program self.now) }
+        ensures there { (program : List Class) → IsKept program self.now → IfSome result (λ class. class < length program) }
+    {
+        match self {
+            HeldObject::Instance { class, .. } => Some(*class),
+            _ => None,
+        }
+    }
+
+    /// Puts a value into the field of a slot, if it is an instance and has one.
+    #[tactic(auto, using(crate::proofs::SlotLaws::slot_put, crate::proofs::SlotLaws::no_slot_put))]
+    pub(crate) fn put_value(&mut self, slot: usize, value: Value)
+        ensures { (program : List Class) → IsKept program self.old → Becomes (with_slot slot value) program self.old self.new }
+    {
+        if let HeldObject::Instance { values, .. } = self {
+            if slot < values.len() {
+                values[slot] = value;
+            }
+        }
+    }
+
+    /// Puts a value at an index of an array, if it is one and has an element there.
+    pub(crate) fn put_element(&mut self, index: usize, value: Value)
+        requires { SuitsHeld value self.old }
+        ensures { (program : List Class) → IsKept program self.old → Becomes (with_element index value) program self.old self.new }
+    {
+        if let HeldObject::Array { elements, .. } = self {
+            elements.put(index, value);
+        }
+    }
+}

@@ -1,0 +1,57 @@
+//! References of objects by a text.
+
+ghost use Rattle.std.specs.Prelude.{◌≡◌, ℕ, List, [], OnOk, OnErr, Some, if◌then◌else◌};
+ghost use Rattle.jvms_file.specs.Names.{same_text};
+ghost use Rattle.heap.specs.Held.{found};
+
+use std::alloc::{AllocError, Global};
+use std::collections::BTreeMap;
+use std::marker::Model;
+
+/// References by texts, in the texts' order. Contracts see the list of both.
+#[derive(Drop)]
+pub(crate) struct Index {
+    references: BTreeMap<Vec<u16>, u32>,
+}
+
+impl Model for Index {
+    ghost use Rattle.std.specs.Prelude.{ℕ, List, map};
+
+    ghost Value = { List (List ℕ × ℕ) };
+
+    ghost view = { λ i. map (λ e. (e.0.items, e.1)) i.references.entries };
+}
+
+impl Index {
+    /// An index in which nothing is found.
+    pub(crate) fn new(alloc: Global) -> Index
+        ensures { result ≡ [] }
+    {
+        Index {
+            references: BTreeMap::new(alloc),
+        }
+    }
+
+    /// The reference for a text.
+    #[tactic(auto, using(crate::proofs::IndexLaws::found_among))]
+    pub(crate) fn find(&self, units: &[u16]) -> Option<u32>
+        ensures { result ≡ found self.now units.now }
+    {
+        self.references.get(units).copied()
+    }
+
+    /// Puts a reference for a text. Without memory nothing changes.
+    pub(crate) fn put(
+        &mut self,
+        alloc: Global,
+        units: &[u16],
+        reference: u32,
+    ) -> Result<(), AllocError>
+        ensures ok { OnOk result ((q : List ℕ) → found self.new q ≡ (if same_text units.now q then Some reference else found self.old q)) }
+        ensures err { OnErr result (self.new ≡ self.old) }
+    {
+        let key = Vec::from_slice(alloc, units)?;
+        self.references.insert(key, reference)?;
+        Ok(())
+    }
+}

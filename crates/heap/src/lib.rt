@@ -1,0 +1,17 @@
+//! The heap of a machine (JVMS 2.4, 2.7): its objects, held so that a field is found by its slot, an element in its
+//! array's own kind, and a string by its text.
+#![tactic(auto)]
+
+mod arrays;
+mod elements;
+mod first_values;
+mod heap;
+mod held_object;
+mod index;
+mod kind;
+pub mod laws;
+mod making;
+mod opening;
+mod primitive_arrays;
+
+pub use heap::Heap;

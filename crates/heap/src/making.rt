@@ -1,0 +1,105 @@
+//! Objects that are made.
+
+ghost use Rattle.std.specs.Prelude.{◌≡◌, ◌+◌, ◌<◌, ◌^◌, ◌∷◌, [], None, OnOk, OnErr, length, replicate};
+ghost use Rattle.jvms_machine.specs.State.{array, text, class_object, first_instance, text_reference, class_reference};
+ghost use Rattle.jvms_machine.specs.Heap.{first_element};
+ghost use Rattle.heap.specs.Objects.{with_new, with_arrays};
+ghost use Rattle.heap.specs.Held.{name_at, shown, IsKept, IsPlain};
+
+use crate::elements::Elements;
+use crate::first_values::first_values;
+use crate::heap::Heap;
+use crate::held_object::HeldObject;
+use crate::kind::kind_of_array;
+use held::shared::Text;
+use program::Program;
+use std::alloc::AllocError;
+
+/// The name of the class of a number.
+fn name_at(program: &Program, class: usize) -> &[u16]
+    ensures { result.now ≡ name_at program.now class }
+{
+    match program.class(class) {
+        Some(class) => class.name.as_slice(),
+        None => &[],
+    }
+}
+
+impl Heap<'_> {
+    /// Puts an instance or an array behind the others. Without memory nothing changes.
+    fn push_plain(&mut self, plain: HeldObject) -> Result<(), AllocError>
+        requires kept { IsKept self.old.program plain }
+        requires plain { IsPlain plain }
+        ensures ok { OnOk result (self.new ≡ with_new (shown self.old.program plain ∷ []) self.old) }
+        ensures err { OnErr result (self.new ≡ self.old) }
+    {
+        self.objects.push(plain)?;
+        Ok(())
+    }
+
+    /// A new instance of the class of a number. Without memory nothing changes.
+    pub fn new_instance(&mut self, class: usize) -> Result<(), AllocError>
+        requires { class < length self.old.program }
+        ensures ok { OnOk result (self.new ≡ with_new (first_instance self.old.program (name_at self.old.program class) ∷ []) self.old) }
+        ensures err { OnErr result (self.new ≡ self.old) }
+    {
+        let program = self.program();
+        let values = first_values(self.alloc, program, name_at(program, class))?;
+        self.push_plain(HeldObject::Instance { class, values })
+    }
+
+    /// A new array of a class. Without memory nothing changes.
+    pub fn new_array(&mut self, class: &Text, length: u32) -> Result<(), AllocError>
+        requires { self.old.elements + length < 2 ^ 32 }
+        ensures ok { OnOk result (self.new ≡ with_arrays (array class.now (replicate length (first_element class.now)) ∷ []) length self.old) }
+        ensures err { OnErr result (self.new ≡ self.old) }
+    {
+        let kind = kind_of_array(class.as_slice());
+        let elements = Elements::new(self.alloc, kind, length)?;
+        let class = class.share()?;
+        self.push_plain(HeldObject::Array { class, elements })?;
+        self.elements += length;
+        Ok(())
+    }
+
+    /// A new string, of a text that has none. Without memory nothing changes.
+    pub fn new_text(&mut self, units: &Text) -> Result<(), AllocError>
+        requires new { text_reference self.old.objects units.now ≡ None }
+        requires room { length self.old.objects + 1 < 2 ^ 32 }
+        ensures ok { OnOk result (self.new ≡ with_new (text units.now ∷ []) self.old) }
+        ensures err { OnErr result (self.new ≡ self.old) }
+    {
+        let reference = self.objects.as_slice().len() as u32 + 1;
+        let object = HeldObject::Text(units.share()?);
+        self.objects.push(object)?;
+        match self.texts.put(self.alloc, units.as_slice(), reference) {
+            Ok(()) => Ok(()),
+            Err(error) => {
+                self.objects.pop();
+                Err(error)
+            }
+        }
+    }
+
+    /// A new class object, of the name of a class that has none. Without memory nothing changes.
+    pub fn new_class_object(&mut self, name: &Text) -> Result<(), AllocError>
+        requires new { class_reference self.old.objects name.now ≡ None }
+        requires room { length self.old.objects + 1 < 2 ^ 32 }
+        ensures ok { OnOk result (self.new ≡ with_new (class_object name.now ∷ []) self.old) }
+        ensures err { OnErr result (self.new ≡ self.old) }
+    {
+        let reference = self.objects.as_slice().len() as u32 + 1;
+        let object = HeldObject::ClassObject(name.share()?);
+        self.objects.push(object)?;
+        match self
+            .class_objects
+            .put(self.alloc, name.as_slice(), reference)
+        {
+            Ok(()) => Ok(()),
+            Err(error) => {
+                self.objects.pop();
+                Err(error)
+            }
+        }
+    }
+}

@@ -1,0 +1,65 @@
+//! The heap at a machine's opening.
+
+ghost use Rattle.std.specs.Prelude.{◌≡◌, [], IfOk, codes};
+ghost use Rattle.jvms_machine.specs.Opening.{opening_heap};
+
+use crate::heap::Heap;
+use crate::index::Index;
+use crate::primitive_arrays::PrimitiveArrays;
+use held::items::Items;
+use held::shared::{Shared, Text};
+use program::Program;
+use std::alloc::{AllocError, Global};
+
+/// The place of `java/lang/OutOfMemoryError` in every program.
+const OUT_OF_MEMORY: usize = 35;
+
+/// The place of `java/lang/StackOverflowError`.
+const STACK_OVERFLOW: usize = 36;
+
+/// The place of `java/io/PrintStream`.
+const PRINT_STREAM: usize = 4;
+
+/// `[Ljava/lang/String;`, the class of main's argument.
+const STRINGS: [u16; 19] = [
+    91, 76, 106, 97, 118, 97, 47, 108, 97, 110, 103, 47, 83, 116, 114, 105, 110, 103, 59,
+];
+
+/// The class of main's argument.
+fn strings(alloc: Global) -> Result<Text, AllocError>
+    ensures { IfOk result (λ t. t ≡ codes "[Ljava/lang/String;") }
+{
+    let units = Vec::from_slice(alloc, &STRINGS)?;
+    Shared::new(alloc, Items::from_vec(units))
+}
+
+impl<'p> Heap<'p> {
+    /// The heap of a program with no objects.
+    fn empty(alloc: Global, program: &'p Program) -> Result<Heap<'p>, AllocError>
+        ensures { IfOk result (λ h. h ≡ record { program = program.now; objects = []; elements = 0 }) }
+    {
+        Ok(Heap {
+            alloc,
+            program,
+            objects: Vec::new(alloc),
+            elements: 0,
+            texts: Index::new(alloc),
+            class_objects: Index::new(alloc),
+            primitive_arrays: PrimitiveArrays::new(alloc)?,
+        })
+    }
+
+    /// The heap at the opening: the two errors of the limits, System.out, and main's argument.
+    pub fn opening(alloc: Global, program: &'p Program) -> Result<Heap<'p>, AllocError>
+        ensures { IfOk result (λ h. h ≡ record { program = program.now; objects = opening_heap program.now; elements = 0 }) }
+    {
+        program.is_program();
+        let mut heap = Heap::empty(alloc, program)?;
+        heap.new_instance(OUT_OF_MEMORY)?;
+        heap.new_instance(STACK_OVERFLOW)?;
+        heap.new_instance(PRINT_STREAM)?;
+        let strings = strings(alloc)?;
+        heap.new_array(&strings, 0)?;
+        Ok(heap)
+    }
+}

@@ -1,0 +1,184 @@
+-- An instruction that touches more than its frame leaves a sound state sound, where what it makes of the state beside the
+-- frame is sound, and what it puts into the frame is a value there.
+use Rattle.std.proofs.Common.{◌≡◌, ℕ, ◌+◌, ◌-◌, ◌≤◌, true, nat_le, leb-true, List, [], ◌∷◌, ◌++◌, length, Option, None, Some, IsTrue, slice_get, refl, sym, ap, ◌∙◌, subst, arith}
+use Rattle.std.specs.List.{AllByRecursion, filter}
+use Rattle.std.proofs.lemmas.Bool.{cond_both, and_parts}
+use Rattle.jvms_machine.specs.declared.value.Value.{Value}
+use Rattle.jvms_machine.specs.declared.value.Value.TheVariants as value
+use Rattle.jvms_machine.specs.declared.machine.Limits.{Limits}
+use Rattle.jvms_machine.specs.declared.state.StackFrame.TheVariants as stack_frame
+use Rattle.jvms_machine.specs.declared.trace.Item.TheVariants as item
+use Rattle.jvms_machine.specs.declared.trace.Variable.{Variable}
+use Rattle.jvms_machine.specs.declared.action.FrameAction.{FrameAction}
+use Rattle.jvms_machine.specs.declared.action.FrameAction.TheVariants as frame_action
+use Rattle.jvms_machine.specs.declared.action.NewObject.{NewObject}
+use Rattle.jvms_machine.specs.declared.action.Effect.{Effect}
+use Rattle.jvms_machine.specs.declared.action.Effect.TheVariants as effect
+use Rattle.jvms_machine.specs.declared.action.Action.TheVariants as action
+use Rattle.jvms_machine.specs.declared.action.Decision.TheVariants as decision
+use Rattle.jvms_program.specs.declared.program.Class.{Class}
+use Rattle.jvms_program.specs.declared.key.FieldKey.{FieldKey}
+use Rattle.jvms_program.specs.Program.{IsProgram, field_key_at}
+use Rattle.jvms_machine.specs.Decisions.{TurnDecision}
+use Rattle.jvms_machine.specs.State.{State, Thread, Frame, MethodFrame, IsObject, Sound}
+use Rattle.jvms_machine.specs.Start.{Start}
+use Rattle.jvms_machine.specs.Limits.{are_limits}
+use Rattle.jvms_machine.specs.Activations.{HasRoom, has_depth}
+use Rattle.jvms_machine.specs.Heap.{next_reference}
+use Rattle.jvms_machine.specs.Arrays.{if_deep, making}
+use Rattle.jvms_machine.specs.Actions.{call_gone_on, top_gone_on, gone_on, with_changed, event, instance_variable, static_variable, effect_items, put_field, put_static, new_objects, new_count, new_elements, affected, top_operands, operands_of, applied_to, items_of}
+use Rattle.jvms_machine.specs.Marks.{is_mark, calls_in, calls_of}
+use Rattle.jvms_machine.specs.Turn.{TopHasRoom, CanBeCounted}
+use Rattle.jvms_machine.proofs.InitialisationOrder.{count_call}
+use Rattle.jvms_machine.proofs.FrameSoundness.{IsFit, HasValue, applied_is_fit}
+use Rattle.jvms_machine.proofs.LimitLaws.{limits_have_room}
+use Rattle.jvms_machine.proofs.MarkLaws.{unmarked_by, changed_calls, gone_on_calls}
+use Rattle.jvms_machine.proofs.ThreadChanges.{Stands, frames_are_stack, moved_is_sound, stack_goes_on}
+use Rattle.jvms_machine.proofs.HeapGrowth.{grown_length, appended_is_sound}
+use Rattle.jvms_machine.proofs.KeptStates.{Keeps, still}
+
+-- ---- The call on top goes on
+
+-- The call on top fits its code.
+pub frame_is_fit : {program : List Class} {limits : Limits} {s : State} {t : ℕ} {thread : Thread} (frame : MethodFrame) (below : List Frame) → Stands program limits s t thread (stack_frame.Call frame ∷ below) → IsFit s.heap frame.body frame.activation
+frame_is_fit frame below stands =
+    let is = (frames_are_stack stands).0.0 in
+    record { locals_fit = is.1.0; operands_fit = is.1.1; locals = is.2; operands = is.3 }
+
+-- The state is sound after it has gone on with values.
+pub gone_on_is_sound : {program : List Class} {limits : Limits} {s : State} {t : ℕ} {thread : Thread} (frame : MethodFrame) (below : List Frame) (act : FrameAction) → Stands program limits s t thread (stack_frame.Call frame ∷ below) → HasRoom frame.body frame.activation act → HasValue s.heap act → Sound program limits (with_changed s t (gone_on act))
+gone_on_is_sound {program = program} {s = s} {thread = thread} frame below act stands room value =
+    let frames = frames_are_stack stands in
+    let fit = applied_is_fit s.heap frame.body frame.activation (frame_is_fit frame below stands) act room value in
+    let now = stack_frame.Call (call_gone_on act frame) ∷ below in
+    let are : (gone_on act thread).frames ≡ now = ap (top_gone_on act) stands.frames_are in
+    moved_is_sound stands (gone_on act) now are refl refl
+    ((frames.0.0.0, (fit.locals_fit, fit.operands_fit), fit.locals, fit.operands, frames.0.0.4, frames.0.0.5), frames.0.1)
+    (stack_goes_on program frame (call_gone_on act frame).activation below frames.1)
+    frames.2
+    (λ c. count_call c (call_gone_on act frame) below ∙ sym (count_call c frame below))
+
+-- ---- What an effect leaves
+
+put_field_threads : (s : State) (r : ℕ) (v : Value) (o : Option FieldKey) → (put_field s r v o).threads ≡ s.threads
+put_field_threads s r v None = refl
+put_field_threads s r v (Some key) = refl
+
+put_static_threads : (s : State) (v : Value) (o : Option FieldKey) → (put_static s v o).threads ≡ s.threads
+put_static_threads s v None = refl
+put_static_threads s v (Some key) = refl
+
+-- No thread is changed.
+affected_threads : (program : List Class) (s : State) (operands : List Value) (what : Effect (List ℕ)) → (affected program s operands what).threads ≡ s.threads
+affected_threads program s operands effect.Nothing = refl
+affected_threads program s operands (effect.GetField r n) = refl
+affected_threads program s operands (effect.PutField r n v) = put_field_threads s r v (field_key_at program n)
+affected_threads program s operands (effect.GetStatic n) = refl
+affected_threads program s operands (effect.PutStatic n v) = put_static_threads s v (field_key_at program n)
+affected_threads program s operands (effect.LoadElement r i) = refl
+affected_threads program s operands (effect.StoreElement r i v) = refl
+affected_threads program s operands (effect.Makes what) = refl
+affected_threads program s operands (effect.Prints what ends_line) = refl
+
+-- An event is no mark.
+read_is_no_mark : (t : ℕ) (o : Option Variable) → filter is_mark (event (λ v. item.Read t v) o) ≡ []
+read_is_no_mark t None = refl
+read_is_no_mark t (Some v) = refl
+
+write_is_no_mark : (t : ℕ) (o : Option Variable) → filter is_mark (event (λ v. item.Write t v) o) ≡ []
+write_is_no_mark t None = refl
+write_is_no_mark t (Some v) = refl
+
+effect_is_no_mark : (program : List Class) (t : ℕ) (what : Effect (List ℕ)) → filter is_mark (effect_items program t what) ≡ []
+effect_is_no_mark program t effect.Nothing = refl
+effect_is_no_mark program t (effect.GetField r n) = read_is_no_mark t (instance_variable program r n)
+effect_is_no_mark program t (effect.PutField r n v) = write_is_no_mark t (instance_variable program r n)
+effect_is_no_mark program t (effect.GetStatic n) = read_is_no_mark t (static_variable program n)
+effect_is_no_mark program t (effect.PutStatic n v) = write_is_no_mark t (static_variable program n)
+effect_is_no_mark program t (effect.LoadElement r i) = refl
+effect_is_no_mark program t (effect.StoreElement r i v) = refl
+effect_is_no_mark program t (effect.Makes what) = refl
+effect_is_no_mark program t (effect.Prints what ends_line) = refl
+
+-- ---- The depth
+
+-- What a test of the depth tells.
+pub record HasDepth (frame : MethodFrame) (takes gives : ℕ) : Type 0 where
+  pub there : takes ≤ length frame.activation.operands
+  pub room : length frame.activation.operands - takes + gives ≤ frame.body.max_stack
+
+pub depth_is : (frame : MethodFrame) (takes gives : ℕ) → has_depth frame.body takes gives frame.activation ≡ true → HasDepth frame takes gives
+depth_is frame takes gives is =
+    let there = nat_le takes (length frame.activation.operands) in
+    let room = nat_le (length frame.activation.operands - takes + gives) frame.body.max_stack in
+    let both = and_parts there room is in
+    record {
+      there = leb-true takes (length frame.activation.operands) both.0;
+      room = leb-true (length frame.activation.operands - takes + gives) frame.body.max_stack both.1;
+    }
+
+-- ---- The turn
+
+-- What is known of an instruction of the call on top that has this effect: the state beside the frame is sound, and what
+-- the frame is given has room in it and is a value.
+pub record IsMade (program : List Class) (limits : Limits) (s : State) (frame : MethodFrame) (what : Effect (List ℕ)) (act : FrameAction) : Type 0 where
+  pub sound : Sound program limits (affected program s frame.activation.operands what)
+  pub room : HasRoom frame.body frame.activation act
+  pub value : HasValue (affected program s frame.activation.operands what).heap act
+  pub counted : IsTrue (are_limits limits) → CanBeCounted s frame.activation.operands what
+
+module _ (program : List Class) (limits : Limits) (start : Start) (s : State) (t : ℕ) (thread : Thread) (frame : MethodFrame) (below : List Frame) (stands : Stands program limits s t thread (stack_frame.Call frame ∷ below)) where
+  abbrev KeepsSound : TurnDecision → Type 0
+  KeepsSound d = Keeps program limits start s t d
+
+  -- The operands of the call on top.
+  operands_are : operands_of (slice_get s.threads t) ≡ frame.activation.operands
+  operands_are = ap operands_of stands.given_out ∙ ap top_operands stands.frames_are
+
+  -- After the effect the thread stands as it stood.
+  stands_after : (what : Effect (List ℕ)) → Sound program limits (affected program s frame.activation.operands what) → Stands program limits (affected program s frame.activation.operands what) t thread (stack_frame.Call frame ∷ below)
+  stands_after what sound =
+      let same = affected_threads program s frame.activation.operands what in
+      record { sound = sound; given_out = ap (λ (ts : List Thread). slice_get ts t) same ∙ stands.given_out; frames_are = stands.frames_are }
+
+  -- Its calls are those that it had.
+  calls_after : (what : Effect (List ℕ)) (act : FrameAction) (operands : List Value) → calls_of (with_changed (affected program s operands what) t (gone_on act)) t ≡ calls_of s t
+  calls_after what act operands =
+      let same = affected_threads program s operands what in
+      let given_out : slice_get (affected program s operands what).threads t ≡ Some thread = ap (λ (ts : List Thread). slice_get ts t) same ∙ stands.given_out in
+      changed_calls (affected program s operands what).threads t thread (gone_on act) given_out ∙ gone_on_calls act thread.frames ∙ sym (ap calls_in stands.given_out)
+
+  pub reaches_keeps : (what : Effect (List ℕ)) (act : FrameAction) → (IsProgram program → IsMade program limits s frame what act) → KeepsSound (decision.Makes (action.Reaches what act))
+  unfolding applied_to items_of
+  reaches_keeps what act made = (
+    (λ of_program.
+        let is = made of_program in
+        subst (λ operands. Sound program limits (with_changed (affected program s operands what) t (gone_on act))) (sym operands_are)
+        (gone_on_is_sound frame below act (stands_after what is.sound) is.room is.value)),
+    (λ of_program are.
+        let is = made of_program in
+        (thread, stands.given_out, subst (TopHasRoom act) (sym stands.frames_are) is.room, subst (λ fs. CanBeCounted s (top_operands fs) what) (sym stands.frames_are) (is.counted are))),
+    effect_is_no_mark program t what ∙ unmarked_by program t (calls_of s t) _ (calls_after what act (operands_of (slice_get s.threads t))),
+  )
+
+  pub if_deep_keeps : (takes gives : ℕ) (rest : TurnDecision) → (HasDepth frame takes gives → KeepsSound rest) → KeepsSound (if_deep frame takes gives rest)
+  if_deep_keeps takes gives rest keeps =
+      cond_both (has_depth frame.body takes gives frame.activation) rest _ KeepsSound (λ deep. keeps (depth_is frame takes gives deep)) (λ _. still t stands.sound)
+
+  -- ---- New objects
+
+  -- What is made is sound, where the new objects are objects and there is room for them.
+  pub making_keeps : (takes : ℕ) (what : NewObject (List ℕ)) → HasDepth frame takes 1 → length (new_objects program (next_reference s.heap) frame.activation.operands what) ≡ new_count frame.activation.operands what → AllByRecursion (IsObject program (s.heap ++ new_objects program (next_reference s.heap) frame.activation.operands what)) (new_objects program (next_reference s.heap) frame.activation.operands what) → length s.heap + new_count frame.activation.operands what ≤ limits.objects → s.elements + new_elements frame.activation.operands what ≤ limits.elements → (IsProgram program → 1 ≤ new_count frame.activation.operands what) → KeepsSound (making s takes what)
+  making_keeps takes what depth count are objects elements some =
+      let operands = frame.activation.operands in
+      let new = new_objects program (next_reference s.heap) operands what in
+      let longer = grown_length s.heap new in
+      reaches_keeps (effect.Makes what) (frame_action.Push takes (value.Reference (next_reference s.heap)))
+      (λ of_program.
+      let one = some of_program in
+      record {
+        sound = appended_is_sound stands.sound new (s.elements + new_elements operands what) are (subst (λ n. length s.heap + n ≤ limits.objects) (sym count) objects) elements;
+        room = (depth.there, depth.room);
+        value = (omega arith, omega arith);
+        counted = λ limited. let room = limits_have_room limits limited in (omega (arith, room.few_objects), omega (arith, room.few_elements));
+      })

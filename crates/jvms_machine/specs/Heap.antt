@@ -1,0 +1,133 @@
+-- The heap (JVMS 2.4, 2.7): what is made, and what is changed of what is there.
+use Rattle.std.specs.Prelude.{ℕ, zero, suc, ◌+◌, ◌*◌, ◌-◌, Bool, ◌&&◌, ◌==◌, nat_le, if◌then◌else◌, List, [], ◌∷◌, ◌++◌, length, map, drop, replicate, Option, Some, None, slice_set, codes, ℤ}
+use Rattle.std.specs.List.{flat_map, range_with_len}
+use Rattle.jvms_machine.specs.declared.value.Value.{Value}
+use Rattle.jvms_machine.specs.declared.value.Value.TheVariants as value
+use Rattle.jvms_machine.specs.declared.machine.Limits.{Limits}
+use Rattle.jvms_file.specs.declared.descriptor.Primitive.TheVariants as primitive
+use Rattle.jvms_file.specs.declared.insn.Narrow.TheVariants as narrow
+use Rattle.jvms_file.specs.Numbers.{narrowed}
+use Rattle.std.specs.Map.{lookup}
+use Rattle.jvms_file.specs.declared.descriptor.Element.{Element}
+use Rattle.jvms_file.specs.declared.descriptor.Element.TheVariants as element
+use Rattle.jvms_file.specs.declared.descriptor.FieldType.{FieldType}
+use Rattle.jvms_file.specs.declared.insn.ArrayType.{ArrayType}
+use Rattle.jvms_file.specs.declared.insn.ArrayType.TheVariants as array_type
+use Rattle.jvms_program.specs.declared.key.FieldKey.{FieldKey}
+use Rattle.jvms_file.specs.Names.{same_text}
+use Rattle.jvms_file.specs.Descriptors.{field_type, is_array_name}
+use Rattle.jvms_machine.specs.State.{State, Object, instance, array, text, class_object, default_value}
+
+-- ---- Room
+
+-- Whether so many objects more, and so many elements of arrays more, are within the limits.
+abbrev pub has_room_for_elements : ℕ → ℕ → Limits → State → Bool
+has_room_for_elements objects elements limits s =
+    nat_le (length s.heap + objects) limits.objects && nat_le (s.elements + elements) limits.elements
+
+-- The reference of the next object.
+abbrev pub next_reference : List Object → ℕ
+next_reference heap = length heap + 1
+
+-- ---- Values that are stored
+
+-- A byte, char or short is narrowed, and of a boolean the lowest bit is kept (own).
+abbrev pub narrowed_to : Element → ℤ → ℤ
+narrowed_to (element.Primitive primitive.Byte) n = narrowed narrow.Byte n
+narrowed_to (element.Primitive primitive.Char) n = narrowed narrow.Char n
+narrowed_to (element.Primitive primitive.Short) n = narrowed narrow.Short n
+narrowed_to (element.Primitive primitive.Boolean) n = narrowed narrow.Boolean n
+narrowed_to _ n = n
+
+-- What is kept of a value that is stored in a field, or in an array's element, of a type.
+abbrev pub stored_as : FieldType → Value → Value
+stored_as t (value.Int n) = value.Int (if t.dimensions == 0 then narrowed_to t.element n else n)
+stored_as t v = v
+
+-- ---- Fields
+
+abbrev pub same_key : FieldKey → FieldKey → Bool
+same_key a b = same_text a.class b.class && (same_text a.name b.name && same_text a.descriptor b.descriptor)
+
+-- The value of the field of a key.
+abbrev pub value_of : FieldKey → List (FieldKey × Value) → Option Value
+value_of key fields = lookup (λ k. same_key k key) fields
+
+-- The fields with a value in the one of a key.
+abbrev pub with_value : FieldKey → Value → List (FieldKey × Value) → List (FieldKey × Value)
+with_value key v fields = map (λ f. (f.0, if same_key f.0 key then v else f.1)) fields
+
+-- An object with a value in the field of a key.
+abbrev pub with_field : FieldKey → Value → Object → Object
+with_field key v (instance class fields) = instance class (with_value key v fields)
+with_field key v o = o
+
+-- An array with a value at an index.
+abbrev pub with_element : ℕ → Value → Object → Object
+with_element index v (array class elements) = array class (slice_set elements index v)
+with_element index v o = o
+
+-- The heap with the object of a reference changed.
+abbrev pub with_object : List Object → ℕ → (Object → Object) → Option Object → List Object
+with_object heap r change None = heap
+with_object heap r change (Some o) = slice_set heap (r - 1) (change o)
+
+-- ---- Arrays
+
+-- The class of an array of a component type (JVMS 6.5 newarray).
+abbrev pub array_of_type : ArrayType → List ℕ
+array_of_type array_type.Boolean = codes "[Z"
+array_of_type array_type.Char = codes "[C"
+array_of_type array_type.Float = codes "[F"
+array_of_type array_type.Double = codes "[D"
+array_of_type array_type.Byte = codes "[B"
+array_of_type array_type.Short = codes "[S"
+array_of_type array_type.Int = codes "[I"
+array_of_type array_type.Long = codes "[J"
+
+-- The class of an array whose components are of a class (JVMS 6.5 anewarray).
+abbrev pub array_of_class : List ℕ → List ℕ
+array_of_class name = if is_array_name name then codes "[" ++ name else codes "[L" ++ name ++ codes ";"
+
+-- The type of the components of an array's class.
+abbrev pub component_type : List ℕ → FieldType
+component_type class = field_type (drop 1 class)
+
+-- The class of the components of an array of references.
+abbrev pub component_class : List ℕ → List ℕ
+component_class class = if (component_type class).dimensions == 0 then name_of (component_type class).element else drop 1 class
+  where
+    name_of : Element → List ℕ
+    name_of (element.Object name) = name
+    name_of (element.Primitive p) = drop 1 class
+
+-- The first value of an array's elements.
+abbrev pub first_element : List ℕ → Value
+first_element class = default_value (component_type class)
+
+-- ---- Arrays of arrays (JVMS 6.5 multianewarray)
+
+-- How many arrays these lengths make, the outermost first: none within one of length 0.
+abbrev pub arrays_made : List ℕ → ℕ
+arrays_made [] = 0
+arrays_made (n ∷ []) = 1
+arrays_made (n ∷ m ∷ lengths) = 1 + n * arrays_made (m ∷ lengths)
+
+-- How many elements these have together.
+abbrev pub elements_made : List ℕ → ℕ
+elements_made [] = 0
+elements_made (n ∷ []) = n
+elements_made (n ∷ m ∷ lengths) = n + n * elements_made (m ∷ lengths)
+
+-- The references of so many parts, each of which takes so many.
+abbrev pub part_references : ℕ → ℕ → ℕ → List ℕ
+part_references first size count = map (λ i. first + i * size) (range_with_len 0 count)
+
+-- An array of these lengths, whose reference is this one, and its parts: the array first, then its parts by rising
+-- index, each with its own before the next.
+abbrev pub new_arrays : ℕ → List ℕ → List ℕ → List Object
+new_arrays r class [] = []
+new_arrays r class (n ∷ []) = array class (replicate n (first_element class)) ∷ []
+new_arrays r class (n ∷ m ∷ lengths) =
+    array class (map value.Reference (part_references (r + 1) (arrays_made (m ∷ lengths)) n))
+    ∷ flat_map (λ part. new_arrays part (drop 1 class) (m ∷ lengths)) (part_references (r + 1) (arrays_made (m ∷ lengths)) n)

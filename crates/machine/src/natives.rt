@@ -1,0 +1,104 @@
+//! The native methods of built-in classes: what `System.out` prints. Each is done in the turn of its call.
+
+ghost use Rattle.std.specs.Prelude.{◌≡◌, ◌+◌, ◌<◌, ◌^◌, slice_get};
+ghost use Rattle.jvms_machine.specs.Natives.{prints as printing, object_printed as prints_object, top_printed as prints_top, print_decision as prints_as, native_of_class};
+ghost use Rattle.jvms_machine.specs.State.{object_at};
+ghost use Rattle.machine.specs.Decided.{seen};
+
+use crate::decision::{Decided, bad, never_seen, reaches, taking};
+use crate::parts::Parts;
+use crate::thread::Thread;
+use descriptor::same_text;
+use frames::Frame;
+use jvms_machine::action::{Decision, Effect, Printed};
+use jvms_machine::machine::BadCause;
+use jvms_machine::value::Value;
+use jvms_program::program::Method;
+use jvms_program::thrown::Thrown;
+
+/// `java/io/PrintStream`
+const PRINT_STREAM: [u16; 19] = [
+    106, 97, 118, 97, 47, 105, 111, 47, 80, 114, 105, 110, 116, 83, 116, 114, 101, 97, 109,
+];
+
+/// `println`
+const PRINTLN: [u16; 7] = [112, 114, 105, 110, 116, 108, 110];
+
+/// `()V`, the descriptor of a method that takes and gives nothing.
+const NOTHING: [u16; 3] = [40, 41, 86];
+
+/// What a print takes: the receiver, and what is printed, if anything is.
+fn prints<'p>(frame: &Frame, takes: u8, what: Printed, ends_line: bool) -> Decided<'p>
+    requires { frame.now.activation.place + 1 < 2 ^ 64 }
+    ensures { seen result ≡ printing frame.now.activation takes what ends_line }
+{
+    reaches(Effect::Prints { what, ends_line }, taking(takes, frame))
+}
+
+impl<'p> Parts<'p> {
+    /// A string prints; an object that is none is of a wrong kind.
+    #[tactic(auto, using(crate::proofs::Asked::text_printed, crate::proofs::Asked::no_text_printed))]
+    fn object_printed(&self, frame: &Frame, ends_line: bool, reference: u32) -> Decided<'p>
+        requires { frame.now.activation.place + 1 < 2 ^ 64 }
+        ensures { seen result ≡ prints_object frame.now.activation ends_line reference (object_at self.now.state.heap reference) }
+    {
+        match self.text(reference) {
+            Some(_) => prints(frame, 2, Printed::Text { reference }, ends_line),
+            None => bad(BadCause::Kind),
+        }
+    }
+
+    /// What is on top is printed.
+    fn top_printed(&self, frame: &Frame, ends_line: bool) -> Decided<'p>
+        requires { frame.now.activation.place + 1 < 2 ^ 64 }
+        ensures { seen result ≡ prints_top self.now.state frame.now.activation ends_line frame.now.activation.operands }
+    {
+        if frame.height() == 0 {
+            return never_seen();
+        }
+        match frame.top() {
+            Value::Int(n) => prints(frame, 2, Printed::Int(n), ends_line),
+            Value::Null => prints(frame, 2, Printed::Null, ends_line),
+            Value::Reference(reference) => self.object_printed(frame, ends_line, reference),
+            Value::ReturnAddress(_) | Value::Unset => never_seen(),
+        }
+    }
+
+    /// `print` and `println`.
+    fn print_decision(&self, frame: &Frame, method: &Method) -> Decided<'p>
+        requires { frame.now.activation.place + 1 < 2 ^ 64 }
+        ensures { seen result ≡ prints_as self.now.state frame.now.activation method.now }
+    {
+        let ends_line = same_text(method.name.as_slice(), &PRINTLN);
+        if ends_line && same_text(method.descriptor.as_slice(), &NOTHING) {
+            prints(frame, 1, Printed::Nothing, true)
+        } else {
+            self.top_printed(frame, ends_line)
+        }
+    }
+
+    /// A native method of the class of a number is called by the frame on top. `start` and `join` of `Thread` are yet to
+    /// come; a method of a class that isn't built in has no body.
+    pub(crate) fn native_decision(
+        &self,
+        thread: &Thread,
+        frame: &Frame,
+        method: &Method,
+        class: usize,
+    ) -> Decided<'p>
+        requires { frame.now.activation.place + 1 < 2 ^ 64 }
+        ensures { seen result ≡ native_of_class self.now.limits self.now.state thread.now frame.now.activation method.now (slice_get self.now.program class) }
+    {
+        let Some(c) = self.program.class(class) else {
+            return never_seen();
+        };
+        if same_text(c.name.as_slice(), &PRINT_STREAM) {
+            return self.print_decision(frame, method);
+        }
+        if self.program.is_built_in(class) {
+            Decision::Later
+        } else {
+            self.throws(thread, Thrown::UnsatisfiedLinkError)
+        }
+    }
+}

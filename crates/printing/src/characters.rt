@@ -1,0 +1,86 @@
+//! The characters of 16-bit units, and their bytes in UTF-8.
+
+ghost use Rattle.std.specs.Prelude.{◌≡◌, ◌+◌, ◌-◌, ◌*◌, ◌<◌, ◌≤◌, ◌∷◌, ◌++◌, length, take, OnOk, OnErr, IsTrue, if◌then◌else◌, encode_utf8};
+ghost use Rattle.jvms_machine.specs.Output.{is_high, is_low, characters, text_bytes};
+
+use std::alloc::AllocError;
+
+/// Whether a unit is the first half of a supplementary character.
+fn is_high(unit: u16) -> bool
+    ensures { result ≡ is_high unit }
+{
+    0xd800 <= unit && unit <= 0xdbff
+}
+
+/// Whether a unit is the second half of a supplementary character.
+fn is_low(unit: u16) -> bool
+    ensures { result ≡ is_low unit }
+{
+    0xdc00 <= unit && unit <= 0xdfff
+}
+
+/// The supplementary character of two halves.
+fn joined(high: u16, low: u16) -> char
+    requires high { IsTrue (is_high high) }
+    requires low { IsTrue (is_low low) }
+    ensures { result ≡ 0x10000 + (high - 0xd800) * 0x400 + (low - 0xdc00) }
+{
+    let code = 0x10000 + u32::from(high - 0xd800) * 0x400 + u32::from(low - 0xdc00);
+    char::from_u32(code).unwrap()
+}
+
+/// The character of a unit that isn't joined with another. A half has none, so it's a question mark.
+fn alone(unit: u16) -> char
+    ensures { result ≡ (if is_high unit then 63 else (if is_low unit then 63 else unit)) }
+{
+    char::from_u32(u32::from(unit)).unwrap_or('?')
+}
+
+/// The character that a text of these units begins with, and the units behind it.
+fn front_character(first: u16, rest: &[u16]) -> (char, &[u16])
+    ensures front { characters (first ∷ rest.now) ≡ result.0 ∷ characters result.1.now }
+    ensures behind { length result.1.now ≤ length rest.now }
+{
+    match rest {
+        [second, behind @ ..] if is_high(first) && is_low(*second) => {
+            (joined(first, *second), behind)
+        }
+        _ => (alone(first), rest),
+    }
+}
+
+/// Puts a character's bytes behind the others.
+fn put_character(out: &mut Vec<u8>, character: char) -> Result<(), AllocError>
+    ensures ok { OnOk result (out.new.items ≡ out.old.items ++ encode_utf8 character) }
+    ensures err { OnErr result (out.new.items ≡ out.old.items) }
+{
+    let mut buffer = [0; 4];
+    out.extend_from_slice(character.encode_utf8(&mut buffer).as_bytes())
+}
+
+/// Puts a text's bytes behind the others, up to the first character that there is no memory for.
+fn put_characters(out: &mut Vec<u8>, units: &[u16]) -> Result<(), AllocError>
+    ensures ok { OnOk result (out.new.items ≡ out.old.items ++ text_bytes units.now) }
+    ensures front { take (length out.old.items) out.new.items ≡ out.old.items }
+{
+    let mut rest = units;
+    while let [first, behind @ ..] = rest {
+        let (character, after) = front_character(*first, behind);
+        put_character(out, character)?;
+        rest = after;
+    }
+    Ok(())
+}
+
+/// Puts a text in UTF-8 behind the other bytes. Without memory for it nothing changes.
+pub fn put_text(out: &mut Vec<u8>, units: &[u16]) -> Result<(), AllocError>
+    ensures ok { OnOk result (out.new.items ≡ out.old.items ++ text_bytes units.now) }
+    ensures err { OnErr result (out.new.items ≡ out.old.items) }
+{
+    let before = out.len();
+    let put = put_characters(out, units);
+    if put.is_err() {
+        out.truncate(before);
+    }
+    put
+}
