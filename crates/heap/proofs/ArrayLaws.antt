@@ -1,17 +1,21 @@
 -- Arrays of arrays.
-use Rattle.std.proofs.Common.{◌≡◌, ℕ, zero, suc, ◌+◌, ◌*◌, ◌<◌, ◌≤◌, ◌^◌, List, [], ◌∷◌, ◌++◌, length, drop, map, replicate, refl, sym, ap, subst, ◌∙◌, append_assoc, arith}
+use Rattle.std.proofs.Common.{◌≡◌, ℕ, zero, suc, ◌+◌, ◌*◌, ◌<◌, ◌≤◌, ◌^◌, List, [], ◌∷◌, ◌++◌, length, drop, map, replicate, refl, sym, ap, subst, ◌∙◌, append_assoc, Vec, Global, arith}
 use Rattle.std.specs.List.{AllByRecursion, range_with_len, flat_map}
-use Rattle.std.proofs.lemmas.List.{map-append, append-nil}
-use Rattle.std.proofs.lemmas.List.FromFn.{map-range_with_len_more}
+use Rattle.std.proofs.lemmas.List.{length-map, map-append, append-nil}
+use Rattle.std.proofs.lemmas.List.FromFn.{length-range_with_len, map-range_with_len_more}
 use Rattle.std.proofs.lemmas.List.Concat.{flat_map-append}
 use Rattle.std.proofs.Math.Nat.{mul-le-mul_right}
 use Rattle.jvms_program.specs.declared.program.Class.{Class}
 use Rattle.jvms_machine.specs.declared.value.Value.TheVariants as value
 use Rattle.jvms_machine.specs.State.{Object, array}
-use Rattle.jvms_machine.specs.Heap.{arrays_made, elements_made, part_references, new_arrays, first_element}
+use Rattle.jvms_machine.specs.Heap.{arrays_made, component_type, elements_made, part_references, new_arrays, first_element}
 use Rattle.jvms_machine.proofs.ListLaws.{all_append}
 use Rattle.heap.specs.declared.held_object.HeldObject.{HeldObject}
+use Rattle.heap.specs.declared.held_object.HeldObject.TheVariants as held
+use Rattle.heap.specs.declared.elements.Elements.TheVariants as elements
+use Rattle.heap.specs.declared.kind.Kind.TheVariants as kind
 use Rattle.heap.specs.Elements.{reference_value}
+use Rattle.heap.specs.Kinds.{kind_of}
 use Rattle.heap.specs.Held.{shown, IsKept, IsPlain, AreHeld}
 use Rattle.heap.specs.Arrays.{IsArray, MadeFrom}
 use Rattle.heap.proofs.MakingLaws.{plain_added}
@@ -105,6 +109,18 @@ references_by first size (suc n) a over =
 -- References that are held show as references.
 pub references_shown : (first size n : ℕ) (references : List ℕ) → references ≡ part_references first size n → 0 < first → map reference_value references ≡ map value.Reference (part_references first size n)
 references_shown first size n references is over = ap (map reference_value) is ∙ references_by first size n 0 over
+
+-- So many parts, by their references, are an array.
+pub parts_held : (first size n : ℕ) (t class : List ℕ) (references : Vec ℕ Global) → t ≡ class → references.items ≡ part_references first size n → 0 < first → n < 2 ^ 31 → kind_of (component_type class) ≡ kind.Reference
+    → IsArray (held.Array t (elements.References references)) (array class (map value.Reference (part_references first size n)))
+parts_held first size n t class references same are over few of_references =
+    let as_many = length-map references.items reference_value in
+    let parts = ap length are ∙ length-map (range_with_len 0 n) (λ i. first + i * size) ∙ length-range_with_len 0 n in
+    record {
+      shows = λ program. ap (λ c. array c (map reference_value references.items)) same ∙ ap (array class) (references_shown first size n references.items are over);
+      kept = λ program. (sym of_references ∙ ap (λ c. kind_of (component_type c)) (sym same), omega (arith, as_many, parts, few));
+      plain = tt;
+    }
 
 -- ---- What is made
 

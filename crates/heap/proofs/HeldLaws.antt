@@ -4,18 +4,20 @@ use Rattle.std.specs.Prelude.{option_copied, IfSome}
 use Rattle.std.specs.Borrow.{Bor}
 use Rattle.std.specs.List.{position_from}
 use Rattle.std.proofs.lemmas.List.{length-map}
-use Rattle.std.proofs.lemmas.Option.{same_Some, slice_get-get_or}
+use Rattle.std.proofs.lemmas.Option.{none-some, same_Some, slice_get-get_or}
 use Rattle.jvms_program.specs.declared.program.Class.{Class}
-use Rattle.jvms_machine.specs.State.{Object, object_at, text_reference, class_reference, is_text, is_class_object}
+use Rattle.jvms_program.specs.declared.key.FieldKey.{FieldKey}
+use Rattle.jvms_machine.specs.State.{Object, instance, instance_fields, keys, object_at, text_reference, class_reference, is_text, is_class_object}
 use Rattle.jvms_machine.specs.Heap.{with_object}
-use Rattle.jvms_machine.proofs.ListLaws.{all_set, all_at}
+use Rattle.jvms_machine.proofs.ListLaws.{all_set, all_at, option_map_some}
 use Rattle.heap.specs.declared.held_object.HeldObject.{HeldObject}
 use Rattle.heap.specs.declared.held_object.HeldObject.TheVariants as held
-use Rattle.heap.specs.Held.{shown, IsKept, Becomes, AreHeld, SuitsHeld, found}
+use Rattle.heap.specs.Held.{name_at, shown, IsKept, Becomes, AreHeld, SuitsHeld, found}
 use Rattle.heap.specs.Kinds.{IsOfKind}
-use Rattle.heap.specs.Objects.{Suits}
+use Rattle.heap.specs.Objects.{Suits, instance_class}
 use Rattle.jvms_machine.specs.declared.value.Value.{Value}
 use Rattle.heap.proofs.Lists.{get_map, set_map}
+use Rattle.heap.proofs.SlotLaws.{keys_kept}
 
 pub as_many_shown : (program : List Class) (objects : List HeldObject) → length objects ≡ length (map (shown program) objects)
 as_many_shown program objects = sym (length-map objects (shown program))
@@ -84,7 +86,7 @@ module _ (program : List Class) (objects : List HeldObject) (texts classes : Lis
       by was was_kept (subst (λ o. IfSome o (Suits v)) it suits)
     where
       by : (o : HeldObject) → IsKept program o → Suits v (shown program o) → SuitsHeld v o
-      by (held.Array class elements) kept suits = subst (λ k. IsOfKind k v) (sym kept) suits
+      by (held.Array class elements) kept suits = subst (λ k. IsOfKind k v) (sym kept.0) suits
       by (held.Instance class values) kept suits = tt
       by (held.Text units) kept suits = tt
       by (held.ClassObject name) kept suits = tt
@@ -105,3 +107,23 @@ none_changed program objects zero change past = refl
 none_changed program objects (suc r) change past =
     let none : slice_get objects r ≡ None = past_get objects r (omega (arith, past)) in
     sym (ap (with_object (map (shown program) objects) (suc r) change) (get_map (shown program) objects r ∙ ap (option_map (shown program)) none))
+
+-- ---- The fields of an instance
+
+abbrev fields_in : Object → List (FieldKey × Value)
+fields_in (instance class fields) = fields
+fields_in _ = []
+
+has_fields : (program : List Class) (o : HeldObject) (class : List ℕ) (fields : List (FieldKey × Value)) → shown program o ≡ instance class fields → keys fields ≡ keys (instance_fields program class)
+has_fields program (held.Instance number values) class fields is =
+    let class_is : name_at program number ≡ class = same_Some (name_at program number) class (ap instance_class is) in
+    ap keys (sym (ap fields_in is)) ∙ keys_kept (instance_fields program (name_at program number)) values.items ∙ ap (λ n. keys (instance_fields program n)) class_is
+has_fields program (held.Array name elements) class fields is = absurd (none-some class (ap instance_class is))
+has_fields program (held.Text units) class fields is = absurd (none-some class (ap instance_class is))
+has_fields program (held.ClassObject name) class fields is = absurd (none-some class (ap instance_class is))
+
+pub have_their_fields : (program : List Class) (objects : List HeldObject) (r : ℕ) (class : List ℕ) (fields : List (FieldKey × Value)) → object_at (map (shown program) objects) r ≡ Some (instance class fields)
+    → keys fields ≡ keys (instance_fields program class)
+have_their_fields program objects zero class fields is = absurd (none-some (instance class fields) is)
+have_their_fields program objects (suc r) class fields is =
+    option_map_some (shown program) (slice_get objects r) (instance class fields) (sym (get_map (shown program) objects r) ∙ is) (λ o at shows. has_fields program o class fields shows)

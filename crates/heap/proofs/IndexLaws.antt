@@ -1,6 +1,7 @@
 -- What is found among texts and references.
-use Rattle.std.proofs.Common.{◌≡◌, ℕ, Bool, true, false, cond, List, [], ◌∷◌, map, Some, None, Vec, Global, refl, sym, ap, ◌∙◌}
+use Rattle.std.proofs.Common.{◌≡◌, ℕ, Bool, true, false, cond, List, [], ◌∷◌, map, Option, Some, None, Vec, Global, refl, sym, ap, ◌∙◌}
 use Rattle.std.specs.Map.{lookup}
+use Rattle.std.specs.Option.{option_or}
 use Rattle.std.specs.Ordering.{is_eq, match_ordering, nat_cmp}
 use Rattle.std.specs.Cmp.Lexicographic.{slice_cmp, bytes_decides}
 use Rattle.std.specs.declared.cmp.Ordering.{Ordering}
@@ -72,3 +73,28 @@ pub found_put : (old new : Entries) (k : Vec ℕ Global) (units : List ℕ) (v :
 found_put old new k units v before is put was q =
     ap (λ l. found (seen l) q) put ∙ found_inserted old k v q ∙ ap (λ l. cond (same_text l q) (Some v) (found (seen old) q)) is
     ∙ ap (λ l. cond (same_text units q) (Some v) (found l q)) was
+
+-- ---- A text that is put where there is none
+
+or_none : (o : Option ℕ) → o ≡ option_or o None
+or_none None = refl
+or_none (Some r) = refl
+
+-- Nothing is put of a text that is found already.
+pub put_again : (entries : List (List ℕ × ℕ)) (units : List ℕ) (r v : ℕ) → Some r ≡ found entries units
+    → (q : List ℕ) → found entries q ≡ option_or (found entries q) (cond (same_text units q) (Some v) None)
+put_again entries units r v is q = by (same_text units q) refl
+  where
+    by : (b : Bool) → same_text units q ≡ b → found entries q ≡ option_or (found entries q) (cond b (Some v) None)
+    by true same =
+        let there : found entries q ≡ Some r = ap (found entries) (sym (same_is units q same)) ∙ sym is in
+        there ∙ ap (λ o. option_or o (Some v)) (sym there)
+    by false same = or_none (found entries q)
+
+pub put_first : (entries new : List (List ℕ × ℕ)) (units : List ℕ) (v : ℕ) → None ≡ found entries units → ((q : List ℕ) → found new q ≡ cond (same_text units q) (Some v) (found entries q))
+    → (q : List ℕ) → found new q ≡ option_or (found entries q) (cond (same_text units q) (Some v) None)
+put_first entries new units v none puts q = puts q ∙ by (same_text units q) refl
+  where
+    by : (b : Bool) → same_text units q ≡ b → cond b (Some v) (found entries q) ≡ option_or (found entries q) (cond b (Some v) None)
+    by true same = ap (λ o. option_or o (Some v)) (none ∙ ap (found entries) (same_is units q same))
+    by false same = or_none (found entries q)

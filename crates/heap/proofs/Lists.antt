@@ -1,6 +1,13 @@
 -- A place of a list that is made of another by a function.
-use Rattle.std.proofs.Common.{◌≡◌, ℕ, zero, suc, List, [], ◌∷◌, map, replicate, slice_get, slice_set, refl, ap}
+use Rattle.std.proofs.Common.{◌≡◌, ℕ, zero, suc, List, [], ◌∷◌, map, replicate, Some, slice_get, slice_set, refl, sym, ap}
 use Rattle.std.specs.Option.{option_map}
+use Rattle.std.proofs.lemmas.Option.{same_Some}
+
+-- What stands at a place is written there again.
+pub set_same : {X : Type 0} (xs : List X) (i : ℕ) (x : X) → slice_get xs i ≡ Some x → slice_set xs i x ≡ xs
+set_same [] i x is = refl
+set_same (y ∷ xs) zero x is = ap (λ z. z ∷ xs) (sym (same_Some y x is))
+set_same (y ∷ xs) (suc i) x is = ap (λ l. y ∷ l) (set_same xs i x is)
 
 module _ {X Y : Type 0} (f : X → Y) where
   pub get_map : (xs : List X) (i : ℕ) → slice_get (map f xs) i ≡ option_map f (slice_get xs i)

@@ -1,17 +1,16 @@
 -- Objects that are put behind the others.
-use Rattle.std.proofs.Common.{◌≡◌, ℕ, ◌+◌, Bool, true, false, cond, List, [], ◌∷◌, ◌++◌, length, map, Some, None, refl, sym, ap, ◌∙◌, arith, Vec, Global}
+use Rattle.std.proofs.Common.{◌≡◌, ℕ, ◌+◌, Bool, true, false, cond, List, [], ◌∷◌, ◌++◌, length, map, Option, Some, None, refl, sym, ap, ◌∙◌, arith, Vec, Global}
 use Rattle.jvms_machine.specs.declared.value.Value.{Value}
 use Rattle.std.specs.List.{position_from}
+use Rattle.std.specs.Option.{option_or}
 use Rattle.std.proofs.lemmas.List.{length-map, map-append}
-use Rattle.std.proofs.lemmas.Option.{none-some}
 use Rattle.jvms_program.specs.declared.program.Class.{Class}
 use Rattle.jvms_file.specs.Names.{same_text}
-use Rattle.jvms_machine.specs.State.{Object, instance, instance_fields, first_instance, text_reference, class_reference, is_text, is_class_object}
+use Rattle.jvms_machine.specs.State.{Object, instance, instance_fields, first_instance, is_text, is_class_object}
 use Rattle.jvms_machine.proofs.ListLaws.{all_append}
 use Rattle.heap.specs.declared.held_object.HeldObject.{HeldObject}
 use Rattle.heap.specs.declared.held_object.HeldObject.TheVariants as held
 use Rattle.heap.specs.Held.{name_at, with_values, shown, IsKept, IsPlain, AreHeld, found}
-use Rattle.heap.proofs.IndexLaws.{same_is}
 use Rattle.heap.proofs.SlotLaws.{first_values_are}
 
 -- ---- Searches
@@ -20,14 +19,17 @@ pub position_past : (test : Object → Bool) (n : ℕ) (xs : List Object) (x : O
 position_past test n [] x fails = ap (λ b. cond b (Some n) None) fails
 position_past test n (y ∷ xs) x fails = ap (λ o. cond (test y) (Some n) o) (position_past test (n + 1) xs x fails)
 
-at_end : (test : Object → Bool) (n : ℕ) (y x : Object) (xs : List Object) (b : Bool) → test y ≡ b → cond b (Some n) (position_from test (n + 1) xs) ≡ None → test x ≡ true
-    → (position_from test (n + 1) xs ≡ None → position_from test (n + 1) (xs ++ x ∷ []) ≡ Some ((n + 1) + length xs)) → cond b (Some n) (position_from test (n + 1) (xs ++ x ∷ [])) ≡ Some (n + length (y ∷ xs))
-at_end test n y x xs true is none passes more = absurd (none-some n (sym none))
-at_end test n y x xs false is none passes more = more none ∙ ap (λ k. Some k) (omega arith)
+more_by : (b : Bool) (n : ℕ) (o rest last : Option ℕ) → rest ≡ option_or o last → cond b (Some n) rest ≡ option_or (cond b (Some n) o) last
+more_by true n o rest last is = refl
+more_by false n o rest last is = is
 
-pub position_new : (test : Object → Bool) (n : ℕ) (xs : List Object) (x : Object) → position_from test n xs ≡ None → test x ≡ true → position_from test n (xs ++ x ∷ []) ≡ Some (n + length xs)
-position_new test n [] x none passes = ap (λ b. cond b (Some n) None) passes ∙ ap (λ k. Some k) (omega arith)
-position_new test n (y ∷ xs) x none passes = at_end test n y x xs (test y) refl none passes (λ rest. position_new test (n + 1) xs x rest passes)
+-- What is found first stays so with one more behind, and else that one is looked at.
+pub position_more : (test : Object → Bool) (n : ℕ) (xs : List Object) (x : Object) → position_from test n (xs ++ x ∷ []) ≡ option_or (position_from test n xs) (cond (test x) (Some (n + length xs)) None)
+position_more test n [] x = ap (λ k. cond (test x) (Some k) None) (omega arith)
+position_more test n (y ∷ xs) x =
+    let at : (n + 1) + length xs ≡ n + length (y ∷ xs) = omega arith in
+    more_by (test y) n (position_from test (n + 1) xs) (position_from test (n + 1) (xs ++ x ∷ [])) (cond (test x) (Some (n + length (y ∷ xs))) None)
+    (position_more test (n + 1) xs x ∙ ap (λ k. option_or (position_from test (n + 1) xs) (cond (test x) (Some k) None)) at)
 
 -- ---- An instance or an array
 
@@ -61,34 +63,32 @@ module _ (program : List Class) (objects : List HeldObject) where
   -- ---- A string or a class object
 
   found_more : (test : List ℕ → Object → Bool) (entries new : List (List ℕ × ℕ)) (units : List ℕ) (o : HeldObject) → ((q : List ℕ) → found entries q ≡ position_from (test q) 1 (map (shown program) objects))
-      → ((q : List ℕ) → test q (shown program o) ≡ same_text units q) → position_from (test units) 1 (map (shown program) objects) ≡ None
-      → ((q : List ℕ) → found new q ≡ cond (same_text units q) (Some (length objects + 1)) (found entries q))
+      → ((q : List ℕ) → test q (shown program o) ≡ same_text units q) → ((q : List ℕ) → found new q ≡ option_or (found entries q) (cond (same_text units q) (Some (length objects + 1)) None))
       → (q : List ℕ) → found new q ≡ position_from (test q) 1 (map (shown program) (objects ++ o ∷ []))
-  found_more test entries new units o finds tests none puts q = puts q ∙ by (same_text units q) refl ∙ ap (position_from (test q) 1) (sym (shown_more o))
-    where
-      by : (b : Bool) → same_text units q ≡ b → cond b (Some (length objects + 1)) (found entries q) ≡ position_from (test q) 1 (map (shown program) objects ++ shown program o ∷ [])
-      by true is =
-          let nowhere : position_from (test q) 1 (map (shown program) objects) ≡ None = ap (λ u. position_from (test u) 1 (map (shown program) objects)) (sym (same_is units q is)) ∙ none in
-          let as_many = length-map objects (shown program) in
-          ap (λ k. Some k) (omega (arith, as_many)) ∙ sym (position_new (test q) 1 (map (shown program) objects) (shown program o) nowhere (tests q ∙ is))
-      by false is = finds q ∙ sym (position_past (test q) 1 (map (shown program) objects) (shown program o) (tests q ∙ is))
+  found_more test entries new units o finds tests puts q =
+      let as_many = length-map objects (shown program) in
+      let next : length objects + 1 ≡ 1 + length (map (shown program) objects) = omega (arith, as_many) in
+      let before = position_from (test q) 1 (map (shown program) objects) in
+      puts q ∙ ap (λ f. option_or f (cond (same_text units q) (Some (length objects + 1)) None)) (finds q)
+      ∙ ap (λ b. option_or before (cond b (Some (length objects + 1)) None)) (sym (tests q)) ∙ ap (λ k. option_or before (cond (test q (shown program o)) (Some k) None)) next
+      ∙ sym (position_more (test q) 1 (map (shown program) objects) (shown program o)) ∙ ap (position_from (test q) 1) (sym (shown_more o))
 
-  pub text_added : (texts new classes : List (List ℕ × ℕ)) (units t : List ℕ) → AreHeld program objects texts classes → t ≡ units → text_reference (map (shown program) objects) units ≡ None
-      → ((q : List ℕ) → found new q ≡ cond (same_text units q) (Some (length objects + 1)) (found texts q)) → AreHeld program (objects ++ held.Text t ∷ []) new classes
-  text_added texts new classes units t are is none puts =
+  pub text_added : (texts new classes : List (List ℕ × ℕ)) (units t : List ℕ) → AreHeld program objects texts classes → t ≡ units
+      → ((q : List ℕ) → found new q ≡ option_or (found texts q) (cond (same_text units q) (Some (length objects + 1)) None)) → AreHeld program (objects ++ held.Text t ∷ []) new classes
+  text_added texts new classes units t are is puts =
       record {
         kept = all_append (IsKept program) objects (held.Text t ∷ []) are.kept (tt, tt);
-        finds_texts = found_more is_text texts new units (held.Text t) are.finds_texts (λ q. ap (λ l. same_text l q) is) none puts;
+        finds_texts = found_more is_text texts new units (held.Text t) are.finds_texts (λ q. ap (λ l. same_text l q) is) puts;
         finds_classes = λ name. are.finds_classes name ∙ still_past (is_class_object name) (held.Text t) refl;
       }
 
-  pub class_added : (texts classes new : List (List ℕ × ℕ)) (name t : List ℕ) → AreHeld program objects texts classes → t ≡ name → class_reference (map (shown program) objects) name ≡ None
-      → ((q : List ℕ) → found new q ≡ cond (same_text name q) (Some (length objects + 1)) (found classes q)) → AreHeld program (objects ++ held.ClassObject t ∷ []) texts new
-  class_added texts classes new name t are is none puts =
+  pub class_added : (texts classes new : List (List ℕ × ℕ)) (name t : List ℕ) → AreHeld program objects texts classes → t ≡ name
+      → ((q : List ℕ) → found new q ≡ option_or (found classes q) (cond (same_text name q) (Some (length objects + 1)) None)) → AreHeld program (objects ++ held.ClassObject t ∷ []) texts new
+  class_added texts classes new name t are is puts =
       record {
         kept = all_append (IsKept program) objects (held.ClassObject t ∷ []) are.kept (tt, tt);
         finds_texts = λ units. are.finds_texts units ∙ still_past (is_text units) (held.ClassObject t) refl;
-        finds_classes = found_more is_class_object classes new name (held.ClassObject t) are.finds_classes (λ q. ap (λ l. same_text l q) is) none puts;
+        finds_classes = found_more is_class_object classes new name (held.ClassObject t) are.finds_classes (λ q. ap (λ l. same_text l q) is) puts;
       }
 
 -- An instance with the first values is a first instance.

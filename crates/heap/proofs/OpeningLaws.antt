@@ -1,6 +1,5 @@
 -- The heap at the opening.
-use Rattle.std.proofs.Common.{◌≡◌, ℕ, ◌<◌, List, [], ◌∷◌, ◌++◌, length, replicate, codes, refl, sym, ap, subst, ◌∙◌, arith}
-use Rattle.std.proofs.lemmas.List.{length-append}
+use Rattle.std.proofs.Common.{◌≡◌, ℕ, List, [], ◌∷◌, ◌++◌, replicate, codes, refl, ap, ◌∙◌}
 use Rattle.jvms_program.specs.declared.program.Class.{Class}
 use Rattle.jvms_program.specs.Program.{IsProgram}
 use Rattle.jvms_program.specs.BuiltIn.{built_in_classes}
@@ -9,17 +8,6 @@ use Rattle.jvms_machine.specs.Heap.{first_element}
 use Rattle.jvms_machine.specs.Opening.{opening_heap}
 use Rattle.heap.specs.Objects.{Heap, with_new, with_arrays}
 use Rattle.heap.specs.Held.{name_at}
-
--- There are 37 built-in classes.
-built_in_count : length built_in_classes ≡ 37
-unfolding built_in_classes
-built_in_count = refl
-
-pub there : (program : List Class) (n : ℕ) → IsProgram program → n < 37 → n < length program
-there program n has below =
-    let both = length-append built_in_classes has.built_ins.0 in
-    let count = built_in_count in
-    subst (λ l. n < length l) (sym has.built_ins.1) (omega arith)
 
 out_of_memory_name : (own : List Class) → name_at (built_in_classes ++ own) 35 ≡ codes "java/lang/OutOfMemoryError"
 unfolding built_in_classes

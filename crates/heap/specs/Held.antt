@@ -1,5 +1,5 @@
 -- The objects that are held.
-use Rattle.std.specs.Prelude.{◌≡◌, ℕ, ◌<◌, List, [], ◌∷◌, length, map, Option, unwrap_or, slice_get}
+use Rattle.std.specs.Prelude.{◌≡◌, ℕ, ◌<◌, ◌^◌, List, [], ◌∷◌, length, map, Option, unwrap_or, slice_get}
 use Rattle.std.specs.Option.{option_map}
 use Rattle.std.specs.List.{AllByRecursion}
 use Rattle.std.specs.Map.{lookup}
@@ -32,11 +32,11 @@ shown program (held.Array class elements) = array class (values_of elements)
 shown program (held.Text units) = text units
 shown program (held.ClassObject name) = class_object name
 
--- An instance is of a class of the program and has a value for each of its fields; an array's elements are held by
--- the kind of its components.
+-- An instance has a value for each field of its class; an array's elements are held by the kind of its components,
+-- and their number is an int.
 abbrev pub IsKept : List Class → HeldObject → Type 0
-IsKept program (held.Instance class values) = (class < length program) × (length values.items ≡ length (instance_fields program (name_at program class)))
-IsKept program (held.Array class elements) = kind_held elements ≡ kind_of (component_type class)
+IsKept program (held.Instance class values) = length values.items ≡ length (instance_fields program (name_at program class))
+IsKept program (held.Array class elements) = (kind_held elements ≡ kind_of (component_type class)) × (length (values_of elements) < 2 ^ 31)
 IsKept program _ = Unit {0}
 
 -- Neither a string nor a class object.

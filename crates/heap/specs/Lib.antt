@@ -5,3 +5,4 @@ pub mod Held
 pub mod Kinds
 pub mod Objects
 pub mod PrimitiveArrays
+pub mod Statics

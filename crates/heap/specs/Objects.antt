@@ -1,12 +1,12 @@
 -- What is asked of objects, and what is put into them by a slot.
 use Rattle.std.specs.Prelude.{◌≡◌, ℕ, drop, zero, suc, List, [], ◌∷◌, ◌++◌, ◌+◌, length, Option, Some, None, slice_get}
 use Rattle.std.specs.Option.{option_and_then, option_map}
-use Rattle.std.specs.List.{position_from}
 use Rattle.jvms_program.specs.declared.program.Class.{Class}
 use Rattle.jvms_program.specs.declared.key.FieldKey.{FieldKey}
 use Rattle.jvms_machine.specs.declared.value.Value.{Value}
-use Rattle.jvms_machine.specs.State.{Object, instance, array, text, class_object, class_of, object_at, instance_fields, keys}
-use Rattle.jvms_machine.specs.Heap.{same_key, component_type}
+use Rattle.jvms_program.specs.Slots.{slot_of}
+use Rattle.jvms_machine.specs.State.{Object, instance, array, text, class_object, class_of, object_at}
+use Rattle.jvms_machine.specs.Heap.{component_type, value_of}
 use Rattle.heap.specs.declared.kind.Kind.TheVariants as kind
 use Rattle.heap.specs.Kinds.{kind_of, IsOfKind}
 
@@ -59,11 +59,17 @@ HasDimensions class [] = Unit {0}
 HasDimensions class (n ∷ []) = Unit {0}
 HasDimensions class (n ∷ m ∷ lengths) = (kind_of (component_type class) ≡ kind.Reference) × HasDimensions (drop 1 class) (m ∷ lengths)
 
--- ---- Slots
+-- ---- Fields
 
--- The slot of a field in an instance of a class: its place among all fields of the class's chain.
-abbrev pub slot_of : List Class → List ℕ → FieldKey → Option ℕ
-slot_of program class key = position_from (λ k. same_key k key) 0 (keys (instance_fields program class))
+-- An instance's field.
+abbrev pub field_of : FieldKey → Object → Option Value
+field_of key (instance class fields) = value_of key fields
+field_of key _ = None
+
+-- The slot of an instance's field.
+abbrev pub slot_in : List Class → FieldKey → Object → Option ℕ
+slot_in program key (instance class fields) = slot_of program class key
+slot_in program key _ = None
 
 -- The value of the field of a slot.
 abbrev pub value_in : ℕ → Object → Option Value

@@ -76,6 +76,7 @@ fn part_references(
 
 /// An array with the first value for each of its elements.
 fn first_array(alloc: Global, class: &Text, length: u32) -> Result<HeldObject, AllocError>
+    requires { length < 2 ^ 31 }
     ensures { IfOk result (λ o. IsArray o (array class.now (replicate length (first_element class.now)))) }
 {
     let kind = kind_of_array(class.as_slice());
@@ -96,6 +97,7 @@ fn array_of_parts(
     requires room { first + count * size ≤ 2 ^ 32 }
     requires some { 0 < size }
     requires over { 0 < first }
+    requires few { count < 2 ^ 31 }
     requires references { kind_of (component_type class.now) ≡ kind.Reference }
     ensures { IfOk result (λ o. IsArray o (array class.now (map value.Reference (part_references first size count)))) }
 {
@@ -126,6 +128,7 @@ fn make_arrays(
     rest: &[u32],
 ) -> Result<(), AllocError>
     requires room { reference + arrays_made (count ∷ rest.now) ≤ 2 ^ 32 }
+    requires few { elements_made (count ∷ rest.now) < 2 ^ 31 }
     requires dimensions { HasDimensions class.now (count ∷ rest.now) }
     ensures { OnOk result (MadeFrom made.old.items made.new.items (new_arrays reference class.now (count ∷ rest.now))) }
 {
@@ -157,6 +160,7 @@ fn made_arrays(
     lengths: &[u32],
 ) -> Result<Vec<HeldObject>, AllocError>
     requires room { reference + arrays_made lengths.now ≤ 2 ^ 32 }
+    requires few { elements_made lengths.now < 2 ^ 31 }
     requires dimensions { HasDimensions class.now lengths.now }
     ensures { IfOk result (λ v. MadeFrom [] v.items (new_arrays reference class.now lengths.now)) }
 {
@@ -172,7 +176,7 @@ impl Heap<'_> {
     /// A new array of these lengths, with its parts. Without memory nothing changes.
     pub fn new_arrays(&mut self, class: &Text, lengths: &[u32]) -> Result<(), AllocError>
         requires objects { length self.old.objects + arrays_made lengths.now < 2 ^ 32 }
-        requires elements { self.old.elements + elements_made lengths.now < 2 ^ 32 }
+        requires elements { self.old.elements + elements_made lengths.now < 2 ^ 31 }
         requires dimensions { HasDimensions class.now lengths.now }
         ensures ok { OnOk result (self.new ≡ with_arrays (new_arrays (next_reference self.old.objects) class.now lengths.now) (elements_made lengths.now) self.old) }
         ensures err { OnErr result (self.new ≡ self.old) }

@@ -67,7 +67,7 @@ fn reference_value(number: u32) -> Value
 }
 
 /// Puts an item at a place, if there is such a place.
-fn put<T: Copy>(items: &mut Vec<T>, index: usize, item: T)
+pub(crate) fn put<T: Copy>(items: &mut Vec<T>, index: usize, item: T)
     ensures { items.new.items ≡ slice_set items.old.items index item }
 {
     if index < items.len() {

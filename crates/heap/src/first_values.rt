@@ -24,7 +24,7 @@ fn default_of_element(element: &Element) -> Value
 }
 
 /// The first value of a type.
-fn default_value(field_type: &FieldType) -> Value
+pub(crate) fn default_value(field_type: &FieldType) -> Value
     ensures { result ≡ default_value field_type.now }
 {
     if field_type.dimensions == 0 {

@@ -1,8 +1,10 @@
 //! The objects of a machine.
 
-ghost use Rattle.std.specs.Prelude.{◌≡◌, ◌<◌, IfSome, length, option_copied, slice_get};
+ghost use Rattle.std.specs.Prelude.{◌≡◌, ◌<◌, ◌^◌, ℕ, IfSome, List, Some, length, option_copied, slice_get};
 ghost use Rattle.std.specs.Option.{option_map};
-ghost use Rattle.jvms_machine.specs.State.{object_at, text_reference, class_reference};
+ghost use Rattle.jvms_program.specs.declared.key.FieldKey.{FieldKey};
+ghost use Rattle.jvms_machine.specs.declared.value.Value.{Value as Held};
+ghost use Rattle.jvms_machine.specs.State.{instance, instance_fields, keys, object_at, text_reference, class_reference};
 ghost use Rattle.jvms_machine.specs.Heap.{array_of_type, with_element, with_object};
 ghost use Rattle.heap.specs.Objects.{Suits, class_at, asked, instance_class, array_class, length_of, element_of, units_of, named_by, value_in, with_slot};
 ghost use Rattle.heap.specs.Held.{name_at, shown, IsKept};
@@ -59,6 +61,13 @@ impl<'p> Heap<'p> {
         self.program
     }
 
+    /// Each instance has the fields of its class. Nothing is done.
+    pub fn instances_have_their_fields(&self)
+        ensures { (r : ℕ) (class : List ℕ) (fields : List (FieldKey × Held)) → object_at self.now.objects r ≡ Some (instance class fields) → keys fields ≡ keys (instance_fields self.now.program class) }
+    {
+        let _ = &self.objects;
+    }
+
     /// How many objects there are.
     #[tactic(auto, using(crate::proofs::HeldLaws::as_many_shown))]
     pub fn count(&self) -> usize
@@ -96,8 +105,7 @@ impl<'p> Heap<'p> {
 
     /// The number of the class of an instance.
     pub fn instance_class(&self, reference: u32) -> Option<usize>
-        ensures name { option_map (name_at self.now.program) result ≡ asked instance_class self.now.objects reference }
-        ensures there { IfSome result (λ class. class < length self.now.program) }
+        ensures { option_map (name_at self.now.program) result ≡ asked instance_class self.now.objects reference }
     {
         self.object(reference)?.instance_class()
     }
@@ -111,7 +119,9 @@ impl<'p> Heap<'p> {
 
     /// How many elements an array has.
     pub fn array_length(&self, reference: u32) -> Option<usize>
-        ensures { result ≡ asked length_of self.now.objects reference }
+        ensures count { result ≡ asked length_of self.now.objects reference }
+        // A length is an int.
+        ensures few { IfSome result (λ length. length < 2 ^ 31) }
     {
         self.object(reference)?.length()
     }

@@ -1,6 +1,6 @@
 //! One object.
 
-ghost use Rattle.std.specs.Prelude.{◌≡◌, ◌<◌, IfSome, List, length, slice_get};
+ghost use Rattle.std.specs.Prelude.{◌≡◌, ◌<◌, ◌^◌, IfSome, List, slice_get};
 ghost use Rattle.std.specs.Option.{option_map};
 ghost use Rattle.jvms_program.specs.declared.program.Class.{Class};
 ghost use Rattle.jvms_machine.specs.State.{class_of};
@@ -37,7 +37,7 @@ pub enum HeldObject {
 }
 
 /// The value at a place.
-fn value_at(values: &[Value], place: usize) -> Option<Value>
+pub(crate) fn value_at(values: &[Value], place: usize) -> Option<Value>
     ensures { result ≡ slice_get values.now place }
 {
     Some(*values.get(place)?)
@@ -71,7 +71,8 @@ impl HeldObject {
 
     /// How many elements an array has.
     pub(crate) fn length(&self) -> Option<usize>
-        ensures { (program : List Class) → result ≡ length_of (shown program self.now) }
+        ensures count { (program : List Class) → result ≡ length_of (shown program self.now) }
+        ensures few { (program : List Class) → IsKept program self.now → IfSome result (λ length. length < 2 ^ 31) }
     {
         match self {
             HeldObject::Array { elements, .. } => Some(elements.len()),
@@ -121,8 +122,7 @@ impl HeldObject {
 
     /// The number of the class of an instance.
     pub(crate) fn instance_class(&self) -> Option<usize>
-        ensures name { (program : List Class) → option_map (name_at program) result ≡ instance_class (shown program self.now) }
-        ensures there { (program : List Class) → IsKept program self.now → IfSome result (λ class. class < length program) }
+        ensures { (program : List Class) → option_map (name_at program) result ≡ instance_class (shown program self.now) }
     {
         match self {
             HeldObject::Instance { class, .. } => Some(*class),

@@ -1,8 +1,11 @@
 //! References of objects by a text.
 
-ghost use Rattle.std.specs.Prelude.{◌≡◌, ℕ, List, [], OnOk, OnErr, Some, if◌then◌else◌};
+ghost use Rattle.std.specs.Prelude.{◌≡◌, ℕ, List, [], OnOk, OnErr, Some, None, if◌then◌else◌};
+ghost use Rattle.std.specs.Option.{option_or};
 ghost use Rattle.jvms_file.specs.Names.{same_text};
 ghost use Rattle.heap.specs.Held.{found};
+
+mod removal;
 
 use std::alloc::{AllocError, Global};
 use std::collections::BTreeMap;
@@ -41,17 +44,29 @@ impl Index {
     }
 
     /// Puts a reference for a text. Without memory nothing changes.
-    pub(crate) fn put(
-        &mut self,
-        alloc: Global,
-        units: &[u16],
-        reference: u32,
-    ) -> Result<(), AllocError>
+    fn put_new(&mut self, alloc: Global, units: &[u16], reference: u32) -> Result<(), AllocError>
         ensures ok { OnOk result ((q : List ℕ) → found self.new q ≡ (if same_text units.now q then Some reference else found self.old q)) }
         ensures err { OnErr result (self.new ≡ self.old) }
     {
         let key = Vec::from_slice(alloc, units)?;
         self.references.insert(key, reference)?;
         Ok(())
+    }
+
+    /// Puts a reference for a text, where there is none. Without memory nothing changes.
+    #[tactic(auto, using(crate::proofs::IndexLaws::put_first, crate::proofs::IndexLaws::put_again))]
+    pub(crate) fn put(
+        &mut self,
+        alloc: Global,
+        units: &[u16],
+        reference: u32,
+    ) -> Result<(), AllocError>
+        ensures ok { OnOk result ((q : List ℕ) → found self.new q ≡ option_or (found self.old q) (if same_text units.now q then Some reference else None)) }
+        ensures err { OnErr result (self.new ≡ self.old) }
+    {
+        if self.find(units).is_some() {
+            return Ok(());
+        }
+        self.put_new(alloc, units, reference)
     }
 }

@@ -1,12 +1,14 @@
-//! Laws about slots, owed to the gate: each is the contract of a function that does nothing.
+//! Laws about the fields of instances and about what arrays hold: each is the contract of a function that does nothing.
 
-ghost use Rattle.std.specs.Prelude.{◌≡◌, ℕ, List, Some, count_by};
+ghost use Rattle.std.specs.Prelude.{◌≡◌, ℕ, IsTrue, List, None, Some, length};
 ghost use Rattle.jvms_program.specs.declared.program.Class.{Class};
 ghost use Rattle.jvms_program.specs.declared.key.FieldKey.{FieldKey};
+ghost use Rattle.jvms_program.specs.Slots.{slot_of};
 ghost use Rattle.jvms_machine.specs.declared.value.Value.{Value};
-ghost use Rattle.jvms_machine.specs.State.{instance, instance_fields, keys};
-ghost use Rattle.jvms_machine.specs.Heap.{same_key, value_of, with_field};
-ghost use Rattle.heap.specs.Objects.{slot_of, value_in, with_slot};
+ghost use Rattle.jvms_machine.specs.State.{Object, instance, instance_fields, keys};
+ghost use Rattle.jvms_machine.specs.Heap.{has_dimensions, value_of, with_field};
+ghost use Rattle.jvms_machine.specs.Turn.{ElementsCanHold};
+ghost use Rattle.heap.specs.Objects.{HasDimensions, Suits, value_in, with_slot};
 
 /// At the slot of a key stands the value of its field, in an instance that has the fields of its class.
 #[tactic(auto, using(crate::proofs::KeyLaws::read_by_key))]
@@ -14,9 +16,28 @@ pub fn a_slot_leads_to_its_field()
     ensures { (program : List Class) (class : List ℕ) (fields : List (FieldKey × Value)) (key : FieldKey) (slot : ℕ) → keys fields ≡ keys (instance_fields program class) → slot_of program class key ≡ Some slot → value_in slot (instance class fields) ≡ value_of key fields }
 {}
 
-/// A value that is put at the slot of a key is put into its field, in an instance that has the fields of its class,
-/// where no two fields have this key.
+/// A value that is put at the slot of a key is put into its field, in an instance that has the fields of its class.
 #[tactic(auto, using(crate::proofs::KeyLaws::put_by_key))]
 pub fn a_value_is_put_into_its_field()
-    ensures { (program : List Class) (class : List ℕ) (fields : List (FieldKey × Value)) (key : FieldKey) (slot : ℕ) (v : Value) → keys fields ≡ keys (instance_fields program class) → slot_of program class key ≡ Some slot → count_by (λ k. same_key k key) (keys fields) ≡ 1 → with_slot slot v (instance class fields) ≡ with_field key v (instance class fields) }
+    ensures { (program : List Class) (class : List ℕ) (fields : List (FieldKey × Value)) (key : FieldKey) (slot : ℕ) (v : Value) → keys fields ≡ keys (instance_fields program class) → slot_of program class key ≡ Some slot → with_slot slot v (instance class fields) ≡ with_field key v (instance class fields) }
+{}
+
+/// Where a key has no slot there is no value of its field, and none is put, in an instance that has the fields of its
+/// class.
+#[tactic(auto, using(crate::proofs::KeyLaws::no_field_read, crate::proofs::KeyLaws::no_field_put))]
+pub fn without_a_slot_there_is_no_field()
+    ensures value { (program : List Class) (class : List ℕ) (fields : List (FieldKey × Value)) (key : FieldKey) → keys fields ≡ keys (instance_fields program class) → slot_of program class key ≡ None → value_of key fields ≡ None }
+    ensures put { (program : List Class) (class : List ℕ) (fields : List (FieldKey × Value)) (key : FieldKey) (v : Value) → keys fields ≡ keys (instance_fields program class) → slot_of program class key ≡ None → with_field key v (instance class fields) ≡ instance class fields }
+{}
+
+/// Where a class has as many dimensions as there are lengths, arrays of these lengths can lie in each other.
+#[tactic(auto, using(crate::proofs::DimensionLaws::dimensions_are))]
+pub fn lengths_fit_the_dimensions()
+    ensures { (class : List ℕ) (lengths : List ℕ) → IsTrue (has_dimensions class (length lengths)) → HasDimensions class lengths }
+{}
+
+/// A value that the variables of an array's components can hold can be put among its elements.
+#[tactic(auto, using(crate::proofs::DimensionLaws::suits))]
+pub fn a_value_that_can_be_held_suits()
+    ensures { (v : Value) (o : Object) → ElementsCanHold v o → Suits v o }
 {}

@@ -11,7 +11,11 @@ mod index;
 mod kind;
 pub mod laws;
 mod making;
+mod named_fields;
 mod opening;
 mod primitive_arrays;
+mod statics;
+mod texts;
 
 pub use heap::Heap;
+pub use statics::Statics;

@@ -1,7 +1,7 @@
 //! Objects that are made.
 
-ghost use Rattle.std.specs.Prelude.{◌≡◌, ◌+◌, ◌<◌, ◌^◌, ◌∷◌, [], None, OnOk, OnErr, length, replicate};
-ghost use Rattle.jvms_machine.specs.State.{array, text, class_object, first_instance, text_reference, class_reference};
+ghost use Rattle.std.specs.Prelude.{◌≡◌, ◌+◌, ◌<◌, ◌^◌, ◌∷◌, [], OnOk, OnErr, length, replicate};
+ghost use Rattle.jvms_machine.specs.State.{array, text, class_object, first_instance};
 ghost use Rattle.jvms_machine.specs.Heap.{first_element};
 ghost use Rattle.heap.specs.Objects.{with_new, with_arrays};
 ghost use Rattle.heap.specs.Held.{name_at, shown, IsKept, IsPlain};
@@ -16,7 +16,7 @@ use program::Program;
 use std::alloc::AllocError;
 
 /// The name of the class of a number.
-fn name_at(program: &Program, class: usize) -> &[u16]
+pub(crate) fn name_at(program: &Program, class: usize) -> &[u16]
     ensures { result.now ≡ name_at program.now class }
 {
     match program.class(class) {
@@ -39,7 +39,6 @@ impl Heap<'_> {
 
     /// A new instance of the class of a number. Without memory nothing changes.
     pub fn new_instance(&mut self, class: usize) -> Result<(), AllocError>
-        requires { class < length self.old.program }
         ensures ok { OnOk result (self.new ≡ with_new (first_instance self.old.program (name_at self.old.program class) ∷ []) self.old) }
         ensures err { OnErr result (self.new ≡ self.old) }
     {
@@ -50,7 +49,7 @@ impl Heap<'_> {
 
     /// A new array of a class. Without memory nothing changes.
     pub fn new_array(&mut self, class: &Text, length: u32) -> Result<(), AllocError>
-        requires { self.old.elements + length < 2 ^ 32 }
+        requires { self.old.elements + length < 2 ^ 31 }
         ensures ok { OnOk result (self.new ≡ with_arrays (array class.now (replicate length (first_element class.now)) ∷ []) length self.old) }
         ensures err { OnErr result (self.new ≡ self.old) }
     {
@@ -62,10 +61,9 @@ impl Heap<'_> {
         Ok(())
     }
 
-    /// A new string, of a text that has none. Without memory nothing changes.
+    /// A new string. Where its text has one, that stays the one that is found. Without memory nothing changes.
     pub fn new_text(&mut self, units: &Text) -> Result<(), AllocError>
-        requires new { text_reference self.old.objects units.now ≡ None }
-        requires room { length self.old.objects + 1 < 2 ^ 32 }
+        requires { length self.old.objects + 1 < 2 ^ 32 }
         ensures ok { OnOk result (self.new ≡ with_new (text units.now ∷ []) self.old) }
         ensures err { OnErr result (self.new ≡ self.old) }
     {
@@ -81,10 +79,10 @@ impl Heap<'_> {
         }
     }
 
-    /// A new class object, of the name of a class that has none. Without memory nothing changes.
+    /// A new class object, of the class of a name. Where that has one, it stays the one that is found. Without memory
+    /// nothing changes.
     pub fn new_class_object(&mut self, name: &Text) -> Result<(), AllocError>
-        requires new { class_reference self.old.objects name.now ≡ None }
-        requires room { length self.old.objects + 1 < 2 ^ 32 }
+        requires { length self.old.objects + 1 < 2 ^ 32 }
         ensures ok { OnOk result (self.new ≡ with_new (class_object name.now ∷ []) self.old) }
         ensures err { OnErr result (self.new ≡ self.old) }
     {

@@ -1,8 +1,8 @@
 -- A turn of an instruction of arrays leaves a sound state sound.
-use Rattle.std.proofs.Common.{◌≡◌, ℕ, zero, suc, ◌<◌, ◌≤◌, not, ◌&&◌, List, [], ◌∷◌, ◌++◌, length, replicate, take, Option, None, Some, slice_get, refl, sym, ◌∙◌, subst, arith}
+use Rattle.std.proofs.Common.{◌≡◌, ℕ, zero, suc, ◌<◌, ◌≤◌, true, not, ◌&&◌, List, [], ◌∷◌, ◌++◌, length, replicate, take, Option, None, Some, IfSome, slice_get, refl, sym, ◌∙◌, subst, arith}
 use Rattle.std.specs.Prelude.{ℤ, pos, int_lt, unsigned_abs}
 use Rattle.std.specs.List.{AllByRecursion, list_all, list_any}
-use Rattle.std.proofs.lemmas.Bool.{cond_both, not-false}
+use Rattle.std.proofs.lemmas.Bool.{false≢true, cond_both, not-false}
 use Rattle.std.proofs.lemmas.Option.{none-some}
 use Rattle.std.proofs.lemmas.List.{length-map, length-reverse, length-take-le}
 use Rattle.jvms_machine.specs.declared.value.Value.{Value}
@@ -23,9 +23,10 @@ use Rattle.jvms_machine.specs.Decisions.{TurnDecision}
 use Rattle.jvms_machine.specs.State.{State, Object, instance, array, text, class_object, Thread, Frame, MethodFrame, object_at, IsValue, IsObject}
 use Rattle.jvms_machine.specs.Start.{Start}
 use Rattle.jvms_machine.specs.Locals.{is_loaded}
-use Rattle.jvms_machine.specs.Heap.{has_room_for_elements, next_reference, stored_as, array_of_type, array_of_class, component_type, first_element, arrays_made, elements_made, new_arrays}
+use Rattle.jvms_machine.specs.Heap.{has_room_for_elements, next_reference, stored_as, array_of_type, array_of_class, component_type, first_element, has_dimensions, arrays_made, elements_made, new_arrays}
 use Rattle.jvms_machine.specs.Fields.{taking}
 use Rattle.jvms_machine.specs.Arrays.{with_int, with_object_of, length_decision, new_array_decision, new_class_array_decision, lengths_in, is_int, is_negative, length_of_value, counted_lengths, new_arrays_room, new_arrays_decision, measured, array_length_decision, serves, kind_of_elements, element_at, loaded, load_from, load_operands, fits_component, is_reference_kind, stored, store_to, store_operands, array_decision}
+use Rattle.jvms_machine.specs.Turn.{ElementsCanHold}
 use Rattle.jvms_machine.proofs.ListLaws.{all_at, all_replicate}
 use Rattle.jvms_machine.proofs.LimitLaws.{room_for_elements_is}
 use Rattle.jvms_machine.proofs.ThreadChanges.{Stands}
@@ -34,6 +35,7 @@ use Rattle.jvms_machine.proofs.OpeningSoundness.{default_is_value}
 use Rattle.jvms_machine.proofs.KeptStates.{Keeps, still}
 use Rattle.jvms_machine.proofs.ExceptionSoundness.{throws_keeps}
 use Rattle.jvms_machine.proofs.StoredValues.{object_is, stored_is_value}
+use Rattle.jvms_machine.proofs.HeldValues.{stored_can_be_held}
 use Rattle.jvms_machine.proofs.ObjectSoundness.{put_element_is_sound}
 use Rattle.jvms_machine.proofs.NewArrays.{some_made, new_arrays_length, new_arrays_are}
 use Rattle.jvms_machine.proofs.EffectSoundness.{HasDepth, frame_is_fit, reaches_keeps, if_deep_keeps, making_keeps}
@@ -47,14 +49,19 @@ element_is_value heap elements n v all is =
     is
 
 -- Where there are lengths, an array is made.
-some_made_of : (lengths : List ℕ) → 0 < length lengths → 1 ≤ arrays_made lengths
+pub some_made_of : (lengths : List ℕ) → 0 < length lengths → 1 ≤ arrays_made lengths
 some_made_of [] some = absurd (omega arith)
 some_made_of (n ∷ lengths) some = some_made n lengths
 
 -- As many lengths are taken as there are dimensions.
-lengths_taken : (dimensions : ℕ) (operands : List Value) → dimensions ≤ length operands → length (counted_lengths dimensions operands) ≡ dimensions
+pub lengths_taken : (dimensions : ℕ) (operands : List Value) → dimensions ≤ length operands → length (counted_lengths dimensions operands) ≡ dimensions
 lengths_taken dimensions operands there =
     length-map (lengths_in dimensions operands) length_of_value ∙ length-reverse (take dimensions operands) ∙ length-take-le dimensions operands there
+
+-- There is at least one dimension.
+has_some : (class : List ℕ) (dimensions : ℕ) → has_dimensions class dimensions ≡ true → 0 < dimensions
+has_some class zero is = absurd (false≢true is)
+has_some class (suc more) is = omega arith
 
 module _ (program : List Class) (limits : Limits) (start : Start) (s : State) (t : ℕ) (thread : Thread) (frame : MethodFrame) (below : List Frame) (stands : Stands program limits s t thread (stack_frame.Call frame ∷ below)) where
   abbrev KeepsSound : TurnDecision → Type 0
@@ -88,9 +95,9 @@ module _ (program : List Class) (limits : Limits) (start : Start) (s : State) (t
       (λ has_room.
       let room = room_for_elements_is 1 count limits s (not-false has has_room) in
       let heap = s.heap ++ array class (replicate count (first_element class)) ∷ [] in
-      making_keeps program limits start s t thread frame below stands 1 (new_object.Array class (first_element class) count) depth refl
+      making_keeps program limits start s t thread frame below stands 1 (new_object.Array class count) depth refl
       (all_replicate (IsValue heap) count (first_element class) (default_is_value heap (component_type class)), tt)
-      room.0 room.1 (λ _. omega arith)))
+      room.0 room.1 (λ _. omega arith) tt))
 
   new_array_keeps : (type : ArrayType) → KeepsSound (new_array_decision limits s thread frame type)
   new_array_keeps type =
@@ -107,11 +114,14 @@ module _ (program : List Class) (limits : Limits) (start : Start) (s : State) (t
 
   -- Arrays of arrays.
   arrays_room_keeps : (class : List ℕ) (dimensions : ℕ) → HasDepth frame dimensions 1 → KeepsSound (new_arrays_room limits s thread class dimensions (counted_lengths dimensions frame.activation.operands))
-  arrays_room_keeps class zero depth = still t stands.sound
-  arrays_room_keeps class (suc more) depth =
-      let dimensions = suc more in
+  arrays_room_keeps class dimensions depth =
       let lengths = counted_lengths dimensions frame.activation.operands in
       let has = has_room_for_elements (arrays_made lengths) (elements_made lengths) limits s in
+      cond_both (not (has_dimensions class dimensions)) _ _ KeepsSound
+      (λ _. still t stands.sound)
+      (λ no_more.
+      let dimensioned = not-false (has_dimensions class dimensions) no_more in
+      let some = has_some class dimensions dimensioned in
       cond_both (not has) _ _ KeepsSound
       (λ _. throws_keeps start stands thrown.OutOfMemoryError)
       (λ has_room.
@@ -122,7 +132,7 @@ module _ (program : List Class) (limits : Limits) (start : Start) (s : State) (t
       making_keeps program limits start s t thread frame below stands dimensions (new_object.Arrays class dimensions) depth count
       (new_arrays_are program (s.heap ++ new) (next_reference s.heap) class lengths (omega arith) (omega arith))
       room.0 room.1
-      (λ _. some_made_of lengths (subst (λ n. 0 < n) (sym (lengths_taken dimensions frame.activation.operands depth.there)) (omega arith))))
+      (λ _. some_made_of lengths (subst (λ n. 0 < n) (sym (lengths_taken dimensions frame.activation.operands depth.there)) some)) (dimensioned, depth.there)))
 
   pub new_arrays_keeps : (class : List ℕ) (dimensions : ℕ) → KeepsSound (new_arrays_decision program limits s thread frame class dimensions)
   unfolding new_arrays_decision
@@ -141,7 +151,7 @@ module _ (program : List Class) (limits : Limits) (start : Start) (s : State) (t
   measured_keeps : (r : ℕ) (o : Object) → HasDepth frame 1 1 → KeepsSound (measured r o)
   measured_keeps r (array class elements) depth =
       reaches_keeps program limits start s t thread frame below stands effect.Nothing (frame_action.Push 1 (value.Int (pos (length elements))))
-      (λ _. record { sound = stands.sound; room = (depth.there, depth.room); value = tt; counted = λ _. tt })
+      (λ _. record { sound = stands.sound; room = (depth.there, depth.room); value = tt; can_be_made = λ _. tt })
   measured_keeps r (instance class fields) depth = still t stands.sound
   measured_keeps r (text units) depth = still t stands.sound
   measured_keeps r (class_object name) depth = still t stands.sound
@@ -156,7 +166,7 @@ module _ (program : List Class) (limits : Limits) (start : Start) (s : State) (t
   loaded_keeps r n None depth values = throws_keeps start stands thrown.ArrayIndexOutOfBoundsException
   loaded_keeps r n (Some v) depth values =
       reaches_keeps program limits start s t thread frame below stands (effect.LoadElement r (unsigned_abs n)) (frame_action.Push 2 v)
-      (λ _. record { sound = stands.sound; room = (depth.there, depth.room); value = values v refl; counted = λ _. tt })
+      (λ _. record { sound = stands.sound; room = (depth.there, depth.room); value = values v refl; can_be_made = λ _. tt })
 
   load_from_keeps : (k : ArrayKind) (n : ℤ) (r : ℕ) (o : Object) → HasDepth frame 2 1 → IsObject program s.heap o → KeepsSound (load_from limits s thread k n r o)
   load_from_keeps k n r (array class elements) depth is =
@@ -174,26 +184,30 @@ module _ (program : List Class) (limits : Limits) (start : Start) (s : State) (t
 
   -- ---- Stores
 
-  stored_keeps : (k : ArrayKind) (v : Value) (n : ℤ) (r : ℕ) (class : List ℕ) (o : Option Value) → HasDepth frame 3 0 → IsValue s.heap v → KeepsSound (stored program limits s thread frame.activation k v n r class o)
-  stored_keeps k v n r class None depth is = throws_keeps start stands thrown.ArrayIndexOutOfBoundsException
-  stored_keeps k v n r class (Some old) depth is =
+  stored_keeps : (k : ArrayKind) (v : Value) (n : ℤ) (r : ℕ) (class : List ℕ) (o : Option Value) → HasDepth frame 3 0 → IsValue s.heap v → IfSome (object_at s.heap r) (ElementsCanHold (stored_as (component_type class) v)) → KeepsSound (stored program limits s thread frame.activation k v n r class o)
+  stored_keeps k v n r class None depth is holds = throws_keeps start stands thrown.ArrayIndexOutOfBoundsException
+  stored_keeps k v n r class (Some old) depth is holds =
       let kept = stored_as (component_type class) v in
       cond_both (is_reference_kind k && not (fits_component program s class v)) _ _ KeepsSound
       (λ _. throws_keeps start stands thrown.ArrayStoreException)
       (λ _. reaches_keeps program limits start s t thread frame below stands (effect.StoreElement r (unsigned_abs n) kept) (taking 3 frame.activation)
-      (λ _. record { sound = put_element_is_sound stands.sound r (unsigned_abs n) kept (stored_is_value s.heap (component_type class) v is); room = depth.there; value = tt; counted = λ _. tt }))
+      (λ _. record { sound = put_element_is_sound stands.sound r (unsigned_abs n) kept (stored_is_value s.heap (component_type class) v is); room = depth.there; value = tt; can_be_made = λ _. holds }))
 
-  store_to_keeps : (k : ArrayKind) (v : Value) (n : ℤ) (r : ℕ) (o : Object) → HasDepth frame 3 0 → IsValue s.heap v → KeepsSound (store_to program limits s thread frame.activation k v n r o)
-  store_to_keeps k v n r (array class elements) depth is =
-      cond_both (serves k (component_type class)) _ _ KeepsSound (λ _. stored_keeps k v n r class (element_at elements n) depth is) (λ _. still t stands.sound)
-  store_to_keeps k v n r (instance class fields) depth is = still t stands.sound
-  store_to_keeps k v n r (text units) depth is = still t stands.sound
-  store_to_keeps k v n r (class_object name) depth is = still t stands.sound
+  store_to_keeps : (k : ArrayKind) (v : Value) (n : ℤ) (r : ℕ) (o : Object) → HasDepth frame 3 0 → object_at s.heap r ≡ Some o → is_loaded (kind_of_elements k) v ≡ true → IsValue s.heap v → KeepsSound (store_to program limits s thread frame.activation k v n r o)
+  store_to_keeps k v n r (array class elements) depth at loads is =
+      let type = component_type class in
+      cond_both (serves k type) _ _ KeepsSound
+      (λ serves_it. stored_keeps k v n r class (element_at elements n) depth is
+      (subst (λ o. IfSome o (ElementsCanHold (stored_as type v))) (sym at) (stored_can_be_held s.heap k type v serves_it loads is)))
+      (λ _. still t stands.sound)
+  store_to_keeps k v n r (instance class fields) depth at loads is = still t stands.sound
+  store_to_keeps k v n r (text units) depth at loads is = still t stands.sound
+  store_to_keeps k v n r (class_object name) depth at loads is = still t stands.sound
 
   store_keeps : (k : ArrayKind) (operands : List Value) → HasDepth frame 3 0 → AllByRecursion (IsValue s.heap) operands → KeepsSound (store_operands program limits s thread frame.activation k operands)
   store_keeps k (v ∷ value.Int n ∷ o ∷ others) depth values =
       cond_both (is_loaded (kind_of_elements k) v) _ _ KeepsSound
-      (λ _. with_object_keeps o (store_to program limits s thread frame.activation k v n) (λ r p at. store_to_keeps k v n r p depth values.0))
+      (λ loads. with_object_keeps o (store_to program limits s thread frame.activation k v n) (λ r p at. store_to_keeps k v n r p depth at loads values.0))
       (λ _. still t stands.sound)
   store_keeps k _ depth values = still t stands.sound
 

@@ -27,6 +27,7 @@ use Rattle.jvms_machine.specs.Heap.{next_reference}
 use Rattle.jvms_machine.specs.Fields.{reaches, taking}
 use Rattle.jvms_machine.specs.Actions.{class_name_at, new_objects, new_count, new_elements}
 use Rattle.jvms_machine.specs.Objects.{is_instantiable, made_if_room, instance_of_number, new_instance_decision, with_class_of, cast, told_instance, class_decision, held_or_made, loadable_decision}
+use Rattle.jvms_machine.specs.Turn.{HasItsDimensions}
 use Rattle.jvms_machine.proofs.LimitLaws.{room_is}
 use Rattle.jvms_machine.proofs.ThreadChanges.{Stands}
 use Rattle.jvms_machine.proofs.OpeningSoundness.{first_instance_is}
@@ -44,13 +45,13 @@ module _ (program : List Class) (limits : Limits) (start : Start) (s : State) (t
   -- ---- Objects that are made
 
   -- One object with no elements.
-  one_keeps : (what : NewObject (List ℕ)) → HasDepth frame 0 1 → length (new_objects program (next_reference s.heap) frame.activation.operands what) ≡ 1 → new_count frame.activation.operands what ≡ 1 → new_elements frame.activation.operands what ≡ 0 → AllByRecursion (IsObject program (s.heap ++ new_objects program (next_reference s.heap) frame.activation.operands what)) (new_objects program (next_reference s.heap) frame.activation.operands what) → KeepsSound (made_if_room limits s thread 0 what)
-  one_keeps what depth length_is count none are =
+  one_keeps : (what : NewObject (List ℕ)) → HasDepth frame 0 1 → length (new_objects program (next_reference s.heap) frame.activation.operands what) ≡ 1 → new_count frame.activation.operands what ≡ 1 → new_elements frame.activation.operands what ≡ 0 → HasItsDimensions frame.activation.operands what → AllByRecursion (IsObject program (s.heap ++ new_objects program (next_reference s.heap) frame.activation.operands what)) (new_objects program (next_reference s.heap) frame.activation.operands what) → KeepsSound (made_if_room limits s thread 0 what)
+  one_keeps what depth length_is count none has_dimensions are =
       cond_both (has_room_for 1 limits s) _ _ KeepsSound
       (λ has.
       let room = room_is 1 limits s has in
       let elements = stands.sound.elements in
-      making_keeps program limits start s t thread frame below stands 0 what depth (length_is ∙ sym count) are (omega arith) (omega arith) (λ _. omega arith))
+      making_keeps program limits start s t thread frame below stands 0 what depth (length_is ∙ sym count) are (omega arith) (omega arith) (λ _. omega arith) has_dimensions)
       (λ _. throws_keeps start stands thrown.OutOfMemoryError)
 
   -- ---- new
@@ -60,7 +61,7 @@ module _ (program : List Class) (limits : Limits) (start : Start) (s : State) (t
   instance_keeps (Some class) depth =
       let name = class_name_at program class in
       asking_keeps program limits start s t thread stands class _
-      (one_keeps (new_object.Instance class) depth refl refl refl (first_instance_is program (s.heap ++ first_instance program name ∷ []) name, tt))
+      (one_keeps (new_object.Instance class) depth refl refl refl tt (first_instance_is program (s.heap ++ first_instance program name ∷ []) name, tt))
 
   new_instance_keeps : (name : List ℕ) (o : Option Class) → HasDepth frame 0 1 → KeepsSound (new_instance_decision program limits s t thread name o)
   new_instance_keeps name None depth = throws_keeps start stands thrown.NoClassDefFoundError
@@ -84,7 +85,7 @@ module _ (program : List Class) (limits : Limits) (start : Start) (s : State) (t
   goes_on_keeps : KeepsSound (reaches effect.Nothing (taking 0 frame.activation))
   goes_on_keeps =
       reaches_keeps program limits start s t thread frame below stands effect.Nothing (taking 0 frame.activation)
-      (λ _. record { sound = stands.sound; room = omega arith; value = tt; counted = λ _. tt })
+      (λ _. record { sound = stands.sound; room = omega arith; value = tt; can_be_made = λ _. tt })
 
   cast_keeps : (b : Bool) → KeepsSound (cast limits s thread frame b)
   cast_keeps true = goes_on_keeps
@@ -94,7 +95,7 @@ module _ (program : List Class) (limits : Limits) (start : Start) (s : State) (t
   puts_keeps : (takes : ℕ) (v : Value) → HasDepth frame takes 1 → IsValue s.heap v → KeepsSound (reaches effect.Nothing (frame_action.Push takes v))
   puts_keeps takes v depth is =
       reaches_keeps program limits start s t thread frame below stands effect.Nothing (frame_action.Push takes v)
-      (λ _. record { sound = stands.sound; room = (depth.there, depth.room); value = is; counted = λ _. tt })
+      (λ _. record { sound = stands.sound; room = (depth.there, depth.room); value = is; can_be_made = λ _. tt })
 
   told_keeps : (b : Bool) → HasDepth frame 1 1 → KeepsSound (told_instance b)
   told_keeps true depth = puts_keeps 1 (value.Int (pos 1)) depth tt
@@ -125,11 +126,11 @@ module _ (program : List Class) (limits : Limits) (start : Start) (s : State) (t
   loadable_keeps (loadable.String units) =
       if_deep_keeps program limits start s t thread frame below stands 0 1 _
       (λ depth. held_keeps (text_reference s.heap units) (new_object.Text units) depth (λ r is. found_is_reference (is_text units) s.heap r is)
-      (one_keeps (new_object.Text units) depth refl refl refl (tt, tt)))
+      (one_keeps (new_object.Text units) depth refl refl refl tt (tt, tt)))
   loadable_keeps (loadable.Class name) =
       if_deep_keeps program limits start s t thread frame below stands 0 1 _
       (λ depth. cond_both (class_exists program name) _ _ KeepsSound
       (λ _. held_keeps (class_reference s.heap name) (new_object.ClassObject name) depth (λ r is. found_is_reference (is_class_object name) s.heap r is)
-      (one_keeps (new_object.ClassObject name) depth refl refl refl (tt, tt)))
+      (one_keeps (new_object.ClassObject name) depth refl refl refl tt (tt, tt)))
       (λ _. throws_keeps start stands thrown.NoClassDefFoundError))
   loadable_keeps _ = still t stands.sound

@@ -28,7 +28,7 @@ use Rattle.jvms_machine.specs.Heap.{next_reference}
 use Rattle.jvms_machine.specs.Arrays.{if_deep, making}
 use Rattle.jvms_machine.specs.Actions.{call_gone_on, top_gone_on, gone_on, with_changed, event, instance_variable, static_variable, effect_items, put_field, put_static, new_objects, new_count, new_elements, affected, top_operands, operands_of, applied_to, items_of}
 use Rattle.jvms_machine.specs.Marks.{is_mark, calls_in, calls_of}
-use Rattle.jvms_machine.specs.Turn.{TopHasRoom, CanBeCounted}
+use Rattle.jvms_machine.specs.Turn.{TopHasRoom, HasItsDimensions, CanBeMade}
 use Rattle.jvms_machine.proofs.InitialisationOrder.{count_call}
 use Rattle.jvms_machine.proofs.FrameSoundness.{IsFit, HasValue, applied_is_fit}
 use Rattle.jvms_machine.proofs.LimitLaws.{limits_have_room}
@@ -69,7 +69,7 @@ put_static_threads s v None = refl
 put_static_threads s v (Some key) = refl
 
 -- No thread is changed.
-affected_threads : (program : List Class) (s : State) (operands : List Value) (what : Effect (List ℕ)) → (affected program s operands what).threads ≡ s.threads
+pub affected_threads : (program : List Class) (s : State) (operands : List Value) (what : Effect (List ℕ)) → (affected program s operands what).threads ≡ s.threads
 affected_threads program s operands effect.Nothing = refl
 affected_threads program s operands (effect.GetField r n) = refl
 affected_threads program s operands (effect.PutField r n v) = put_field_threads s r v (field_key_at program n)
@@ -125,7 +125,7 @@ pub record IsMade (program : List Class) (limits : Limits) (s : State) (frame : 
   pub sound : Sound program limits (affected program s frame.activation.operands what)
   pub room : HasRoom frame.body frame.activation act
   pub value : HasValue (affected program s frame.activation.operands what).heap act
-  pub counted : IsTrue (are_limits limits) → CanBeCounted s frame.activation.operands what
+  pub can_be_made : IsTrue (are_limits limits) → CanBeMade s frame.activation.operands what
 
 module _ (program : List Class) (limits : Limits) (start : Start) (s : State) (t : ℕ) (thread : Thread) (frame : MethodFrame) (below : List Frame) (stands : Stands program limits s t thread (stack_frame.Call frame ∷ below)) where
   abbrev KeepsSound : TurnDecision → Type 0
@@ -157,7 +157,7 @@ module _ (program : List Class) (limits : Limits) (start : Start) (s : State) (t
         (gone_on_is_sound frame below act (stands_after what is.sound) is.room is.value)),
     (λ of_program are.
         let is = made of_program in
-        (thread, stands.given_out, subst (TopHasRoom act) (sym stands.frames_are) is.room, subst (λ fs. CanBeCounted s (top_operands fs) what) (sym stands.frames_are) (is.counted are))),
+        (thread, stands.given_out, subst (TopHasRoom act) (sym stands.frames_are) is.room, subst (λ fs. CanBeMade s (top_operands fs) what) (sym stands.frames_are) (is.can_be_made are))),
     effect_is_no_mark program t what ∙ unmarked_by program t (calls_of s t) _ (calls_after what act (operands_of (slice_get s.threads t))),
   )
 
@@ -167,9 +167,9 @@ module _ (program : List Class) (limits : Limits) (start : Start) (s : State) (t
 
   -- ---- New objects
 
-  -- What is made is sound, where the new objects are objects and there is room for them.
-  pub making_keeps : (takes : ℕ) (what : NewObject (List ℕ)) → HasDepth frame takes 1 → length (new_objects program (next_reference s.heap) frame.activation.operands what) ≡ new_count frame.activation.operands what → AllByRecursion (IsObject program (s.heap ++ new_objects program (next_reference s.heap) frame.activation.operands what)) (new_objects program (next_reference s.heap) frame.activation.operands what) → length s.heap + new_count frame.activation.operands what ≤ limits.objects → s.elements + new_elements frame.activation.operands what ≤ limits.elements → (IsProgram program → 1 ≤ new_count frame.activation.operands what) → KeepsSound (making s takes what)
-  making_keeps takes what depth count are objects elements some =
+  -- What is made is sound, where the new objects are objects and there is room for them; arrays of arrays have their dimensions.
+  pub making_keeps : (takes : ℕ) (what : NewObject (List ℕ)) → HasDepth frame takes 1 → length (new_objects program (next_reference s.heap) frame.activation.operands what) ≡ new_count frame.activation.operands what → AllByRecursion (IsObject program (s.heap ++ new_objects program (next_reference s.heap) frame.activation.operands what)) (new_objects program (next_reference s.heap) frame.activation.operands what) → length s.heap + new_count frame.activation.operands what ≤ limits.objects → s.elements + new_elements frame.activation.operands what ≤ limits.elements → (IsProgram program → 1 ≤ new_count frame.activation.operands what) → HasItsDimensions frame.activation.operands what → KeepsSound (making s takes what)
+  making_keeps takes what depth count are objects elements some has_dimensions =
       let operands = frame.activation.operands in
       let new = new_objects program (next_reference s.heap) operands what in
       let longer = grown_length s.heap new in
@@ -180,5 +180,5 @@ module _ (program : List Class) (limits : Limits) (start : Start) (s : State) (t
         sound = appended_is_sound stands.sound new (s.elements + new_elements operands what) are (subst (λ n. length s.heap + n ≤ limits.objects) (sym count) objects) elements;
         room = (depth.there, depth.room);
         value = (omega arith, omega arith);
-        counted = λ limited. let room = limits_have_room limits limited in (omega (arith, room.few_objects), omega (arith, room.few_elements));
+        can_be_made = λ limited. let room = limits_have_room limits limited in (omega (arith, room.few_objects), omega (arith, room.few_elements), has_dimensions);
       })

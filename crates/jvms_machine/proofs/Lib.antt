@@ -8,6 +8,7 @@ pub mod ExceptionSoundness
 pub mod FieldSoundness
 pub mod FrameSoundness
 pub mod HeapGrowth
+pub mod HeldValues
 pub mod InitialisationOrder
 pub mod InitialisationSoundness
 pub mod KeptStates
@@ -20,6 +21,7 @@ pub mod ObjectSoundness
 pub mod OpeningSoundness
 pub mod ReturnSoundness
 pub mod SearchLaws
+pub mod SlotKeys
 pub mod StartLaws
 pub mod StoredValues
 pub mod ThreadChanges

@@ -7,13 +7,13 @@ use Rattle.jvms_machine.specs.Heap.{has_room_for_elements}
 use Rattle.jvms_machine.specs.Exceptions.{has_room_for}
 use Rattle.jvms_machine.specs.Limits.{is_between, are_limits}
 
--- The opening's objects fit, and so do a thread and a frame. All objects and all elements can be counted in 32 bits.
+-- The opening's objects fit, and so do a thread and a frame. All objects can be counted in 32 bits, and all elements by an int.
 pub record HasRoom (limits : Limits) : Type 0 where
   pub objects : 4 ≤ limits.objects
   pub threads : 1 ≤ limits.threads
   pub frames : 1 ≤ limits.frames
   pub few_objects : limits.objects < 2 ^ 32
-  pub few_elements : limits.elements < 2 ^ 32
+  pub few_elements : limits.elements < 2 ^ 31
 
 -- A number between two is at least the lower.
 between_least : (least most n : ℕ) → is_between least most n ≡ true → least ≤ n

@@ -90,7 +90,7 @@ module _ (program : List Class) (limits : Limits) (start : Start) (s : State) (t
   prints_keeps : (takes : ℕ) (what : Printed) (ends_line : Bool) → AreThere takes → KeepsSound (prints frame.activation takes what ends_line)
   prints_keeps takes what ends_line there =
       reaches_keeps program limits start s t thread frame below stands (effect.Prints what ends_line) (taking takes frame.activation)
-      (λ of_program. record { sound = printed_is_sound stands.sound (s.output ++ line_bytes s.heap what ends_line); room = there of_program; value = tt; counted = λ _. tt })
+      (λ of_program. record { sound = printed_is_sound stands.sound (s.output ++ line_bytes s.heap what ends_line); room = there of_program; value = tt; can_be_made = λ _. tt })
 
   object_printed_keeps : (ends_line : Bool) (r : ℕ) (o : Option Object) → AreThere 2 → KeepsSound (object_printed frame.activation ends_line r o)
   object_printed_keeps ends_line r None there = still t stands.sound

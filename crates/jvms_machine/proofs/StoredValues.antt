@@ -1,5 +1,5 @@
 -- Values that are read from a sound state, and that are stored in one.
-use Rattle.std.proofs.Common.{◌≡◌, ℕ, zero, suc, ◌+◌, ◌<◌, ◌≤◌, Bool, if◌then◌else◌, List, [], ◌∷◌, length, Option, Some, slice_set, refl, ap, ◌∙◌, subst, arith}
+use Rattle.std.proofs.Common.{◌≡◌, ℕ, zero, suc, ◌+◌, ◌<◌, ◌≤◌, Bool, List, [], ◌∷◌, length, Option, Some, slice_set, refl, ap, ◌∙◌, subst, arith}
 use Rattle.std.specs.List.{AllByRecursion, position_from}
 use Rattle.std.specs.Map.{lookup}
 use Rattle.std.proofs.lemmas.Bool.{cond_both}
@@ -10,9 +10,10 @@ use Rattle.jvms_file.specs.declared.descriptor.FieldType.{FieldType}
 use Rattle.jvms_program.specs.declared.program.Class.{Class}
 use Rattle.jvms_program.specs.declared.key.FieldKey.{FieldKey}
 use Rattle.jvms_machine.specs.State.{Object, instance, array, text, class_object, object_at, keys, reference_of, IsReference, IsValue, IsObject}
-use Rattle.jvms_machine.specs.Heap.{stored_as, same_key, with_value, with_field, with_element}
+use Rattle.jvms_program.specs.Slots.{same_key}
+use Rattle.jvms_machine.specs.Heap.{stored_as, with_value, with_field, with_element}
 use Rattle.jvms_machine.specs.Fields.{fields_of}
-use Rattle.jvms_machine.proofs.ListLaws.{all_at, all_set, all_map_weaker}
+use Rattle.jvms_machine.proofs.ListLaws.{all_at, all_set}
 use Rattle.jvms_machine.proofs.HeapGrowth.{Becomes}
 
 -- ---- What is read
@@ -60,13 +61,18 @@ stored_is_value heap t _ is = is
 -- Fields with a value put have the keys that they had.
 pub keys_stay : (key : FieldKey) (v : Value) (fields : List (FieldKey × Value)) → keys (with_value key v fields) ≡ keys fields
 keys_stay key v [] = refl
-keys_stay key v (f ∷ fields) = ap (λ (ks : List FieldKey). f.0 ∷ ks) (keys_stay key v fields)
+keys_stay key v (f ∷ fields) =
+    cond_both (same_key f.0 key) ((f.0, v) ∷ fields) (f ∷ with_value key v fields) (λ (fs : List (FieldKey × Value)). keys fs ≡ keys (f ∷ fields))
+    (λ _. refl)
+    (λ _. ap (λ (ks : List FieldKey). f.0 ∷ ks) (keys_stay key v fields))
 
 -- And values in them.
 pub values_stay : (heap : List Object) (key : FieldKey) (v : Value) (fields : List (FieldKey × Value)) → IsValue heap v → AllByRecursion (λ f. IsValue heap f.1) fields → AllByRecursion (λ f. IsValue heap f.1) (with_value key v fields)
-values_stay heap key v fields is all =
-    all_map_weaker (λ f. IsValue heap f.1) (λ f. IsValue heap f.1) (λ f. (f.0, if same_key f.0 key then v else f.1))
-    (λ f was. cond_both (same_key f.0 key) v f.1 (IsValue heap) (λ _. is) (λ _. was)) fields all
+values_stay heap key v [] is all = tt
+values_stay heap key v (f ∷ fields) is all =
+    cond_both (same_key f.0 key) ((f.0, v) ∷ fields) (f ∷ with_value key v fields) (AllByRecursion (λ f. IsValue heap f.1))
+    (λ _. (is, all.1))
+    (λ _. (all.0, values_stay heap key v fields is all.1))
 
 -- An object with a value in a field is one, of its class.
 pub with_field_is : (program : List Class) (heap : List Object) (key : FieldKey) (v : Value) (o : Object) → IsValue heap v → IsObject program heap o → IsObject program heap (with_field key v o)

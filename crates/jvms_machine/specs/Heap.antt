@@ -1,5 +1,5 @@
 -- The heap (JVMS 2.4, 2.7): what is made, and what is changed of what is there.
-use Rattle.std.specs.Prelude.{ℕ, zero, suc, ◌+◌, ◌*◌, ◌-◌, Bool, ◌&&◌, ◌==◌, nat_le, if◌then◌else◌, List, [], ◌∷◌, ◌++◌, length, map, drop, replicate, Option, Some, None, slice_set, codes, ℤ}
+use Rattle.std.specs.Prelude.{ℕ, zero, suc, ◌+◌, ◌*◌, ◌-◌, Bool, true, false, not, ◌&&◌, ◌==◌, nat_le, if◌then◌else◌, List, [], ◌∷◌, ◌++◌, length, map, drop, replicate, Option, Some, None, slice_set, codes, ℤ}
 use Rattle.std.specs.List.{flat_map, range_with_len}
 use Rattle.jvms_machine.specs.declared.value.Value.{Value}
 use Rattle.jvms_machine.specs.declared.value.Value.TheVariants as value
@@ -14,7 +14,7 @@ use Rattle.jvms_file.specs.declared.descriptor.FieldType.{FieldType}
 use Rattle.jvms_file.specs.declared.insn.ArrayType.{ArrayType}
 use Rattle.jvms_file.specs.declared.insn.ArrayType.TheVariants as array_type
 use Rattle.jvms_program.specs.declared.key.FieldKey.{FieldKey}
-use Rattle.jvms_file.specs.Names.{same_text}
+use Rattle.jvms_program.specs.Slots.{same_key}
 use Rattle.jvms_file.specs.Descriptors.{field_type, is_array_name}
 use Rattle.jvms_machine.specs.State.{State, Object, instance, array, text, class_object, default_value}
 
@@ -46,16 +46,14 @@ stored_as t v = v
 
 -- ---- Fields
 
-abbrev pub same_key : FieldKey → FieldKey → Bool
-same_key a b = same_text a.class b.class && (same_text a.name b.name && same_text a.descriptor b.descriptor)
-
 -- The value of the field of a key.
 abbrev pub value_of : FieldKey → List (FieldKey × Value) → Option Value
 value_of key fields = lookup (λ k. same_key k key) fields
 
--- The fields with a value in the one of a key.
+-- The fields with a value in the first one of a key.
 abbrev pub with_value : FieldKey → Value → List (FieldKey × Value) → List (FieldKey × Value)
-with_value key v fields = map (λ f. (f.0, if same_key f.0 key then v else f.1)) fields
+with_value key v [] = []
+with_value key v (f ∷ fields) = if same_key f.0 key then (f.0, v) ∷ fields else f ∷ with_value key v fields
 
 -- An object with a value in the field of a key.
 abbrev pub with_field : FieldKey → Value → Object → Object
@@ -106,6 +104,12 @@ abbrev pub first_element : List ℕ → Value
 first_element class = default_value (component_type class)
 
 -- ---- Arrays of arrays (JVMS 6.5 multianewarray)
+
+-- Whether arrays of a class can lie so many deep in each other: the components of all but the innermost are arrays.
+abbrev pub has_dimensions : List ℕ → ℕ → Bool
+has_dimensions class zero = false
+has_dimensions class (suc zero) = true
+has_dimensions class (suc (suc more)) = not ((component_type class).dimensions == 0) && has_dimensions (drop 1 class) (suc more)
 
 -- How many arrays these lengths make, the outermost first: none within one of length 0.
 abbrev pub arrays_made : List ℕ → ℕ

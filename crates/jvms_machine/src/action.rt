@@ -48,8 +48,8 @@ pub enum Exception {
 pub enum NewObject<T> {
     /// An object of the class of a number.
     Instance { class: usize },
-    /// An array of a class, each of whose elements has this value first.
-    Array { class: T, first: Value, length: u32 },
+    /// An array of a class with so many elements.
+    Array { class: T, length: u32 },
     /// An array of a class and the arrays in it, whose lengths are so many operands.
     Arrays { class: T, dimensions: u8 },
     /// The string of these units.

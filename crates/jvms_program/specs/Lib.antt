@@ -2,3 +2,4 @@ pub mod BuiltIn
 pub mod Meaning
 pub mod Program
 pub mod Resolution
+pub mod Slots

@@ -10,7 +10,7 @@ use Rattle.jvms_machine.specs.declared.value.Value.{Value}
 use Rattle.jvms_program.specs.declared.key.FieldKey.{FieldKey}
 use Rattle.jvms_machine.specs.Fields.{fields_of}
 use Rattle.jvms_machine.specs.Heap.{value_of}
-use Rattle.machine.specs.Views.{field_of, units_of}
+use Rattle.heap.specs.Objects.{field_of, units_of}
 
 pub text_printed : (a : Activation) (ends_line : Bool) (r : ℕ) (units : List ℕ) (o : Option Object) → option_and_then units_of o ≡ Some units → object_printed a ends_line r o ≡ prints a 2 (printed.Text r) ends_line
 text_printed a ends_line r units None is = cc

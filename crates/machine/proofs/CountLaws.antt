@@ -1,6 +1,7 @@
 -- Counts of arrays and elements that are capped beyond any limit.
 use Rattle.std.proofs.Common.{◌≡◌, ℕ, zero, suc, ◌+◌, ◌*◌, ◌<◌, ◌≤◌, Bool, true, false, not, ◌&&◌, nat_lt, nat_le, List, [], ◌∷◌, length, if◌then◌else◌, refl, sym, ap, ◌∙◌, arith, add-zero, mul-zero, suc-mul, zero-mul}
 use Rattle.std.specs.Prelude.{map}
+use Rattle.std.proofs.lemmas.Bool.{false≢true}
 use Rattle.std.proofs.lemmas.Bool.Decides.{nat_tests}
 use Rattle.jvms_machine.specs.declared.value.Value.{Value}
 use Rattle.jvms_machine.specs.declared.machine.Limits.{Limits}
@@ -8,7 +9,8 @@ use Rattle.jvms_machine.specs.declared.action.NewObject.TheVariants as new_objec
 use Rattle.jvms_program.specs.declared.thrown.Thrown.TheVariants as thrown
 use Rattle.jvms_machine.specs.State.{State, Thread}
 use Rattle.jvms_machine.specs.Exceptions.{throws}
-use Rattle.jvms_machine.specs.Heap.{arrays_made, elements_made, has_room_for_elements}
+use Rattle.jvms_machine.specs.Heap.{arrays_made, elements_made, has_dimensions, has_room_for_elements}
+use Rattle.jvms_machine.specs.Decisions.{never_seen}
 use Rattle.jvms_machine.specs.Arrays.{length_of_value, making, new_arrays_room}
 use Rattle.machine.specs.Counting.{capped}
 
@@ -90,7 +92,13 @@ one_at_least (v ∷ lengths) x is some =
 
 -- ---- The decision on the room
 
-pub room_told : (limits : Limits) (s : State) (thread : Thread) (class : List ℕ) (dimensions : ℕ) (lengths : List ℕ) (b : Bool) → (dimensions ≡ 0 → ⊥) → b ≡ has_room_for_elements (arrays_made lengths) (elements_made lengths) limits s
+pub room_told : (limits : Limits) (s : State) (thread : Thread) (class : List ℕ) (dimensions : ℕ) (lengths : List ℕ) (b : Bool) → has_dimensions class dimensions ≡ true → b ≡ has_room_for_elements (arrays_made lengths) (elements_made lengths) limits s
     → new_arrays_room limits s thread class dimensions lengths ≡ (if not b then throws limits s thread thrown.OutOfMemoryError else making s dimensions (new_object.Arrays class dimensions))
-room_told limits s thread class zero lengths b some is = absurd (some refl)
-room_told limits s thread class (suc d) lengths b some is = ap (λ r. if not r then throws limits s thread thrown.OutOfMemoryError else making s (suc d) (new_object.Arrays class (suc d))) (sym is)
+room_told limits s thread class dimensions lengths b has is =
+    ap (λ r. if not r then never_seen else (if not (has_room_for_elements (arrays_made lengths) (elements_made lengths) limits s) then throws limits s thread thrown.OutOfMemoryError else making s dimensions (new_object.Arrays class dimensions))) has
+    ∙ ap (λ r. if not r then throws limits s thread thrown.OutOfMemoryError else making s dimensions (new_object.Arrays class dimensions)) (sym is)
+
+-- A class has no arrays of no dimensions.
+pub one_dimension : (class : List ℕ) (dimensions : ℕ) → has_dimensions class dimensions ≡ true → 0 < dimensions
+one_dimension class zero is = absurd (false≢true is)
+one_dimension class (suc more) is = omega arith

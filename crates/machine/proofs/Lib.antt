@@ -1,12 +1,11 @@
 mod Answered
 mod Asked
 mod Callers
-mod ComponentLaws
 mod ConstantTexts
 mod CountLaws
 mod Deciding
+mod Effects
 mod EntryLaws
-mod FieldLaws
 mod HeapLaws
 mod Made
 mod RunLaws

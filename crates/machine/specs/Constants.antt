@@ -1,10 +1,12 @@
 -- The strings that the initialisation of a class stores in its static fields, told field by field.
-use Rattle.std.specs.Prelude.{ℕ, Bool, true, false, not, ◌&&◌, List, Option, Some, None, is_some}
+use Rattle.std.specs.Prelude.{ℕ, Bool, true, false, not, ◌&&◌, List, [], ◌∷◌, ◌++◌, Option, Some, None, is_some}
 use Rattle.std.specs.List.{list_any}
 use Rattle.jvms_file.specs.Names.{same_text}
 use Rattle.jvms_program.specs.declared.program.Field.{Field}
 use Rattle.jvms_program.specs.declared.program.Loadable.{Loadable}
 use Rattle.jvms_program.specs.declared.program.Loadable.TheVariants as loadable
+use Rattle.jvms_machine.specs.declared.value.Value.{Value}
+use Rattle.jvms_machine.specs.declared.value.Value.TheVariants as value
 use Rattle.jvms_machine.specs.State.{Object, text_reference}
 
 -- The units of a static field's constant, if it is a string.
@@ -25,6 +27,24 @@ has_constant_text units f = is_same units (constant_text f)
 abbrev pub is_new : List Object → List Field → Option (List ℕ) → Bool
 is_new heap before None = false
 is_new heap before (Some units) = not (is_some (text_reference heap units)) && not (list_any (has_constant_text units) before)
+
+-- A string as a value, by its reference, if it has one.
+abbrev pub text_value : Option ℕ → Value
+text_value None = value.Null
+text_value (Some r) = value.Reference r
+
+-- The string that a field adds to those of the fields before it.
+abbrev pub text_where : Bool → Option (List ℕ) → Option (List ℕ)
+text_where true (Some units) = Some units
+text_where _ _ = None
+
+abbrev pub text_to_make : List Object → List Field → Field → Option (List ℕ)
+text_to_make heap before f = text_where (is_new heap before (constant_text f)) (constant_text f)
+
+-- Strings with the one that a field adds, if it adds one.
+abbrev pub behind : List (List ℕ) → Option (List ℕ) → List (List ℕ)
+behind texts None = texts
+behind texts (Some units) = texts ++ units ∷ []
 
 -- A field's string has no object yet, and no field before it has the same.
 abbrev pub is_new_text : List Object → List Field → Field → Bool

@@ -4,7 +4,6 @@ pub mod Constants
 pub mod Counting
 pub mod Decided
 pub mod Entries
-pub mod Heap
 pub mod Machine
 pub mod Marks
 pub mod Ready

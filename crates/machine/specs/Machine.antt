@@ -2,6 +2,8 @@
 use Rattle.std.specs.Prelude.{◌≡◌, ℕ, ◌≤◌, ◌++◌, List, [], length, Option, Some, None, IsTrue, slice_get}
 use Rattle.jvms_machine.specs.declared.machine.Limits.{Limits}
 use Rattle.jvms_machine.specs.declared.machine.Outcome.{Outcome}
+use Rattle.jvms_program.specs.declared.key.FieldKey.{FieldKey}
+use Rattle.jvms_machine.specs.declared.value.Value.{Value}
 use Rattle.jvms_machine.specs.Decisions.{TurnAction, TurnDecision}
 use Rattle.jvms_program.specs.declared.program.Class.{Class}
 use Rattle.jvms_machine.specs.declared.trace.Item.{Item}
@@ -39,6 +41,9 @@ row_of m t = turn m.program m.limits m.start m.state t
 abbrev pub with_state : Machine → State → Machine
 with_state m s = record m { state = s }
 
+abbrev pub with_statics : List (FieldKey × Value) → Machine → Machine
+with_statics statics m = record m { state = record m.state { statics = statics } }
+
 -- The machine after an action of a thread's turn.
 abbrev pub after : Machine → ℕ → TurnAction → Machine
 after m t act = with_state m (applied_to m.program m.start m.state t act)
@@ -48,8 +53,8 @@ abbrev pub height : Option Thread → ℕ
 height None = 0
 height (Some t) = length t.frames
 
--- A row that gives no item, pushes no frame and makes no object: such a turn takes no memory.
+-- A row that gives no item, pushes no frame, makes no object and prints nothing: such a turn takes no memory.
 abbrev pub TakesNone : Machine → ℕ → Type 0
 TakesNone m t =
     ((row_of m t).items ≡ []) × (height (slice_get (row_of m t).state.threads t) ≤ height (slice_get m.state.threads t))
-    × (length (row_of m t).state.heap ≤ length m.state.heap)
+    × (length (row_of m t).state.heap ≤ length m.state.heap) × (length (row_of m t).state.output ≤ length m.state.output)

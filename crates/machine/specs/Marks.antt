@@ -1,4 +1,4 @@
--- The marks of calls in a trace.
+-- The marks of calls and the events of fields in a trace.
 use Rattle.std.specs.Prelude.{ℕ, Bool, false, if◌then◌else◌, List, [], ◌∷◌, Option, Some, None, slice_get, unwrap_or}
 use Rattle.std.specs.Option.{option_map}
 use Rattle.jvms_program.specs.declared.program.Class.{Class}
@@ -6,7 +6,9 @@ use Rattle.jvms_program.specs.declared.number.MethodNumber.{MethodNumber}
 use Rattle.jvms_program.specs.declared.key.MethodKey.{MethodKey}
 use Rattle.jvms_machine.specs.declared.trace.Item.{Item}
 use Rattle.jvms_program.specs.BuiltIn.{is_built_in}
-use Rattle.jvms_program.specs.Program.{key_of}
+use Rattle.jvms_program.specs.declared.key.FieldKey.{FieldKey}
+use Rattle.jvms_program.specs.declared.number.FieldNumber.{FieldNumber}
+use Rattle.jvms_program.specs.Program.{field_key_at, key_of}
 
 -- At most one item.
 abbrev pub listed : Option Item → List Item
@@ -15,6 +17,10 @@ listed (Some i) = i ∷ []
 
 abbrev pub is_built_in_number : List Class → ℕ → Bool
 is_built_in_number program class = unwrap_or (option_map (λ c. is_built_in c.name) (slice_get program class)) false
+
+-- The key of a field for its events.
+abbrev pub event_key : List Class → FieldNumber → Option FieldKey
+event_key program n = if is_built_in_number program n.class then None else field_key_at program n
 
 -- The key of a method for its marks.
 abbrev pub marked_key : List Class → MethodNumber → Option MethodKey

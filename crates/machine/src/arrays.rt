@@ -2,18 +2,17 @@
 
 ghost use Rattle.std.specs.Prelude.{◌≡◌, ◌+◌, ◌<◌, ◌^◌, IsTrue, length};
 ghost use Rattle.jvms_machine.specs.Arrays.{if_deep, making as makes, length_decision as makes_of_length, new_array_decision as makes_array, new_class_array_decision as makes_class_array, array_length_decision as measures, array_decision as arrays};
-ghost use Rattle.jvms_machine.specs.Heap.{has_room_for_elements as room_for_elements, first_element};
+ghost use Rattle.jvms_machine.specs.Heap.{has_room_for_elements as room_for_elements};
 ghost use Rattle.machine.specs.Asked.{told_length};
 ghost use Rattle.machine.specs.Decided.{seen, seen_object, text_of};
 
 mod components;
 mod elements;
-mod many;
+pub(crate) mod many;
 
 use crate::decision::{ActionText, Decided, bad, has_depth, never_seen, reaches};
 use crate::parts::Parts;
 use crate::thread::Thread;
-use components::{first_of_class, first_of_type};
 use frames::Frame;
 use held::shared::Text;
 use jvms_file::insn::{ArrayInsn, ArrayType};
@@ -30,7 +29,7 @@ impl<'p> Parts<'p> {
         ensures number { IsTrue result → length self.now.state.heap + objects < 2 ^ 32 }
     {
         let most = self.limits.elements as usize;
-        let held = self.element_count() as usize;
+        let held = self.heap.elements() as usize;
         self.has_room_for(objects) && held <= most && elements <= most - held
     }
 
@@ -39,20 +38,13 @@ impl<'p> Parts<'p> {
         requires { length self.now.state.heap + 1 < 2 ^ 32 }
         ensures { seen result ≡ makes self.now.state takes (seen_object what.entry) }
     {
-        let value = Value::Reference(self.object_count() as u32 + 1);
+        let value = Value::Reference(self.heap.count() as u32 + 1);
         reaches(Effect::Makes(what), FrameAction::Push { takes, value })
     }
 
     /// An array of a length is made. In this order: the length isn't negative; there is room for the array and its
     /// elements.
-    fn length_decision(
-        &self,
-        thread: &Thread,
-        class: ActionText<'p>,
-        first: Value,
-        n: i32,
-    ) -> Decided<'p>
-        requires { first ≡ first_element (text_of class) }
+    fn length_decision(&self, thread: &Thread, class: ActionText<'p>, n: i32) -> Decided<'p>
         ensures { seen result ≡ makes_of_length self.now.limits self.now.state thread.now (text_of class.entry) n }
     {
         if n < 0 {
@@ -62,14 +54,7 @@ impl<'p> Parts<'p> {
         if !self.has_room_for_elements(1, length as usize) {
             return self.throws(thread, Thrown::OutOfMemoryError);
         }
-        self.making(
-            1,
-            NewObject::Array {
-                class,
-                first,
-                length,
-            },
-        )
+        self.making(1, NewObject::Array { class, length })
     }
 
     /// JVMS 6.5 newarray.
@@ -82,7 +67,7 @@ impl<'p> Parts<'p> {
         let Value::Int(n) = frame.top() else {
             return bad(BadCause::Kind);
         };
-        self.length_decision(thread, ActionText::ArrayOfType(t), first_of_type(t), n)
+        self.length_decision(thread, ActionText::ArrayOfType(t), n)
     }
 
     /// JVMS 6.5 anewarray: the component's class is resolved before the length is looked at.
@@ -100,21 +85,20 @@ impl<'p> Parts<'p> {
         let Value::Int(n) = frame.top() else {
             return bad(BadCause::Kind);
         };
-        if !self.program.has_class(name.as_slice()) {
+        if !self.program().has_class(name.as_slice()) {
             return self.throws(thread, Thrown::NoClassDefFoundError);
         }
-        let first = first_of_class(name.as_slice());
-        self.length_decision(thread, ActionText::ArrayOfClass(name), first, n)
+        self.length_decision(thread, ActionText::ArrayOfClass(name), n)
     }
 
     /// The array of this reference has its length in place of it.
     fn measured(&self, thread: &Thread, reference: u32) -> Decided<'p>
         ensures { seen result ≡ told_length self.now.limits self.now.state thread.now reference }
     {
-        if self.class_of(reference).is_none() {
+        if self.heap.class_of(reference).is_none() {
             return never_seen();
         }
-        match self.array_length(reference) {
+        match self.heap.array_length(reference) {
             None => bad(BadCause::Kind),
             Some(length) => {
                 let value = Value::Int(length as i32);

@@ -105,7 +105,7 @@ impl<'p> Parts<'p> {
         if t != 0 {
             return Decision::Later;
         }
-        match self.program.method(self.method) {
+        match self.program().method(self.method) {
             None => never_seen(),
             Some(method) => self.entry_decision(t, thread, method),
         }

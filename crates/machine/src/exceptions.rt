@@ -46,16 +46,13 @@ fn built_in_place(class: Thrown) -> usize
     }
 }
 
-/// The name of an exception's class, which every program has.
+/// The number of an exception's class, which every program has.
 #[tactic(auto, using(crate::proofs::HeapLaws::named_there))]
-pub(crate) fn thrown_name(program: &Program, class: Thrown) -> &[u16]
-    ensures { result.now ≡ thrown_class class }
+pub(crate) fn thrown_number(program: &Program, class: Thrown) -> usize
+    ensures { option_map (λ c. c.name) (slice_get program.now result) ≡ Some (thrown_class class) }
 {
     program.is_program();
-    match program.class(built_in_place(class)) {
-        Some(class) => class.name.as_slice(),
-        None => &[],
-    }
+    built_in_place(class)
 }
 
 impl<'p> Parts<'p> {
@@ -65,7 +62,7 @@ impl<'p> Parts<'p> {
         // The reference of one more has a number.
         ensures number { IsTrue result → length self.now.state.heap + 1 < 2 ^ 32 }
     {
-        self.object_count() < self.limits.objects as usize
+        self.heap.count() < self.limits.objects as usize
     }
 
     /// Whether there is room for so many objects more.
@@ -75,7 +72,7 @@ impl<'p> Parts<'p> {
         ensures number { IsTrue result → length self.now.state.heap + count < 2 ^ 32 }
     {
         let most = self.limits.objects as usize;
-        let held = self.object_count();
+        let held = self.heap.count();
         held <= most && count <= most - held
     }
 

@@ -65,7 +65,7 @@ impl<'p> Parts<'p> {
     fn begin_decision(&self, thread: &Thread, class: usize) -> Decided<'p>
         ensures { seen result ≡ begins self.now.limits self.now.state thread.now class (slice_get self.now.program class) }
     {
-        let Some(c) = self.program.class(class) else {
+        let Some(c) = self.program().class(class) else {
             return never_seen();
         };
         if !self.has_room_for(self.new_texts(c)) {
@@ -124,13 +124,13 @@ impl<'p> Parts<'p> {
     ) -> Decided<'p>
         ensures { seen result ≡ initialises self.now.program self.now.limits self.now.state t thread.now class called (slice_get self.now.program class) }
     {
-        let Some(c) = self.program.class(class) else {
+        let Some(c) = self.program().class(class) else {
             return never_seen();
         };
         if called {
             return Decision::Makes(Action::Finishes { class });
         }
-        let superclass = asked_superclass(self.program, c);
+        let superclass = asked_superclass(self.program(), c);
         match self.superclass_decision(t, thread, superclass) {
             Some(decision) => decision,
             None => initializer_decision(c, class),

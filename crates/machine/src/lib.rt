@@ -29,6 +29,7 @@ pub use fault::MachineFault;
 pub use jvms_machine::machine::{Entry, Limits, Outcome, Status, ThreadId};
 pub use jvms_machine::state::{Hold, Initialisation};
 pub use machine::{Machine, admits};
+pub use program::FieldName;
 pub use run::RunStop;
-pub use state::{FieldName, FrameView};
+pub use state::FrameView;
 pub use status::is_enabled;

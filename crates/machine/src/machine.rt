@@ -97,7 +97,7 @@ impl<'p> Machine<'p> {
     pub fn output(&self) -> &[u8]
         ensures { result.now ≡ self.now.state.output }
     {
-        self.parts.output()
+        self.parts.output.as_slice()
     }
 
     /// What thread 0's entry method returned, if it has returned a value.

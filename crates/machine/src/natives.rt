@@ -42,7 +42,7 @@ impl<'p> Parts<'p> {
         requires { frame.now.activation.place + 1 < 2 ^ 64 }
         ensures { seen result ≡ prints_object frame.now.activation ends_line reference (object_at self.now.state.heap reference) }
     {
-        match self.text(reference) {
+        match self.heap.units_of(reference) {
             Some(_) => prints(frame, 2, Printed::Text { reference }, ends_line),
             None => bad(BadCause::Kind),
         }
@@ -89,13 +89,13 @@ impl<'p> Parts<'p> {
         requires { frame.now.activation.place + 1 < 2 ^ 64 }
         ensures { seen result ≡ native_of_class self.now.limits self.now.state thread.now frame.now.activation method.now (slice_get self.now.program class) }
     {
-        let Some(c) = self.program.class(class) else {
+        let Some(c) = self.program().class(class) else {
             return never_seen();
         };
         if same_text(c.name.as_slice(), &PRINT_STREAM) {
             return self.print_decision(frame, method);
         }
-        if self.program.is_built_in(class) {
+        if self.program().is_built_in(class) {
             Decision::Later
         } else {
             self.throws(thread, Thrown::UnsatisfiedLinkError)

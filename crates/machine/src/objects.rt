@@ -75,7 +75,7 @@ impl<'p> Parts<'p> {
     fn instance_of_name(&self, t: usize, thread: &Thread, name: &[u16]) -> Decided<'p>
         ensures { seen result ≡ makes_instance self.now.program self.now.limits self.now.state t thread.now (class_number self.now.program name.now) }
     {
-        let Some(class) = self.program.class_number(name) else {
+        let Some(class) = self.program().class_number(name) else {
             return never_seen();
         };
         match self.asking(t, thread, class) {
@@ -89,7 +89,7 @@ impl<'p> Parts<'p> {
     fn new_instance_decision(&self, t: usize, thread: &Thread, name: &[u16]) -> Decided<'p>
         ensures { seen result ≡ makes_new self.now.program self.now.limits self.now.state t thread.now name.now (class_named self.now.program name.now) }
     {
-        match self.program.class_named(name) {
+        match self.program().class_named(name) {
             None => self.throws(thread, Thrown::NoClassDefFoundError),
             Some(class) => {
                 if is_instantiable(class.kind) {
@@ -105,11 +105,11 @@ impl<'p> Parts<'p> {
     fn told_of(&self, thread: &Thread, name: &[u16], reference: u32) -> Told<'p>
         ensures { (null : TurnDecision) → (told : Bool → TurnDecision) → told_by null told result ≡ with_class_of self.now.program self.now.limits self.now.state thread.now name.now (value.Reference reference ∷ []) null told }
     {
-        let Some(class) = self.class_of(reference) else {
+        let Some(class) = self.heap.class_of(reference) else {
             return Told::Stops(never_seen());
         };
-        if self.program.has_class(name) {
-            Told::IsInstance(self.program.fits(class, name))
+        if self.program().has_class(name) {
+            Told::IsInstance(self.program().fits(class, name))
         } else {
             Told::Stops(self.throws(thread, Thrown::NoClassDefFoundError))
         }
@@ -210,7 +210,7 @@ impl<'p> Parts<'p> {
         if !has_depth(frame, 0, 1) {
             return bad(BadCause::Depth);
         }
-        let held = self.text_reference(units.as_slice());
+        let held = self.heap.text_reference(units.as_slice());
         let units = ActionText::Of(units);
         self.held_or_made(thread, held, NewObject::Text { units })
     }
@@ -219,7 +219,7 @@ impl<'p> Parts<'p> {
     fn class_object_decision(&self, thread: &Thread, name: &'p Text) -> Decided<'p>
         ensures { seen result ≡ holds_or_makes self.now.limits self.now.state thread.now (class_reference self.now.state.heap name.now) (new_object.ClassObject name.now) }
     {
-        let held = self.class_reference(name.as_slice());
+        let held = self.heap.class_reference(name.as_slice());
         let name = ActionText::Of(name);
         self.held_or_made(thread, held, NewObject::ClassObject { name })
     }
@@ -232,7 +232,7 @@ impl<'p> Parts<'p> {
         if !has_depth(frame, 0, 1) {
             return bad(BadCause::Depth);
         }
-        if self.program.has_class(name.as_slice()) {
+        if self.program().has_class(name.as_slice()) {
             self.class_object_decision(thread, name)
         } else {
             self.throws(thread, Thrown::NoClassDefFoundError)

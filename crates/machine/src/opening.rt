@@ -8,6 +8,7 @@ ghost use Rattle.machine.specs.Started.{with_arguments, opened};
 
 use crate::parts::Parts;
 use crate::thread::Thread;
+use heap::{Heap, Statics};
 use jvms_machine::machine::{Entry, Limits};
 use jvms_machine::state::Initialisation;
 use jvms_machine::value::Value;
@@ -64,7 +65,7 @@ fn initialisations(alloc: Global, classes: &[Class]) -> Result<Vec<Initialisatio
 
 impl<'p> Parts<'p> {
     /// The parts of a machine at its opening: thread 0 has no frame yet.
-    #[tactic(auto, unfolding(jvms_machine::specs::Opening::opening, crate::specs::Heap::heap_with))]
+    #[tactic(auto, unfolding(jvms_machine::specs::Opening::opening))]
     pub(crate) fn open(
         alloc: Global,
         program: &'p Program,
@@ -75,17 +76,20 @@ impl<'p> Parts<'p> {
         ensures { IfOk result (λ m. m ≡ opened program.now limits (with_arguments entry.now method)) }
     {
         let arguments = arguments(alloc, entry)?;
+        let heap = Heap::opening(alloc, program)?;
+        let statics = Statics::opening(alloc, program)?;
         let initialisations = initialisations(alloc, program.classes())?;
         let threads = vec![in alloc; Thread::new(alloc)]?;
         Ok(Parts {
             alloc,
-            program,
             limits,
             method,
             arguments,
-            exceptions: Vec::new(alloc),
+            heap,
+            statics,
             initialisations,
             threads,
+            output: Vec::new(alloc),
             result: None,
         })
     }

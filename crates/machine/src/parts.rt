@@ -1,55 +1,70 @@
 //! The parts of a machine.
 
 ghost use Rattle.std.specs.Prelude.{◌≡◌};
+ghost use Rattle.jvms_machine.specs.State.{monitor_at};
 
 use crate::thread::Thread;
+use heap::{Heap, Statics};
 use jvms_machine::machine::Limits;
-use jvms_machine::state::Initialisation;
+use jvms_machine::state::{Hold, Initialisation};
 use jvms_machine::value::Value;
 use jvms_program::number::MethodNumber;
-use jvms_program::thrown::Thrown;
 use program::Program;
 use std::alloc::Global;
 use std::marker::Model;
 
-/// The parts of a machine, also in the middle of a turn. The objects are those of the opening and the exceptions that
-/// were made since; the static fields and the output are those of the opening until a row changes them.
+/// The parts of a machine, also in the middle of a turn. The program is that of the heap.
 #[derive(Drop)]
 pub(crate) struct Parts<'p> {
     pub(crate) alloc: Global,
-    pub(crate) program: &'p Program,
     pub(crate) limits: Limits,
     pub(crate) method: MethodNumber,
     pub(crate) arguments: Vec<Value>,
-    /// The classes of the exceptions that were made, in order.
-    pub(crate) exceptions: Vec<Thrown>,
+    pub(crate) heap: Heap<'p>,
+    pub(crate) statics: Statics<'p>,
     pub(crate) initialisations: Vec<Initialisation>,
     pub(crate) threads: Vec<Thread<'p>>,
+    pub(crate) output: Vec<u8>,
     pub(crate) result: Option<Value>,
 }
 
 impl<'p> Model for Parts<'p> {
-    ghost use Rattle.std.specs.Prelude.{map, []};
-    ghost use Rattle.jvms_machine.specs.State.{static_fields};
-    ghost use Rattle.jvms_machine.specs.Opening.{opening_static};
-    ghost use Rattle.machine.specs.Heap.{heap_with};
+    ghost use Rattle.std.specs.Prelude.{[]};
     ghost use Rattle.machine.specs.Machine.{Machine as Seen};
 
     ghost Value = { Seen };
 
     ghost view = { λ m. record {
-      program = m.program.now;
+      program = m.heap.program;
       limits = m.limits;
       start = record { method = m.method; arguments = m.arguments.items };
       state = record {
-        heap = heap_with m.program.now m.exceptions.items;
+        heap = m.heap.objects;
         monitors = [];
-        statics = map opening_static (static_fields m.program.now);
+        statics = m.statics.fields;
         initialisations = m.initialisations.items;
         threads = m.threads.items;
-        elements = 0;
-        output = [];
+        elements = m.heap.elements;
+        output = m.output.items;
         result = m.result;
       };
     } };
+}
+
+impl<'p> Parts<'p> {
+    /// The program.
+    pub(crate) fn program(&self) -> &'p Program
+        ensures { result.now ≡ self.now.program }
+    {
+        self.heap.program()
+    }
+
+    /// How a monitor is held: none is.
+    pub(crate) fn monitor(&self, reference: u32) -> Option<Hold>
+        ensures { result ≡ monitor_at self.now.state.monitors reference }
+    {
+        let _ = &self.limits;
+        let _ = reference;
+        None
+    }
 }

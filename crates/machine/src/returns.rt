@@ -123,7 +123,7 @@ impl<'p> Parts<'p> {
     ) -> Decided<'p>
         ensures { seen result ≡ method_returns frame.now (drop 1 thread.now.frames) how (method_at self.now.program frame.now.method) }
     {
-        let Some(method) = self.program.method(frame.method()) else {
+        let Some(method) = self.program().method(frame.method()) else {
             return never_seen();
         };
         if method.flags.is_synchronized {

@@ -3,18 +3,14 @@
 ghost use Rattle.std.specs.Prelude.{◌≡◌, slice_get};
 ghost use Rattle.jvms_machine.specs.Heap.{value_of};
 
-mod declared;
-mod field_name;
 mod objects;
-mod opening;
 mod threads;
 
 use crate::machine::Machine;
-pub use field_name::FieldName;
 use jvms_machine::machine::Limits;
 use jvms_machine::state::Initialisation;
 use jvms_machine::value::Value;
-use program::Program;
+use program::{FieldName, Program};
 pub use threads::FrameView;
 
 impl<'p> Machine<'p> {
@@ -22,7 +18,7 @@ impl<'p> Machine<'p> {
     pub fn program(&self) -> &'p Program
         ensures { result.now ≡ self.now.program }
     {
-        self.parts.program
+        self.parts.program()
     }
 
     /// The limits of the run.
@@ -43,6 +39,6 @@ impl<'p> Machine<'p> {
     pub fn static_value(&self, key: &FieldName) -> Option<Value>
         ensures { result ≡ value_of key.now self.now.state.statics }
     {
-        self.parts.static_value(key)
+        self.parts.statics.value(key)
     }
 }

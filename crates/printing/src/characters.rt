@@ -1,6 +1,6 @@
 //! The characters of 16-bit units, and their bytes in UTF-8.
 
-ghost use Rattle.std.specs.Prelude.{◌≡◌, ◌+◌, ◌-◌, ◌*◌, ◌<◌, ◌≤◌, ◌∷◌, ◌++◌, length, take, OnOk, OnErr, IsTrue, if◌then◌else◌, encode_utf8};
+ghost use Rattle.std.specs.Prelude.{◌≡◌, ◌+◌, ◌-◌, ◌*◌, ◌<◌, ◌≤◌, ◌∷◌, ◌++◌, [], length, take, IsOk, OnOk, OnErr, IsTrue, if◌then◌else◌, encode_utf8};
 ghost use Rattle.jvms_machine.specs.Output.{is_high, is_low, characters, text_bytes};
 
 use std::alloc::AllocError;
@@ -53,6 +53,7 @@ fn front_character(first: u16, rest: &[u16]) -> (char, &[u16])
 fn put_character(out: &mut Vec<u8>, character: char) -> Result<(), AllocError>
     ensures ok { OnOk result (out.new.items ≡ out.old.items ++ encode_utf8 character) }
     ensures err { OnErr result (out.new.items ≡ out.old.items) }
+    ensures none { encode_utf8 character ≡ [] → IsOk result }
 {
     let mut buffer = [0; 4];
     out.extend_from_slice(character.encode_utf8(&mut buffer).as_bytes())
@@ -62,6 +63,7 @@ fn put_character(out: &mut Vec<u8>, character: char) -> Result<(), AllocError>
 fn put_characters(out: &mut Vec<u8>, units: &[u16]) -> Result<(), AllocError>
     ensures ok { OnOk result (out.new.items ≡ out.old.items ++ text_bytes units.now) }
     ensures front { take (length out.old.items) out.new.items ≡ out.old.items }
+    ensures none { text_bytes units.now ≡ [] → IsOk result }
 {
     let mut rest = units;
     while let [first, behind @ ..] = rest {
@@ -76,6 +78,8 @@ fn put_characters(out: &mut Vec<u8>, units: &[u16]) -> Result<(), AllocError>
 pub fn put_text(out: &mut Vec<u8>, units: &[u16]) -> Result<(), AllocError>
     ensures ok { OnOk result (out.new.items ≡ out.old.items ++ text_bytes units.now) }
     ensures err { OnErr result (out.new.items ≡ out.old.items) }
+    // Where there is nothing to put it takes no memory.
+    ensures none { text_bytes units.now ≡ [] → IsOk result }
 {
     let before = out.len();
     let put = put_characters(out, units);

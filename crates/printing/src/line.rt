@@ -1,6 +1,6 @@
 //! What is printed, and the end of its line.
 
-ghost use Rattle.std.specs.Prelude.{◌≡◌, ◌∷◌, ◌++◌, [], List, length, take, OnOk, OnErr, codes};
+ghost use Rattle.std.specs.Prelude.{◌≡◌, ◌∷◌, ◌++◌, [], List, length, take, IsOk, OnOk, OnErr, codes};
 ghost use Rattle.std.specs.Option.{option_copied};
 ghost use Rattle.std.specs.Fmt.{signed_decimal};
 ghost use Rattle.jvms_machine.specs.State.{Object};
@@ -39,11 +39,13 @@ pub fn put_line_end(out: &mut Vec<u8>) -> Result<(), AllocError>
 
 /// Puts what is printed behind the other bytes. Without memory for it nothing changes. `text` is the string that is
 /// printed, if one is.
+#[tactic(auto, using(crate::proofs::Decimals::int_printed))]
 fn put_printed(out: &mut Vec<u8>, what: Printed, text: Option<&[u16]>) -> Result<(), AllocError>
     ensures ok { (heap : List Object) → IsTheString heap what (option_copied text.entry)
         → OnOk result (out.new.items ≡ out.old.items ++ printed_bytes heap what) }
     ensures front { take (length out.old.items) out.new.items ≡ out.old.items }
     ensures err { OnErr result (out.new.items ≡ out.old.items) }
+    ensures none { (heap : List Object) → IsTheString heap what (option_copied text.entry) → printed_bytes heap what ≡ [] → IsOk result }
 {
     match what {
         Printed::Nothing => Ok(()),
@@ -64,6 +66,8 @@ pub fn put_line(
     ensures ok { (heap : List Object) → IsTheString heap what (option_copied text.entry)
         → OnOk result (out.new.items ≡ out.old.items ++ line_bytes heap what ends_line) }
     ensures err { OnErr result (out.new.items ≡ out.old.items) }
+    // Where there is nothing to put it takes no memory.
+    ensures none { (heap : List Object) → IsTheString heap what (option_copied text.entry) → line_bytes heap what ends_line ≡ [] → IsOk result }
 {
     let before = out.len();
     put_printed(out, what, text)?;

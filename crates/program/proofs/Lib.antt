@@ -1,3 +1,4 @@
+pub mod ChainLaws
 pub mod BuiltInLaws
 pub mod MarkLaws
 pub mod MethodLaws
@@ -6,3 +7,4 @@ mod NamedLaws
 pub mod PlaceLaws
 pub mod WalkLaws
 pub mod SearchLaws
+pub mod SlotLaws

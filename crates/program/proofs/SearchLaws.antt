@@ -1,5 +1,5 @@
 -- Steps of a search that remembers the classes above which nothing is found.
-use Rattle.std.proofs.Common.{◌≡◌, ℕ, zero, suc, Bool, true, ◌+◌, ◌-◌, ◌<◌, ◌≤◌, List, [], ◌∷◌, length, take, get_or, Option, Some, None, refl, sym, ap, subst, ◌∙◌, ◌⊎◌, ⊎_elim, arith, append-nil}
+use Rattle.std.proofs.Common.{◌≡◌, ℕ, zero, suc, true, ◌+◌, ◌-◌, ◌<◌, ◌≤◌, List, [], ◌∷◌, length, take, get_or, Option, Some, None, refl, sym, ap, subst, ◌∙◌, ◌⊎◌, ⊎_elim, arith, append-nil}
 use Rattle.std.specs.List.{flat_map}
 use Rattle.std.proofs.lemmas.Grind.{flat_map-append}
 use Rattle.std.proofs.lemmas.List.{take_more, take_all}
@@ -10,7 +10,7 @@ use Rattle.program.specs.Marks.{is_marked}
 use Rattle.program.specs.Places.{class_place, placed}
 use Rattle.program.specs.Searches.{IsVain, AreVain, AreMarkedVain}
 use Rattle.program.proofs.PlaceLaws.{one_name}
-use Rattle.program.proofs.WalkLaws.{first_in-append_none, above_nowhere, above_missing, above_found, above_interfaces, above_top, above_next, names_past, names_found, names_end, first_in-flat_map, up_nowhere, up_missing, up_found, up_top, up_next}
+use Rattle.program.proofs.WalkLaws.{first_in-append_none, above_nowhere, above_missing, above_found, above_interfaces, above_top, above_next, names_past, names_found, names_end, first_in-flat_map}
 
 module _ (program : List Class) (look : Class → Option (ℕ × ℕ)) where
   -- ---- A class
@@ -84,4 +84,4 @@ unplaced program gives number c none here = none ∙ ap (λ n. gives n c) here
 
 pub ruleset searches = (vain_missing, vain_top, vain_next, vain_none, vain_more, marked_more, above_nowhere, above_missing, above_found, above_interfaces, above_top, above_next, names_past, names_found, names_end)
 
-pub ruleset interfaces_up = (unmarked, first_in-flat_map, up_nowhere, up_missing, up_found, up_top, up_next)
+pub ruleset interfaces_up = (unmarked, first_in-flat_map)

@@ -1,4 +1,4 @@
--- Steps of a search up the superclasses of a class, and through its ancestry.
+-- Steps of a search through the ancestry of a class.
 use Rattle.std.proofs.Common.{◌≡◌, ℕ, zero, suc, Bool, true, false, cond, ◌+◌, ◌-◌, ◌<◌, ◌≤◌, List, [], ◌∷◌, ◌++◌, length, drop, get_or, Option, Some, None, refl, sym, add-one, sub-one, drop-cons, arith}
 use Rattle.std.proofs.lemmas.List.{drop_all}
 use Rattle.std.specs.Prelude.{is_some}
@@ -6,7 +6,7 @@ use Rattle.std.specs.List.{flat_map, list_any}
 use Rattle.jvms_file.specs.Names.{same_text}
 use Rattle.jvms_program.specs.declared.program.Class.{Class}
 use Rattle.jvms_program.specs.Program.{class_named}
-use Rattle.jvms_program.specs.Resolution.{chain_within, ancestry_within, first_in}
+use Rattle.jvms_program.specs.Resolution.{ancestry_within, first_in}
 
 module _ {A : Type 0} (look : Class → Option A) where
   -- ---- One list behind another
@@ -44,35 +44,6 @@ module _ {A : Type 0} (look : Class → Option A) where
 
   pub names_end : (classes_of : List ℕ → List Class) (names : List (List ℕ)) (i : ℕ) → length names ≤ i → first_in look (flat_map classes_of (drop i names)) ≡ None
   names_end classes_of names i h = rw (drop_all i names h) refl
-
-  -- ---- Up the superclasses
-
-  pub up_nowhere : (most : ℕ) (program : List Class) (name : List ℕ) → most ≡ 0 → None ≡ first_in look (chain_within most program name)
-  unfolding chain_within
-  up_nowhere most program name h = rw h refl
-
-  pub up_missing : (most : ℕ) (program : List Class) (name : List ℕ) → None ≡ class_named program name → None ≡ first_in look (chain_within most program name)
-  unfolding chain_within
-  up_missing zero program name h = refl
-  up_missing (suc most) program name h = rw (← h) refl
-
-  pub up_found : (most : ℕ) (program : List Class) (name : List ℕ) (c : Class) (x : A) → 0 < most → Some c ≡ class_named program name
-      → Some x ≡ look c → Some x ≡ first_in look (chain_within most program name)
-  unfolding chain_within
-  up_found zero program name c x m h l = absurd (omega arith)
-  up_found (suc most) program name c x m h l = rw (← h) (rw (← l) refl)
-
-  pub up_top : (most : ℕ) (program : List Class) (name : List ℕ) (c : Class) → Some c ≡ class_named program name
-      → None ≡ look c → None ≡ c.superclass → None ≡ first_in look (chain_within most program name)
-  unfolding chain_within
-  up_top zero program name c h l s = refl
-  up_top (suc most) program name c h l s = rw (← h) (rw (← l) (rw (← s) refl))
-
-  pub up_next : (most : ℕ) (program : List Class) (name super : List ℕ) (c : Class) → 0 < most → Some c ≡ class_named program name
-      → None ≡ look c → Some super ≡ c.superclass → first_in look (chain_within most program name) ≡ first_in look (chain_within (most - 1) program super)
-  unfolding chain_within
-  up_next zero program name super c m h l s = absurd (omega arith)
-  up_next (suc most) program name super c m h l s = rw (← h) (rw (← l) (rw (← s) (rw sub-one refl)))
 
   -- ---- Through the ancestry
 
@@ -138,8 +109,6 @@ first_in_named name [] = refl
 first_in_named name (c ∷ cs) = named_by name c cs (same_text c.name name) refl (first_in_named name cs)
 
 pub ruleset appended = (first_in-append_none, first_in-append_some, first_in-flat_map)
-
-pub ruleset ups = (up_nowhere, up_missing, up_found, up_top, up_next)
 
 pub ruleset aboves = (above_nowhere, above_missing, above_found, above_interfaces, above_top, above_next, names_past, names_found, names_end)
 

@@ -4,9 +4,11 @@
 
 mod all;
 mod built_in;
+mod chain;
 mod class_type;
 mod code;
 mod exists;
+mod field_name;
 mod fields;
 mod list;
 mod look;
@@ -19,6 +21,7 @@ mod numbers;
 mod order;
 mod resolve;
 mod select;
+mod slots;
 mod subtypes;
 mod text;
 mod throwables;
@@ -26,8 +29,10 @@ mod walk;
 
 pub use all::is_built_in;
 pub use descriptor::same_text;
+pub use field_name::FieldName;
 pub use list::Program;
 pub use lookup::declared_number;
 pub use methods::Named;
 pub use names::OBJECT;
+pub use slots::Slot;
 pub use text::is_named;

@@ -1,9 +1,11 @@
 //! The list of a program's classes.
 
-ghost use Rattle.std.specs.Prelude.{◌≡◌, ◌++◌, IfOk, IsOk, None, false, map, option_copied, slice_get};
+ghost use Rattle.std.specs.Prelude.{◌≡◌, ◌++◌, ◌≤◌, IfOk, IsOk, OnOk, None, false, length, map, option_copied, slice_get};
 ghost use Rattle.std.specs.Option.{option_map, unwrap_or};
+ghost use Rattle.std.specs.List.{AllByRecursion};
 ghost use Rattle.jvms_program.specs.BuiltIn.{built_in_classes, is_built_in};
 ghost use Rattle.jvms_program.specs.Program.{IsProgram, class_named, class_number, method_at, key_of};
+ghost use Rattle.program.specs.Slots.{AreCountable};
 
 use crate::all::{built_in_classes, is_built_in};
 use crate::lookup::method_of;
@@ -32,12 +34,13 @@ impl Model for Program {
     ghost use Rattle.jvms_program.specs.BuiltIn.{is_built_in};
     ghost use Rattle.jvms_program.specs.Program.{IsProgram};
     ghost use Rattle.program.specs.Numbers.{AreNumbersOf};
+    ghost use Rattle.program.specs.Slots.{AreCountable};
 
     ghost Value = { List Class };
 
     ghost view = { λ p. p.classes.items };
 
-    ghost invariant = { λ p. (p.built_in.items ≡ map (λ c. is_built_in c.name) p.classes.items) × AreNumbersOf p.classes.items p.by_name × IsProgram p.classes.items };
+    ghost invariant = { λ p. (p.built_in.items ≡ map (λ c. is_built_in c.name) p.classes.items) × AreNumbersOf p.classes.items p.by_name × IsProgram p.classes.items × AreCountable p.classes.items };
 }
 
 /// Whether each of these classes is built in.
@@ -51,6 +54,28 @@ fn built_in_marks(alloc: Global, classes: &[Class]) -> Result<Vec<bool>, AllocEr
     Ok(marks)
 }
 
+/// The most fields that a class has.
+fn most_fields(classes: &[Class]) -> usize
+    ensures { AllByRecursion (λ c. length c.fields ≤ result) classes.now }
+{
+    let mut most = 0;
+    for class in classes {
+        most = most.max(class.fields.len());
+    }
+    most
+}
+
+/// Fails where the fields might be too many to be numbered, if each class had as many as any has. A class file has at most
+/// 65,535, so that this takes more than 2^48 classes, which no memory holds.
+fn count_fields(classes: &[Class]) -> Result<(), AllocError>
+    ensures { OnOk result (AreCountable classes.now) }
+{
+    match classes.len().checked_mul(most_fields(classes)) {
+        Some(_) => Ok(()),
+        None => Err(AllocError),
+    }
+}
+
 impl Program {
     /// The program of these classes and the built-in ones, which come first.
     pub fn new(alloc: Global, own: Vec<Class>) -> Result<Program, AllocError>
@@ -61,6 +86,7 @@ impl Program {
         let mut own = own;
         let mut classes = built_in_classes(alloc)?;
         classes.append(&mut own)?;
+        count_fields(classes.as_slice())?;
         let built_in = built_in_marks(alloc, classes.as_slice())?;
         let by_name = numbers_by_name(alloc, classes.as_slice())?;
         Ok(Program {
@@ -74,6 +100,13 @@ impl Program {
     /// is done.
     pub fn is_program(&self)
         ensures { IsProgram self.now }
+    {
+        let _ = &self.classes;
+    }
+
+    /// As many fields as any class has, for each of the classes, can be counted. Nothing is done.
+    pub(crate) fn is_countable(&self)
+        ensures { AreCountable self.now }
     {
         let _ = &self.classes;
     }

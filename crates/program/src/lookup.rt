@@ -1,7 +1,8 @@
 //! Classes and members by their names.
 
-ghost use Rattle.std.specs.Prelude.{◌≡◌, IfSome, option_copied, slice_get};
+ghost use Rattle.std.specs.Prelude.{◌≡◌, ◌&&◌, IfSome, option_copied, slice_get};
 ghost use Rattle.std.specs.Option.{option_map};
+ghost use Rattle.jvms_file.specs.Names.{same_text};
 ghost use Rattle.jvms_program.specs.Program.{class_named, class_number, declared_field_number, declared_number, method_at};
 ghost use Rattle.program.specs.Places.{class_place, field_at};
 
@@ -20,6 +21,13 @@ pub fn declared_number(class: &Class, name: &[u16], descriptor: &[u16]) -> Optio
     })
 }
 
+/// Whether a field has this name and descriptor.
+pub(crate) fn is_field(field: &Field, name: &[u16], descriptor: &[u16]) -> bool
+    ensures { result ≡ (same_text field.now.name name.now && same_text field.now.descriptor descriptor.now) }
+{
+    same_text(field.name.as_slice(), name) && same_text(field.descriptor.as_slice(), descriptor)
+}
+
 /// The number of a class's field of this name and descriptor: its place in the class's list.
 pub(crate) fn declared_field_number(
     class: &Class,
@@ -28,9 +36,11 @@ pub(crate) fn declared_field_number(
 ) -> Option<usize>
     ensures { result ≡ declared_field_number class.now name.now descriptor.now }
 {
-    class.fields.as_slice().iter().position(|field| {
-        same_text(field.name.as_slice(), name) && same_text(field.descriptor.as_slice(), descriptor)
-    })
+    class
+        .fields
+        .as_slice()
+        .iter()
+        .position(|field| is_field(field, name, descriptor))
 }
 
 /// The class of a name, with its number.

@@ -4,10 +4,11 @@ ghost use Rattle.std.specs.Prelude.{◌≡◌};
 ghost use Rattle.jvms_program.specs.Resolution.{MethodFound, chain, is_superclass, names_class, selected_from, selected_special};
 ghost use Rattle.program.specs.Places.{IsMethodAt, Locates};
 
+use crate::chain::superclass_name;
 use crate::list::Program;
 use crate::look::{Named, Selectable};
 use crate::names::members_class;
-use crate::walk::{first_up, superclass_name};
+use crate::walk::first_up;
 use descriptor::{is_constructor_name, same_text};
 use jvms_program::number::MethodNumber;
 use jvms_program::program::MethodReference;

@@ -1,6 +1,6 @@
 //! Searches up the superclasses and superinterfaces of a class.
 
-ghost use Rattle.std.specs.Prelude.{◌≡◌, ℕ, List, Option, option_copied, if◌then◌else◌};
+ghost use Rattle.std.specs.Prelude.{◌≡◌, ℕ, List, Option, if◌then◌else◌};
 ghost use Rattle.std.specs.List.{flat_map};
 ghost use Rattle.jvms_program.specs.declared.program.Class.{Class};
 ghost use Rattle.jvms_program.specs.Resolution.{chain, ancestry, first_in};
@@ -8,6 +8,7 @@ ghost use Rattle.program.specs.Places.{placed};
 ghost use Rattle.program.specs.Searches.{AreMarkedVain, AreSearched, IsSearched};
 ghost use Rattle.program.specs.declared.walk.Searched.TheVariants as searched;
 
+use crate::chain::{Chain, superclass_name};
 use crate::list::Program;
 use crate::lookup::numbered;
 use crate::marks::Marks;
@@ -23,30 +24,15 @@ pub(crate) trait Look {
         ensures { result ≡ gives self.now number class.now };
 }
 
-/// The name of a class's superclass.
-pub(crate) fn superclass_name(class: &Class) -> Option<&[u16]>
-    ensures { option_copied result ≡ class.now.superclass }
-{
-    match &class.superclass {
-        Some(superclass) => Some(superclass.as_slice()),
-        None => None,
-    }
-}
-
 /// What is found first in a class, its superclass, and so on.
-#[tactic(auto, using(crate::proofs::WalkLaws::ups))]
 pub(crate) fn first_up<L: Look>(program: &Program, name: &[u16], look: &L) -> Option<(usize, usize)>
     ensures { result ≡ first_in (placed program.now (L.gives look.now)) (chain program.now name.now) }
 {
-    let mut most = program.classes().len();
-    let mut name = name;
-    while most > 0 {
-        most -= 1;
-        let (number, class) = numbered(program, name)?;
+    let mut up = Chain::of(program, name);
+    while let Some((number, class)) = up.next_class() {
         if let Some(found) = look.look(number, class) {
             return Some(found);
         }
-        name = superclass_name(class)?;
     }
     None
 }
@@ -221,16 +207,12 @@ pub(crate) fn first_in_interfaces_up<L: Look>(
     ensures { result ≡ first_in (placed program.now (L.gives look.now)) (flat_map (λ c. flat_map (ancestry program.now) c.interfaces) (chain program.now name.now)) }
 {
     let mut marks = Marks::none();
-    let mut most = program.classes().len();
-    let mut name = name;
-    while most > 0 {
-        most -= 1;
-        let (_, class) = numbered(program, name)?;
+    let mut up = Chain::of(program, name);
+    while let Some((_, class)) = up.next_class() {
         let interfaces = class.interfaces.as_slice();
         if let Some(found) = first_in_unmarked(program, interfaces, look, &mut marks) {
             return Some(found);
         }
-        name = superclass_name(class)?;
     }
     None
 }

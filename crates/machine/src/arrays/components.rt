@@ -2,19 +2,18 @@
 
 ghost use Rattle.std.specs.Prelude.{◌≡◌, drop};
 ghost use Rattle.jvms_machine.specs.Arrays.{serves as serving, kind_of_elements as element_kind, is_reference_kind as is_references};
-ghost use Rattle.jvms_machine.specs.Heap.{array_of_class, array_of_type, component_class as class_of_components, component_type as type_of_components, first_element};
+ghost use Rattle.jvms_machine.specs.Heap.{component_class as class_of_components, component_type as type_of_components};
 ghost use Rattle.jvms_program.specs.Resolution.{class_exists};
 ghost use Rattle.jvms_file.specs.declared.descriptor.Element.TheVariants as element;
 ghost use Rattle.descriptor.specs.Scanning.{type_of};
 ghost use Rattle.machine.specs.Asked.{of_element};
 
-use descriptor::{Innermost, Spelled, field_in, is_class_entry_name};
+use descriptor::{Innermost, Spelled, field_in};
 use jvms_file::descriptor::Primitive;
-use jvms_file::insn::{ArrayKind, ArrayType, Kind};
-use jvms_machine::value::Value;
+use jvms_file::insn::{ArrayKind, Kind};
 
 /// What stands behind the bracket of an array's class.
-fn behind_bracket(class: &[u16]) -> &[u16]
+pub(super) fn behind_bracket(class: &[u16]) -> &[u16]
     ensures { result.now ≡ drop 1 class.now }
 {
     match class {
@@ -90,31 +89,4 @@ pub(super) fn is_reference_kind(kind: ArrayKind) -> bool
     ensures { result ≡ is_references kind }
 {
     matches!(kind, ArrayKind::Reference)
-}
-
-/// The first value of an element of an array of a primitive type.
-#[tactic(auto, unfolding(jvms_file::specs::Descriptors::field_type_from))]
-pub(super) fn first_of_type(t: ArrayType) -> Value
-    ensures { result ≡ first_element (array_of_type t) }
-{
-    match t {
-        ArrayType::Float | ArrayType::Double | ArrayType::Long => Value::Unset,
-        ArrayType::Boolean
-        | ArrayType::Char
-        | ArrayType::Byte
-        | ArrayType::Short
-        | ArrayType::Int => Value::Int(0),
-    }
-}
-
-/// The first value of an element of an array whose components are of the class of a name.
-#[tactic(auto, using(crate::proofs::ComponentLaws::first_of_class, crate::proofs::ComponentLaws::first_of_none))]
-pub(super) fn first_of_class(name: &[u16]) -> Value
-    ensures { result ≡ first_element (array_of_class name.now) }
-{
-    if is_class_entry_name(name) {
-        Value::Null
-    } else {
-        Value::Int(0)
-    }
 }

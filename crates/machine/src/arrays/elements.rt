@@ -30,17 +30,17 @@ impl<'p> Parts<'p> {
         if n < 0 {
             return None;
         }
-        self.element(reference, n.unsigned_abs() as usize)
+        self.heap.element(reference, n.unsigned_abs() as usize)
     }
 
     /// A load from the object of a reference. In this order: an array of this kind; the index.
     fn load_from(&self, thread: &Thread, kind: ArrayKind, n: i32, reference: u32) -> Decided<'p>
         ensures { seen result ≡ loads_from self.now.limits self.now.state thread.now kind n reference }
     {
-        let Some(class) = self.class_of(reference) else {
+        let Some(class) = self.heap.class_of(reference) else {
             return never_seen();
         };
-        if self.array_length(reference).is_none() {
+        if self.heap.array_length(reference).is_none() {
             return bad(BadCause::Kind);
         }
         if !serves(kind, component_type(class)) {
@@ -87,9 +87,9 @@ impl<'p> Parts<'p> {
         let Value::Reference(reference) = value else {
             return true;
         };
-        match self.class_of(reference) {
+        match self.heap.class_of(reference) {
             None => false,
-            Some(stored) => self.program.fits(stored, component_class(class)),
+            Some(stored) => self.program().fits(stored, component_class(class)),
         }
     }
 
@@ -106,10 +106,10 @@ impl<'p> Parts<'p> {
         requires { frame.now.activation.place + 1 < 2 ^ 64 }
         ensures { seen result ≡ stores_to self.now.limits self.now.state thread.now self.now.program frame.now.activation kind value n reference }
     {
-        let Some(class) = self.class_of(reference) else {
+        let Some(class) = self.heap.class_of(reference) else {
             return never_seen();
         };
-        if self.array_length(reference).is_none() {
+        if self.heap.array_length(reference).is_none() {
             return bad(BadCause::Kind);
         }
         let component = component_type(class);

@@ -2,11 +2,12 @@
 
 ghost use Rattle.std.specs.Prelude.{◌≡◌, ℕ, ◌+◌, ◌*◌, ◌<◌, ◌≤◌, ◌^◌, IsTrue, length, map};
 ghost use Rattle.std.specs.List.{list_all, list_any};
-ghost use Rattle.jvms_machine.specs.Heap.{arrays_made, elements_made, has_room_for_elements as room_for_elements};
+ghost use Rattle.jvms_machine.specs.Heap.{arrays_made, elements_made, has_dimensions, has_room_for_elements as room_for_elements};
 ghost use Rattle.jvms_machine.specs.Arrays.{is_int as int, is_negative as negative, length_of_value as length_in, new_arrays_room as room, new_arrays_decision as makes_arrays};
 ghost use Rattle.machine.specs.Counting.{capped, lengths_decision};
 ghost use Rattle.machine.specs.Decided.{seen};
 
+use super::components::{behind_bracket, component_type};
 use crate::decision::{ActionText, Decided, bad, has_depth, never_seen};
 use crate::parts::Parts;
 use crate::thread::Thread;
@@ -35,13 +36,27 @@ fn is_negative(value: Value) -> bool
     }
 }
 
-fn length_of_value(value: Value) -> usize
+pub(crate) fn length_of_value(value: Value) -> usize
     ensures exact { result ≡ length_in value }
     ensures few { result ≤ 0x80000000 }
 {
     match value {
         Value::Int(n) => n.unsigned_abs() as usize,
         Value::Null | Value::Reference(_) | Value::ReturnAddress(_) | Value::Unset => 0,
+    }
+}
+
+/// Whether arrays of a class can lie so many deep in each other: the components of all but the innermost are arrays.
+fn has_dimensions(class: &[u16], dimensions: u8) -> bool
+    ensures { result ≡ has_dimensions class.now dimensions }
+{
+    match dimensions {
+        0 => false,
+        1 => true,
+        _ => {
+            component_type(class).dimensions != 0
+                && has_dimensions(behind_bracket(class), dimensions - 1)
+        }
     }
 }
 
@@ -97,7 +112,7 @@ impl<'p> Parts<'p> {
     }
 
     /// The arrays of these lengths are made, if there is room for all of them and their elements.
-    #[tactic(auto, using(crate::proofs::CountLaws::room_told, crate::proofs::CountLaws::one_at_least))]
+    #[tactic(auto, using(crate::proofs::CountLaws::room_told, crate::proofs::CountLaws::one_at_least, crate::proofs::CountLaws::one_dimension))]
     fn new_arrays_room(
         &self,
         thread: &Thread,
@@ -108,7 +123,7 @@ impl<'p> Parts<'p> {
         requires { length lengths.now ≡ dimensions }
         ensures { seen result ≡ room self.now.limits self.now.state thread.now class.now dimensions (map length_in lengths.now) }
     {
-        if dimensions == 0 {
+        if !has_dimensions(class.as_slice(), dimensions) {
             return never_seen();
         }
         let (arrays, elements) = counted(lengths);
@@ -134,7 +149,7 @@ impl<'p> Parts<'p> {
         if !are_ints(lengths) {
             return bad(BadCause::Kind);
         }
-        if !self.program.has_class(class.as_slice()) {
+        if !self.program().has_class(class.as_slice()) {
             return self.throws(thread, Thrown::NoClassDefFoundError);
         }
         if any_is_negative(lengths) {

@@ -8,6 +8,7 @@ ghost use Rattle.machine.specs.Decided.{is_held};
 ghost use Rattle.machine.specs.Machine.{with_state, after};
 ghost use Rattle.machine.specs.Ready.{HasReference};
 
+use crate::exceptions::thrown_number;
 use crate::parts::Parts;
 use jvms_machine::action::Exception;
 use jvms_machine::machine::ThreadId;
@@ -15,7 +16,7 @@ use std::alloc::AllocError;
 
 impl Parts<'_> {
     /// Makes the object of an exception, unless it is there, and gives its reference.
-    #[tactic(auto, using(crate::proofs::HeapLaws::heap_grows))]
+    #[tactic(auto, using(crate::proofs::HeapLaws::of_its_name))]
     fn throw(&mut self, exception: Exception) -> Result<u32, AllocError>
         requires { HasReference self.old.state }
         ensures reference { IfOk result (λ r. r ≡ exception_reference self.old.state exception) }
@@ -26,8 +27,9 @@ impl Parts<'_> {
         match exception {
             Exception::Held { reference } => Ok(reference),
             Exception::New(class) => {
-                let reference = self.object_count() as u32 + 1;
-                self.exceptions.push(class)?;
+                let reference = self.heap.count() as u32 + 1;
+                let number = thrown_number(self.program(), class);
+                self.heap.new_instance(number)?;
                 Ok(reference)
             }
         }

@@ -30,10 +30,10 @@ impl Parts<'_> {
         ensures key { IfOk result (λ key. key ≡ marked_key self.now.program method) }
         ensures none { marked_key self.now.program method ≡ None → IsOk result }
     {
-        if self.program.is_built_in(method.class) {
+        if self.program().is_built_in(method.class) {
             return Ok(None);
         }
-        self.program.key(method)
+        self.program().key(method)
     }
 
     /// The mark of a method's entry.

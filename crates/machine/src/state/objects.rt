@@ -3,70 +3,72 @@
 ghost use Rattle.std.specs.Prelude.{◌≡◌, length};
 ghost use Rattle.std.specs.Option.{option_map};
 ghost use Rattle.jvms_machine.specs.State.{monitor_at, text_reference, class_reference};
-ghost use Rattle.machine.specs.Views.{asked, class_at, field_of, length_of, element_of, units_of, named_by};
+ghost use Rattle.heap.specs.Objects.{asked, class_at, field_of, length_of, element_of, units_of, named_by};
 
 use crate::machine::Machine;
-use crate::state::FieldName;
 use jvms_machine::state::Hold;
 use jvms_machine::value::Value;
+use program::FieldName;
 
 impl Machine<'_> {
     /// How many references were ever made.
     pub fn object_count(&self) -> usize
         ensures { result ≡ length self.now.state.heap }
     {
-        self.parts.object_count()
+        self.parts.heap.count()
     }
 
     /// How many elements all arrays that were ever made have.
     pub fn element_count(&self) -> u32
         ensures { result ≡ self.now.state.elements }
     {
-        self.parts.element_count()
+        self.parts.heap.elements()
     }
 
     /// The class of the object of a reference.
     pub fn class_of(&self, reference: u32) -> Option<&[u16]>
         ensures { option_map (λ c. c.now) result ≡ class_at self.now.state.heap reference }
     {
-        self.parts.class_of(reference)
+        self.parts.heap.class_of(reference)
     }
 
     /// The value of an instance's field. There is none where the reference leads to no instance, or to one
     /// that has no such field.
     pub fn field(&self, reference: u32, key: &FieldName) -> Option<Value>
-        ensures { result ≡ asked (field_of key.now) self.now reference }
+        ensures { result ≡ asked (field_of key.now) self.now.state.heap reference }
     {
-        self.parts.field(reference, key)
+        self.parts.heap.field_named(reference, key)
     }
 
     /// How many elements an array has. There is no answer where the reference leads to no array.
     pub fn array_length(&self, reference: u32) -> Option<usize>
-        ensures { result ≡ asked length_of self.now reference }
+        ensures { result ≡ asked length_of self.now.state.heap reference }
     {
-        self.parts.array_length(reference)
+        self.parts.heap.array_length(reference)
     }
 
     /// The value of an array's element. There is none where the reference leads to no array, or the array
     /// ends before the index.
     pub fn element(&self, reference: u32, index: usize) -> Option<Value>
-        ensures { result ≡ asked (element_of index) self.now reference }
+        ensures { result ≡ asked (element_of index) self.now.state.heap reference }
     {
-        self.parts.element(reference, index)
+        self.parts.heap.element(reference, index)
     }
 
     /// The units of a string. There are none where the reference leads to no string.
     pub fn text(&self, reference: u32) -> Option<&[u16]>
-        ensures { option_map (λ units. units.now) result ≡ asked units_of self.now reference }
+        ensures { option_map (λ units. units.now) result ≡ asked units_of self.now.state.heap reference }
     {
-        self.parts.text(reference)
+        let units = self.parts.heap.units_of(reference)?;
+        Some(units.as_slice())
     }
 
     /// The name of the class whose class object the reference leads to, if it leads to one.
     pub fn class_object(&self, reference: u32) -> Option<&[u16]>
-        ensures { option_map (λ name. name.now) result ≡ asked named_by self.now reference }
+        ensures { option_map (λ name. name.now) result ≡ asked named_by self.now.state.heap reference }
     {
-        self.parts.class_object(reference)
+        let name = self.parts.heap.name_of(reference)?;
+        Some(name.as_slice())
     }
 
     /// How the monitor of an object is held. There is no answer where it is free, or the reference leads
@@ -81,13 +83,13 @@ impl Machine<'_> {
     pub fn text_reference(&self, units: &[u16]) -> Option<u32>
         ensures { result ≡ text_reference self.now.state.heap units.now }
     {
-        self.parts.text_reference(units)
+        self.parts.heap.text_reference(units)
     }
 
     /// The reference of the object of the class of this name, if one was made.
     pub fn class_reference(&self, name: &[u16]) -> Option<u32>
         ensures { result ≡ class_reference self.now.state.heap name.now }
     {
-        self.parts.class_reference(name)
+        self.parts.heap.class_reference(name)
     }
 }

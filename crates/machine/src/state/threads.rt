@@ -100,6 +100,6 @@ impl<'p> Machine<'p> {
         if !thread.has_ended() {
             return None;
         }
-        self.parts.class_of(thread.pending()?)
+        self.parts.heap.class_of(thread.pending()?)
     }
 }

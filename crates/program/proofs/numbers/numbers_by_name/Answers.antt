@@ -1,6 +1,6 @@
-use Rattle.std.proofs.Common.{◌≡◌, ◌+◌, ◌++◌, ◌∷◌, [], take, length, ap, sym, ◌∙◌, is_some, arith}
+use Rattle.std.proofs.Common.{◌≡◌, take, ap, sym, ◌∙◌, is_some, arith}
 use Rattle.std.proofs.lemmas.List.{length-take-le}
-use Rattle.program.specs.Numbers.{AreNumbersOf, number_at}
+use Rattle.program.specs.Numbers.{number_at}
 use Rattle.program.proofs.NumberLaws.{next_class, with_again, with_new}
 use Rattle.program.proofs.numbers.numbers_by_name.Goals as goal
 use Rattle.program.proofs.numbers.numbers_by_name.Goals.{then-not-contains_key+in_ok-from_slice+in_ok-insert, else-not-contains_key}

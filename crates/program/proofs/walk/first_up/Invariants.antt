@@ -1,13 +1,17 @@
-use Rattle.std.proofs.Common.{◌≡◌}
-use Rattle.jvms_program.specs.Resolution.{chain, chain_within, first_in}
+use Rattle.std.proofs.Common.{◌≡◌, length}
+use Rattle.jvms_program.specs.Resolution.{chain, first_in}
+use Rattle.program.specs.Chains.{classes_left}
 use Rattle.program.specs.Places.{placed}
 use Rattle.program.proofs.walk.first_up.Given as goal
 
-abbrev pub decreases-loop-most : goal.decreases-loop-most
-decreases-loop-most g l = l.most
+abbrev pub decreases-loop-number : goal.decreases-loop-number
+decreases-loop-number g l = length (classes_left l.up)
 
 -- what is left to search
-abbrev pub invariant-loop-most : goal.invariant-loop-most
-invariant-loop-most g l =
-    first_in (placed l.program (g.L.Look.gives l.look)) (chain l.program l.fn.name)
-    ≡ first_in (placed l.program (g.L.Look.gives l.look)) (chain_within l.most l.program l.name)
+abbrev pub invariant-loop-number : goal.invariant-loop-number
+invariant-loop-number g l = record {
+  left :
+      first_in (placed l.program (g.L.Look.gives l.look)) (chain l.program l.fn.name)
+      ≡ first_in (placed l.program (g.L.Look.gives l.look)) (classes_left l.up);
+  program : l.up.program.now ≡ l.program;
+}

@@ -1,6 +1,6 @@
-use Rattle.std.proofs.Common.{◌≡◌, ◌+◌, cond, length, None, Some, sym, ap, ◌∙◌, subst}
+use Rattle.std.specs.Option.{option_or}
+use Rattle.std.proofs.Common.{◌+◌, cond, length, None, Some, sym, ap, ◌∙◌, subst}
 use Rattle.jvms_file.specs.Names.{same_text}
-use Rattle.jvms_machine.specs.State.{class_reference}
 use Rattle.heap.specs.Held.{AreHeld, found}
 use Rattle.heap.proofs.MakingLaws.{class_added}
 use Rattle.heap.proofs.heap.Heap.new_class_object.Goals as goal
@@ -9,7 +9,7 @@ pub invariant_of-self-in-Ok : goal.invariant_of-self-in-Ok
 invariant_of-self-in-Ok c =
     subst (λ l. AreHeld c.self.inside.program.now l c.self.inside.texts c.put.new.self) (sym c.in_ok-push.ensures.items)
     (class_added c.self.inside.program.now c.self.inside.objects.items c.self.inside.texts c.self.inside.class_objects c.put.new.self c.args.name.now c.in_ok-share.field-0
-    c.self.invariant c.in_ok-share.ensures (subst (λ s. class_reference s.objects c.args.name.now ≡ None) (sym c.self.view_is) c.requires.new)
+    c.self.invariant c.in_ok-share.ensures
     (λ q.
-    c.in-Ok.ensures.ok q ∙ ap (λ u. cond (same_text u q) (Some (length c.as_slice.result.now + 1)) (found c.self.inside.class_objects q)) c.as_slice-2.ensures
-    ∙ ap (λ l. cond (same_text c.args.name.now q) (Some (length l + 1)) (found c.self.inside.class_objects q)) c.as_slice.ensures.value))
+    c.in-Ok.ensures.ok q ∙ ap (λ u. option_or (found c.self.inside.class_objects q) (cond (same_text u q) (Some (length c.as_slice.result.now + 1)) None)) c.as_slice-2.ensures
+    ∙ ap (λ l. option_or (found c.self.inside.class_objects q) (cond (same_text c.args.name.now q) (Some (length l + 1)) None)) c.as_slice.ensures.value))

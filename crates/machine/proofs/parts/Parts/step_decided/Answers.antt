@@ -1,8 +1,7 @@
-use Rattle.std.proofs.Common.{◌≡◌, IsTrue, sym, ap, ◌∙◌, subst}
+use Rattle.std.proofs.Common.{◌≡◌, sym, ap, ◌∙◌, subst}
 use Rattle.std.specs.Prelude.{true, false, IsOk, is_ok, Result, Err}
-use Rattle.jvms_machine.specs.Decisions.{TurnDecision}
 use Rattle.jvms_machine.specs.Turn.{items_after}
-use Rattle.machine.specs.Decided.{seen, makes_none}
+use Rattle.machine.specs.Decided.{seen, MakesNone}
 use Rattle.machine.specs.Machine.{decision_of}
 use Rattle.machine.proofs.Made.{needs_none}
 use Rattle.machine.proofs.parts.Parts.step_decided.Goals as goal
@@ -14,8 +13,8 @@ never_refused {A} {E} r e ok is = let refused : false ≡ true = sym (ap (λ (x 
 pub returns-in_err-make-clause-none : goal.returns-in_err-make-clause-none
 returns-in_err-make-clause-none c = λ takes.
     let m = c.args.self.now in
-    let needs = needs_none m c.args.t takes in
+    let needs = needs_none m c.args.t c.requires takes in
     let same : seen c.decide-what.result ≡ decision_of m c.args.t = c.decide-what.ensures in
     let ok : IsOk c.make.result =
-    c.make.ensures.none (subst (λ (d : TurnDecision). IsTrue (makes_none d)) (sym same) needs.0) (ap (items_after m.program c.args.t) same ∙ needs.1) in
+    c.make.ensures.none (subst (MakesNone m.state) (sym same) needs.0) (ap (items_after m.program c.args.t) same ∙ needs.1) in
     never_refused c.make.result _ ok c.in_err-make.was

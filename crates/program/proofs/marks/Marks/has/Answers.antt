@@ -1,4 +1,4 @@
-use Rattle.std.proofs.Common.{eqb, ap, ◌∙◌, sym}
+use Rattle.std.proofs.Common.{eqb, ap, ◌∙◌}
 use Rattle.std.specs.Int.{bit_at}
 use Rattle.std.specs.Prelude.{slice_get, unwrap_or, ◌/◌, ◌%◌}
 use Rattle.std.proofs.lemmas.Nat.Bits.{shr_and_one}

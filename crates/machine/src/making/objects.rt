@@ -1,0 +1,128 @@
+//! New objects (JVMS 6.5 new, newarray, anewarray, multianewarray, ldc).
+
+ghost use Rattle.std.specs.Prelude.{◌≡◌, ◌≤◌, IfOk, OnOk, OnErr, length, map, slice_get};
+ghost use Rattle.jvms_machine.specs.declared.action.NewObject.TheVariants as new_object;
+ghost use Rattle.jvms_machine.specs.declared.action.Effect.TheVariants as effects;
+ghost use Rattle.jvms_machine.specs.Actions.{operands_of, with_new};
+ghost use Rattle.jvms_machine.specs.Arrays.{counted_lengths, length_of_value as length_in};
+ghost use Rattle.jvms_machine.specs.Heap.{array_of_class as class_of_array};
+ghost use Rattle.jvms_machine.specs.Turn.{CanBeMade};
+ghost use Rattle.machine.specs.Decided.{seen_object, text_of};
+ghost use Rattle.machine.specs.Machine.{with_state};
+
+use crate::arrays::many::length_of_value;
+use crate::decision::ActionText;
+use crate::parts::Parts;
+use descriptor::is_array_name;
+use heap::Heap;
+use held::items::Items;
+use held::shared::{Shared, Text};
+use jvms_machine::action::NewObject;
+use jvms_machine::machine::ThreadId;
+use jvms_machine::value::Value;
+use std::alloc::{AllocError, Global};
+
+/// `[`
+const BRACKET: u16 = 91;
+
+/// `L`
+const CLASS_LETTER: u16 = 76;
+
+/// `;`
+const SEMICOLON: u16 = 59;
+
+/// The class of an array whose components are of the class of this name.
+fn array_of_class(alloc: Global, name: &[u16]) -> Result<Text, AllocError>
+    ensures { IfOk result (λ class. class ≡ class_of_array name.now) }
+{
+    let mut units = Vec::new(alloc);
+    units.push(BRACKET)?;
+    if is_array_name(name) {
+        units.extend_from_slice(name)?;
+    } else {
+        units.push(CLASS_LETTER)?;
+        units.extend_from_slice(name)?;
+        units.push(SEMICOLON)?;
+    }
+    Shared::new(alloc, Items::from_vec(units))
+}
+
+/// A text of an action.
+fn text(alloc: Global, heap: &Heap<'_>, text: ActionText<'_>) -> Result<Text, AllocError>
+    ensures { IfOk result (λ units. units ≡ text_of text.entry) }
+{
+    match text {
+        ActionText::Of(text) => text.share(),
+        ActionText::ArrayOfType(t) => heap.primitive_array_class(t).share(),
+        ActionText::ArrayOfClass(name) => array_of_class(alloc, name.as_slice()),
+    }
+}
+
+/// The lengths of arrays in each other, as operands tell them.
+fn lengths_of(alloc: Global, values: &[Value]) -> Result<Vec<u32>, AllocError>
+    ensures { IfOk result (λ lengths. lengths.items ≡ map length_in values.now) }
+{
+    let mut lengths = Vec::with_capacity(alloc, values.len())?;
+    for value in values {
+        lengths.push(length_of_value(*value) as u32)?;
+    }
+    Ok(lengths)
+}
+
+impl<'p> Parts<'p> {
+    /// The lengths that so many operands of the call on top tell.
+    fn lengths_taken(&self, t: ThreadId, dimensions: u8) -> Result<Vec<u32>, AllocError>
+        requires { dimensions ≤ length (operands_of (slice_get self.now.state.threads t)) }
+        ensures { IfOk result (λ lengths. lengths.items ≡ counted_lengths dimensions (operands_of (slice_get self.now.state.threads t))) }
+    {
+        match self.threads.as_slice().get(t as usize) {
+            None => Ok(Vec::new(self.alloc)),
+            Some(thread) => lengths_of(self.alloc, thread.arguments(usize::from(dimensions))),
+        }
+    }
+
+    /// An array and the arrays in it, whose lengths are so many operands.
+    #[tactic(auto, using(crate::proofs::Effects::are_dimensions))]
+    fn make_arrays(
+        &mut self,
+        t: ThreadId,
+        class: ActionText<'p>,
+        dimensions: u8,
+    ) -> Result<(), AllocError>
+        requires { CanBeMade self.old.state (operands_of (slice_get self.old.state.threads t)) (effects.Makes (seen_object (new_object.Arrays class dimensions))) }
+        ensures ok { OnOk result (self.new ≡ with_state self.old (with_new self.old.program self.old.state (operands_of (slice_get self.old.state.threads t)) (seen_object (new_object.Arrays class.entry dimensions)))) }
+        ensures err { OnErr result (self.new ≡ self.old) }
+    {
+        let class = text(self.alloc, &self.heap, class)?;
+        let lengths = self.lengths_taken(t, dimensions)?;
+        self.heap.new_arrays(&class, lengths.as_slice())
+    }
+
+    /// A new object, with its parts. Without memory nothing changes.
+    pub(super) fn make_object(
+        &mut self,
+        t: ThreadId,
+        what: NewObject<ActionText<'p>>,
+    ) -> Result<(), AllocError>
+        requires { CanBeMade self.old.state (operands_of (slice_get self.old.state.threads t)) (effects.Makes (seen_object what)) }
+        ensures ok { OnOk result (self.new ≡ with_state self.old (with_new self.old.program self.old.state (operands_of (slice_get self.old.state.threads t)) (seen_object what.entry))) }
+        ensures err { OnErr result (self.new ≡ self.old) }
+    {
+        match what {
+            NewObject::Instance { class } => self.heap.new_instance(class),
+            NewObject::Array { class, length } => {
+                let class = text(self.alloc, &self.heap, class)?;
+                self.heap.new_array(&class, length)
+            }
+            NewObject::Arrays { class, dimensions } => self.make_arrays(t, class, dimensions),
+            NewObject::Text { units } => {
+                let units = text(self.alloc, &self.heap, units)?;
+                self.heap.new_text(&units)
+            }
+            NewObject::ClassObject { name } => {
+                let name = text(self.alloc, &self.heap, name)?;
+                self.heap.new_class_object(&name)
+            }
+        }
+    }
+}
