@@ -77,7 +77,7 @@ module _ (program : List Class) (limits : Limits) (start : Start) (s : State) (t
   object_by r None rest e keeps = rw (← e) (still t stands.sound)
   object_by r (Some o) rest e keeps = rw (← e) (keeps r o (sym e))
 
-  with_object_keeps : (v : Value) (rest : ℕ → Object → TurnDecision) → ((q : ℕ) (p : Object) → object_at s.heap q ≡ Some p → KeepsSound (rest q p)) → KeepsSound (with_object_of limits s thread v rest)
+  pub with_object_keeps : (v : Value) (rest : ℕ → Object → TurnDecision) → ((q : ℕ) (p : Object) → object_at s.heap q ≡ Some p → KeepsSound (rest q p)) → KeepsSound (with_object_of limits s thread v rest)
   with_object_keeps (value.Reference r) rest keeps = object_by r (object_at s.heap r) rest refl keeps
   with_object_keeps value.Null rest keeps = throws_keeps start stands thrown.NullPointerException
   with_object_keeps _ rest keeps = still t stands.sound

@@ -55,7 +55,7 @@ argument_is_value heap opened (value.Reference r) is = (is.0, omega arith)
 argument_is_value heap opened _ is = tt
 
 -- A call that is entered with arguments that its locals have room for is a frame, where it enters no monitor.
-entered_is_frame : (program : List Class) (heap : List Object) (method : MethodNumber) (body : Body) (arguments : List Value) → length arguments ≤ body.max_locals → AllByRecursion (IsValue heap) arguments → body_at program method ≡ Some body → is_synchronized_at program method ≡ false → IsFrame program heap (stack_frame.Call (entered method body arguments))
+pub entered_is_frame : (program : List Class) (heap : List Object) (method : MethodNumber) (body : Body) (arguments : List Value) → length arguments ≤ body.max_locals → AllByRecursion (IsValue heap) arguments → body_at program method ≡ Some body → is_synchronized_at program method ≡ false → IsFrame program heap (stack_frame.Call (entered method body arguments))
 entered_is_frame program heap method body arguments few values body_is plain =
     let unset : List Value = replicate (body.max_locals - length arguments) value.Unset in
     let as_many : length (arguments ++ unset) ≡ body.max_locals = omega (arith, length-append arguments unset, length-replicate (body.max_locals - length arguments) value.Unset) in
@@ -70,7 +70,7 @@ flag_of : (program : List Class) (method : MethodNumber) (m : Method) → method
 flag_of program method m m_is plain = ap (λ o. unwrap_or (option_map (λ (n : Method). n.flags.is_synchronized) o) false) m_is ∙ plain
 
 -- Its caller, without the operands that it took, is a frame.
-given_is_frame : (program : List Class) (heap : List Object) (takes : ℕ) (frame : MethodFrame) → IsFrame program heap (stack_frame.Call frame) → IsFrame program heap (stack_frame.Call (given takes frame))
+pub given_is_frame : (program : List Class) (heap : List Object) (takes : ℕ) (frame : MethodFrame) → IsFrame program heap (stack_frame.Call frame) → IsFrame program heap (stack_frame.Call (given takes frame))
 given_is_frame program heap takes frame is =
     let few : length frame.activation.operands ≤ frame.body.max_stack = is.1.1 in
     (is.0, (is.1.0, omega (arith, length-drop takes frame.activation.operands)), is.2, all_drop (IsValue heap) takes frame.activation.operands is.3, is.4, is.5)

@@ -26,12 +26,12 @@ use Rattle.jvms_machine.proofs.KeptStates.{Keeps}
 -- ---- What is thrown
 
 -- An object of a class that fits Throwable is one.
-throwable_by : (program : List Class) (heap : List Object) (r : ℕ) (o : Object) → object_at heap r ≡ Some o → IsTrue (fits program (class_of o) (codes "java/lang/Throwable")) → (0 < r) × (r ≤ length heap) → IsThrowable program heap r
+pub throwable_by : (program : List Class) (heap : List Object) (r : ℕ) (o : Object) → object_at heap r ≡ Some o → IsTrue (fits program (class_of o) (codes "java/lang/Throwable")) → (0 < r) × (r ≤ length heap) → IsThrowable program heap r
 throwable_by program heap r o at is reference =
     (subst (λ p. IfSome p (λ (q : Object). IsTrue (fits program (class_of q) (codes "java/lang/Throwable")))) (sym at) is, reference)
 
 -- There is room for an object that is made; one that is there is a Throwable.
-abbrev IsThrown : List Class → Limits → State → Exception → Type 0
+abbrev pub IsThrown : List Class → Limits → State → Exception → Type 0
 IsThrown program limits s (exception.New class) = length s.heap + 1 ≤ limits.objects
 IsThrown program limits s (exception.Held r) = IsProgram program → IsThrowable program s.heap r
 
@@ -47,7 +47,7 @@ overflow_is_thrown program limits s sound = λ is.
     let opened = sound.opened in
     throwable_by program s.heap 2 (instance (codes "java/lang/StackOverflowError") sound.stack_overflow.0) sound.stack_overflow.1 (thrown_fits program thrown.StackOverflowError is) (omega arith, omega arith)
 
-exception_is_thrown : (program : List Class) (limits : Limits) (s : State) → Sound program limits s → (class : Thrown) → IsThrown program limits s (exception_of limits s class)
+pub exception_is_thrown : (program : List Class) (limits : Limits) (s : State) → Sound program limits s → (class : Thrown) → IsThrown program limits s (exception_of limits s class)
 exception_is_thrown program limits s sound thrown.OutOfMemoryError = memory_is_thrown program limits s sound
 exception_is_thrown program limits s sound thrown.StackOverflowError = overflow_is_thrown program limits s sound
 exception_is_thrown program limits s sound class =
@@ -61,27 +61,37 @@ new_is_throwable program heap class is =
     let longer = grown_length heap (new ∷ []) in
     throwable_by program (heap ++ new ∷ []) (length heap + 1) new (rw add-one (appended_at heap new)) (thrown_fits program class is) (omega arith, omega arith)
 
+-- What is thrown is a Throwable, in the state with its object.
+pub exception_is_throwable : (program : List Class) (limits : Limits) (s : State) (e : Exception) → IsThrown program limits s e → IsProgram program → IsThrowable program (with_exception program s e).heap (exception_reference s e)
+exception_is_throwable program limits s (exception.New class) room is = new_is_throwable program s.heap class is
+exception_is_throwable program limits s (exception.Held r) throwable is = throwable is
+
 -- ---- Its thread
+
+-- The thread stands as it stood, in the state with the object of what is thrown.
+pub stands_with_exception : {program : List Class} {limits : Limits} {s : State} {t : ℕ} {thread : Thread} {frames : List Frame} → Stands program limits s t thread frames → (e : Exception) → IsThrown program limits s e → Stands program limits (with_exception program s e) t thread frames
+stands_with_exception {program = program} {limits = limits} {s = s} stands (exception.New class) room =
+    let new = first_instance program (thrown_class class) in
+    let grown : State = record s { heap = s.heap ++ new ∷ [] } in
+    let grown_sound : Sound program limits grown = appended_is_sound stands.sound (new ∷ []) s.elements (first_instance_is program (s.heap ++ new ∷ []) (thrown_class class), tt) room stands.sound.elements in
+    record { sound = grown_sound; given_out = stands.given_out; frames_are = stands.frames_are }
+stands_with_exception stands (exception.Held r) throwable = stands
 
 -- A thread with an exception pending, which may have ended with it.
 abbrev struck : (Bool → Bool) → ℕ → Thread → Thread
 struck finish r thread = record thread { pending = Some r; ended = finish thread.ended }
 
 module _ (program : List Class) (limits : Limits) (t : ℕ) (thread : Thread) (frames : List Frame) (finish : Bool → Bool) where
-  struck_is_sound : (s : State) → Stands program limits s t thread frames → (r : ℕ) → IsThrowable program s.heap r → Sound program limits (with_changed s t (struck finish r))
-  struck_is_sound s stands r is =
+  raised_is_sound : (s : State) → Stands program limits s t thread frames → (r : ℕ) → IsThrowable program s.heap r → Sound program limits (with_changed s t (struck finish r))
+  raised_is_sound s stands r is =
       let was = thread_is stands in
       changed_is_sound stands (struck finish r) s.initialisations s.result refl (was.0, was.1, was.2, is, was.4) refl
       (order_with_thread s.threads s.initialisations t thread (struck finish r thread) stands.given_out stands.sound.initialised (λ c. refl))
       stands.sound.result
 
   thrown_is_sound : (s : State) → Stands program limits s t thread frames → (e : Exception) → IsThrown program limits s e → IsProgram program → Sound program limits (with_changed (with_exception program s e) t (struck finish (exception_reference s e)))
-  thrown_is_sound s stands (exception.New class) room is =
-      let new = first_instance program (thrown_class class) in
-      let grown : State = record s { heap = s.heap ++ new ∷ [] } in
-      let grown_sound : Sound program limits grown = appended_is_sound stands.sound (new ∷ []) s.elements (first_instance_is program (s.heap ++ new ∷ []) (thrown_class class), tt) room stands.sound.elements in
-      struck_is_sound grown (record { sound = grown_sound; given_out = stands.given_out; frames_are = stands.frames_are }) (length s.heap + 1) (new_is_throwable program s.heap class is)
-  thrown_is_sound s stands (exception.Held r) throwable is = struck_is_sound s stands r (throwable is)
+  thrown_is_sound s stands e thrown is =
+      raised_is_sound (with_exception program s e) (stands_with_exception stands e thrown) (exception_reference s e) (exception_is_throwable program limits s e thrown is)
 
   -- It has the calls that it had.
   thrown_calls : (s : State) → Stands program limits s t thread frames → (e : Exception) (r : ℕ) → calls_of (with_changed (with_exception program s e) t (struck finish r)) t ≡ calls_of s t

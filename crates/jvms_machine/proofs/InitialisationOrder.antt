@@ -115,12 +115,12 @@ module _ (threads : List Thread) (initialisations : List Initialisation) (t : �
       (ap (count_by (is_initialisation_of class)) pushed ∙ count_own_class class false thread.frames ∙ ap (λ k. 1 + k) none ∙ sym (own_progress t))
       (λ u other. sym (only_progress t u other))
 
-  -- A class that is done keeps the order: its frame is popped, and it is in progress no more.
-  pub order_done : (class : ℕ) (called : Bool) → thread.frames ≡ stack_frame.Initialisation class called ∷ after.frames → IsInitialisedInOrder (slice_set threads t after) (slice_set initialisations class Done)
-  order_done class called popped =
+  -- A class that is done or erroneous keeps the order: its frame is popped, and it is in progress by no thread.
+  pub order_over : (class : ℕ) (called : Bool) (now : Initialisation) → ((u : ℕ) → frames_in_progress u (Some now) ≡ 0) → thread.frames ≡ stack_frame.Initialisation class called ∷ after.frames → IsInitialisedInOrder (slice_set threads t after) (slice_set initialisations class now)
+  order_over class called now over popped =
       let progress = progress_of t (slice_get initialisations class) (count_by (is_initialisation_of class) after.frames)
       (sym (count_own_class class called after.frames) ∙ sym (ap (count_by (is_initialisation_of class)) popped) ∙ frames_before class) in
-      order_with_class class (InProgress t) Done progress.1
+      order_with_class class (InProgress t) now progress.1
       (λ c other. sym (count_other_class c class called after.frames other) ∙ sym (ap (count_by (is_initialisation_of c)) popped))
-      progress.0
-      (λ u other. only_progress t u other)
+      (progress.0 ∙ sym (over t))
+      (λ u other. only_progress t u other ∙ sym (over u))

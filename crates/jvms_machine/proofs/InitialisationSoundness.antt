@@ -1,11 +1,10 @@
--- A turn that asks for the initialisation of a class, or goes on with one, leaves a sound state sound.
-use Rattle.std.proofs.Common.{◌≡◌, ℕ, ◌+◌, ◌<◌, ◌≤◌, Bool, true, false, not, ◌==◌, nat_le, leb-false, List, ◌∷◌, length, Option, Some, None, slice_get, slice_set, drop, refl, sym, ap, ◌∙◌, arith, length-set}
+-- A turn that asks for the initialisation of a class leaves a sound state sound.
+use Rattle.std.proofs.Common.{◌≡◌, ℕ, ◌+◌, ◌<◌, ◌≤◌, false, not, ◌==◌, nat_le, leb-false, List, length, Option, Some, None, slice_get, slice_set, refl, sym, ap, ◌∙◌, arith, length-set}
 use Rattle.std.proofs.lemmas.Bool.{cond_both, not-false}
 use Rattle.std.proofs.lemmas.Option.{slice_get_within}
 use Rattle.jvms_machine.specs.declared.machine.Limits.{Limits}
 use Rattle.jvms_machine.specs.declared.state.Initialisation.{Initialisation}
 use Rattle.jvms_machine.specs.declared.state.Initialisation.TheVariants as initialisation
-use Rattle.jvms_machine.specs.declared.state.StackFrame.TheVariants as stack_frame
 use Rattle.jvms_machine.specs.declared.action.Action.TheVariants as action
 use Rattle.jvms_machine.specs.declared.action.Decision.TheVariants as decision
 use Rattle.jvms_program.specs.declared.program.Class.{Class}
@@ -14,14 +13,14 @@ use Rattle.jvms_machine.specs.Decisions.{TurnDecision}
 use Rattle.jvms_machine.specs.State.{State, Thread, Frame, Sound}
 use Rattle.jvms_machine.specs.Exceptions.{has_room_for}
 use Rattle.jvms_machine.specs.Start.{Start}
-use Rattle.jvms_machine.specs.Initialisation.{constants_of, new_texts, begin_decision, asking_at, asking, has_initializer, asked_superclass, initializer_decision, superclass_decision, initialisation_decision}
-use Rattle.jvms_machine.specs.Actions.{with_changed, with_class_constants, with_initialisation, begun, popped, applied_to, items_of}
-use Rattle.jvms_machine.specs.Marks.{calls, calls_in, calls_of}
+use Rattle.jvms_machine.specs.Initialisation.{constants_of, new_texts, begin_decision, asking_at, asking}
+use Rattle.jvms_machine.specs.Actions.{with_changed, with_class_constants, with_initialisation, begun, applied_to, items_of}
+use Rattle.jvms_machine.specs.Marks.{calls_in, calls_of}
 use Rattle.jvms_machine.proofs.LimitLaws.{room_is}
 use Rattle.jvms_machine.proofs.ConstantSoundness.{class_constants_are_sound}
-use Rattle.jvms_machine.proofs.InitialisationOrder.{order_begun, order_done}
+use Rattle.jvms_machine.proofs.InitialisationOrder.{order_begun}
 use Rattle.jvms_machine.proofs.MarkLaws.{unmarked_by, changed_calls}
-use Rattle.jvms_machine.proofs.ThreadChanges.{Stands, thread_is, frames_are_stack, thread_with_frames, changed_is_sound, stack_below, stack_begun}
+use Rattle.jvms_machine.proofs.ThreadChanges.{Stands, thread_is, changed_is_sound, stack_begun}
 use Rattle.jvms_machine.proofs.KeptStates.{Keeps, still}
 use Rattle.jvms_machine.proofs.ExceptionSoundness.{throws_keeps}
 
@@ -77,33 +76,3 @@ module _ (program : List Class) (limits : Limits) (start : Start) (s : State) (t
   -- A turn that asks for the initialisation of a class.
   pub asking_keeps : {frames : List Frame} → HasFrames frames → (class : ℕ) (go_on : TurnDecision) → KeepsSound go_on → KeepsSound (asking program limits s t thread class go_on)
   asking_keeps stands class go_on keeps = asking_at_keeps stands class (slice_get s.initialisations class) go_on refl keeps
-
-  -- ---- An initialisation frame is on top
-
-  -- A class that is done.
-  finishes_keeps : (class : ℕ) (called : Bool) (below : List Frame) → HasFrames (stack_frame.Initialisation class called ∷ below) → KeepsSound (decision.Makes (action.Finishes class))
-  unfolding applied_to items_of
-  finishes_keeps class called below stands =
-      let frames = frames_are_stack stands in
-      let below_is : (popped thread).frames ≡ below = ap (λ (fs : List Frame). drop 1 fs) stands.frames_are in
-      let fits : length below ≤ limits.frames = omega arith in (
-        (λ _. changed_is_sound stands popped (slice_set s.initialisations class initialisation.Done) s.result refl
-            (thread_with_frames stands (popped thread) below below_is refl refl frames.0.1 (stack_below program (stack_frame.Initialisation class called) below frames.1) fits)
-            (length-set s.initialisations class initialisation.Done)
-            (order_done s.threads s.initialisations t thread (popped thread) stands.given_out stands.sound.initialised class called
-            (stands.frames_are ∙ ap (λ (fs : List Frame). stack_frame.Initialisation class called ∷ fs) (sym below_is)))
-            stands.sound.result),
-        (λ _ _. tt),
-        unmarked_by program t (calls_of s t) _ (changed_calls s.threads t thread popped stands.given_out ∙ ap (λ (fs : List Frame). calls (drop 1 fs)) stands.frames_are ∙ sym (ap calls stands.frames_are) ∙ sym (ap calls_in stands.given_out)),
-      )
-
-  superclass_keeps : {frames : List Frame} → HasFrames frames → (o : Option ℕ) (go_on : TurnDecision) → KeepsSound go_on → KeepsSound (superclass_decision program limits s t thread o go_on)
-  superclass_keeps stands None go_on keeps = keeps
-  superclass_keeps stands (Some super) go_on keeps = asking_keeps stands super go_on keeps
-
-  pub initialisation_keeps : (class : ℕ) (called : Bool) (below : List Frame) (o : Option Class) → HasFrames (stack_frame.Initialisation class called ∷ below) → KeepsSound (initialisation_decision program limits s t thread class called o)
-  initialisation_keeps class called below None stands = still t stands.sound
-  initialisation_keeps class true below (Some c) stands = finishes_keeps class true below stands
-  initialisation_keeps class false below (Some c) stands =
-      superclass_keeps stands (asked_superclass program c) (initializer_decision c class)
-      (cond_both (has_initializer c) _ _ KeepsSound (λ _. still t stands.sound) (λ _. finishes_keeps class false below stands))

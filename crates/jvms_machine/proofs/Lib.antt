@@ -11,6 +11,7 @@ pub mod HeapGrowth
 pub mod HeldValues
 pub mod InitialisationOrder
 pub mod InitialisationSoundness
+pub mod InitializerSoundness
 pub mod KeptStates
 pub mod LimitLaws
 pub mod ListLaws
@@ -28,3 +29,5 @@ pub mod ThreadChanges
 pub mod ThrowableClasses
 pub mod TurnSoundness
 pub mod UnmadeTurns
+pub mod UnwindingSoundness
+pub mod UnwoundTurns

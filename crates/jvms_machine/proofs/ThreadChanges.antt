@@ -74,16 +74,24 @@ module _ {program : List Class} {limits : Limits} {s : State} {t : ℕ} {thread 
       let is = thread_is stands in
       subst (λ (fs : List Frame). AllByRecursion (IsFrame program s.heap) fs × IsStack program fs × (length fs ≤ limits.frames)) stands.frames_are (is.0, is.1, is.2)
 
-  -- It stays a thread with other frames that are such.
+  -- What is pending in it is a Throwable.
+  pub pending_is : Stands program limits s t thread frames → (r : ℕ) → thread.pending ≡ Some r → IsThrowable program s.heap r
+  pending_is stands r is = subst (λ o. IfSome o (IsThrowable program s.heap)) is (thread_is stands).3
+
+  -- It stays a thread with other frames that are such, and another pending exception that is one.
+  pub thread_with : Stands program limits s t thread frames → (after : Thread) (now : List Frame) → after.frames ≡ now → IfSome after.pending (IsThrowable program s.heap) → after.object ≡ thread.object → AllByRecursion (IsFrame program s.heap) now → IsStack program now → length now ≤ limits.frames → IsThread program limits s.heap after
+  thread_with stands after now are pending object all stack few = (
+    subst (AllByRecursion (IsFrame program s.heap)) (sym are) all,
+    subst (IsStack program) (sym are) stack,
+    subst (λ (fs : List Frame). length fs ≤ limits.frames) (sym are) few,
+    pending,
+    subst (λ o. IfSome o (IsReference s.heap)) (sym object) (thread_is stands).4,
+  )
+
+  -- The same with what was pending.
   pub thread_with_frames : Stands program limits s t thread frames → (after : Thread) (now : List Frame) → after.frames ≡ now → after.pending ≡ thread.pending → after.object ≡ thread.object → AllByRecursion (IsFrame program s.heap) now → IsStack program now → length now ≤ limits.frames → IsThread program limits s.heap after
   thread_with_frames stands after now are pending object all stack few =
-      let was = thread_is stands in (
-        subst (AllByRecursion (IsFrame program s.heap)) (sym are) all,
-        subst (IsStack program) (sym are) stack,
-        subst (λ (fs : List Frame). length fs ≤ limits.frames) (sym are) few,
-        subst (λ o. IfSome o (IsThrowable program s.heap)) (sym pending) was.3,
-        subst (λ o. IfSome o (IsReference s.heap)) (sym object) was.4,
-      )
+      thread_with stands after now are (subst (λ o. IfSome o (IsThrowable program s.heap)) (sym pending) (thread_is stands).3) object all stack few
 
   -- The state stays sound with thread t changed to another of the same Thread object, with classes in order with
   -- it, and with a result that is a value.
@@ -112,10 +120,16 @@ module _ {program : List Class} {limits : Limits} {s : State} {t : ℕ} {thread 
         thread_count = subst (λ n. n ≤ limits.threads) (sym as_many) sound.thread_count;
       })
 
-  -- The same with other frames that are such, and as many initialisation frames of each class.
-  pub moved_is_sound : Stands program limits s t thread frames → (change : Thread → Thread) (now : List Frame) → (change thread).frames ≡ now → (change thread).pending ≡ thread.pending → (change thread).object ≡ thread.object → AllByRecursion (IsFrame program s.heap) now → IsStack program now → length now ≤ limits.frames → ((c : ℕ) → count_by (is_initialisation_of c) now ≡ count_by (is_initialisation_of c) frames) → Sound program limits (record s { threads = changed_to s.threads t change (slice_get s.threads t) })
-  moved_is_sound stands change now are pending object all stack few same =
-      changed_is_sound stands change s.initialisations s.result object (thread_with_frames stands (change thread) now are pending object all stack few) refl
+  -- The same with other frames that are such, with another pending exception that is one, and with as many initialisation
+  -- frames of each class.
+  pub struck_is_sound : Stands program limits s t thread frames → (change : Thread → Thread) (now : List Frame) → (change thread).frames ≡ now → IfSome (change thread).pending (IsThrowable program s.heap) → (change thread).object ≡ thread.object → AllByRecursion (IsFrame program s.heap) now → IsStack program now → length now ≤ limits.frames → ((c : ℕ) → count_by (is_initialisation_of c) now ≡ count_by (is_initialisation_of c) frames) → Sound program limits (record s { threads = changed_to s.threads t change (slice_get s.threads t) })
+  struck_is_sound stands change now are pending object all stack few same =
+      changed_is_sound stands change s.initialisations s.result object (thread_with stands (change thread) now are pending object all stack few) refl
       (order_with_thread s.threads s.initialisations t thread (change thread) stands.given_out stands.sound.initialised
       (λ c. ap (count_by (is_initialisation_of c)) are ∙ same c ∙ sym (ap (count_by (is_initialisation_of c)) stands.frames_are)))
       stands.sound.result
+
+  -- The same with what was pending.
+  pub moved_is_sound : Stands program limits s t thread frames → (change : Thread → Thread) (now : List Frame) → (change thread).frames ≡ now → (change thread).pending ≡ thread.pending → (change thread).object ≡ thread.object → AllByRecursion (IsFrame program s.heap) now → IsStack program now → length now ≤ limits.frames → ((c : ℕ) → count_by (is_initialisation_of c) now ≡ count_by (is_initialisation_of c) frames) → Sound program limits (record s { threads = changed_to s.threads t change (slice_get s.threads t) })
+  moved_is_sound stands change now are pending object all stack few same =
+      struck_is_sound stands change now are (subst (λ o. IfSome o (IsThrowable program s.heap)) (sym pending) (thread_is stands).3) object all stack few same

@@ -8,6 +8,7 @@ use Rattle.jvms_machine.specs.declared.action.FrameDecision.{FrameDecision}
 use Rattle.jvms_machine.specs.declared.action.FrameDecision.TheVariants as frame_decided
 use Rattle.jvms_machine.specs.declared.action.Action.TheVariants as action
 use Rattle.jvms_machine.specs.declared.action.Decision.TheVariants as decision
+use Rattle.jvms_file.specs.declared.insn.ObjectInsn.TheVariants as object_insn
 use Rattle.jvms_file.specs.declared.insn.Simple.TheVariants as simple
 use Rattle.jvms_program.specs.declared.program.Class.{Class}
 use Rattle.jvms_program.specs.declared.program.Instruction.{Instruction}
@@ -27,9 +28,10 @@ use Rattle.jvms_machine.proofs.MarkLaws.{unmarked_by, changed_calls, gone_on_cal
 use Rattle.jvms_machine.proofs.ThreadChanges.{Stands}
 use Rattle.jvms_machine.proofs.KeptStates.{Keeps, still}
 use Rattle.jvms_machine.proofs.ExceptionSoundness.{throws_keeps}
-use Rattle.jvms_machine.proofs.InitialisationSoundness.{initialisation_keeps}
+use Rattle.jvms_machine.proofs.InitializerSoundness.{initialisation_keeps}
 use Rattle.jvms_machine.proofs.CallSoundness.{first_call_keeps, invoke_keeps}
 use Rattle.jvms_machine.proofs.ReturnSoundness.{method_return_keeps}
+use Rattle.jvms_machine.proofs.UnwindingSoundness.{throw_keeps, unwinding_keeps}
 use Rattle.jvms_machine.proofs.EffectSoundness.{frame_is_fit, gone_on_is_sound}
 use Rattle.jvms_machine.proofs.FieldSoundness.{field_keeps}
 use Rattle.jvms_machine.proofs.ArraySoundness.{array_keeps, new_arrays_keeps}
@@ -65,6 +67,7 @@ module _ (program : List Class) (limits : Limits) (start : Start) (s : State) (t
     reaching_keeps frame below (instruction.Field how r) stands at = field_keeps program limits start s t thread frame below stands how r
     reaching_keeps frame below (instruction.Class how name) stands at = class_keeps program limits start s t thread frame below stands how name
     reaching_keeps frame below (instruction.MultiNewArray name dimensions) stands at = new_arrays_keeps program limits start s t thread frame below stands name dimensions
+    reaching_keeps frame below (instruction.Simple (simple.Object object_insn.Throw)) stands at = throw_keeps program limits start s t thread frame below stands
     reaching_keeps frame below _ stands at = still t stands.sound
 
     instruction_keeps : (frame : MethodFrame) (below : List Frame) (i : Instruction) (d : FrameDecision) → HasFrames (stack_frame.Call frame ∷ below) → instruction_at frame ≡ Some i → top_step thread.frames ≡ d → frame_soundness.Keeps s.heap frame.body frame.activation d → KeepsSound (instruction_decision program limits s t thread frame below i d)
@@ -83,16 +86,16 @@ module _ (program : List Class) (limits : Limits) (start : Start) (s : State) (t
 
     stack_keeps : (frames : List Frame) → IsStart start → HasFrames frames → KeepsSound (frames_decision program limits start s t thread frames)
     stack_keeps [] starts stands = first_call_keeps program limits start s t thread stands starts
-    stack_keeps (stack_frame.Initialisation class called ∷ below) starts stands = initialisation_keeps program limits start s t thread class called below (slice_get program class) stands
+    stack_keeps (stack_frame.Initialisation class called ∷ below) starts stands = initialisation_keeps program limits start s t thread class called below (slice_get program class) stands refl
     stack_keeps (stack_frame.Call frame ∷ below) starts stands = frame_turn_keeps frame below (instruction_at frame) stands refl
 
-    live_keeps : (pending : Option ℕ) → IsStart start → HasFrames thread.frames → KeepsSound (live_decision program limits start s t thread pending)
-    live_keeps (Some exception) starts stands = still t stands.sound
-    live_keeps None starts stands = stack_keeps thread.frames starts stands
+    live_keeps : (pending : Option ℕ) → IsStart start → HasFrames thread.frames → thread.pending ≡ pending → KeepsSound (live_decision program limits start s t thread pending)
+    live_keeps (Some exception) starts stands is = unwinding_keeps program limits start s t thread exception stands is
+    live_keeps None starts stands is = stack_keeps thread.frames starts stands
 
     given_out_keeps : (has_ended : Bool) → IsStart start → HasFrames thread.frames → KeepsSound (given_out_decision program limits start s t thread has_ended)
     given_out_keeps true starts stands = still t stands.sound
-    given_out_keeps false starts stands = live_keeps thread.pending starts stands
+    given_out_keeps false starts stands = live_keeps thread.pending starts stands refl
 
   thread_keeps : (o : Option Thread) → IsStart start → Sound program limits s → slice_get s.threads t ≡ o → KeepsSound (thread_decision program limits start s t o)
   thread_keeps None starts sound is = still t sound

@@ -1,17 +1,22 @@
 -- The turn of a thread that isn't enabled changes nothing: what is made is enabled.
-use Rattle.std.proofs.Common.{◌≡◌, ℕ, true, false, List, [], refl}
+use Rattle.std.proofs.Common.{◌≡◌, ℕ, Bool, true, false, List, [], refl}
 use Rattle.jvms_machine.specs.declared.machine.Limits.{Limits}
 use Rattle.jvms_program.specs.declared.program.Class.{Class}
 use Rattle.jvms_machine.specs.declared.action.Action.TheVariants as action
 use Rattle.jvms_machine.specs.declared.action.Decision.TheVariants as decision
 use Rattle.jvms_machine.specs.State.{State}
 use Rattle.jvms_machine.specs.Start.{Start}
-use Rattle.jvms_machine.specs.Decisions.{TurnAction, TurnDecision, outcome_of, outcome_of_action}
+use Rattle.jvms_machine.specs.Decisions.{TurnAction, TurnDecision, unwound_outcome, outcome_of, outcome_of_action}
 use Rattle.jvms_machine.specs.Turn.{decide, turn, state_after, items_after}
 use Rattle.jvms_machine.specs.Status.{is_enabled}
 
+-- The turn that pops a frame is one of an enabled thread.
+unwound_is_enabled : (last : Bool) → is_enabled (unwound_outcome last) ≡ true
+unwound_is_enabled true = refl
+unwound_is_enabled false = refl
+
 -- What is made is the turn of an enabled thread.
-action_is_enabled : (act : TurnAction) → is_enabled (outcome_of_action act) ≡ true
+pub action_is_enabled : (act : TurnAction) → is_enabled (outcome_of_action act) ≡ true
 action_is_enabled (action.Goes act) = refl
 action_is_enabled (action.Reaches effect act) = refl
 action_is_enabled (action.Begins class) = refl
@@ -20,6 +25,11 @@ action_is_enabled (action.Enters method code) = refl
 action_is_enabled (action.Ends method result) = refl
 action_is_enabled (action.Calls method code takes) = refl
 action_is_enabled (action.Returns method result) = refl
+action_is_enabled (action.Initialises method code) = refl
+action_is_enabled (action.Throws r) = refl
+action_is_enabled (action.Catches r target) = refl
+action_is_enabled (action.Unwinds method last) = unwound_is_enabled last
+action_is_enabled (action.FailsInitialisation class e last) = unwound_is_enabled last
 action_is_enabled (action.Raises e) = refl
 action_is_enabled (action.Fails e) = refl
 

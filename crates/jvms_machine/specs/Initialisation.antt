@@ -11,6 +11,7 @@ use Rattle.jvms_program.specs.declared.program.Field.{Field}
 use Rattle.jvms_program.specs.declared.program.Loadable.{Loadable}
 use Rattle.jvms_program.specs.declared.program.Loadable.TheVariants as loadable
 use Rattle.jvms_program.specs.declared.program.Body.{Body}
+use Rattle.jvms_program.specs.declared.number.MethodNumber.{MethodNumber}
 use Rattle.jvms_program.specs.declared.thrown.Thrown.TheVariants as thrown
 use Rattle.jvms_machine.specs.declared.action.Decision.{Decision}
 use Rattle.jvms_machine.specs.declared.action.Decision.TheVariants as decision
@@ -67,17 +68,27 @@ asking program limits s t thread class go_on =
 
 -- ---- An initialisation frame is on top
 
-abbrev pub has_initializer : Class → Bool
-has_initializer c = is_some (declared_number c (codes "<clinit>") (codes "()V"))
+-- The number of a class's <clinit>()V among its methods.
+abbrev pub initializer_of : Class → Option ℕ
+initializer_of c = declared_number c (codes "<clinit>") (codes "()V")
 
 -- The number of the superclass that is asked for: an interface asks for none.
 abbrev pub asked_superclass : List Class → Class → Option ℕ
 asked_superclass program c =
     if is_interface_kind c.kind then None else option_and_then (class_number program) c.superclass
 
--- Where no superclass is left to wait for: a <clinit>()V is called, which is yet to come, or the class is done.
-abbrev pub initializer_decision : Class → ℕ → TurnDecision
-initializer_decision c class = if has_initializer c then decision.Later else decision.Makes (action.Finishes class)
+-- The <clinit>()V of a class is called, where there is room for a frame. Its flags aren't asked (own).
+abbrev pub initializer_call : Limits → State → Thread → MethodNumber → Option Body → TurnDecision
+initializer_call limits s thread method None = never_seen
+initializer_call limits s thread method (Some body) =
+    if nat_le limits.frames (length thread.frames) then throws limits s thread thrown.StackOverflowError
+    else decision.Makes (action.Initialises method body)
+
+-- Where no superclass is left to wait for: the <clinit>()V is called, or, where there is none, the class is done.
+abbrev pub initializer_decision : Limits → State → Thread → Class → ℕ → Option ℕ → TurnDecision
+initializer_decision limits s thread c class None = decision.Makes (action.Finishes class)
+initializer_decision limits s thread c class (Some n) =
+    initializer_call limits s thread (record { class = class; method = n }) (option_and_then (λ m. m.body) (slice_get c.methods n))
 
 -- The superclass is asked for first.
 abbrev pub superclass_decision : List Class → Limits → State → ℕ → Thread → Option ℕ → TurnDecision → TurnDecision
@@ -90,4 +101,4 @@ abbrev pub initialisation_decision : List Class → Limits → State → ℕ →
 initialisation_decision program limits s t thread class called None = never_seen
 initialisation_decision program limits s t thread class true (Some c) = decision.Makes (action.Finishes class)
 initialisation_decision program limits s t thread class false (Some c) =
-    superclass_decision program limits s t thread (asked_superclass program c) (initializer_decision c class)
+    superclass_decision program limits s t thread (asked_superclass program c) (initializer_decision limits s thread c class (initializer_of c))

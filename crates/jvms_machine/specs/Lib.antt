@@ -28,3 +28,4 @@ pub mod Status
 pub mod Steps
 pub mod Switches
 pub mod Turn
+pub mod Unwinding

@@ -141,6 +141,32 @@ pub enum Action<C, T> {
         method: MethodNumber,
         result: Option<Value>,
     },
+    /// The `<clinit>` of the class whose initialisation is on top is called, which has this code.
+    Initialises {
+        method: MethodNumber,
+        code: C,
+    },
+    /// The object of this reference is taken off the operands of the call on top, and is pending.
+    Throws {
+        reference: u32,
+    },
+    /// A handler of the call on top, at this place, takes the pending object.
+    Catches {
+        reference: u32,
+        target: usize,
+    },
+    /// The call on top, of this method, is popped by the pending exception. With the last frame the thread ends.
+    Unwinds {
+        method: MethodNumber,
+        last: bool,
+    },
+    /// The initialisation of a class, which is on top, is popped by the pending exception: the class is erroneous, and
+    /// this exception is pending. With the last frame the thread ends.
+    FailsInitialisation {
+        class: usize,
+        exception: Exception,
+        last: bool,
+    },
     /// An exception is pending.
     Raises(Exception),
     /// The first call throws an exception, and the thread ends.

@@ -1,20 +1,21 @@
 //! Laws about turns, owed to the gate: the opening state is sound, a turn keeps a state sound, an entry gives
-//! arguments, the turn of a thread that isn't enabled changes nothing, and a turn's items mark the calls that come
-//! and go. That a state and a thread have one row is that `turn` is a function.
+//! arguments, the turn of a thread that isn't enabled changes nothing, a turn's items mark the calls that come and go,
+//! and a pending exception is unwound. That a state and a thread have one row is that `turn` is a function.
 
-ghost use Rattle.std.specs.Prelude.{◌≡◌, ℕ, List, [], IsTrue, false, Some};
+ghost use Rattle.std.specs.Prelude.{◌≡◌, ℕ, List, [], IsTrue, true, false, Some, slice_get};
 ghost use Rattle.std.specs.List.{filter};
 ghost use Rattle.jvms_machine.specs.declared.machine.Entry.{Entry};
 ghost use Rattle.jvms_machine.specs.declared.machine.Limits.{Limits};
 ghost use Rattle.jvms_program.specs.declared.program.Class.{Class};
 ghost use Rattle.jvms_program.specs.Program.{IsProgram};
-ghost use Rattle.jvms_machine.specs.State.{State, Sound};
+ghost use Rattle.jvms_machine.specs.State.{State, Thread, Sound};
 ghost use Rattle.jvms_machine.specs.Start.{Start, IsStart, start_of};
 ghost use Rattle.jvms_machine.specs.Limits.{are_limits};
 ghost use Rattle.jvms_machine.specs.Opening.{opening};
 ghost use Rattle.jvms_machine.specs.Status.{is_enabled};
 ghost use Rattle.jvms_machine.specs.Marks.{calls_of, is_mark, marks_between};
 ghost use Rattle.jvms_machine.specs.Turn.{turn};
+ghost use Rattle.jvms_machine.specs.Unwinding.{CanBeUnwound};
 
 /// The state after a turn of any thread is sound, if the state before it is and the classes are a program.
 pub fn a_turn_keeps_a_state_sound()
@@ -42,4 +43,10 @@ pub fn an_unmade_turn_changes_nothing()
 /// those that have come, and none of a method of a built-in class.
 pub fn marks_are_those_of_frames()
     ensures { (program : List Class) (limits : Limits) (start : Start) (s : State) (t : ℕ) → IsTrue (are_limits limits) → IsStart start → Sound program limits s → filter is_mark (turn program limits start s t).items ≡ marks_between program t (calls_of s t) (calls_of (turn program limits start s t).state t) }
+{}
+
+/// A thread that has not ended and has a pending exception is enabled: a handler takes the exception, or the frame on
+/// top is popped.
+pub fn a_pending_exception_is_unwound()
+    ensures { (program : List Class) (limits : Limits) (start : Start) (s : State) (t : ℕ) (thread : Thread) (r : ℕ) → Sound program limits s → slice_get s.threads t ≡ Some thread → thread.ended ≡ false → thread.pending ≡ Some r → CanBeUnwound program thread.frames → is_enabled (turn program limits start s t).outcome ≡ true }
 {}

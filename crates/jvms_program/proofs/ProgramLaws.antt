@@ -1,23 +1,25 @@
--- What class files mean is a program: the built-in classes stand first, and each type is what its descriptor spells.
-use Rattle.std.proofs.Common.{◌≡◌, ℕ, Bool, List, [], ◌∷◌, ◌++◌, map, Option, Some, None, IfSome, codes, refl}
-use Rattle.std.specs.List.{AllByRecursion}
+-- What class files mean is a program: the built-in classes stand first, each type is what its descriptor spells, and
+-- <clinit> has no flags.
+use Rattle.std.proofs.Common.{◌≡◌, ℕ, Bool, true, not, List, [], ◌∷◌, ◌++◌, map, Option, Some, None, IfSome, unwrap_or, refl, ap}
+use Rattle.std.specs.List.{AllByRecursion, list_all}
+use Rattle.std.proofs.lemmas.Bool.{and_parts, not-true, false≢true}
 use Rattle.std.specs.Option.{option_map}
 use Rattle.jvms_file.specs.declared.class_file.Constant.{Constant}
 use Rattle.jvms_file.specs.declared.class_file.Constant.TheVariants as constant
 use Rattle.jvms_file.specs.declared.class_file.ClassFile.{ClassFile}
 use Rattle.jvms_file.specs.declared.class_file.Code.{Code}
-use Rattle.jvms_file.specs.declared.class_file.FieldInfo.{FieldInfo}
 use Rattle.jvms_file.specs.declared.class_file.MethodInfo.{MethodInfo}
 use Rattle.jvms_file.specs.declared.insn.Insn.{Insn}
 use Rattle.jvms_file.specs.declared.insn.Insn.TheVariants as insn
 use Rattle.jvms_file.specs.Descriptors.{field_type, method_type}
-use Rattle.jvms_file.specs.Members.{is_interface}
-use Rattle.jvms_file.specs.ConstantPool.{entry}
+use Rattle.jvms_file.specs.Names.{is_initializer_name}
+use Rattle.jvms_file.specs.Members.{is_interface, is_text_with}
+use Rattle.jvms_file.specs.ConstantPool.{entry, utf8_at}
 use Rattle.jvms_program.specs.declared.program.Class.{Class}
-use Rattle.jvms_program.specs.declared.program.Field.{Field}
-use Rattle.jvms_program.specs.Meaning.{meaning, instruction_of, field_reference_of, method_reference_of, body_of, code_of, method_of, field_of}
-use Rattle.jvms_program.specs.BuiltIn.{built_in_classes, print_stream_class, thread_class, throwable_class, throwable_constructors}
-use Rattle.jvms_program.specs.Program.{IsProgram, IsSpelledInstruction, IsSpelledMethod, IsSpelledClass, program_of}
+use Rattle.jvms_program.specs.declared.program.Method.{Method}
+use Rattle.jvms_program.specs.Meaning.{meaning, instruction_of, field_reference_of, method_reference_of, body_of, code_of, flags_of, method_of, field_of}
+use Rattle.jvms_program.specs.BuiltIn.{built_in_classes, no_flags, print_stream_class, thread_class, throwable_class, throwable_constructors}
+use Rattle.jvms_program.specs.Program.{IsProgram, IsSpelledInstruction, IsSpelledMethod, IsSpelledClass, HasItsFlags, program_of}
 
 -- ---- Lists
 
@@ -28,6 +30,12 @@ all_append P (x ∷ xs) ys all others = (all.0, all_append P xs ys all.1 others)
 all_mapped : {A B : Type 0} (P : B → Type 0) (f : A → B) → ((x : A) → P (f x)) → (xs : List A) → AllByRecursion P (map f xs)
 all_mapped P f each [] = tt
 all_mapped P f each (x ∷ xs) = (each x, all_mapped P f each xs)
+
+all_tested : {A : Type 0} (P : A → Type 0) (test : A → Bool) → ((x : A) → test x ≡ true → P x) → (xs : List A) → list_all test xs ≡ true → AllByRecursion P xs
+all_tested P test step [] is = tt
+all_tested P test step (x ∷ xs) is =
+    let both = and_parts (test x) (list_all test xs) is in
+    (step x both.0, all_tested P test step xs both.1)
 
 -- ---- What a class file means
 
@@ -213,6 +221,37 @@ built_ins_are_spelled = (
   ),
 )
 
+-- ---- <clinit>
+
+-- A method of a class file has no flags if its name is <clinit>.
+flags_by : (access : ℕ) (name : Option (List ℕ)) → is_initializer_name (unwrap_or name []) ≡ true → flags_of (is_text_with is_initializer_name name) access ≡ no_flags
+flags_by access None is = absurd (false≢true is)
+flags_by access (Some text) is = ap (λ (initializer : Bool). flags_of initializer access) is
+
+method_has_flags : (pool : List Constant) (m : MethodInfo) → HasItsFlags (method_of pool m)
+method_has_flags pool m = flags_by m.access (utf8_at pool m.name)
+
+class_has_flags : (c : ClassFile) → AllByRecursion HasItsFlags (meaning c).methods
+unfolding meaning
+class_has_flags c = all_mapped HasItsFlags (method_of c.pool) (method_has_flags c.pool) c.methods
+
+-- The built-in classes have no <clinit>.
+is_no_initializer : Method → Bool
+is_no_initializer m = not (is_initializer_name m.name)
+
+no_built_in_initializer : list_all (λ (c : Class). list_all is_no_initializer c.methods) built_in_classes ≡ true
+unfolding built_in_classes is_no_initializer
+no_built_in_initializer = refl
+
+other_has_flags : (m : Method) → is_no_initializer m ≡ true → HasItsFlags m
+unfolding is_no_initializer
+other_has_flags m other is = absurd (cc (not-true (is_initializer_name m.name) other))
+
+built_ins_have_flags : AllByRecursion (λ (c : Class). AllByRecursion HasItsFlags c.methods) built_in_classes
+built_ins_have_flags =
+    all_tested (λ (c : Class). AllByRecursion HasItsFlags c.methods) (λ (c : Class). list_all is_no_initializer c.methods)
+    (λ c is. all_tested HasItsFlags is_no_initializer other_has_flags c.methods is) built_in_classes no_built_in_initializer
+
 -- ---- Programs
 
 pub files_are_program : (files : List ClassFile) → IsProgram (program_of files)
@@ -221,4 +260,7 @@ files_are_program files =
     record {
       built_ins = (map meaning files, refl);
       spelled = all_append IsSpelledClass built_in_classes (map meaning files) built_ins_are_spelled (all_mapped IsSpelledClass meaning class_is_spelled files);
+      initializers =
+          all_append (λ (c : Class). AllByRecursion HasItsFlags c.methods) built_in_classes (map meaning files) built_ins_have_flags
+          (all_mapped (λ (c : Class). AllByRecursion HasItsFlags c.methods) meaning class_has_flags files);
     }

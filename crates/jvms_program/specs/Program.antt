@@ -1,5 +1,5 @@
 -- Programs (JVMS 5.3): a map from class name to class, as the list of its classes. No two have one name.
-use Rattle.std.specs.Prelude.{◌≡◌, ℕ, ◌&&◌, List, ◌++◌, map, Option, IfSome, slice_get}
+use Rattle.std.specs.Prelude.{◌≡◌, ℕ, ◌&&◌, List, ◌++◌, map, Option, IfSome, IsTrue, slice_get}
 use Rattle.std.specs.Option.{option_and_then, option_map}
 use Rattle.std.specs.List.{AllByRecursion, find, position}
 use Rattle.jvms_file.specs.declared.class_file.ClassFile.{ClassFile}
@@ -12,10 +12,10 @@ use Rattle.jvms_program.specs.declared.number.FieldNumber.{FieldNumber}
 use Rattle.jvms_program.specs.declared.key.FieldKey.{FieldKey}
 use Rattle.jvms_program.specs.declared.number.MethodNumber.{MethodNumber}
 use Rattle.jvms_program.specs.declared.key.MethodKey.{MethodKey}
-use Rattle.jvms_file.specs.Names.{same_text}
+use Rattle.jvms_file.specs.Names.{same_text, is_initializer_name}
 use Rattle.jvms_file.specs.Descriptors.{field_type, method_type}
 use Rattle.jvms_program.specs.Meaning.{meaning}
-use Rattle.jvms_program.specs.BuiltIn.{built_in_classes}
+use Rattle.jvms_program.specs.BuiltIn.{built_in_classes, no_flags}
 
 -- The program of class files: the built-in classes, then theirs in order.
 unfoldable pub program_of : List ClassFile → List Class
@@ -35,11 +35,16 @@ IsSpelledMethod m =
 abbrev pub IsSpelledClass : Class → Type 0
 IsSpelledClass c = AllByRecursion (λ f. f.field_type ≡ field_type f.descriptor) c.fields × AllByRecursion IsSpelledMethod c.methods
 
--- What holds of every list of classes that is a program: the built-in classes stand first, and types are those that
--- descriptors spell.
+-- Of <clinit> no flag is kept.
+abbrev pub HasItsFlags : Method → Type 0
+HasItsFlags m = IsTrue (is_initializer_name m.name) → m.flags ≡ no_flags
+
+-- What holds of every list of classes that is a program: the built-in classes stand first, types are those that
+-- descriptors spell, and <clinit> has no flags.
 pub record IsProgram (program : List Class) : Type 0 where
   pub built_ins : (own : List Class) × (program ≡ built_in_classes ++ own)
   pub spelled : AllByRecursion IsSpelledClass program
+  pub initializers : AllByRecursion (λ c. AllByRecursion HasItsFlags c.methods) program
 
 -- The class of a name.
 abbrev pub class_named : List Class → List ℕ → Option Class

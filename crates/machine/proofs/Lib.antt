@@ -6,6 +6,7 @@ mod CountLaws
 mod Deciding
 mod Effects
 mod EntryLaws
+mod FailedClasses
 mod HeapLaws
 mod Made
 mod RunLaws

@@ -81,8 +81,18 @@ pub(crate) fn outcome(decision: Decided<'_>) -> Outcome
         Decision::Later => Outcome::Bad {
             cause: BadCause::OutOfProfile,
         },
-        Decision::Makes(Action::Ends { .. } | Action::Fails(_)) => Outcome::Ended { last: true },
-        Decision::Makes(Action::Raises(_)) => Outcome::Raised,
+        Decision::Makes(
+            Action::Ends { .. }
+            | Action::Fails(_)
+            | Action::Unwinds { last: true, .. }
+            | Action::FailsInitialisation { last: true, .. },
+        ) => Outcome::Ended { last: true },
+        Decision::Makes(
+            Action::Raises(_)
+            | Action::Throws { .. }
+            | Action::Unwinds { .. }
+            | Action::FailsInitialisation { .. },
+        ) => Outcome::Raised,
         Decision::Makes(_) => Outcome::Ran,
     }
 }

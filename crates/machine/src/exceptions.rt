@@ -77,7 +77,7 @@ impl<'p> Parts<'p> {
     }
 
     /// Which object is thrown.
-    fn exception_of(&self, class: Thrown) -> Exception
+    pub(crate) fn exception_of(&self, class: Thrown) -> Exception
         ensures { result ≡ thrown_as self.now.limits self.now.state class }
     {
         match class {

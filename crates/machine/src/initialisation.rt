@@ -1,8 +1,8 @@
 //! The initialisation of classes (JVMS 5.5).
 
-ghost use Rattle.std.specs.Prelude.{◌≡◌, slice_get};
+ghost use Rattle.std.specs.Prelude.{◌≡◌, Some, slice_get};
 ghost use Rattle.jvms_machine.specs.Decisions.{TurnDecision};
-ghost use Rattle.jvms_machine.specs.Initialisation.{has_initializer as initializer, asked_superclass as asked, begin_decision as begins, asking as asks, initializer_decision as initialises_itself, superclass_decision as superclass_first, initialisation_decision as initialises};
+ghost use Rattle.jvms_machine.specs.Initialisation.{initializer_of as initializer, asked_superclass as asked, begin_decision as begins, asking as asks, initializer_decision as initialises_itself, superclass_decision as superclass_first, initialisation_decision as initialises};
 ghost use Rattle.machine.specs.Calling.{first_or};
 ghost use Rattle.machine.specs.Decided.{seen};
 
@@ -14,6 +14,7 @@ use crate::thread::Thread;
 use jvms_machine::action::{Action, Decision};
 use jvms_machine::machine::{BlockedOn, Outcome};
 use jvms_machine::state::Initialisation;
+use jvms_program::number::MethodNumber;
 use jvms_program::program::{Class, ClassKind};
 use jvms_program::thrown::Thrown;
 use program::{Program, declared_number};
@@ -24,11 +25,11 @@ const INITIALIZER: [u16; 8] = [60, 99, 108, 105, 110, 105, 116, 62];
 /// Its descriptor, `()V`.
 const INITIALIZER_DESCRIPTOR: [u16; 3] = [40, 41, 86];
 
-/// Whether a class has a `<clinit>()V`.
-fn has_initializer(class: &Class) -> bool
+/// The number of a class's `<clinit>()V` among its methods.
+fn initializer_of(class: &Class) -> Option<usize>
     ensures { result ≡ initializer class.now }
 {
-    declared_number(class, &INITIALIZER, &INITIALIZER_DESCRIPTOR).is_some()
+    declared_number(class, &INITIALIZER, &INITIALIZER_DESCRIPTOR)
 }
 
 /// The number of the superclass that initialisation asks for: an interface asks for none.
@@ -40,17 +41,6 @@ fn asked_superclass(program: &Program, class: &Class) -> Option<usize>
     }
     let superclass = class.superclass.as_ref()?;
     program.class_number(superclass.as_slice())
-}
-
-/// Where no superclass is left to wait for: the class is done, if it has no `<clinit>`.
-fn initializer_decision<'p>(c: &Class, class: usize) -> Decided<'p>
-    ensures { seen result ≡ initialises_itself c.now class }
-{
-    if has_initializer(c) {
-        Decision::Later
-    } else {
-        Decision::Makes(Action::Finishes { class })
-    }
 }
 
 impl<'p> Parts<'p> {
@@ -99,6 +89,46 @@ impl<'p> Parts<'p> {
         }
     }
 
+    /// The `<clinit>` of a class, which is its method of a number, is called, where there is room for a frame. Its flags
+    /// aren't asked.
+    fn initializer_call(
+        &self,
+        thread: &Thread,
+        c: &'p Class,
+        class: usize,
+        number: usize,
+    ) -> Decided<'p>
+        ensures { seen result ≡ initialises_itself self.now.limits self.now.state thread.now c.now class (Some number) }
+    {
+        let Some(method) = c.methods.as_slice().get(number) else {
+            return never_seen();
+        };
+        let Some(code) = &method.body else {
+            return never_seen();
+        };
+        if self.limits.frames as usize <= thread.height() {
+            return self.throws(thread, Thrown::StackOverflowError);
+        }
+        Decision::Makes(Action::Initialises {
+            method: MethodNumber {
+                class,
+                method: number,
+            },
+            code,
+        })
+    }
+
+    /// Where no superclass is left to wait for: the `<clinit>` of the class is called, or, where there is none, the class
+    /// is done.
+    fn initializer_decision(&self, thread: &Thread, c: &'p Class, class: usize) -> Decided<'p>
+        ensures { seen result ≡ initialises_itself self.now.limits self.now.state thread.now c.now class (initializer c.now) }
+    {
+        match initializer_of(c) {
+            None => Decision::Makes(Action::Finishes { class }),
+            Some(number) => self.initializer_call(thread, c, class, number),
+        }
+    }
+
     /// The superclass, if there is one, is asked for first.
     fn superclass_decision(
         &self,
@@ -133,7 +163,7 @@ impl<'p> Parts<'p> {
         let superclass = asked_superclass(self.program(), c);
         match self.superclass_decision(t, thread, superclass) {
             Some(decision) => decision,
-            None => initializer_decision(c, class),
+            None => self.initializer_decision(thread, c, class),
         }
     }
 }

@@ -24,6 +24,7 @@ mod status;
 mod stored;
 mod thread;
 mod turn;
+mod unwinding;
 
 pub use fault::MachineFault;
 pub use jvms_machine::machine::{Entry, Limits, Outcome, Status, ThreadId};

@@ -17,7 +17,7 @@ use std::alloc::AllocError;
 impl Parts<'_> {
     /// Makes the object of an exception, unless it is there, and gives its reference.
     #[tactic(auto, using(crate::proofs::HeapLaws::of_its_name))]
-    fn throw(&mut self, exception: Exception) -> Result<u32, AllocError>
+    pub(super) fn throw(&mut self, exception: Exception) -> Result<u32, AllocError>
         requires { HasReference self.old.state }
         ensures reference { IfOk result (λ r. r ≡ exception_reference self.old.state exception) }
         ensures state { OnOk result (self.new ≡ with_state self.old (with_exception self.old.program self.old.state exception)) }

@@ -39,7 +39,7 @@ fn begin_with_texts(
 
 impl Parts<'_> {
     /// Marks how far the initialisation of a class has come.
-    fn mark(&mut self, class: usize, how: Initialisation)
+    pub(super) fn mark(&mut self, class: usize, how: Initialisation)
         ensures { self.new ≡ with_state self.old (marked self.old.state class how) }
     {
         if let Some(slot) = self.initialisations.get_mut(class) {
