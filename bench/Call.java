@@ -1,18 +1,25 @@
+import java.io.OutputStream;
+import java.io.PrintStream;
 import java.lang.reflect.Method;
 import java.lang.reflect.Modifier;
-import java.nio.file.Files;
+import java.net.URL;
+import java.net.URLClassLoader;
 import java.nio.file.Paths;
 
-/** Calls each static method of ints with an int result of the class files that are named, with some arguments, and
- *  prints a line for each call: the file, the entry, the arguments or -, and the result, threw or late. */
-public class Call extends ClassLoader {
+/** Calls each static method of ints with an int result of the classes that are named behind their folder, with some
+ *  arguments, and prints a line for each call: the class, the entry, the arguments or -, and the result, threw or late.
+ *  Each call has its classes anew; what they print is dropped. */
+public class Call {
     private static final int[][] ARGUMENTS = {
         {48, 36, 7, 2}, {-7, 2, 3, 4}, {Integer.MAX_VALUE, Integer.MIN_VALUE, 1, 0}, {0, 0, 0, 0},
         {Integer.MIN_VALUE, -1, 31, 33}, {1, 10, 5, 8},
     };
 
-    private Class<?> define(byte[] bytes) {
-        return defineClass(null, bytes, 0, bytes.length);
+    private static final PrintStream SAID = System.out;
+
+    private static Class<?> loaded(URL folder, String name) throws ClassNotFoundException {
+        URL[] folders = {folder};
+        return new URLClassLoader(folders, ClassLoader.getPlatformClassLoader()).loadClass(name.replace('/', '.'));
     }
 
     private static boolean takesInts(Method method) {
@@ -20,6 +27,14 @@ public class Call extends ClassLoader {
             if (parameter != int.class) return false;
         }
         return Modifier.isStatic(method.getModifiers()) && method.getReturnType() == int.class;
+    }
+
+    private static Method method(Class<?> owner, String name, int count) throws NoSuchMethodException {
+        Class<?>[] parameters = new Class<?>[count];
+        java.util.Arrays.fill(parameters, int.class);
+        Method method = owner.getDeclaredMethod(name, parameters);
+        method.setAccessible(true);
+        return method;
     }
 
     private static String result(Method method, Object[] arguments) throws InterruptedException {
@@ -37,10 +52,8 @@ public class Call extends ClassLoader {
         return said[0];
     }
 
-    private static void call(String file, Class<?> owner, Method method) throws InterruptedException {
-        int count = method.getParameterCount();
-        String entry = owner.getName().replace('.', '/') + "." + method.getName() + ".(" + "I".repeat(count) + ")I";
-        method.setAccessible(true);
+    private static void call(URL folder, String owner, String name, int count) throws Exception {
+        String entry = owner + "." + name + ".(" + "I".repeat(count) + ")I";
         for (int[] values : ARGUMENTS) {
             Object[] arguments = new Object[count];
             StringBuilder words = new StringBuilder(count == 0 ? "-" : "");
@@ -48,21 +61,24 @@ public class Call extends ClassLoader {
                 arguments[i] = values[i % values.length];
                 words.append(i > 0 ? "," : "").append(arguments[i]);
             }
-            System.out.println("call " + file + " " + entry + " " + words + " " + result(method, arguments));
+            String result = result(method(loaded(folder, owner), name, count), arguments);
+            SAID.println("call " + owner + " " + entry + " " + words + " " + result);
         }
     }
 
-    public static void main(String[] files) throws Exception {
-        for (String file : files) {
+    public static void main(String[] words) throws Exception {
+        System.setOut(new PrintStream(OutputStream.nullOutputStream()));
+        URL folder = Paths.get(words[0]).toUri().toURL();
+        for (int i = 1; i < words.length; i++) {
             try {
-                Class<?> owner = new Call().define(Files.readAllBytes(Paths.get(file)));
-                for (Method method : owner.getDeclaredMethods()) {
-                    if (takesInts(method)) call(file, owner, method);
+                for (Method method : loaded(folder, words[i]).getDeclaredMethods()) {
+                    if (takesInts(method)) call(folder, words[i], method.getName(), method.getParameterCount());
                 }
             } catch (LinkageError error) {
-                System.err.println(file + ": " + error);
+                System.err.println(words[i] + ": " + error);
             }
         }
+        SAID.flush();
         System.exit(0);
     }
 }

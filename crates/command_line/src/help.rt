@@ -8,15 +8,16 @@ time
 Usage: jvmx COMMAND WORDS
 
   eval           runs a static method on int arguments and prints what it gives
+  run            runs a program and prints what it writes
   asm            writes the class file of a source
   list           prints a class file as a source
   help           prints this text; help COMMAND, how that command is used
   -h, --help     prints this text; behind a command, how that command is used
   -V, --version  prints the program's name and version
 
-Exit status: 0; 1 where a run didn't finish; 2 where words or inputs are
-refused; 3 where memory ran out or a file, standard output or standard error
-failed.
+Exit status: 0; 1 where a run didn't finish or an exception wasn't caught; 2
+where words or inputs are refused; 3 where memory ran out or a file, standard
+output or standard error failed.
 
 A refusal is one line on standard error, jvmx: FILE: CODE NAME. docs/REFUSALS.md
 says what each code means and what usually causes it.
@@ -54,14 +55,49 @@ float and double don't run yet: the run stands still before such an instruction,
 and behind an exception that is thrown, with status Stalled.
 
 Standard output: the result and a line end, an int in decimal, a reference as
-null or R:n. Where there is no result, standard error: status S turns N, with S
+null or R:n. Where there is no result, standard error: uncaught T C for each
+thread T that ended with an exception, of class C; then status S turns N, with S
 one of Finished, Running, Stalled, Deadlocked.
 
-Exit status: 0 where the status is Finished, else 1; 2 and 3 as jvmx --help
-says. docs/REFUSALS.md explains the codes of refusals.
+Exit status: 0 where the status is Finished and no exception is uncaught, else
+1; 2 and 3 as jvmx --help says. docs/REFUSALS.md explains the codes of refusals.
 
 Example: jvmx eval --entry 'G.gcd.(II)I' --args 48,36 examples/G.j
 prints 12
+";
+
+/// `jvmx run --help`
+pub const RUN_HELP: &str = "\
+jvmx run: runs a program and prints what it writes
+
+Usage: jvmx run --entry E [--args N,N] [--max N] FILE...
+
+  --entry E   where the program begins (required). Without a dot it is a class,
+              whose method main([Ljava/lang/String;)V runs on no strings; else a
+              static method C.m.D, as jvmx help eval says
+              examples: --entry a/b/C, --entry 'G.gcd.(II)I'
+  --args N,N  the arguments of a static method, as jvmx help eval says; main has
+              none
+  --max N     how many turns may be made: decimal digits, at most 100000000
+              (default: 1000000)
+  FILE...     the classes of the program, as jvmx help eval says
+
+Options and FILEs stand in any order. --max=9 is --max 9, and behind -- all
+words are FILEs.
+
+Thread 0 takes turns while it can. jvmx help eval tells the limits of the run
+and which instructions run today.
+
+Standard output: the bytes that the program writes. Standard error: uncaught T C
+for each thread T that ended with an exception, of class C; then status S turns
+N, with S one of Finished, Running, Stalled, Deadlocked. C is written as names
+are in --entry.
+
+Exit status: 0 where the status is Finished and no exception is uncaught, else
+1; 2 and 3 as jvmx --help says. docs/REFUSALS.md explains the codes of refusals.
+
+Example: jvmx run --entry 'G.gcd.(II)I' --args 48,36 examples/G.j
+writes status Finished turns 25 to standard error
 ";
 
 /// `jvmx asm --help`

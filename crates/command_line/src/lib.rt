@@ -1,12 +1,14 @@
-//! The command line: which command its words ask for, and the texts of help.
+//! The command line: which command its words ask for, the texts of help, and names in texts.
 #![tactic(auto)]
 
 mod command;
 mod entry;
 mod fault;
 mod help;
+mod name;
 mod syntax;
 
-pub use command::{AsmWords, Command, EvalWords, command_of};
+pub use command::{AsmWords, Command, ProgramWords, RunWords, command_of};
 pub use fault::WordsFault;
-pub use help::{ASM_HELP, EVAL_HELP, HELP, LIST_HELP, VERSION};
+pub use help::{ASM_HELP, EVAL_HELP, HELP, LIST_HELP, RUN_HELP, VERSION};
+pub use name::put_name;

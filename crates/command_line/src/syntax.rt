@@ -9,6 +9,9 @@ pub(crate) const ENTRY: &str = "entry";
 /// The option `--args`.
 pub(crate) const ARGUMENTS: &str = "args";
 
+/// The option `--max`.
+pub(crate) const MOST: &str = "max";
+
 /// FILE...
 pub(crate) const FILES: &str = "files";
 
@@ -43,13 +46,18 @@ fn files<'a>(alloc: Global) -> Arg<'a> {
         .action(ArgAction::Append)
 }
 
-/// `eval --entry C.m.D [--args N,N] FILE...`
-fn eval_syntax<'a>(alloc: Global) -> Result<Command<'a>, AllocError> {
+/// `NAME --entry E [--args N,N] FILE...`
+fn program_syntax<'a>(alloc: Global, name: &'a str) -> Result<Command<'a>, AllocError> {
     let entry = option(alloc, ENTRY).required(true);
-    bare(alloc, "eval")
+    bare(alloc, name)
         .arg(entry)?
         .arg(option(alloc, ARGUMENTS))?
         .arg(files(alloc))
+}
+
+/// `run --entry E [--args N,N] [--max N] FILE...`
+fn run_syntax<'a>(alloc: Global) -> Result<Command<'a>, AllocError> {
+    program_syntax(alloc, "run")?.arg(option(alloc, MOST))
 }
 
 /// One FILE.
@@ -72,7 +80,8 @@ fn list_syntax<'a>(alloc: Global) -> Result<Command<'a>, AllocError> {
 /// All commands.
 pub(crate) fn syntax<'a>(alloc: Global) -> Result<Command<'a>, AllocError> {
     bare(alloc, "jvmx")
-        .subcommand(eval_syntax(alloc)?)?
+        .subcommand(program_syntax(alloc, "eval")?)?
+        .subcommand(run_syntax(alloc)?)?
         .subcommand(asm_syntax(alloc)?)?
         .subcommand(list_syntax(alloc)?)
 }

@@ -1,7 +1,8 @@
 //! Words: what they ask for, as the program's manual says.
 
 use command_line::{
-    ASM_HELP, Command, EVAL_HELP, HELP, LIST_HELP, VERSION, WordsFault, command_of,
+    ASM_HELP, Command, EVAL_HELP, HELP, LIST_HELP, ProgramWords, RUN_HELP, VERSION, WordsFault,
+    command_of, put_name,
 };
 use fixtures::texts::units;
 use held::items::Items;
@@ -46,15 +47,18 @@ fn gcd_on(alloc: Global, arguments: &[i32]) -> Result<Entry, AllocError> {
     })
 }
 
+/// Whether the words name this entry, as this text writes it, in the program of one file.
+fn names(words: &ProgramWords<'_>, entry: &Entry, text: &str, file: &str) -> bool {
+    words.entry == *entry
+        && words.entry_text == text
+        && words.files.len() == 1
+        && words.file(0) == file
+}
+
 /// Whether a command evaluates an entry in the program of one file.
 fn evaluates(command: &Command<'_>, entry: &Entry, file: &str) -> bool {
     match command {
-        Command::Eval(eval) => {
-            eval.entry == *entry
-                && eval.entry_text == GCD
-                && eval.files.len() == 1
-                && eval.file(0) == file
-        }
+        Command::Eval(words) => names(words, entry, GCD, file),
         _ => false,
     }
 }
@@ -76,11 +80,11 @@ fn is_gcd(
 
 #[test]
 fn refuses_other_words(rt: HostRuntime) -> Result<(), Fail> {
-    let refused: [&[&str]; 28] = [
+    let refused: [&[&str]; 29] = [
         &[],
-        &["run"],
+        &["trace"],
         &["--version", "eval"],
-        &["help", "run"],
+        &["help", "trace"],
         &["help", "eval", "F"],
         &["-h", "eval"],
         &["--entry", GCD, "eval", "F"],
@@ -100,6 +104,7 @@ fn refuses_other_words(rt: HostRuntime) -> Result<(), Fail> {
         &["eval", "--entry", GCD, "--args", "2147483648,1", "F"],
         &["eval", "--entry", GCD, "--args=-2147483649,1", "F"],
         &["eval", "--entry", GCD, "--stop", "F"],
+        &["eval", "--entry", GCD, "--max", "9", "F"],
         &["eval", "--help=1", "--entry", GCD, "F"],
         &["eval", "--entry", GCD, "-x"],
         &["asm"],
@@ -107,6 +112,33 @@ fn refuses_other_words(rt: HostRuntime) -> Result<(), Fail> {
         &["asm", "G.j", "G.class", "F"],
         &["list"],
         &["list", "G.class", "F"],
+    ];
+    for words in refused {
+        assert!(rt; is_refused(rt.alloc(), words)?, "{words:?}");
+    }
+    Ok(())
+}
+
+#[test]
+fn refuses_other_words_of_run(rt: HostRuntime) -> Result<(), Fail> {
+    let refused: [&[&str]; 17] = [
+        &["run"],
+        &["run", "F"],
+        &["run", "--entry", "G"],
+        &["run", "--entry", "", "F"],
+        &["run", "--entry", "a//G", "F"],
+        &["run", "--entry", "G.gcd", "F"],
+        &["run", "--entry", "G", "--args", "1", "F"],
+        &["run", "--entry", GCD, "--args", "1,", "F"],
+        &["run", "--entry", "G", "--max", "", "F"],
+        &["run", "--entry", "G", "--max", "+9", "F"],
+        &["run", "--entry", "G", "--max=-9", "F"],
+        &["run", "--entry", "G", "--max", "0x9", "F"],
+        &["run", "--entry", "G", "--max", "100000001", "F"],
+        &["run", "--entry", "G", "--max", "18446744073709551616", "F"],
+        &["run", "--entry", "G", "--max", "9", "--max", "9", "F"],
+        &["run", "--entry", "G", "--sched", "rr:1", "F"],
+        &["run", "--entry", "G", "--spec", "S", "F"],
     ];
     for words in refused {
         assert!(rt; is_refused(rt.alloc(), words)?, "{words:?}");
@@ -159,6 +191,51 @@ fn takes_words_in_any_order(rt: HostRuntime) -> Result<(), Fail> {
     Ok(())
 }
 
+/// Whether words ask to run an entry, as this text writes it, in the program of a file F for so many turns.
+fn is_run(
+    alloc: Global,
+    words: &[&str],
+    entry: &Entry,
+    text: &str,
+    most: u64,
+) -> Result<bool, AllocError> {
+    let words = owned(alloc, words)?;
+    match command_of(alloc, words.as_slice()) {
+        Ok(Command::Run(run)) => { Ok(names(&run.program, entry, text, "F") && run.most == most) }
+        _ => Ok(false),
+    }
+}
+
+#[test]
+fn takes_a_main_class_to_run(rt: HostRuntime) -> Result<(), Fail> {
+    let class = units(rt.alloc(), "a/b/C")?;
+    let entry = Entry::Main { class };
+    let taken: [(&[&str], u64); 4] = [
+        (&["run", "--entry", "a/b/C", "F"], 1_000_000),
+        (&["run", "F", "--max=0", "--entry=a/b/C"], 0),
+        (&["run", "--max", "007", "--entry", "a/b/C", "--", "F"], 7),
+        (
+            &["run", "--entry", "a/b/C", "--max", "100000000", "F"],
+            100_000_000,
+        ),
+    ];
+    for (words, most) in taken {
+        assert!(rt;
+            is_run(rt.alloc(), words, &entry, "a/b/C", most)?,
+            "{words:?}"
+        );
+    }
+    Ok(())
+}
+
+#[test]
+fn takes_a_static_method_to_run(rt: HostRuntime) -> Result<(), Fail> {
+    let words = ["run", "--entry", GCD, "--args", "48,36", "F"];
+    let entry = gcd_on(rt.alloc(), &[48, 36])?;
+    assert!(rt; is_run(rt.alloc(), &words, &entry, GCD, 1_000_000)?);
+    Ok(())
+}
+
 #[test]
 fn takes_a_source_and_a_class_file(rt: HostRuntime) -> Result<(), Fail> {
     let words = owned(rt.alloc(), &["asm", "G.j", "--", "-G"])?;
@@ -178,15 +255,34 @@ fn takes_a_file_to_list(rt: HostRuntime) -> Result<(), Fail> {
     Ok(())
 }
 
+/// What is written is what an entry's words are read as.
+#[test]
+fn writes_names(rt: HostRuntime) -> Result<(), Fail> {
+    let written: [(&[u16], &str); 4] = [
+        (&[], ""),
+        (&[33, 91, 93, 126], "![]~"),
+        (&[92, 32, 127], "\\u005c\\u0020\\u007f"),
+        (&[0, 0xe9, 0xd83d, 0xffff], "\\u0000\\u00e9\\ud83d\\uffff"),
+    ];
+    for (units, text) in written {
+        let mut out = Vec::new(rt.alloc());
+        put_name(&mut out, units)?;
+        assert!(rt; out.as_slice() == text.as_bytes(), "{text}");
+    }
+    Ok(())
+}
+
 #[test]
 fn gives_texts(rt: HostRuntime) -> Result<(), Fail> {
-    let asked: [(&[&str], &str); 12] = [
+    let asked: [(&[&str], &str); 14] = [
         (&["--help"], HELP),
         (&["-h"], HELP),
         (&["help"], HELP),
         (&["help", "eval"], EVAL_HELP),
         (&["eval", "--help"], EVAL_HELP),
         (&["eval", "-h"], EVAL_HELP),
+        (&["help", "run"], RUN_HELP),
+        (&["run", "-h"], RUN_HELP),
         (&["help", "asm"], ASM_HELP),
         (&["asm", "--help"], ASM_HELP),
         (&["help", "list"], LIST_HELP),
@@ -202,7 +298,7 @@ fn gives_texts(rt: HostRuntime) -> Result<(), Fail> {
 
 #[test]
 fn keeps_texts_to_eighty_columns(rt: HostRuntime) -> Result<(), Fail> {
-    for text in [HELP, EVAL_HELP, ASM_HELP, LIST_HELP, VERSION] {
+    for text in [HELP, EVAL_HELP, RUN_HELP, ASM_HELP, LIST_HELP, VERSION] {
         assert!(rt; text.ends_with("\n"));
         for line in text.split('\n') {
             assert!(rt; line.len() <= 80, "{line}");

@@ -6,21 +6,21 @@ use Rattle.jvms_file.specs.declared.class_file.ClassFile.{ClassFile}
 use Rattle.jvms_file.specs.Results.{◌>>=◌}
 use Rattle.inputs.specs.declared.input.Input.{Input}
 use Rattle.inputs.specs.Inputs.{NoClass, class_in}
-use Rattle.jvmx.specs.Evaluation.{NotEvaluated, no_class, classes_from}
+use Rattle.jvmx.specs.Ending.{NotRun, no_class, classes_from}
 
 -- The classes that were read, then those that are still to be read.
-abbrev pub still : List ClassFile → Result (List ClassFile) NotEvaluated → Result (List ClassFile) NotEvaluated
+abbrev pub still : List ClassFile → Result (List ClassFile) NotRun → Result (List ClassFile) NotRun
 still seen (Ok classes) = Ok (seen ++ classes)
 still seen (Err why) = Err why
 
-still_none : (r : Result (List ClassFile) NotEvaluated) → still [] r ≡ r
+still_none : (r : Result (List ClassFile) NotRun) → still [] r ≡ r
 still_none (Ok classes) = refl
 still_none (Err why) = refl
 
 pub still_all : (files : List Input) → still [] (classes_from 0 files) ≡ classes_from 0 files
 still_all files = still_none (classes_from 0 files)
 
-still_with : (seen : List ClassFile) (class : ClassFile) (r : Result (List ClassFile) NotEvaluated) → still (seen ++ class ∷ []) r ≡ still seen (r >>= λ classes. Ok (class ∷ classes))
+still_with : (seen : List ClassFile) (class : ClassFile) (r : Result (List ClassFile) NotRun) → still (seen ++ class ∷ []) r ≡ still seen (r >>= λ classes. Ok (class ∷ classes))
 still_with seen class (Ok classes) = ap Ok (append_assoc seen (class ∷ []) classes)
 still_with seen class (Err why) = refl
 

@@ -5,7 +5,7 @@ use Rattle.jvms_machine.specs.Status.{is_enabled}
 use Rattle.jvms_machine.specs.Run.{run_from}
 use Rattle.jvms_machine.proofs.UnmadeTurns.{unmade_turn_keeps}
 use Rattle.machine.specs.Machine.{Machine, row_of, with_state}
-use Rattle.jvmx.specs.Evaluation.{zeros_from}
+use Rattle.jvmx.specs.Ending.{zeros_from}
 
 -- The choices that are left, at most so many.
 abbrev pub choices_left : Machine → ℕ → List ℕ

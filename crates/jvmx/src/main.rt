@@ -1,10 +1,14 @@
 //! The program `jvmx`: runs Java class files, one turn of one thread at a time.
 #![tactic(auto)]
 
+mod ending;
 mod eval;
+mod fault;
 mod files;
+mod lines;
 mod perform;
 mod refusal;
+mod run;
 #[cfg(test)]
 mod tests;
 
@@ -27,7 +31,7 @@ fn words_of(rt: &HostRuntime) -> Result<Vec<String>, WordsFault> {
 
 /// The program over the system's files, standard input, standard output and standard error, whose failures
 /// these three ledgers count.
-fn run<I: Ledger, O: Ledger, E: Ledger>(
+fn counted<I: Ledger, O: Ledger, E: Ledger>(
     rt: &HostRuntime,
     words: &[String],
     input: Blank,
@@ -51,7 +55,7 @@ fn run<I: Ledger, O: Ledger, E: Ledger>(
 /// The exit status of the program on these words.
 fn performed(rt: &HostRuntime, words: &[String]) -> u8 {
     let (input, output, errors) = (Blank::new(1), Blank::new(1), Blank::new(1));
-    run::<Brand, Brand, Brand>(rt, words, input, output, errors)
+    counted::<Brand, Brand, Brand>(rt, words, input, output, errors)
 }
 
 /// Tells that the words couldn't be had, as where one isn't UTF-8: 2, but 3 for want of memory or where

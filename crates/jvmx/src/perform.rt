@@ -1,9 +1,12 @@
 //! All of the program, over named files, a reader and two writers.
 
+use crate::ending::Ending;
 use crate::eval::eval;
 use crate::files::Files;
+use crate::lines::ending_lines;
 use crate::refusal::Refusal;
-use command_line::{AsmWords, Command, EvalWords, VERSION, command_of};
+use crate::run::run;
+use command_line::{AsmWords, Command, ProgramWords, RunWords, VERSION, command_of};
 use inputs::{Input, class_of};
 use jvms_machine::machine::Status;
 use listing::{ClassFile, list};
@@ -47,36 +50,57 @@ fn read_inputs<'w, F: Files>(
     Ok(inputs)
 }
 
-/// A status by its name.
-fn status_name(status: Status) -> &'static str {
-    match status {
-        Status::Finished => "Finished",
-        Status::Running => "Running",
-        Status::Stalled => "Stalled",
-        Status::Deadlocked => "Deadlocked",
-    }
+/// Tells how a run ended.
+fn tell<'w, E: ByteOut>(alloc: Global, ending: &Ending, errors: &mut E) -> Result<(), Refusal<'w>> {
+    let lines = ending_lines(alloc, ending)?;
+    errors.write_all(lines.as_slice())?;
+    Ok(())
 }
 
-/// `eval`: prints the result, or how the run ended where there is none; 0 where it finished, else 1.
+/// The exit status of a run: 0 where it finished and no exception is uncaught, else 1.
+fn exit_status(ending: &Ending) -> u8 {
+    let caught = ending.uncaught.as_slice().is_empty();
+    u8::from(!(caught && ending.status == Status::Finished))
+}
+
+/// `eval`: prints the result, or tells how the run ended where there is none.
 fn perform_eval<'w, F: Files, W: ByteOut, E: ByteOut>(
     alloc: Global,
-    words: EvalWords<'w>,
+    words: ProgramWords<'w>,
     files: &mut F,
     output: &mut W,
     errors: &mut E,
 ) -> Result<u8, Refusal<'w>> {
     let inputs = read_inputs(alloc, files, words.files.as_slice())?;
-    let evaluated = match eval(alloc, inputs.as_slice(), &words.entry, output) {
-        Ok(evaluated) => evaluated,
-        Err(fault) => return Err(Refusal::of_eval(&words, fault)),
+    let ending = match eval(alloc, inputs.as_slice(), &words.entry, output) {
+        Ok(ending) => ending,
+        Err(fault) => return Err(Refusal::of_run(&words, fault)),
     };
-    if evaluated.result.is_none() {
-        let status = status_name(evaluated.status);
-        let turns = evaluated.turns;
-        let line = format!(in alloc; "status {status} turns {turns}\n")?;
-        errors.write_all(line.as_bytes())?;
+    if ending.result.is_none() {
+        tell(alloc, &ending, errors)?;
     }
-    Ok(u8::from(evaluated.status != Status::Finished))
+    Ok(exit_status(&ending))
+}
+
+/// `run`: prints what the program writes, and tells how the run ended.
+fn perform_run<'w, F: Files, W: ByteOut, E: ByteOut>(
+    alloc: Global,
+    words: RunWords<'w>,
+    files: &mut F,
+    output: &mut W,
+    errors: &mut E,
+) -> Result<u8, Refusal<'w>> {
+    let RunWords {
+        program: words,
+        most,
+    } = words;
+    let inputs = read_inputs(alloc, files, words.files.as_slice())?;
+    let ending = match run(alloc, inputs.as_slice(), &words.entry, most, output) {
+        Ok(ending) => ending,
+        Err(fault) => return Err(Refusal::of_run(&words, fault)),
+    };
+    tell(alloc, &ending, errors)?;
+    Ok(exit_status(&ending))
 }
 
 /// The class that a FILE holds.
@@ -133,6 +157,7 @@ fn command<'w, F: Files, W: ByteOut, E: ByteOut>(
 ) -> Result<u8, Refusal<'w>> {
     match command_of(alloc, words)? {
         Command::Eval(words) => perform_eval(alloc, words, files, output, errors),
+        Command::Run(words) => perform_run(alloc, words, files, output, errors),
         Command::Asm(words) => perform_asm(alloc, words, files),
         Command::List(file) => perform_list(alloc, file, files, output),
         Command::Help(text) => print(output, text),
@@ -150,7 +175,8 @@ fn refuse<E: ByteOut>(alloc: Global, refusal: &Refusal<'_>, errors: &mut E) -> u
 }
 
 /// Does all of the program, on the words behind its name. The answer is its exit status: 0; 1 where a run
-/// didn't finish; 2 where words or inputs are refused; 3 where memory ran out or a device failed.
+/// didn't finish or an exception is uncaught; 2 where words or inputs are refused; 3 where memory ran out or a
+/// device failed.
 pub fn perform<F: Files, I: ByteIn, W: ByteOut, E: ByteOut>(
     alloc: Global,
     words: &[String],

@@ -1,8 +1,8 @@
 //! Why a command was refused: the line on standard error, and the exit status.
 
-use crate::eval::EvalFault;
+use crate::fault::RunFault;
 use crate::files::FileFault;
-use command_line::{EvalWords, WordsFault};
+use command_line::{ProgramWords, WordsFault};
 use inputs::InputFault;
 use linker::LinkFault;
 use listing::ListFault;
@@ -76,7 +76,7 @@ impl<'w> Refusal<'w> {
     }
 
     /// A class that wasn't linked.
-    fn of_link(words: &EvalWords<'w>, fault: LinkFault) -> Self {
+    fn of_link(words: &ProgramWords<'w>, fault: LinkFault) -> Self {
         match fault {
             LinkFault::BuiltInName { class }
             | LinkFault::RepeatedClass { class }
@@ -90,20 +90,20 @@ impl<'w> Refusal<'w> {
         }
     }
 
-    /// A method that wasn't evaluated.
-    pub(crate) fn of_eval(words: &EvalWords<'w>, fault: EvalFault) -> Self {
+    /// A program that wasn't run, or whose output wasn't written.
+    pub(crate) fn of_run(words: &ProgramWords<'w>, fault: RunFault) -> Self {
         match fault {
-            EvalFault::Input { file, fault } => Refusal::Input {
+            RunFault::Input { file, fault } => Refusal::Input {
                 file: words.file(file),
                 fault,
             },
-            EvalFault::Link(fault) => Refusal::of_link(words, fault),
-            EvalFault::Machine(fault) => Refusal::Machine {
+            RunFault::Link(fault) => Refusal::of_link(words, fault),
+            RunFault::Machine(fault) => Refusal::Machine {
                 entry: words.entry_text,
                 fault,
             },
-            EvalFault::Memory => Refusal::Memory,
-            EvalFault::Output => Refusal::Output,
+            RunFault::Memory => Refusal::Memory,
+            RunFault::Output => Refusal::Output,
         }
     }
 
@@ -131,7 +131,7 @@ impl fmt::Display for Refusal<'_> {
             Refusal::Link { file, fault } => write!(f, "{file}: {fault}"),
             Refusal::LinkMemory => write!(f, "{}", LinkFault::Memory),
             Refusal::Machine { entry, fault } => write!(f, "{entry}: {fault}"),
-            Refusal::Output => write!(f, "{}", EvalFault::Output),
+            Refusal::Output => write!(f, "{}", RunFault::Output),
             Refusal::Memory => f.write_str("Memory"),
         }
     }

@@ -1,0 +1,7 @@
+package java.lang;
+
+public class AbstractMethodError extends IncompatibleClassChangeError {
+    public AbstractMethodError() {}
+
+    public AbstractMethodError(String message) {}
+}

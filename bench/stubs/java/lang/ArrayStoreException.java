@@ -1,0 +1,7 @@
+package java.lang;
+
+public class ArrayStoreException extends RuntimeException {
+    public ArrayStoreException() {}
+
+    public ArrayStoreException(String message) {}
+}

@@ -1,0 +1,7 @@
+package java.lang;
+
+public class ExceptionInInitializerError extends LinkageError {
+    public ExceptionInInitializerError() {}
+
+    public ExceptionInInitializerError(String message) {}
+}

@@ -1,0 +1,7 @@
+package java.lang;
+
+public class LinkageError extends Error {
+    public LinkageError() {}
+
+    public LinkageError(String message) {}
+}

@@ -1,0 +1,7 @@
+-- The lines so far.
+use Rattle.std.proofs.Common.{◌≡◌, ◌++◌, take, flat_map}
+use Rattle.jvmx.specs.Lines.{uncaught_line}
+use Rattle.jvmx.proofs.lines.ending_lines.Given as goal
+
+abbrev pub invariant-loop-uncaught : goal.invariant-loop-uncaught
+invariant-loop-uncaught l = l.lines.items ≡ l.initial.lines.items ++ flat_map uncaught_line (take l.uncaught-index l.uncaught-items)
