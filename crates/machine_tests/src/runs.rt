@@ -11,7 +11,7 @@ use std::test::Fail;
 enum End {
     Gives(i32),
     Stalls(BadCause),
-    /// An exception is pending, whose unwinding is yet to come.
+    /// An exception is pending, which ends the thread in the next turn.
     Raises,
 }
 
@@ -56,11 +56,9 @@ fn wanted(turns: usize, end: End) -> Answer {
         }
         End::Raises => (
             Some((turns, Outcome::Raised)),
-            Status::Stalled,
+            Status::Running,
             None,
-            Outcome::Bad {
-                cause: BadCause::OutOfProfile,
-            },
+            Outcome::Ended { last: true },
         ),
     }
 }
