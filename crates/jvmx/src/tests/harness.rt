@@ -147,25 +147,12 @@ fn text(bytes: &[u8], alloc: Global) -> Result<String, AllocError> {
     String::from_str(alloc, std::str::from_utf8(bytes).unwrap_or("no text"))
 }
 
-/// How many bytes standard output and standard error take.
-#[derive(Clone, Copy)]
-pub struct Room {
-    pub output: usize,
-    pub errors: usize,
-}
-
-/// Room for all bytes.
-pub const AMPLE: Room = Room {
-    output: usize::MAX,
-    errors: usize::MAX,
-};
-
 /// A run with the failures of its devices counted by these ledgers.
 fn counted<I: Ledger, O: Ledger, E: Ledger>(
     alloc: Global,
     words: &[&str],
     files: &[(&str, File)],
-    room: Room,
+    room: usize,
     input: Blank,
     output: Blank,
     errors: Blank,
@@ -176,11 +163,11 @@ fn counted<I: Ledger, O: Ledger, E: Ledger>(
 {
     let written = Short {
         bytes: Vec::new(alloc),
-        room: room.output,
+        room,
     };
     let told = Short {
         bytes: Vec::new(alloc),
-        room: room.errors,
+        room: usize::MAX,
     };
     let mut input = Counted::new(io::empty(), Failures::<I>::none(input));
     let mut output = Counted::new(written, Failures::<O>::none(output));
@@ -207,28 +194,18 @@ fn counted<I: Ledger, O: Ledger, E: Ledger>(
     })
 }
 
-/// A run whose standard output and standard error take so many bytes.
-pub fn ran_in(
-    alloc: Global,
-    words: &[&str],
-    files: &[(&str, File)],
-    room: Room,
-) -> Result<Observed, AllocError> {
-    let (input, output, errors) = (Blank::new(1), Blank::new(1), Blank::new(1));
-    counted::<Brand, Brand, Brand>(alloc, words, files, room, input, output, errors)
-}
-
 /// A run whose standard output takes so many bytes.
 pub fn ran_with_room(
     alloc: Global,
     words: &[&str],
     files: &[(&str, File)],
-    output: usize,
+    room: usize,
 ) -> Result<Observed, AllocError> {
-    ran_in(alloc, words, files, Room { output, ..AMPLE })
+    let (input, output, errors) = (Blank::new(1), Blank::new(1), Blank::new(1));
+    counted::<Brand, Brand, Brand>(alloc, words, files, room, input, output, errors)
 }
 
 /// A run of the program on these words and files.
 pub fn ran(alloc: Global, words: &[&str], files: &[(&str, File)]) -> Result<Observed, AllocError> {
-    ran_in(alloc, words, files, AMPLE)
+    ran_with_room(alloc, words, files, usize::MAX)
 }

@@ -1,15 +1,14 @@
 //! Words: refused ones, and those that ask for a text.
 
 use super::harness::ran;
-use command_line::{ASM_HELP, EVAL_HELP, HELP, RUN_HELP, VERSION};
+use command_line::{ASM_HELP, EVAL_HELP, HELP, VERSION};
 use std::test::Fail;
 
 #[test]
 fn refuses_words_that_are_no_command(rt: HostRuntime) -> Result<(), Fail> {
-    let refused: [&[&str]; 5] = [
+    let refused: [&[&str]; 4] = [
         &[],
-        &["run", "--entry", "G", "--args", "1", "F"],
-        &["run", "--entry", "G", "--sched", "rr:1", "F"],
+        &["run"],
         &["eval", "--entry", "G", "F"],
         &["asm", "F.j"],
     ];
@@ -22,10 +21,9 @@ fn refuses_words_that_are_no_command(rt: HostRuntime) -> Result<(), Fail> {
 
 #[test]
 fn prints_help_and_version(rt: HostRuntime) -> Result<(), Fail> {
-    let asked: [(&[&str], &str); 5] = [
+    let asked: [(&[&str], &str); 4] = [
         (&["-h"], HELP),
         (&["help", "eval"], EVAL_HELP),
-        (&["run", "--help"], RUN_HELP),
         (&["asm", "-h"], ASM_HELP),
         (&["--version"], VERSION),
     ];

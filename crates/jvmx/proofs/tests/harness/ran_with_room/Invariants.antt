@@ -1,5 +1,5 @@
 -- Each blank has a ledger of its own.
-use Rattle.jvmx.proofs.tests.harness.ran_in.Given as goal
+use Rattle.jvmx.proofs.tests.harness.ran_with_room.Given as goal
 
 abbrev pub ghosts-counted-I-Ledger : goal.ghosts-counted-I-Ledger
 ghosts-counted-I-Ledger a = record { name = a.input.name; parts = a.input.parts }
