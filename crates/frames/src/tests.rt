@@ -31,14 +31,14 @@ fn code(alloc: Global, max_stack: u16, max_locals: u16) -> Body
 #[test]
 fn a_call_begins(rt: HostRuntime) -> Result<(), Fail> {
     let body = code(rt.alloc(), 9, 3);
-    let frame = Frame::new(rt.alloc(), METHOD, &body, &[Value::Int(7)])?;
+    let frame = Frame::new(rt.alloc(), METHOD, &body, Some(5), &[Value::Int(7)])?;
     let locals = [Value::Int(7), Value::Unset, Value::Unset];
     assert_eq!(rt; frame.method(), METHOD);
     assert_eq!(rt; frame.place(), 0);
     assert_eq!(rt; frame.locals(), locals.as_slice());
     assert_eq!(rt; frame.height(), 0);
     assert!(rt; frame.instruction().is_none());
-    assert_eq!(rt; frame.monitor(), None);
+    assert_eq!(rt; frame.monitor(), Some(5));
     Ok(())
 }
 
@@ -46,7 +46,7 @@ fn a_call_begins(rt: HostRuntime) -> Result<(), Fail> {
 #[test]
 fn operands_come_and_go(rt: HostRuntime) -> Result<(), Fail> {
     let body = code(rt.alloc(), 9, 0);
-    let mut frame = Frame::new(rt.alloc(), METHOD, &body, &[])?;
+    let mut frame = Frame::new(rt.alloc(), METHOD, &body, None, &[])?;
     for n in 0..9i32 {
         assert!(rt; frame.height() < frame.body().max_stack);
         frame.push(Value::Int(n));
@@ -74,7 +74,7 @@ fn operands_come_and_go(rt: HostRuntime) -> Result<(), Fail> {
 #[test]
 fn a_call_goes_on(rt: HostRuntime) -> Result<(), Fail> {
     let body = code(rt.alloc(), 0, 2);
-    let mut frame = Frame::new(rt.alloc(), METHOD, &body, &[Value::Null])?;
+    let mut frame = Frame::new(rt.alloc(), METHOD, &body, None, &[Value::Null])?;
     frame.set_place(5);
     frame.advance();
     assert_eq!(rt; frame.place(), 6);

@@ -151,7 +151,7 @@ module _ (program : List Class) (limits : Limits) (start : Start) (s : State) (t
   measured_keeps : (r : ℕ) (o : Object) → HasDepth frame 1 1 → KeepsSound (measured r o)
   measured_keeps r (array class elements) depth =
       reaches_keeps program limits start s t thread frame below stands effect.Nothing (frame_action.Push 1 (value.Int (pos (length elements))))
-      (λ _. record { sound = stands.sound; room = (depth.there, depth.room); value = tt; can_be_made = λ _. tt })
+      (λ _. record { sound = stands.sound; room = (depth.there, depth.room); value = tt; heard = tt; can_be_made = λ _. tt })
   measured_keeps r (instance class fields) depth = still t stands.sound
   measured_keeps r (text units) depth = still t stands.sound
   measured_keeps r (class_object name) depth = still t stands.sound
@@ -166,7 +166,7 @@ module _ (program : List Class) (limits : Limits) (start : Start) (s : State) (t
   loaded_keeps r n None depth values = throws_keeps start stands thrown.ArrayIndexOutOfBoundsException
   loaded_keeps r n (Some v) depth values =
       reaches_keeps program limits start s t thread frame below stands (effect.LoadElement r (unsigned_abs n)) (frame_action.Push 2 v)
-      (λ _. record { sound = stands.sound; room = (depth.there, depth.room); value = values v refl; can_be_made = λ _. tt })
+      (λ _. record { sound = stands.sound; room = (depth.there, depth.room); value = values v refl; heard = tt; can_be_made = λ _. tt })
 
   load_from_keeps : (k : ArrayKind) (n : ℤ) (r : ℕ) (o : Object) → HasDepth frame 2 1 → IsObject program s.heap o → KeepsSound (load_from limits s thread k n r o)
   load_from_keeps k n r (array class elements) depth is =
@@ -191,7 +191,7 @@ module _ (program : List Class) (limits : Limits) (start : Start) (s : State) (t
       cond_both (is_reference_kind k && not (fits_component program s class v)) _ _ KeepsSound
       (λ _. throws_keeps start stands thrown.ArrayStoreException)
       (λ _. reaches_keeps program limits start s t thread frame below stands (effect.StoreElement r (unsigned_abs n) kept) (taking 3 frame.activation)
-      (λ _. record { sound = put_element_is_sound stands.sound r (unsigned_abs n) kept (stored_is_value s.heap (component_type class) v is); room = depth.there; value = tt; can_be_made = λ _. holds }))
+      (λ _. record { sound = put_element_is_sound stands.sound r (unsigned_abs n) kept (stored_is_value s.heap (component_type class) v is); room = depth.there; value = tt; heard = tt; can_be_made = λ _. holds }))
 
   store_to_keeps : (k : ArrayKind) (v : Value) (n : ℤ) (r : ℕ) (o : Object) → HasDepth frame 3 0 → object_at s.heap r ≡ Some o → is_loaded (kind_of_elements k) v ≡ true → IsValue s.heap v → KeepsSound (store_to program limits s thread frame.activation k v n r o)
   store_to_keeps k v n r (array class elements) depth at loads is =

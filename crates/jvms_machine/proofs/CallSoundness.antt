@@ -1,9 +1,9 @@
 -- A turn of a call leaves a sound state sound: the frame that comes is one of the called method, with the operands of its
 -- caller as its arguments, and stands on its caller.
-use Rattle.std.proofs.Common.{◌≡◌, ℕ, ◌+◌, ◌-◌, ◌<◌, ◌≤◌, true, false, not, ◌==◌, nat_le, nat_lt, leb-false, ltb-false, eqb, eq-eqb, List, [], ◌∷◌, ◌++◌, length, replicate, reverse, take, Option, Some, None, IfSome, IsTrue, codes, slice_get, option_and_then, option_map, unwrap_or, refl, sym, ap, ◌∙◌, subst, arith, length-drop}
+use Rattle.std.proofs.Common.{◌≡◌, ℕ, ◌+◌, ◌-◌, ◌<◌, ◌≤◌, true, false, not, ◌==◌, nat_le, nat_lt, leb-false, ltb-false, eqb, eq-eqb, List, [], ◌∷◌, ◌++◌, length, replicate, reverse, take, Option, Some, None, IfSome, IsTrue, codes, slice_get, option_and_then, option_map, unwrap_or, refl, sym, ap, ◌∙◌, subst, arith, length-drop, is_some}
 use Rattle.std.specs.Prelude.{Result, Ok, Err}
 use Rattle.std.specs.List.{AllByRecursion}
-use Rattle.std.proofs.lemmas.Bool.{cond_both, cond-false, and_from, not-false}
+use Rattle.std.proofs.lemmas.Bool.{cond_both, eqb-true, cond-false, and_from, not-false}
 use Rattle.std.proofs.lemmas.Option.{same_Some, slice_get_within}
 use Rattle.std.proofs.lemmas.List.{length-append, length-replicate, length-reverse, length-take-le}
 use Rattle.jvms_machine.specs.declared.value.Value.{Value}
@@ -11,6 +11,7 @@ use Rattle.jvms_machine.specs.declared.value.Value.TheVariants as value
 use Rattle.jvms_machine.specs.declared.machine.Limits.{Limits}
 use Rattle.jvms_machine.specs.declared.state.StackFrame.TheVariants as stack_frame
 use Rattle.jvms_machine.specs.declared.action.Action.TheVariants as action
+use Rattle.jvms_machine.specs.declared.action.Lock.{Lock}
 use Rattle.jvms_machine.specs.declared.action.Decision.TheVariants as decision
 use Rattle.jvms_file.specs.declared.insn.Invoke.{Invoke}
 use Rattle.jvms_file.specs.declared.insn.Invoke.TheVariants as invoke
@@ -28,20 +29,24 @@ use Rattle.jvms_program.specs.Program.{IsProgram, method_at}
 use Rattle.jvms_program.specs.BuiltIn.{print_stream_class}
 use Rattle.jvms_program.specs.Resolution.{MethodFound, fits, resolved_method, method_number}
 use Rattle.jvms_machine.specs.Decisions.{TurnDecision}
-use Rattle.jvms_machine.specs.State.{State, Object, Thread, Frame, MethodFrame, object_at, class_of, IsValue, body_at, is_synchronized_at, IsFrame, StandsOn, result_length}
+use Rattle.jvms_machine.specs.State.{State, Object, Thread, Frame, MethodFrame, object_at, class_of, IsReference, IsValue, body_at, is_synchronized_at, IsFrame, StandsOn, result_length}
 use Rattle.jvms_machine.specs.Start.{Start, IsArgument, IsStart}
 use Rattle.jvms_machine.specs.Activations.{has_depth}
 use Rattle.jvms_machine.specs.Steps.{instruction_at}
 use Rattle.jvms_machine.specs.Profile.{is_outside_method}
-use Rattle.jvms_machine.specs.Calls.{entered, enter_decision, with_body, called_decision, entry_decision, first_call_decision, is_static_call, taken, receiver_of, are_of_call, numbered, call_decision, static_call_decision, selected, selected_decision, wrong_receiver, object_call_decision, receiver_call_decision, resolved_call_decision, invoke_decision}
-use Rattle.jvms_machine.specs.Actions.{called, given, top_given, calling, top_operands, arguments_of, applied_to, items_of}
+use Rattle.jvms_machine.specs.Calls.{entered, enter_decision, with_body, called_decision, first_call, entry_decision, run_of_class, selected_run, run_of_object, run_decision, first_call_decision, is_static_call, taken, receiver_of, are_of_call, numbered, call_decision, static_call_decision, selected, selected_decision, wrong_receiver, object_call_decision, receiver_call_decision, resolved_call_decision, invoke_decision}
+use Rattle.jvms_machine.specs.Monitors.{locked_reference}
+use Rattle.jvms_machine.specs.Actions.{with_lock, first_arguments, first_called, given, top_given, calling, top_operands, arguments_of, applied_to, items_of}
 use Rattle.jvms_machine.specs.Marks.{calls_in, calls_of}
 use Rattle.jvms_machine.proofs.ListLaws.{all_weaker, all_append, all_replicate, all_drop, all_take, all_reverse}
 use Rattle.jvms_machine.proofs.InitialisationOrder.{count_call}
-use Rattle.jvms_machine.proofs.MarkLaws.{entered_mark, changed_calls, given_calls}
-use Rattle.jvms_machine.proofs.ThreadChanges.{Stands, frames_are_stack, moved_is_sound, stack_goes_on}
+use Rattle.jvms_machine.proofs.MarkLaws.{entered_mark, marked_with_lock, changed_calls, given_calls}
+use Rattle.jvms_machine.proofs.ThreadChanges.{Stands, thread_is, frames_are_stack, moved_is_sound, stack_goes_on}
 use Rattle.jvms_machine.proofs.KeptStates.{Keeps, still}
 use Rattle.jvms_machine.proofs.ExceptionSoundness.{throws_keeps}
+use Rattle.jvms_machine.proofs.HeapGrowth.{values_grow}
+use Rattle.jvms_machine.proofs.StoredValues.{leads_is_reference}
+use Rattle.jvms_machine.proofs.LockSoundness.{IsLocked, locked_is_reference, locked_grows, can_be_locked, stands_with_lock, locking_keeps}
 use Rattle.jvms_machine.proofs.InitialisationSoundness.{asking_keeps}
 use Rattle.jvms_machine.proofs.CallDescriptors.{IsFound, resolved_is_found, resolved_is_static, selected_is_found, numbered_has_descriptor, numbered_in_class, called_has_type}
 use Rattle.jvms_machine.proofs.EffectSoundness.{HasDepth, depth_is}
@@ -54,20 +59,21 @@ argument_is_value : (heap : List Object) → 4 ≤ length heap → (v : Value) �
 argument_is_value heap opened (value.Reference r) is = (is.0, omega arith)
 argument_is_value heap opened _ is = tt
 
--- A call that is entered with arguments that its locals have room for is a frame, where it enters no monitor.
-pub entered_is_frame : (program : List Class) (heap : List Object) (method : MethodNumber) (body : Body) (arguments : List Value) → length arguments ≤ body.max_locals → AllByRecursion (IsValue heap) arguments → body_at program method ≡ Some body → is_synchronized_at program method ≡ false → IsFrame program heap (stack_frame.Call (entered method body arguments))
-entered_is_frame program heap method body arguments few values body_is plain =
+-- A call that is entered with arguments that its locals have room for is a frame, where it holds a monitor exactly if its
+-- method is synchronized.
+pub entered_is_frame : (program : List Class) (heap : List Object) (method : MethodNumber) (body : Body) (monitor : Option ℕ) (arguments : List Value) → length arguments ≤ body.max_locals → AllByRecursion (IsValue heap) arguments → body_at program method ≡ Some body → IfSome monitor (IsReference heap) → is_some monitor ≡ is_synchronized_at program method → IsFrame program heap (stack_frame.Call (entered method body monitor arguments))
+entered_is_frame program heap method body monitor arguments few values body_is held flag =
     let unset : List Value = replicate (body.max_locals - length arguments) value.Unset in
     let as_many : length (arguments ++ unset) ≡ body.max_locals = omega (arith, length-append arguments unset, length-replicate (body.max_locals - length arguments) value.Unset) in
-    (body_is, (as_many, omega arith), all_append (IsValue heap) arguments unset values (all_replicate (IsValue heap) (body.max_locals - length arguments) value.Unset tt), tt, tt, sym plain)
+    (body_is, (as_many, omega arith), all_append (IsValue heap) arguments unset values (all_replicate (IsValue heap) (body.max_locals - length arguments) value.Unset tt), tt, held, flag)
 
 -- The code at a number is that of the method at it.
 body_of : (program : List Class) (method : MethodNumber) (m : Method) (body : Body) → method_at program method ≡ Some m → m.body ≡ Some body → body_at program method ≡ Some body
 body_of program method m body m_is body_is = ap (option_and_then (λ (n : Method). n.body)) m_is ∙ body_is
 
 -- The flag at a number is that of the method at it.
-flag_of : (program : List Class) (method : MethodNumber) (m : Method) → method_at program method ≡ Some m → m.flags.is_synchronized ≡ false → is_synchronized_at program method ≡ false
-flag_of program method m m_is plain = ap (λ o. unwrap_or (option_map (λ (n : Method). n.flags.is_synchronized) o) false) m_is ∙ plain
+flag_of : (program : List Class) (method : MethodNumber) (m : Method) → method_at program method ≡ Some m → is_synchronized_at program method ≡ m.flags.is_synchronized
+flag_of program method m m_is = ap (λ o. unwrap_or (option_map (λ (n : Method). n.flags.is_synchronized) o) false) m_is
 
 -- Its caller, without the operands that it took, is a frame.
 pub given_is_frame : (program : List Class) (heap : List Object) (takes : ℕ) (frame : MethodFrame) → IsFrame program heap (stack_frame.Call frame) → IsFrame program heap (stack_frame.Call (given takes frame))
@@ -99,66 +105,113 @@ module _ (program : List Class) (limits : Limits) (start : Start) (s : State) (t
 
   -- ---- How a method is entered
 
-  -- What is known where a method's code is entered with so many arguments.
-  record Enters (arguments : ℕ) (m : Method) (body : Body) : Type 0 where
+  -- What is known where a method's code is entered with so many arguments, and this is locked.
+  record Enters (arguments : ℕ) (m : Method) (body : Body) (locked : Lock) : Type 0 where
     pub body_is : m.body ≡ Some body
-    pub plain : m.flags.is_synchronized ≡ false
+    pub is_locked : IsLocked limits s locked
+    pub flag : is_some (locked_reference locked) ≡ m.flags.is_synchronized
     pub room : length thread.frames < limits.frames
     pub few : arguments ≤ body.max_locals
 
-  enter_keeps : {frames : List Frame} → HasFrames frames → (arguments : ℕ) (m : Method) (body : Body) (make : TurnDecision) → m.body ≡ Some body → (Enters arguments m body → KeepsSound make) → KeepsSound (enter_decision limits s thread arguments m body make)
-  enter_keeps stands arguments m body make body_is keeps =
+  enter_keeps : {frames : List Frame} → HasFrames frames → (n : MethodNumber) (m : Method) (receiver : Option ℕ) (arguments : ℕ) (body : Body) (make : Lock → TurnDecision) → IfSome receiver (IsReference s.heap) → m.body ≡ Some body → ((locked : Lock) → Enters arguments m body locked → KeepsSound (make locked)) → KeepsSound (enter_decision program limits s t thread n m receiver arguments body make)
+  enter_keeps stands n m receiver arguments body make reference body_is keeps =
       cond_both (nat_le limits.frames (length thread.frames)) _ _ KeepsSound
       (λ _. throws_keeps start stands thrown.StackOverflowError)
       (λ room. cond_both (nat_lt body.max_locals arguments) _ _ KeepsSound
       (λ _. still t stands.sound)
-      (λ few. cond_both m.flags.is_synchronized _ _ KeepsSound
-      (λ _. still t stands.sound)
-      (λ plain. keeps (record { body_is = body_is; plain = plain; room = leb-false limits.frames (length thread.frames) room; few = ltb-false body.max_locals arguments few }))))
+      (λ few. locking_keeps program limits start s t thread stands n m receiver make reference
+      (λ locked is flag. keeps locked (record { body_is = body_is; is_locked = is; flag = flag; room = leb-false limits.frames (length thread.frames) room; few = ltb-false body.max_locals arguments few }))))
 
   with_body_keeps : {frames : List Frame} → HasFrames frames → (o : Option Body) (make : Body → TurnDecision) → ((body : Body) → o ≡ Some body → KeepsSound (make body)) → KeepsSound (with_body o make)
   with_body_keeps stands None make keeps = still t stands.sound
   with_body_keeps stands (Some body) make keeps = keeps body refl
 
-  called_keeps : {frames : List Frame} → HasFrames frames → (arguments : ℕ) (m : Method) (native : TurnDecision) (make : Body → TurnDecision) → KeepsSound native → ((body : Body) → Enters arguments m body → KeepsSound (make body)) → KeepsSound (called_decision limits s thread arguments m native make)
-  called_keeps stands arguments m native make native_keep keeps =
+  called_keeps : {frames : List Frame} → HasFrames frames → (n : MethodNumber) (m : Method) (receiver : Option ℕ) (arguments : ℕ) (native : TurnDecision) (make : Body → Lock → TurnDecision) → IfSome receiver (IsReference s.heap) → KeepsSound native → ((body : Body) (locked : Lock) → Enters arguments m body locked → KeepsSound (make body locked)) → KeepsSound (called_decision program limits s t thread n m receiver arguments native make)
+  called_keeps stands n m receiver arguments native make reference native_keep keeps =
       cond_both m.flags.is_abstract _ _ KeepsSound
       (λ _. throws_keeps start stands thrown.AbstractMethodError)
       (λ _. cond_both m.flags.is_native _ _ KeepsSound
       (λ _. native_keep)
-      (λ _. with_body_keeps stands m.body (λ body. enter_decision limits s thread arguments m body (make body))
-      (λ body body_is. enter_keeps stands arguments m body (make body) body_is (keeps body))))
+      (λ _. with_body_keeps stands m.body (λ body. enter_decision program limits s t thread n m receiver arguments body (make body))
+      (λ body body_is. enter_keeps stands n m receiver arguments body (make body) reference body_is (keeps body))))
+
+  -- What a number leads to.
+  numbered_by : {frames : List Frame} → HasFrames frames → (n : MethodNumber) (o : Option Method) (make : MethodNumber → Method → TurnDecision) → o ≡ method_at program n → ((m : Method) → o ≡ Some m → KeepsSound (make n m)) → KeepsSound (numbered program (Some n) make)
+  numbered_by stands n None make e keeps = rw (← e) (still t stands.sound)
+  numbered_by stands n (Some m) make e keeps = rw (← e) (keeps m refl)
 
   -- ---- The first call
 
-  -- A method is entered.
-  enters_keeps : HasFrames [] → (m : Method) (body : Body) → IsStart start → method_at program start.method ≡ Some m → Enters (length start.arguments) m body → KeepsSound (decision.Makes (action.Enters start.method body))
+  -- A method is entered, with what the first call is given.
+  enters_keeps : HasFrames [] → (n : MethodNumber) (m : Method) (body : Body) (locked : Lock) (count : ℕ) → method_at program n ≡ Some m → AllByRecursion (IsValue s.heap) (first_arguments start thread) → length (first_arguments start thread) ≡ count → Enters count m body locked → KeepsSound (decision.Makes (action.Enters n body locked))
   unfolding applied_to items_of
-  enters_keeps stands m body starts m_is enters =
-      let frame = entered start.method body start.arguments in
-      let are : (called frame thread).frames ≡ stack_frame.Call frame ∷ [] = ap (λ (fs : List Frame). stack_frame.Call frame ∷ fs) stands.frames_are in
-      let values = all_weaker IsArgument (IsValue s.heap) (argument_is_value s.heap stands.sound.opened) start.arguments starts in
+  enters_keeps stands n m body locked count m_is values as_many enters =
+      let made = with_lock program s t locked in
+      let there = stands_with_lock stands locked enters.is_locked in
+      let arguments = first_arguments start thread in
+      let frame = entered n body (locked_reference locked) arguments in
+      let change = first_called start n body locked in
+      let are : (change thread).frames ≡ stack_frame.Call frame ∷ [] = ap (λ (fs : List Frame). stack_frame.Call frame ∷ fs) stands.frames_are in
+      let few : length arguments ≤ body.max_locals = subst (λ k. k ≤ body.max_locals) (sym as_many) enters.few in
+      let values_there = values_grow s.heap made.heap (locked_grows program s t locked) arguments values in
       let room = enters.room in (
-        (λ _. moved_is_sound stands (called frame) (stack_frame.Call frame ∷ []) are refl refl
-            (entered_is_frame program s.heap start.method body start.arguments enters.few values (body_of program start.method m body m_is enters.body_is) (flag_of program start.method m m_is enters.plain), tt)
+        (λ _. moved_is_sound there change (stack_frame.Call frame ∷ []) are refl refl
+            (entered_is_frame program made.heap n body (locked_reference locked) arguments few values_there (body_of program n m body m_is enters.body_is) (locked_is_reference program limits s t locked enters.is_locked) (enters.flag ∙ sym (flag_of program n m m_is)), tt)
             tt (omega arith) (λ c. count_call c frame [])),
-        (λ _ _. (slice_get_within s.threads t thread stands.given_out, enters.few)),
-        entered_mark program t (calls_of s t) _ start.method
-            (changed_calls s.threads t thread (called frame) stands.given_out ∙ ap (λ (ms : List MethodNumber). start.method ∷ ms) (sym (ap calls_in stands.given_out))),
+        (λ _ limited. (slice_get_within s.threads t thread stands.given_out, can_be_locked stands.sound locked enters.is_locked limited, subst (λ o. IfSome o (λ (th : Thread). length (first_arguments start th) ≤ body.max_locals)) (sym stands.given_out) few)),
+        marked_with_lock program t n locked ∙ entered_mark program t (calls_of s t) _ n
+            (changed_calls made.threads t thread change there.given_out ∙ ap (λ (ms : List MethodNumber). n ∷ ms) (sym (ap calls_in stands.given_out))),
+        (λ _. tt),
       )
 
-  entry_keeps : HasFrames [] → (o : Option Method) → IsStart start → method_at program start.method ≡ o → KeepsSound (entry_decision program limits start s t thread o)
-  entry_keeps stands None starts is = still t stands.sound
-  entry_keeps stands (Some m) starts is =
+  first_keeps : HasFrames [] → (receiver : Option ℕ) (count : ℕ) (n : MethodNumber) (m : Method) → IfSome receiver (IsReference s.heap) → method_at program n ≡ Some m → AllByRecursion (IsValue s.heap) (first_arguments start thread) → length (first_arguments start thread) ≡ count → KeepsSound (first_call program limits s t thread receiver count n m)
+  first_keeps stands receiver count n m reference m_is values as_many =
+      called_keeps stands n m receiver count _ (λ body locked. decision.Makes (action.Enters n body locked)) reference (throws_keeps start stands thrown.UnsatisfiedLinkError)
+      (λ body locked enters. enters_keeps stands n m body locked count m_is values as_many enters)
+
+  -- Thread 0 is given what is handed to the machine.
+  entry_is_given : HasFrames [] → t ≡ 0 → first_arguments start thread ≡ start.arguments
+  entry_is_given stands first =
+      let at_first : slice_get s.threads 0 ≡ Some thread = subst (λ k. slice_get s.threads k ≡ Some thread) first stands.given_out in
+      let none : thread.object ≡ None = subst (λ o. IfSome o (λ (u : Thread). u.object ≡ None)) at_first stands.sound.first_thread in
+      rw none refl
+
+  entry_keeps : HasFrames [] → (o : Option Method) → t ≡ 0 → IsStart start → method_at program start.method ≡ o → KeepsSound (entry_decision program limits start s t thread o)
+  entry_keeps stands None first starts is = still t stands.sound
+  entry_keeps stands (Some m) first starts is =
+      let given = entry_is_given stands first in
+      let values = all_weaker IsArgument (IsValue s.heap) (argument_is_value s.heap stands.sound.opened) start.arguments starts in
       cond_both (is_outside_method m.method_type) _ _ KeepsSound
       (λ _. still t stands.sound)
       (λ _. asking_keeps program limits start s t thread stands start.method.class _
-      (called_keeps stands (length start.arguments) m _ (λ body. decision.Makes (action.Enters start.method body)) (throws_keeps start stands thrown.UnsatisfiedLinkError)
-      (λ body enters. enters_keeps stands m body starts is enters)))
+      (first_keeps stands None (length start.arguments) start.method m tt is (subst (AllByRecursion (IsValue s.heap)) (sym given) values) (ap length given)))
+
+  -- Another is given its Thread object.
+  object_is_given : (r : ℕ) → thread.object ≡ Some r → first_arguments start thread ≡ value.Reference r ∷ []
+  object_is_given r is = rw is refl
+
+  selected_run_keeps : HasFrames [] → (r : ℕ) (o : Option MethodFound) → thread.object ≡ Some r → IsReference s.heap r → KeepsSound (selected_run program limits s t thread r o)
+  selected_run_keeps stands r None is reference = throws_keeps start stands thrown.AbstractMethodError
+  selected_run_keeps stands r (Some found) is reference = of_number (method_number program found)
+    where
+      of_number : (o : Option MethodNumber) → KeepsSound (numbered program o (first_call program limits s t thread (Some r) 1))
+      of_number None = still t stands.sound
+      of_number (Some n) =
+          numbered_by stands n (method_at program n) _ refl
+          (λ m m_is. first_keeps stands (Some r) 1 n m reference m_is (subst (AllByRecursion (IsValue s.heap)) (sym (object_is_given r is)) (reference, tt)) (ap length (object_is_given r is)))
+
+  run_of_object_keeps : HasFrames [] → (r : ℕ) (o : Option Object) → thread.object ≡ Some r → IsReference s.heap r → KeepsSound (run_of_object program limits s t thread r o)
+  run_of_object_keeps stands r None is reference = still t stands.sound
+  run_of_object_keeps stands r (Some o) is reference = selected_run_keeps stands r (run_of_class program (class_of o)) is reference
+
+  run_keeps : HasFrames [] → (o : Option ℕ) → thread.object ≡ o → KeepsSound (run_decision program limits s t thread o)
+  run_keeps stands None is = still t stands.sound
+  run_keeps stands (Some r) is =
+      run_of_object_keeps stands r (object_at s.heap r) is (subst (λ o. IfSome o (IsReference s.heap)) is (thread_is stands).4)
 
   pub first_call_keeps : HasFrames [] → IsStart start → KeepsSound (first_call_decision program limits start s t thread)
   first_call_keeps stands starts =
-      cond_both (t == 0) _ _ KeepsSound (λ _. entry_keeps stands (method_at program start.method) starts refl) (λ _. still t stands.sound)
+      cond_both (t == 0) _ _ KeepsSound (λ first. entry_keeps stands (method_at program start.method) (eqb-true t 0 first) starts refl) (λ _. run_keeps stands thread.object refl)
 
   -- ---- The four calls
 
@@ -168,28 +221,31 @@ module _ (program : List Class) (limits : Limits) (start : Start) (s : State) (t
     arguments_are takes = ap (arguments_of takes) stands.given_out ∙ ap (λ (fs : List Frame). reverse (take takes (top_operands fs))) stands.frames_are
 
     -- A method is called.
-    calls_keeps : (n : MethodNumber) (m : Method) (body : Body) → method_at program n ≡ Some m → m.descriptor ≡ r.descriptor → Enters (taken how r.method_type) m body → KeepsSound (decision.Makes (action.Calls n body (taken how r.method_type)))
+    calls_keeps : (n : MethodNumber) (m : Method) (body : Body) (locked : Lock) → method_at program n ≡ Some m → m.descriptor ≡ r.descriptor → Enters (taken how r.method_type) m body locked → KeepsSound (decision.Makes (action.Calls n body (taken how r.method_type) locked))
     unfolding applied_to items_of
-    calls_keeps n m body m_is same enters =
+    calls_keeps n m body locked m_is same enters =
+        let made = with_lock program s t locked in
+        let on = stands_with_lock stands locked enters.is_locked in
         let takes = taken how r.method_type in
         let arguments = arguments_of takes (slice_get s.threads t) in
-        let callee = entered n body arguments in
-        let frames = frames_are_stack stands in
+        let callee = entered n body (locked_reference locked) arguments in
+        let frames = frames_are_stack on in
         let now = stack_frame.Call callee ∷ stack_frame.Call (given takes frame) ∷ below in
         let are : (calling callee takes thread).frames ≡ now = ap (λ (fs : List Frame). stack_frame.Call callee ∷ top_given takes fs) stands.frames_are in
         let as_many : length arguments ≡ takes = ap length (arguments_are takes) ∙ length-reverse (take takes frame.activation.operands) ∙ length-take-le takes frame.activation.operands depth.there in
-        let values : AllByRecursion (IsValue s.heap) arguments = subst (AllByRecursion (IsValue s.heap)) (sym (arguments_are takes)) (all_reverse (IsValue s.heap) (take takes frame.activation.operands) (all_take (IsValue s.heap) takes frame.activation.operands frames.0.0.3)) in
+        let values : AllByRecursion (IsValue made.heap) arguments = subst (AllByRecursion (IsValue made.heap)) (sym (arguments_are takes)) (all_reverse (IsValue made.heap) (take takes frame.activation.operands) (all_take (IsValue made.heap) takes frame.activation.operands frames.0.0.3)) in
         let few : length arguments ≤ body.max_locals = subst (λ k. k ≤ body.max_locals) (sym as_many) enters.few in
         let there : length thread.frames ≡ length (stack_frame.Call frame ∷ below) = ap length stands.frames_are in
         let room = enters.room in (
-          (λ of_program. moved_is_sound stands (calling callee takes) now are refl refl
-              (entered_is_frame program s.heap n body arguments few values (body_of program n m body m_is enters.body_is) (flag_of program n m m_is enters.plain), (given_is_frame program s.heap takes frame frames.0.0, frames.0.1))
-              (stands_on_caller program s.heap frame callee m how r takes of_program frames.0.0 at m_is same depth, stack_goes_on program frame (given takes frame).activation below frames.1)
+          (λ of_program. moved_is_sound on (calling callee takes) now are refl refl
+              (entered_is_frame program made.heap n body (locked_reference locked) arguments few values (body_of program n m body m_is enters.body_is) (locked_is_reference program limits s t locked enters.is_locked) (enters.flag ∙ sym (flag_of program n m m_is)), (given_is_frame program made.heap takes frame frames.0.0, frames.0.1))
+              (stands_on_caller program made.heap frame callee m how r takes of_program frames.0.0 at m_is same depth, stack_goes_on program frame (given takes frame).activation below frames.1)
               (omega arith)
               (λ c. count_call c callee (stack_frame.Call (given takes frame) ∷ below) ∙ count_call c (given takes frame) below ∙ sym (count_call c frame below))),
-          (λ _ _. (slice_get_within s.threads t thread stands.given_out, enters.few, subst (λ o. IfSome o (λ (th : Thread). takes ≤ length (top_operands th.frames))) (sym stands.given_out) (subst (λ (fs : List Frame). takes ≤ length (top_operands fs)) (sym stands.frames_are) depth.there))),
-          entered_mark program t (calls_of s t) _ n
-              (changed_calls s.threads t thread (calling callee takes) stands.given_out ∙ ap (λ (ms : List MethodNumber). n ∷ ms) (given_calls takes thread.frames ∙ sym (ap calls_in stands.given_out))),
+          (λ _ limited. (slice_get_within s.threads t thread stands.given_out, enters.few, can_be_locked stands.sound locked enters.is_locked limited, subst (λ o. IfSome o (λ (th : Thread). takes ≤ length (top_operands th.frames))) (sym stands.given_out) (subst (λ (fs : List Frame). takes ≤ length (top_operands fs)) (sym stands.frames_are) depth.there))),
+          marked_with_lock program t n locked ∙ entered_mark program t (calls_of s t) _ n
+              (changed_calls made.threads t thread (calling callee takes) on.given_out ∙ ap (λ (ms : List MethodNumber). n ∷ ms) (given_calls takes thread.frames ∙ sym (ap calls_in stands.given_out))),
+          (λ _. tt),
         )
 
     -- What a native method of PrintStream prints is among the operands, if its call is of no static method.
@@ -204,21 +260,16 @@ module _ (program : List Class) (limits : Limits) (start : Start) (s : State) (t
         ap (λ (k : MethodType). length k.parameters + 1) type ∙ sym (cond-false (is_static_call how) (length r.method_type.parameters) (length r.method_type.parameters + 1) (dynamic stream)) in
         subst (λ k. HasPrinted k m) as_many (method_has_parameters found.class n.method m stream in_class)
 
-    call_keeps : (found : MethodFound) (n : MethodNumber) (m : Method) → IsFound program r.descriptor found → method_number program found ≡ Some n → method_at program n ≡ Some m → m.descriptor ≡ r.descriptor → (found.class ≡ print_stream_class → is_static_call how ≡ false) → KeepsSound (call_decision program limits s thread frame.activation (taken how r.method_type) n m)
-    call_keeps found n m is number m_is same dynamic =
-        called_keeps stands (taken how r.method_type) m _ (λ body. decision.Makes (action.Calls n body (taken how r.method_type)))
+    call_keeps : (receiver : Option ℕ) → IfSome receiver (IsReference s.heap) → (found : MethodFound) (n : MethodNumber) (m : Method) → IsFound program r.descriptor found → method_number program found ≡ Some n → method_at program n ≡ Some m → m.descriptor ≡ r.descriptor → (found.class ≡ print_stream_class → is_static_call how ≡ false) → KeepsSound (call_decision program limits s t thread frame.activation receiver (taken how r.method_type) n m)
+    call_keeps receiver reference found n m is number m_is same dynamic =
+        called_keeps stands n m receiver (taken how r.method_type) _ (λ body locked. decision.Makes (action.Calls n body (taken how r.method_type) locked)) reference
         (native_keeps program limits start s t thread frame below stands (taken how r.method_type) m (slice_get program n.class) depth.there (printed_is_there found n m is number m_is same dynamic))
-        (λ body enters. calls_keeps n m body m_is same enters)
-
-    -- What the number of a method leads to.
-    numbered_by : (n : MethodNumber) (o : Option Method) (make : MethodNumber → Method → TurnDecision) → o ≡ method_at program n → ((m : Method) → o ≡ Some m → KeepsSound (make n m)) → KeepsSound (numbered program (Some n) make)
-    numbered_by n None make e keeps = rw (← e) (still t stands.sound)
-    numbered_by n (Some m) make e keeps = rw (← e) (keeps m refl)
+        (λ body locked enters. calls_keeps n m body locked m_is same enters)
 
     numbered_keeps : (found : MethodFound) (o : Option MethodNumber) (make : MethodNumber → Method → TurnDecision) → IsFound program r.descriptor found → method_number program found ≡ o → ((n : MethodNumber) (m : Method) → method_number program found ≡ Some n → method_at program n ≡ Some m → m.descriptor ≡ r.descriptor → KeepsSound (make n m)) → KeepsSound (numbered program o make)
     numbered_keeps found None make is number keeps = still t stands.sound
     numbered_keeps found (Some n) make is number keeps =
-        numbered_by n (method_at program n) make refl (λ m m_is. keeps n m number m_is (numbered_has_descriptor program r.descriptor found n m is number m_is))
+        numbered_by stands n (method_at program n) make refl (λ m m_is. keeps n m number m_is (numbered_has_descriptor program r.descriptor found n m is number m_is))
 
     -- A method of PrintStream isn't static, so no static call finds it.
     static_is_not_of_stream : (found : MethodFound) → IsFound program r.descriptor found → found.method.flags.is_static ≡ true → found.class ≡ print_stream_class → is_static_call how ≡ false
@@ -229,27 +280,27 @@ module _ (program : List Class) (limits : Limits) (start : Start) (s : State) (t
     static_keeps : (found : MethodFound) → IsFound program r.descriptor found → found.method.flags.is_static ≡ true → KeepsSound (static_call_decision program limits s t thread frame.activation (taken how r.method_type) found)
     static_keeps found is static =
         numbered_keeps found (method_number program found) _ is refl
-        (λ n m number m_is same. asking_keeps program limits start s t thread stands n.class _ (call_keeps found n m is number m_is same (static_is_not_of_stream found is static)))
+        (λ n m number m_is same. asking_keeps program limits start s t thread stands n.class _ (call_keeps None tt found n m is number m_is same (static_is_not_of_stream found is static)))
 
-    selected_keeps : (o : Option MethodFound) → is_static_call how ≡ false → ((f : MethodFound) → o ≡ Some f → IsFound program r.descriptor f) → KeepsSound (selected_decision program limits s thread frame.activation (taken how r.method_type) o)
-    selected_keeps None dynamic is = throws_keeps start stands thrown.AbstractMethodError
-    selected_keeps (Some found) dynamic is =
+    selected_keeps : (q : ℕ) → IsReference s.heap q → (o : Option MethodFound) → is_static_call how ≡ false → ((f : MethodFound) → o ≡ Some f → IsFound program r.descriptor f) → KeepsSound (selected_decision program limits s t thread frame.activation q (taken how r.method_type) o)
+    selected_keeps q reference None dynamic is = throws_keeps start stands thrown.AbstractMethodError
+    selected_keeps q reference (Some found) dynamic is =
         numbered_keeps found (method_number program found) _ (is found refl) refl
-        (λ n m number m_is same. call_keeps found n m (is found refl) number m_is same (λ _. dynamic))
+        (λ n m number m_is same. call_keeps (Some q) reference found n m (is found refl) number m_is same (λ _. dynamic))
 
     wrong_receiver_keeps : (kind : Invoke) → KeepsSound (wrong_receiver limits s thread kind)
     wrong_receiver_keeps invoke.Interface = throws_keeps start stands thrown.IncompatibleClassChangeError
     wrong_receiver_keeps _ = still t stands.sound
 
-    object_call_keeps : (found : MethodFound) (o : Option Object) → IsFound program r.descriptor found → is_static_call how ≡ false → KeepsSound (object_call_decision program limits s thread frame how r found o)
-    object_call_keeps found None is dynamic = still t stands.sound
-    object_call_keeps found (Some o) is dynamic =
+    object_call_keeps : (found : MethodFound) (q : ℕ) (o : Option Object) → object_at s.heap q ≡ o → IsFound program r.descriptor found → is_static_call how ≡ false → KeepsSound (object_call_decision program limits s t thread frame how r found q o)
+    object_call_keeps found q None at_q is dynamic = still t stands.sound
+    object_call_keeps found q (Some o) at_q is dynamic =
         cond_both (fits program (class_of o) found.class.name) _ _ KeepsSound
-        (λ _. selected_keeps (selected program frame how r (class_of o) found) dynamic (λ f f_is. selected_is_found program frame how r (class_of o) r.descriptor found f is f_is))
+        (λ _. selected_keeps q (leads_is_reference s.heap q o at_q) (selected program frame how r (class_of o) found) dynamic (λ f f_is. selected_is_found program frame how r (class_of o) r.descriptor found f is f_is))
         (λ _. wrong_receiver_keeps how)
 
-    receiver_keeps : (found : MethodFound) (o : Option Value) → IsFound program r.descriptor found → is_static_call how ≡ false → KeepsSound (receiver_call_decision program limits s thread frame how r found o)
-    receiver_keeps found (Some (value.Reference q)) is dynamic = object_call_keeps found (object_at s.heap q) is dynamic
+    receiver_keeps : (found : MethodFound) (o : Option Value) → IsFound program r.descriptor found → is_static_call how ≡ false → KeepsSound (receiver_call_decision program limits s t thread frame how r found o)
+    receiver_keeps found (Some (value.Reference q)) is dynamic = object_call_keeps found q (object_at s.heap q) refl is dynamic
     receiver_keeps found (Some value.Null) is dynamic = throws_keeps start stands thrown.NullPointerException
     receiver_keeps found _ is dynamic = still t stands.sound
 

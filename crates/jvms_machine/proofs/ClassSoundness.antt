@@ -25,7 +25,8 @@ use Rattle.jvms_machine.specs.Start.{Start}
 use Rattle.jvms_machine.specs.Exceptions.{has_room_for}
 use Rattle.jvms_machine.specs.Heap.{next_reference}
 use Rattle.jvms_machine.specs.Fields.{reaches, taking}
-use Rattle.jvms_machine.specs.Actions.{class_name_at, new_objects, new_count, new_elements}
+use Rattle.jvms_machine.specs.Heap.{class_name_at}
+use Rattle.jvms_machine.specs.Actions.{new_objects, new_count, new_elements}
 use Rattle.jvms_machine.specs.Objects.{is_instantiable, made_if_room, instance_of_number, new_instance_decision, with_class_of, cast, told_instance, class_decision, held_or_made, loadable_decision}
 use Rattle.jvms_machine.specs.Turn.{HasItsDimensions}
 use Rattle.jvms_machine.proofs.LimitLaws.{room_is}
@@ -85,7 +86,7 @@ module _ (program : List Class) (limits : Limits) (start : Start) (s : State) (t
   goes_on_keeps : KeepsSound (reaches effect.Nothing (taking 0 frame.activation))
   goes_on_keeps =
       reaches_keeps program limits start s t thread frame below stands effect.Nothing (taking 0 frame.activation)
-      (λ _. record { sound = stands.sound; room = omega arith; value = tt; can_be_made = λ _. tt })
+      (λ _. record { sound = stands.sound; room = omega arith; value = tt; heard = tt; can_be_made = λ _. tt })
 
   cast_keeps : (b : Bool) → KeepsSound (cast limits s thread frame b)
   cast_keeps true = goes_on_keeps
@@ -95,7 +96,7 @@ module _ (program : List Class) (limits : Limits) (start : Start) (s : State) (t
   puts_keeps : (takes : ℕ) (v : Value) → HasDepth frame takes 1 → IsValue s.heap v → KeepsSound (reaches effect.Nothing (frame_action.Push takes v))
   puts_keeps takes v depth is =
       reaches_keeps program limits start s t thread frame below stands effect.Nothing (frame_action.Push takes v)
-      (λ _. record { sound = stands.sound; room = (depth.there, depth.room); value = is; can_be_made = λ _. tt })
+      (λ _. record { sound = stands.sound; room = (depth.there, depth.room); value = is; heard = tt; can_be_made = λ _. tt })
 
   told_keeps : (b : Bool) → HasDepth frame 1 1 → KeepsSound (told_instance b)
   told_keeps true depth = puts_keeps 1 (value.Int (pos 1)) depth tt

@@ -20,7 +20,7 @@ use Rattle.jvms_program.specs.declared.program.Class.{Class}
 use Rattle.jvms_program.specs.declared.key.FieldKey.{FieldKey}
 use Rattle.jvms_program.specs.Program.{IsProgram, field_key_at}
 use Rattle.jvms_machine.specs.Decisions.{TurnDecision}
-use Rattle.jvms_machine.specs.State.{State, Thread, Frame, MethodFrame, IsObject, Sound}
+use Rattle.jvms_machine.specs.State.{State, Thread, Frame, MethodFrame, new_thread, IsObject, Sound}
 use Rattle.jvms_machine.specs.Start.{Start}
 use Rattle.jvms_machine.specs.Limits.{are_limits}
 use Rattle.jvms_machine.specs.Activations.{HasRoom, has_depth}
@@ -32,10 +32,11 @@ use Rattle.jvms_machine.specs.Turn.{TopHasRoom, HasItsDimensions, CanBeMade}
 use Rattle.jvms_machine.proofs.InitialisationOrder.{count_call}
 use Rattle.jvms_machine.proofs.FrameSoundness.{IsFit, HasValue, applied_is_fit}
 use Rattle.jvms_machine.proofs.LimitLaws.{limits_have_room}
-use Rattle.jvms_machine.proofs.MarkLaws.{unmarked_by, changed_calls, gone_on_calls}
+use Rattle.jvms_machine.proofs.ListLaws.{appended_within}
+use Rattle.jvms_machine.proofs.MarkLaws.{unmarked_by, changed_calls, gone_on_calls, acquire_is_no_mark, release_is_no_mark}
 use Rattle.jvms_machine.proofs.ThreadChanges.{Stands, frames_are_stack, moved_is_sound, stack_goes_on}
 use Rattle.jvms_machine.proofs.HeapGrowth.{grown_length, appended_is_sound}
-use Rattle.jvms_machine.proofs.KeptStates.{Keeps, still}
+use Rattle.jvms_machine.proofs.KeptStates.{IsHeardEffect, Keeps, still}
 
 -- ---- The call on top goes on
 
@@ -68,17 +69,21 @@ put_static_threads : (s : State) (v : Value) (o : Option FieldKey) → (put_stat
 put_static_threads s v None = refl
 put_static_threads s v (Some key) = refl
 
--- No thread is changed.
-pub affected_threads : (program : List Class) (s : State) (operands : List Value) (what : Effect (List ℕ)) → (affected program s operands what).threads ≡ s.threads
-affected_threads program s operands effect.Nothing = refl
-affected_threads program s operands (effect.GetField r n) = refl
-affected_threads program s operands (effect.PutField r n v) = put_field_threads s r v (field_key_at program n)
-affected_threads program s operands (effect.GetStatic n) = refl
-affected_threads program s operands (effect.PutStatic n v) = put_static_threads s v (field_key_at program n)
-affected_threads program s operands (effect.LoadElement r i) = refl
-affected_threads program s operands (effect.StoreElement r i v) = refl
-affected_threads program s operands (effect.Makes what) = refl
-affected_threads program s operands (effect.Prints what ends_line) = refl
+-- No thread that was given out is changed.
+pub affected_thread : (program : List Class) (s : State) (t : ℕ) (operands : List Value) (what : Effect (List ℕ)) (u : ℕ) (thread : Thread) → slice_get s.threads u ≡ Some thread → slice_get (affected program s t operands what).threads u ≡ Some thread
+affected_thread program s t operands effect.Nothing u thread at = at
+affected_thread program s t operands (effect.GetField r n) u thread at = at
+affected_thread program s t operands (effect.PutField r n v) u thread at = ap (λ (ts : List Thread). slice_get ts u) (put_field_threads s r v (field_key_at program n)) ∙ at
+affected_thread program s t operands (effect.GetStatic n) u thread at = at
+affected_thread program s t operands (effect.PutStatic n v) u thread at = ap (λ (ts : List Thread). slice_get ts u) (put_static_threads s v (field_key_at program n)) ∙ at
+affected_thread program s t operands (effect.LoadElement r i) u thread at = at
+affected_thread program s t operands (effect.StoreElement r i v) u thread at = at
+affected_thread program s t operands (effect.Makes what) u thread at = at
+affected_thread program s t operands (effect.Prints what ends_line) u thread at = at
+affected_thread program s t operands (effect.Locks monitor) u thread at = at
+affected_thread program s t operands (effect.Unlocks monitor) u thread at = at
+affected_thread program s t operands (effect.Starts r v) u thread at = appended_within s.threads (new_thread (Some r) ∷ []) u thread at
+affected_thread program s t operands (effect.Joins v) u thread at = at
 
 -- An event is no mark.
 read_is_no_mark : (t : ℕ) (o : Option Variable) → filter is_mark (event (λ v. item.Read t v) o) ≡ []
@@ -99,6 +104,10 @@ effect_is_no_mark program t (effect.LoadElement r i) = refl
 effect_is_no_mark program t (effect.StoreElement r i v) = refl
 effect_is_no_mark program t (effect.Makes what) = refl
 effect_is_no_mark program t (effect.Prints what ends_line) = refl
+effect_is_no_mark program t (effect.Locks monitor) = acquire_is_no_mark t monitor
+effect_is_no_mark program t (effect.Unlocks monitor) = release_is_no_mark t monitor
+effect_is_no_mark program t (effect.Starts r u) = refl
+effect_is_no_mark program t (effect.Joins u) = refl
 
 -- ---- The depth
 
@@ -121,10 +130,11 @@ depth_is frame takes gives is =
 
 -- What is known of an instruction of the call on top that has this effect: the state beside the frame is sound, and what
 -- the frame is given has room in it and is a value.
-pub record IsMade (program : List Class) (limits : Limits) (s : State) (frame : MethodFrame) (what : Effect (List ℕ)) (act : FrameAction) : Type 0 where
-  pub sound : Sound program limits (affected program s frame.activation.operands what)
+pub record IsMade (program : List Class) (limits : Limits) (s : State) (t : ℕ) (frame : MethodFrame) (what : Effect (List ℕ)) (act : FrameAction) : Type 0 where
+  pub sound : Sound program limits (affected program s t frame.activation.operands what)
   pub room : HasRoom frame.body frame.activation act
-  pub value : HasValue (affected program s frame.activation.operands what).heap act
+  pub value : HasValue (affected program s t frame.activation.operands what).heap act
+  pub heard : IsHeardEffect s what
   pub can_be_made : IsTrue (are_limits limits) → CanBeMade s frame.activation.operands what
 
 module _ (program : List Class) (limits : Limits) (start : Start) (s : State) (t : ℕ) (thread : Thread) (frame : MethodFrame) (below : List Frame) (stands : Stands program limits s t thread (stack_frame.Call frame ∷ below)) where
@@ -136,29 +146,28 @@ module _ (program : List Class) (limits : Limits) (start : Start) (s : State) (t
   operands_are = ap operands_of stands.given_out ∙ ap top_operands stands.frames_are
 
   -- After the effect the thread stands as it stood.
-  stands_after : (what : Effect (List ℕ)) → Sound program limits (affected program s frame.activation.operands what) → Stands program limits (affected program s frame.activation.operands what) t thread (stack_frame.Call frame ∷ below)
+  stands_after : (what : Effect (List ℕ)) → Sound program limits (affected program s t frame.activation.operands what) → Stands program limits (affected program s t frame.activation.operands what) t thread (stack_frame.Call frame ∷ below)
   stands_after what sound =
-      let same = affected_threads program s frame.activation.operands what in
-      record { sound = sound; given_out = ap (λ (ts : List Thread). slice_get ts t) same ∙ stands.given_out; frames_are = stands.frames_are }
+      record { sound = sound; given_out = affected_thread program s t frame.activation.operands what t thread stands.given_out; frames_are = stands.frames_are }
 
   -- Its calls are those that it had.
-  calls_after : (what : Effect (List ℕ)) (act : FrameAction) (operands : List Value) → calls_of (with_changed (affected program s operands what) t (gone_on act)) t ≡ calls_of s t
+  calls_after : (what : Effect (List ℕ)) (act : FrameAction) (operands : List Value) → calls_of (with_changed (affected program s t operands what) t (gone_on act)) t ≡ calls_of s t
   calls_after what act operands =
-      let same = affected_threads program s operands what in
-      let given_out : slice_get (affected program s operands what).threads t ≡ Some thread = ap (λ (ts : List Thread). slice_get ts t) same ∙ stands.given_out in
-      changed_calls (affected program s operands what).threads t thread (gone_on act) given_out ∙ gone_on_calls act thread.frames ∙ sym (ap calls_in stands.given_out)
+      let given_out = affected_thread program s t operands what t thread stands.given_out in
+      changed_calls (affected program s t operands what).threads t thread (gone_on act) given_out ∙ gone_on_calls act thread.frames ∙ sym (ap calls_in stands.given_out)
 
-  pub reaches_keeps : (what : Effect (List ℕ)) (act : FrameAction) → (IsProgram program → IsMade program limits s frame what act) → KeepsSound (decision.Makes (action.Reaches what act))
+  pub reaches_keeps : (what : Effect (List ℕ)) (act : FrameAction) → (IsProgram program → IsMade program limits s t frame what act) → KeepsSound (decision.Makes (action.Reaches what act))
   unfolding applied_to items_of
   reaches_keeps what act made = (
     (λ of_program.
         let is = made of_program in
-        subst (λ operands. Sound program limits (with_changed (affected program s operands what) t (gone_on act))) (sym operands_are)
+        subst (λ operands. Sound program limits (with_changed (affected program s t operands what) t (gone_on act))) (sym operands_are)
         (gone_on_is_sound frame below act (stands_after what is.sound) is.room is.value)),
     (λ of_program are.
         let is = made of_program in
         (thread, stands.given_out, subst (TopHasRoom act) (sym stands.frames_are) is.room, subst (λ fs. CanBeMade s (top_operands fs) what) (sym stands.frames_are) (is.can_be_made are))),
     effect_is_no_mark program t what ∙ unmarked_by program t (calls_of s t) _ (calls_after what act (operands_of (slice_get s.threads t))),
+    (λ of_program. (made of_program).heard),
   )
 
   pub if_deep_keeps : (takes gives : ℕ) (rest : TurnDecision) → (HasDepth frame takes gives → KeepsSound rest) → KeepsSound (if_deep frame takes gives rest)
@@ -180,5 +189,6 @@ module _ (program : List Class) (limits : Limits) (start : Start) (s : State) (t
         sound = appended_is_sound stands.sound new (s.elements + new_elements operands what) are (subst (λ n. length s.heap + n ≤ limits.objects) (sym count) objects) elements;
         room = (depth.there, depth.room);
         value = (omega arith, omega arith);
+        heard = tt;
         can_be_made = λ limited. let room = limits_have_room limits limited in (omega (arith, room.few_objects), omega (arith, room.few_elements), has_dimensions);
       })

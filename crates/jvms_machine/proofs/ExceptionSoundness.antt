@@ -104,9 +104,9 @@ module _ (program : List Class) (limits : Limits) (start : Start) (s : State) (t
   raising_keeps : (fs : List Frame) (e : Exception) → IsThrown program limits s e → Keeps program limits start s t (raising fs e)
   unfolding applied_to items_of
   raising_keeps [] e is =
-      ((λ of_program. thrown_is_sound program limits t thread frames (λ _. true) s stands e is of_program), (λ _ _. tt), unmarked_by program t (calls_of s t) _ (thrown_calls program limits t thread frames (λ _. true) s stands e (exception_reference s e)))
+      ((λ of_program. thrown_is_sound program limits t thread frames (λ _. true) s stands e is of_program), (λ _ _. tt), unmarked_by program t (calls_of s t) _ (thrown_calls program limits t thread frames (λ _. true) s stands e (exception_reference s e)), (λ _. tt))
   raising_keeps (f ∷ below) e is =
-      ((λ of_program. thrown_is_sound program limits t thread frames (λ b. b) s stands e is of_program), (λ _ _. tt), unmarked_by program t (calls_of s t) _ (thrown_calls program limits t thread frames (λ b. b) s stands e (exception_reference s e)))
+      ((λ of_program. thrown_is_sound program limits t thread frames (λ b. b) s stands e is of_program), (λ _ _. tt), unmarked_by program t (calls_of s t) _ (thrown_calls program limits t thread frames (λ b. b) s stands e (exception_reference s e)), (λ _. tt))
 
 -- The turn of a thread that throws an exception keeps a state sound.
 pub throws_keeps : {program : List Class} {limits : Limits} {s : State} {t : ℕ} {thread : Thread} {frames : List Frame} (start : Start) → Stands program limits s t thread frames → (class : Thrown) → Keeps program limits start s t (throws limits s thread class)

@@ -49,14 +49,14 @@ module _ (program : List Class) (limits : Limits) (start : Start) (s : State) (t
   get_static_keeps n None depth values = still t stands.sound
   get_static_keeps n (Some v) depth values =
       reaches_keeps program limits start s t thread frame below stands (effect.GetStatic n) (frame_action.Push 0 v)
-      (λ _. record { sound = stands.sound; room = (depth.there, depth.room); value = values v refl; can_be_made = λ _. tt })
+      (λ _. record { sound = stands.sound; room = (depth.there, depth.room); value = values v refl; heard = tt; can_be_made = λ _. tt })
 
   static_keeps : (how : FieldUse) (type : FieldType) (n : FieldNumber) (key : FieldKey) (operands : List Value) → HasDepth frame (field_takes how) (field_gives how) → AreValues operands → KeepsSound (static_decision s frame.activation how type n key operands)
   static_keeps field_use.GetStatic type n key operands depth values =
       get_static_keeps n (value_of key s.statics) depth (λ v is. looked_up_is_value s.heap (λ k. same_key k key) s.statics v stands.sound.static_values is)
   static_keeps field_use.PutStatic type n key (v ∷ rest) depth values =
       reaches_keeps program limits start s t thread frame below stands (effect.PutStatic n (stored_as type v)) (taking 1 frame.activation)
-      (λ _. record { sound = put_static_is_sound stands.sound (stored_as type v) (field_key_at program n) (stored_is_value s.heap type v values.0); room = depth.there; value = tt; can_be_made = λ _. tt })
+      (λ _. record { sound = put_static_is_sound stands.sound (stored_as type v) (field_key_at program n) (stored_is_value s.heap type v values.0); room = depth.there; value = tt; heard = tt; can_be_made = λ _. tt })
   static_keeps _ type n key operands depth values = still t stands.sound
 
   -- ---- Fields of objects
@@ -65,7 +65,7 @@ module _ (program : List Class) (limits : Limits) (start : Start) (s : State) (t
   get_field_keeps r n None depth values = still t stands.sound
   get_field_keeps r n (Some v) depth values =
       reaches_keeps program limits start s t thread frame below stands (effect.GetField r n) (frame_action.Push 1 v)
-      (λ _. record { sound = stands.sound; room = (depth.there, depth.room); value = values v refl; can_be_made = λ _. tt })
+      (λ _. record { sound = stands.sound; room = (depth.there, depth.room); value = values v refl; heard = tt; can_be_made = λ _. tt })
 
   object_keeps : (how : FieldUse) (type : FieldType) (n : FieldNumber) (key : FieldKey) (r : ℕ) (o : Object) (operands : List Value) → HasDepth frame (field_takes how) (field_gives how) → object_at s.heap r ≡ Some o → AreValues operands → KeepsSound (object_decision frame.activation how type n key r o operands)
   object_keeps field_use.Get type n key r o operands depth at values =
@@ -73,7 +73,7 @@ module _ (program : List Class) (limits : Limits) (start : Start) (s : State) (t
       (λ v is. looked_up_is_value s.heap (λ k. same_key k key) (fields_of o) v (fields_are_values program s.heap o (object_is program s.heap r o stands.sound.objects_are at)) is)
   object_keeps field_use.Put type n key r o (v ∷ rest) depth at values =
       reaches_keeps program limits start s t thread frame below stands (effect.PutField r n (stored_as type v)) (taking 2 frame.activation)
-      (λ _. record { sound = put_field_is_sound stands.sound r (stored_as type v) (field_key_at program n) (stored_is_value s.heap type v values.0); room = depth.there; value = tt; can_be_made = λ _. tt })
+      (λ _. record { sound = put_field_is_sound stands.sound r (stored_as type v) (field_key_at program n) (stored_is_value s.heap type v values.0); room = depth.there; value = tt; heard = tt; can_be_made = λ _. tt })
   object_keeps _ type n key r o operands depth at values = still t stands.sound
 
   receiver_keeps : (how : FieldUse) (type : FieldType) (n : FieldNumber) (key : FieldKey) (r : ℕ) (o : Option Object) → HasDepth frame (field_takes how) (field_gives how) → object_at s.heap r ≡ o → KeepsSound (receiver_decision program frame.activation how type n key r o)

@@ -79,7 +79,7 @@ module _ (heap after : List Object) (grows : Grows heap after) where
   value_grows (value.Reference r) is = reference_grows r is
   value_grows _ is = tt
 
-  values_grow : (vs : List Value) → AllByRecursion (IsValue heap) vs → AllByRecursion (IsValue after) vs
+  pub values_grow : (vs : List Value) → AllByRecursion (IsValue heap) vs → AllByRecursion (IsValue after) vs
   values_grow vs all = all_weaker (IsValue heap) (IsValue after) value_grows vs all
 
   pub fields_grow : (fields : List (FieldKey × Value)) → AllByRecursion (λ f. IsValue heap f.1) fields → AllByRecursion (λ f. IsValue after f.1) fields

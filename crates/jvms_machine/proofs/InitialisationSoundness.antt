@@ -53,6 +53,7 @@ module _ (program : List Class) (limits : Limits) (start : Start) (s : State) (t
         (λ _. begun_is_sound made stands_there refl class c begins is room),
         (λ _ _. tt),
         unmarked_by program t (calls_of s t) _ (changed_calls s.threads t thread (begun class) stands.given_out ∙ sym (ap calls_in stands.given_out)),
+        (λ _. tt),
       )
 
   begin_keeps : {frames : List Frame} → HasFrames frames → (class : ℕ) (o : Option Class) → slice_get s.initialisations class ≡ Some initialisation.NotBegun → slice_get program class ≡ o → KeepsSound (begin_decision limits s thread class o)

@@ -79,6 +79,7 @@ module _ (program : List Class) (limits : Limits) (start : Start) (s : State) (t
             stands.sound.result),
         (λ _ _. tt),
         unmarked_by program t (calls_of s t) _ (changed_calls s.threads t thread popped stands.given_out ∙ ap (λ (fs : List Frame). calls (drop 1 fs)) stands.frames_are ∙ sym (ap calls stands.frames_are) ∙ sym (ap calls_in stands.given_out)),
+        (λ _. tt),
       )
 
   -- What is known of the <clinit> of a class.
@@ -93,7 +94,7 @@ module _ (program : List Class) (limits : Limits) (start : Start) (s : State) (t
   unfolding applied_to items_of
   initialises_keeps class n c body below stands is =
       let method : MethodNumber = record { class = class; method = n } in
-      let frame = entered method body [] in
+      let frame = entered method body None [] in
       let frames = frames_are_stack stands in
       let now = stack_frame.Call frame ∷ stack_frame.Initialisation class true ∷ below in
       let are : (initialising frame thread).frames ≡ now = ap (λ (fs : List Frame). stack_frame.Call frame ∷ initializer_called fs) stands.frames_are in
@@ -101,7 +102,7 @@ module _ (program : List Class) (limits : Limits) (start : Start) (s : State) (t
       let room = is.room in
       let body_is = ap (λ (o : Option Class). option_and_then (λ (m : Method). m.body) (option_and_then (λ (d : Class). slice_get d.methods n) o)) is.class_is ∙ is.body_is in (
         (λ of_program. moved_is_sound stands (initialising frame) now are refl refl
-            (entered_is_frame program s.heap method body [] (omega arith) tt body_is (initializer_is_plain program class n c of_program is.class_is is.number), (frames.0.0, frames.0.1))
+            (entered_is_frame program s.heap method body None [] (omega arith) tt body_is tt (sym (initializer_is_plain program class n c of_program is.class_is is.number)), (frames.0.0, frames.0.1))
             ((refl, refl, c, is.class_is, is.number), stack_begun program class true below (stack_below program (stack_frame.Initialisation class false) below frames.1))
             (omega arith)
             (λ k. count_call k frame (stack_frame.Initialisation class true ∷ below)
@@ -111,6 +112,7 @@ module _ (program : List Class) (limits : Limits) (start : Start) (s : State) (t
         entered_mark program t (calls_of s t) _ method
             (changed_calls s.threads t thread (initialising frame) stands.given_out ∙ ap calls are
             ∙ ap (λ (ms : List MethodNumber). method ∷ ms) (sym (ap calls_in stands.given_out ∙ ap calls stands.frames_are))),
+        (λ _. tt),
       )
 
   initializer_call_keeps : (class n : ℕ) (c : Class) (below : List Frame) (o : Option Body) → HasFrames (stack_frame.Initialisation class false ∷ below) → slice_get program class ≡ Some c → initializer_of c ≡ Some n → option_and_then (λ (m : Method). m.body) (slice_get c.methods n) ≡ o → KeepsSound (initializer_call limits s thread (record { class = class; method = n }) o)

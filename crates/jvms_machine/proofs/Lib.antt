@@ -4,10 +4,12 @@ pub mod CallSoundness
 pub mod ClassSoundness
 pub mod ConstantSoundness
 pub mod EffectSoundness
+pub mod EventLaws
 pub mod ExceptionSoundness
 pub mod FieldSoundness
 pub mod FrameSoundness
 pub mod HeapGrowth
+pub mod HeldMonitors
 pub mod HeldValues
 pub mod InitialisationOrder
 pub mod InitialisationSoundness
@@ -15,7 +17,10 @@ pub mod InitializerSoundness
 pub mod KeptStates
 pub mod LimitLaws
 pub mod ListLaws
+pub mod LockSoundness
 pub mod MarkLaws
+pub mod MonitorLaws
+pub mod MonitorSoundness
 pub mod NativeSoundness
 pub mod NewArrays
 pub mod ObjectSoundness
@@ -25,9 +30,11 @@ pub mod SearchLaws
 pub mod SlotKeys
 pub mod StartLaws
 pub mod StoredValues
+pub mod StartedThreads
 pub mod ThreadChanges
 pub mod ThrowableClasses
 pub mod TurnSoundness
 pub mod UnmadeTurns
+pub mod UnlockSoundness
 pub mod UnwindingSoundness
 pub mod UnwoundTurns

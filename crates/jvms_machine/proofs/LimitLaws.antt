@@ -14,6 +14,7 @@ pub record HasRoom (limits : Limits) : Type 0 where
   pub frames : 1 ≤ limits.frames
   pub few_objects : limits.objects < 2 ^ 32
   pub few_elements : limits.elements < 2 ^ 31
+  pub few_threads : limits.threads < 2 ^ 32
 
 -- A number between two is at least the lower.
 between_least : (least most n : ℕ) → is_between least most n ≡ true → least ≤ n
@@ -34,6 +35,7 @@ limits_have_room limits are =
     let first_three = and_parts (objects && elements) threads all_four.0 in
     let first_two = and_parts objects elements first_three.0 in
     let most_objects = between_most 4 16777216 limits.objects first_two.0 in
+    let most_threads = between_most 1 1024 limits.threads first_three.1 in
     let most_elements = between_most 0 268435456 limits.elements first_two.1 in
     record {
       objects = between_least 4 16777216 limits.objects first_two.0;
@@ -41,6 +43,7 @@ limits_have_room limits are =
       frames = between_least 1 65536 limits.frames all_four.1;
       few_objects = omega arith;
       few_elements = omega arith;
+      few_threads = omega arith;
     }
 
 -- ---- Tests of room

@@ -3,9 +3,13 @@ use Rattle.std.proofs.Common.{◌≡◌, ℕ, ◌-◌, ◌==◌, List, [], ◌�
 use Rattle.std.specs.List.{filter}
 use Rattle.std.proofs.lemmas.Bool.{cond_both}
 use Rattle.std.proofs.lemmas.List.{append-nil}
+use Rattle.std.proofs.lemmas.List.Elements.{filter-append}
 use Rattle.jvms_machine.specs.declared.value.Value.{Value}
 use Rattle.jvms_machine.specs.declared.state.StackFrame.TheVariants as stack_frame
 use Rattle.jvms_machine.specs.declared.action.FrameAction.{FrameAction}
+use Rattle.jvms_machine.specs.declared.action.MonitorUse.{MonitorUse}
+use Rattle.jvms_machine.specs.declared.action.Lock.{Lock}
+use Rattle.jvms_machine.specs.declared.action.Lock.TheVariants as lock
 use Rattle.jvms_program.specs.declared.number.MethodNumber.{MethodNumber}
 use Rattle.jvms_program.specs.declared.program.Class.{Class}
 use Rattle.jvms_program.specs.declared.key.MethodKey.{MethodKey}
@@ -13,7 +17,7 @@ use Rattle.jvms_program.specs.BuiltIn.{is_built_in}
 use Rattle.jvms_program.specs.Program.{key_of}
 use Rattle.jvms_machine.specs.declared.trace.Item.TheVariants as item
 use Rattle.jvms_machine.specs.State.{State, Thread, Frame}
-use Rattle.jvms_machine.specs.Actions.{mark, enter_items, exit_items, changed_to, top_gone_on, top_given, caller_gone_on, with_result}
+use Rattle.jvms_machine.specs.Actions.{mark, enter_items, exit_items, acquire_items, release_items, lock_items, unlock_items, changed_to, top_gone_on, top_given, caller_gone_on, with_result}
 use Rattle.jvms_machine.specs.Marks.{is_mark, calls, calls_in, calls_of, marks_between}
 use Rattle.jvms_machine.proofs.ListLaws.{get_set_same}
 
@@ -36,6 +40,32 @@ enters_are_marks t (Some key) = cond_both (is_built_in key.class) _ _ (λ items.
 exits_are_marks : (t : ℕ) (o : Option MethodKey) → filter is_mark (mark (λ key. item.Exit t key) o) ≡ mark (λ key. item.Exit t key) o
 exits_are_marks t None = refl
 exits_are_marks t (Some key) = cond_both (is_built_in key.class) _ _ (λ items. filter is_mark items ≡ items) (λ _. refl) (λ _. refl)
+
+-- Entries and exits of monitors are not.
+pub acquire_is_no_mark : (t : ℕ) (monitor : MonitorUse) → filter is_mark (acquire_items t monitor) ≡ []
+acquire_is_no_mark t monitor = cond_both monitor.outermost _ _ (λ items. filter is_mark items ≡ []) (λ _. refl) (λ _. refl)
+
+pub release_is_no_mark : (t : ℕ) (monitor : MonitorUse) → filter is_mark (release_items t monitor) ≡ []
+release_is_no_mark t monitor = cond_both monitor.outermost _ _ (λ items. filter is_mark items ≡ []) (λ _. refl) (λ _. refl)
+
+lock_is_no_mark : (t : ℕ) (locked : Lock) → filter is_mark (lock_items t locked) ≡ []
+lock_is_no_mark t lock.Nothing = refl
+lock_is_no_mark t (lock.Monitor monitor) = acquire_is_no_mark t monitor
+lock_is_no_mark t (lock.NewClass class r) = refl
+
+unlock_is_no_mark : (t : ℕ) (unlock : Option MonitorUse) → filter is_mark (unlock_items t unlock) ≡ []
+unlock_is_no_mark t None = refl
+unlock_is_no_mark t (Some monitor) = release_is_no_mark t monitor
+
+-- A call that comes is marked alone, and so is one that goes.
+pub marked_with_lock : (program : List Class) (t : ℕ) (m : MethodNumber) (locked : Lock) → filter is_mark (enter_items program t m ++ lock_items t locked) ≡ filter is_mark (enter_items program t m)
+marked_with_lock program t m locked =
+    filter-append is_mark (enter_items program t m) (lock_items t locked)
+    ∙ ap (λ items. filter is_mark (enter_items program t m) ++ items) (lock_is_no_mark t locked) ∙ append-nil (filter is_mark (enter_items program t m))
+
+pub marked_with_unlock : (program : List Class) (t : ℕ) (m : MethodNumber) (unlock : Option MonitorUse) → filter is_mark (unlock_items t unlock ++ exit_items program t m) ≡ filter is_mark (exit_items program t m)
+marked_with_unlock program t m unlock =
+    filter-append is_mark (unlock_items t unlock) (exit_items program t m) ∙ ap (λ items. items ++ filter is_mark (exit_items program t m)) (unlock_is_no_mark t unlock)
 
 -- A call that comes.
 pub entered_mark : (program : List Class) (t : ℕ) (before after : List MethodNumber) (m : MethodNumber) → after ≡ m ∷ before → filter is_mark (enter_items program t m) ≡ marks_between program t before after

@@ -1,9 +1,9 @@
 -- A turn that calls a native method of a built-in class leaves a sound state sound. What it prints is among the operands of
 -- its call.
-use Rattle.std.proofs.Common.{◌≡◌, ℕ, ◌+◌, ◌≤◌, Bool, true, false, ◌&&◌, List, ◌∷◌, ◌++◌, length, Option, None, Some, slice_get, codes, refl, sym, ap, ◌∙◌, subst, arith}
+use Rattle.std.proofs.Common.{◌≡◌, ℕ, ◌+◌, ◌≤◌, Bool, true, false, ◌&&◌, nat_lt, List, ◌∷◌, ◌++◌, length, Option, None, Some, slice_get, codes, refl, sym, ap, ◌∙◌, subst, arith}
 use Rattle.std.specs.List.{AllByRecursion}
 use Rattle.std.specs.Cmp.Lexicographic.{same_text as texts_are_same}
-use Rattle.std.proofs.lemmas.Bool.{cond_both}
+use Rattle.std.proofs.lemmas.Bool.{cond_both, ltb-true}
 use Rattle.std.proofs.lemmas.Option.{same_Some}
 use Rattle.jvms_machine.specs.declared.value.Value.{Value}
 use Rattle.jvms_machine.specs.declared.value.Value.TheVariants as value
@@ -11,26 +11,33 @@ use Rattle.jvms_machine.specs.declared.machine.Limits.{Limits}
 use Rattle.jvms_machine.specs.declared.state.StackFrame.TheVariants as stack_frame
 use Rattle.jvms_machine.specs.declared.action.Printed.{Printed}
 use Rattle.jvms_machine.specs.declared.action.Printed.TheVariants as printed
+use Rattle.jvms_machine.specs.declared.action.Effect.{Effect}
 use Rattle.jvms_machine.specs.declared.action.Effect.TheVariants as effect
 use Rattle.jvms_file.specs.Names.{same_text}
 use Rattle.jvms_file.specs.Descriptors.{field_type_from, parameters_from, method_type_of}
 use Rattle.jvms_program.specs.declared.program.Class.{Class}
 use Rattle.jvms_program.specs.declared.program.Method.{Method}
 use Rattle.jvms_program.specs.declared.thrown.Thrown.TheVariants as thrown
-use Rattle.jvms_program.specs.BuiltIn.{built_in_classes, print_stream_class, is_built_in}
+use Rattle.jvms_program.specs.BuiltIn.{built_in_classes, print_stream_class}
 use Rattle.jvms_program.specs.Program.{IsProgram, class_named}
 use Rattle.jvms_machine.specs.Decisions.{TurnDecision}
-use Rattle.jvms_machine.specs.State.{State, Object, instance, array, text, class_object, Thread, Frame, MethodFrame, object_at}
+use Rattle.jvms_machine.specs.State.{State, Object, instance, array, text, class_object, Thread, Frame, MethodFrame, object_at, same_object, IsReference, IsValue, Sound}
 use Rattle.jvms_machine.specs.Start.{Start}
 use Rattle.jvms_machine.specs.Output.{line_bytes}
-use Rattle.jvms_machine.specs.Fields.{taking}
+use Rattle.jvms_machine.specs.Fields.{reaches, taking}
+use Rattle.jvms_machine.specs.Threads.{thread_of, start_decision, join_decision, thread_native_decision}
+use Rattle.jvms_machine.specs.Actions.{affected}
+use Rattle.jvms_machine.specs.Turn.{CanBeMade}
 use Rattle.jvms_machine.specs.Natives.{prints, object_printed, top_printed, print_decision, native_of_class}
 use Rattle.jvms_machine.proofs.ListLaws.{all_at}
+use Rattle.jvms_machine.proofs.SearchLaws.{none_passes}
+use Rattle.jvms_machine.proofs.LimitLaws.{limits_have_room}
+use Rattle.jvms_machine.proofs.StartedThreads.{started_is_sound}
 use Rattle.jvms_machine.proofs.ThreadChanges.{Stands}
-use Rattle.jvms_machine.proofs.KeptStates.{Keeps, still}
+use Rattle.jvms_machine.proofs.KeptStates.{IsHeardEffect, Keeps, still}
 use Rattle.jvms_machine.proofs.ExceptionSoundness.{throws_keeps}
 use Rattle.jvms_machine.proofs.ObjectSoundness.{printed_is_sound}
-use Rattle.jvms_machine.proofs.EffectSoundness.{reaches_keeps}
+use Rattle.jvms_machine.proofs.EffectSoundness.{frame_is_fit, reaches_keeps}
 
 -- ---- The methods of PrintStream
 
@@ -90,7 +97,7 @@ module _ (program : List Class) (limits : Limits) (start : Start) (s : State) (t
   prints_keeps : (takes : ℕ) (what : Printed) (ends_line : Bool) → AreThere takes → KeepsSound (prints frame.activation takes what ends_line)
   prints_keeps takes what ends_line there =
       reaches_keeps program limits start s t thread frame below stands (effect.Prints what ends_line) (taking takes frame.activation)
-      (λ of_program. record { sound = printed_is_sound stands.sound (s.output ++ line_bytes s.heap what ends_line); room = there of_program; value = tt; can_be_made = λ _. tt })
+      (λ of_program. record { sound = printed_is_sound stands.sound (s.output ++ line_bytes s.heap what ends_line); room = there of_program; value = tt; heard = tt; can_be_made = λ _. tt })
 
   object_printed_keeps : (ends_line : Bool) (r : ℕ) (o : Option Object) → AreThere 2 → KeepsSound (object_printed frame.activation ends_line r o)
   object_printed_keeps ends_line r None there = still t stands.sound
@@ -111,10 +118,55 @@ module _ (program : List Class) (limits : Limits) (start : Start) (s : State) (t
       (λ _. prints_keeps 1 printed.Nothing true (λ of_program. let one = (has of_program).0 in omega arith))
       (λ more. top_printed_keeps (same_text m.name (codes "println")) frame.activation.operands (λ of_program. let two = (has of_program).1 more in omega arith))
 
+  -- ---- The methods of Thread
+
+  -- What touches no more than the operand that it takes.
+  abbrev IsReferenceThere : ℕ → Type 0
+  IsReferenceThere r = IsReference s.heap r × (1 ≤ length frame.activation.operands)
+
+  start_keeps : (r : ℕ) (o : Option ℕ) → thread_of s.threads r ≡ o → IsReferenceThere r → KeepsSound (start_decision limits s thread frame.activation r o)
+  start_keeps r (Some u) found there = throws_keeps start stands thrown.IllegalThreadStateException
+  start_keeps r None found there =
+      cond_both (nat_lt (length s.threads) limits.threads) _ _ KeepsSound
+      (λ has.
+      let room = ltb-true (length s.threads) limits.threads has in
+      reaches_keeps program limits start s t thread frame below stands (effect.Starts r (length s.threads)) (taking 1 frame.activation)
+      (λ _. record {
+        sound = started_is_sound t thread r stands.sound stands.given_out there.0 (none_passes (λ (u : Thread). same_object u.object (Some r)) s.threads found) room;
+        room = there.1;
+        value = tt;
+        heard = refl;
+        can_be_made = λ limited. omega (arith, (limits_have_room limits limited).few_threads);
+      }))
+      (λ _. throws_keeps start stands thrown.OutOfMemoryError)
+
+  goes_on_keeps : (what : Effect (List ℕ)) → Sound program limits (affected program s t frame.activation.operands what) → 1 ≤ length frame.activation.operands → CanBeMade s frame.activation.operands what → IsHeardEffect s what → KeepsSound (reaches what (taking 1 frame.activation))
+  goes_on_keeps what sound there can heard =
+      reaches_keeps program limits start s t thread frame below stands what (taking 1 frame.activation)
+      (λ _. record { sound = sound; room = there; value = tt; heard = heard; can_be_made = λ _. can })
+
+  joined_by : (u : ℕ) (o : Option Thread) → o ≡ slice_get s.threads u → 1 ≤ length frame.activation.operands → KeepsSound (join_decision s frame.activation (Some u))
+  joined_by u None e there = rw (← e) (still t stands.sound)
+  joined_by u (Some other) e there =
+      rw (← e) (cond_both other.ended _ _ KeepsSound (λ _. goes_on_keeps (effect.Joins u) stands.sound there tt tt) (λ _. still t stands.sound))
+
+  join_keeps : (o : Option ℕ) → 1 ≤ length frame.activation.operands → KeepsSound (join_decision s frame.activation o)
+  join_keeps None there = goes_on_keeps effect.Nothing stands.sound there tt tt
+  join_keeps (Some u) there = joined_by u (slice_get s.threads u) refl there
+
+  thread_native_keeps : (m : Method) (operands : List Value) → AllByRecursion (IsValue s.heap) operands → (1 ≤ length operands → 1 ≤ length frame.activation.operands) → KeepsSound (thread_native_decision limits s thread frame.activation m operands)
+  thread_native_keeps m (value.Reference r ∷ others) values there =
+      cond_both (same_text m.name (codes "start")) _ _ KeepsSound
+      (λ _. start_keeps r (thread_of s.threads r) refl (values.0, there (omega arith)))
+      (λ _. join_keeps (thread_of s.threads r) (there (omega arith)))
+  thread_native_keeps m _ values there = still t stands.sound
+
   -- A native method that takes so many operands.
   pub native_keeps : (takes : ℕ) (m : Method) (o : Option Class) → takes ≤ length frame.activation.operands → ((c : Class) → o ≡ Some c → same_text c.name (codes "java/io/PrintStream") ≡ true → IsProgram program → HasPrinted takes m) → KeepsSound (native_of_class limits s thread frame.activation m o)
   native_keeps takes m None there has = still t stands.sound
   native_keeps takes m (Some c) there has =
       cond_both (same_text c.name (codes "java/io/PrintStream")) _ _ KeepsSound
       (λ is. print_keeps takes m there (has c refl is))
-      (λ _. cond_both (is_built_in c.name) _ _ KeepsSound (λ _. still t stands.sound) (λ _. throws_keeps start stands thrown.UnsatisfiedLinkError))
+      (λ _. cond_both (same_text c.name (codes "java/lang/Thread")) _ _ KeepsSound
+      (λ _. thread_native_keeps m frame.activation.operands (frame_is_fit frame below stands).operands (λ some. some))
+      (λ _. throws_keeps start stands thrown.UnsatisfiedLinkError))

@@ -1,5 +1,5 @@
 -- The opening state is sound.
-use Rattle.std.proofs.Common.{◌≡◌, ℕ, zero, suc, Bool, not, ◌==◌, List, [], ◌∷◌, map, reverse, flat_map, Some, IsTrue, slice_get, codes, refl, sym, ap, ◌∙◌, arith}
+use Rattle.std.proofs.Common.{◌≡◌, ℕ, zero, suc, Bool, not, ◌==◌, List, [], ◌∷◌, map, reverse, flat_map, Some, IsTrue, slice_get, codes, refl, sym, ap, ◌∙◌, arith, None}
 use Rattle.std.specs.List.{AllByRecursion, filter}
 use Rattle.std.proofs.lemmas.Bool.{cond_both}
 use Rattle.std.proofs.lemmas.List.{length-map}
@@ -17,9 +17,9 @@ use Rattle.jvms_program.specs.BuiltIn.{is_built_in}
 use Rattle.jvms_program.specs.Program.{field_key}
 use Rattle.jvms_program.specs.Resolution.{chain}
 use Rattle.jvms_machine.specs.declared.state.Initialisation.TheVariants as initialisation
-use Rattle.jvms_machine.specs.State.{Object, first_instance, IsValue, IsObject, Sound, default_of_element, default_value, fields_where, static_fields, keys, initialisation_frames, frames_in_progress}
+use Rattle.jvms_machine.specs.State.{Object, first_instance, IsValue, IsObject, Sound, default_of_element, default_value, fields_where, static_fields, keys, initialisation_frames, frames_in_progress, new_thread}
 use Rattle.jvms_machine.specs.Limits.{are_limits}
-use Rattle.jvms_machine.specs.Opening.{opening_heap, is_system_out, opening_static, opening_initialisation, new_thread, opening}
+use Rattle.jvms_machine.specs.Opening.{opening_heap, is_system_out, opening_static, opening_initialisation, opening}
 use Rattle.jvms_machine.proofs.ListLaws.{all_map, all_map_weaker, all_flat_map}
 use Rattle.jvms_machine.proofs.LimitLaws.{limits_have_room}
 
@@ -68,7 +68,7 @@ none_in_progress (c ∷ program) thread zero = cond_both (is_built_in c.name) in
 none_in_progress (c ∷ program) thread (suc class) = none_in_progress program thread class
 
 -- No thread of the opening has an initialisation frame.
-no_initialisation_frames : (thread class : ℕ) → initialisation_frames class (slice_get (new_thread ∷ []) thread) ≡ 0
+no_initialisation_frames : (thread class : ℕ) → initialisation_frames class (slice_get (new_thread None ∷ []) thread) ≡ 0
 no_initialisation_frames zero class = refl
 no_initialisation_frames (suc thread) class = refl
 

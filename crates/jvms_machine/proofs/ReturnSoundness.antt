@@ -7,6 +7,7 @@ use Rattle.std.proofs.lemmas.Option.{same_Some, slice_get_within}
 use Rattle.jvms_machine.specs.declared.value.Value.{Value}
 use Rattle.jvms_machine.specs.declared.machine.Limits.{Limits}
 use Rattle.jvms_machine.specs.declared.state.StackFrame.TheVariants as stack_frame
+use Rattle.jvms_machine.specs.declared.action.MonitorUse.{MonitorUse}
 use Rattle.jvms_machine.specs.declared.action.Action.TheVariants as action
 use Rattle.jvms_machine.specs.declared.action.Decision.TheVariants as decision
 use Rattle.jvms_file.specs.declared.descriptor.ResultType.{ResultType}
@@ -23,14 +24,16 @@ use Rattle.jvms_machine.specs.Decisions.{TurnDecision}
 use Rattle.jvms_machine.specs.State.{State, Object, Thread, Frame, MethodFrame, IsValue, IsFrame, IsStack, StandsOn, result_length, is_initialisation_of, Sound}
 use Rattle.jvms_machine.specs.Start.{Start}
 use Rattle.jvms_machine.specs.Locals.{is_loaded}
-use Rattle.jvms_machine.specs.Returns.{gives_kind, gives_nothing, returned_decision, return_top_decision, return_decision, method_return_decision}
-use Rattle.jvms_machine.specs.Actions.{changed_to, ended, with_returned, returned_to, caller_gone_on, returned, with_changed, applied_to, items_of}
+use Rattle.jvms_machine.specs.Returns.{gives_kind, gives_nothing, returns_to, returned_decision, return_top_decision, return_decision, method_return_decision}
+use Rattle.jvms_machine.specs.Actions.{with_unlock, changed_to, ended, with_returned, returned_to, caller_gone_on, returned, with_changed, applied_to, items_of}
 use Rattle.jvms_machine.specs.Marks.{calls, calls_in, calls_of}
 use Rattle.jvms_machine.specs.Turn.{HasRoomFor}
 use Rattle.jvms_machine.proofs.InitialisationOrder.{order_with_thread, count_call}
-use Rattle.jvms_machine.proofs.MarkLaws.{left_mark, changed_calls, returned_calls, result_calls}
+use Rattle.jvms_machine.proofs.MarkLaws.{left_mark, marked_with_unlock, changed_calls, returned_calls, result_calls}
 use Rattle.jvms_machine.proofs.ThreadChanges.{Stands, thread_is, frames_are_stack, changed_is_sound, moved_is_sound, stack_goes_on}
-use Rattle.jvms_machine.proofs.KeptStates.{Keeps, still}
+use Rattle.jvms_machine.proofs.KeptStates.{IsLeft, Keeps, still}
+use Rattle.jvms_machine.proofs.LockSoundness.{stands_with_unlock, unlocked_heap}
+use Rattle.jvms_machine.proofs.UnlockSoundness.{unlocking_keeps}
 
 -- ---- The caller of a call that returns
 
@@ -90,65 +93,77 @@ module _ (program : List Class) (limits : Limits) (start : Start) (s : State) (t
   HasFrames frames = Stands program limits s t thread frames
 
   -- The thread ends, with a result that is a value.
-  ended_is_sound : (frame : MethodFrame) (result : Option Value) → HasFrames (stack_frame.Call frame ∷ []) → IfSome result (IsValue s.heap) → Sound program limits (record s { threads = changed_to s.threads t ended (slice_get s.threads t); result = result })
-  ended_is_sound frame result stands result_is =
+  ended_is_sound : (made : State) (frame : MethodFrame) (result : Option Value) → Stands program limits made t thread (stack_frame.Call frame ∷ []) → IfSome result (IsValue made.heap) → Sound program limits (record made { threads = changed_to made.threads t ended (slice_get made.threads t); result = result })
+  ended_is_sound made frame result stands result_is =
       let was = thread_is stands in
-      changed_is_sound stands ended s.initialisations result refl
+      changed_is_sound stands ended made.initialisations result refl
       (tt, tt, omega arith, was.3, was.4)
       refl
-      (order_with_thread s.threads s.initialisations t thread (ended thread) stands.given_out stands.sound.initialised
+      (order_with_thread made.threads made.initialisations t thread (ended thread) stands.given_out stands.sound.initialised
       (λ c. sym (count_call c frame []) ∙ sym (ap (count_by (is_initialisation_of c)) stands.frames_are)))
       result_is
 
-  -- The caller goes on.
-  returns_keeps : (frame : MethodFrame) (f : Frame) (below : List Frame) (result : Option Value) → HasFrames (stack_frame.Call frame ∷ f ∷ below) → IfSome result (IsValue s.heap) → HasRoomFor result (f ∷ below) → KeepsSound (decision.Makes (action.Returns frame.method result))
+  ends_keeps : (frame : MethodFrame) (result : Option Value) → HasFrames (stack_frame.Call frame ∷ []) → IfSome result (IsValue s.heap) → (unlock : Option MonitorUse) → IfSome unlock (IsLeft s) → KeepsSound (decision.Makes (action.Ends frame.method result unlock))
   unfolding applied_to items_of
-  returns_keeps frame f below result stands result_is room =
-      let frames = frames_are_stack stands in
+  ends_keeps frame result stands result_is unlock is_left =
+      let made = with_unlock s unlock in
+      let there = stands_with_unlock stands unlock in
+      let result_there : IfSome result (IsValue made.heap) = subst (λ heap. IfSome result (IsValue heap)) (sym (unlocked_heap s unlock)) result_is in (
+        (λ _. cond_both (t == 0) _ _ (Sound program limits) (λ _. ended_is_sound made frame result there result_there) (λ _. ended_is_sound made frame made.result there there.sound.result)),
+        (λ _ _. tt),
+        marked_with_unlock program t frame.method unlock ∙ left_mark program t (calls_of s t) _ frame.method
+            (ap calls_in stands.given_out ∙ ap calls stands.frames_are
+            ∙ ap (λ (ms : List MethodNumber). frame.method ∷ ms) (sym (result_calls (with_changed made t ended) t result ∙ changed_calls made.threads t thread ended there.given_out))),
+        (λ _. is_left),
+      )
+
+  -- The caller goes on.
+  returns_keeps : (frame : MethodFrame) (f : Frame) (below : List Frame) (result : Option Value) → HasFrames (stack_frame.Call frame ∷ f ∷ below) → IfSome result (IsValue s.heap) → HasRoomFor result (f ∷ below) → (unlock : Option MonitorUse) → IfSome unlock (IsLeft s) → KeepsSound (decision.Makes (action.Returns frame.method result unlock))
+  unfolding applied_to items_of
+  returns_keeps frame f below result stands result_is room unlock is_left =
+      let made = with_unlock s unlock in
+      let there = stands_with_unlock stands unlock in
+      let result_there : IfSome result (IsValue made.heap) = subst (λ heap. IfSome result (IsValue heap)) (sym (unlocked_heap s unlock)) result_is in
+      let frames = frames_are_stack there in
       let now = caller_gone_on result (f ∷ below) in
       let are : (returned result thread).frames ≡ now = ap (λ (fs : List Frame). caller_gone_on result (drop 1 fs)) stands.frames_are in
       let as_many : length now ≡ length (f ∷ below) = returned_length result (f ∷ below) in
       let few = frames.2 in (
-        (λ _. moved_is_sound stands (returned result) now are refl refl
-            (returned_frames program s.heap result f below room result_is frames.0.1)
+        (λ _. moved_is_sound there (returned result) now are refl refl
+            (returned_frames program made.heap result f below room result_there frames.0.1)
             (returned_stack program result (f ∷ below) frames.1.1)
             (omega arith)
             (λ c. returned_count result c (f ∷ below) ∙ sym (count_call c frame (f ∷ below)))),
         (λ _ _. (slice_get_within s.threads t thread stands.given_out, subst (λ o. IfSome o (λ (th : Thread). HasRoomFor result (drop 1 th.frames))) (sym stands.given_out) (subst (λ (fs : List Frame). HasRoomFor result (drop 1 fs)) (sym stands.frames_are) room))),
-        left_mark program t (calls_of s t) _ frame.method
+        marked_with_unlock program t frame.method unlock ∙ left_mark program t (calls_of s t) _ frame.method
             (ap calls_in stands.given_out ∙ ap calls stands.frames_are
-            ∙ ap (λ (ms : List MethodNumber). frame.method ∷ ms) (sym (changed_calls s.threads t thread (returned result) stands.given_out ∙ ap calls are ∙ returned_calls result (f ∷ below)))),
+            ∙ ap (λ (ms : List MethodNumber). frame.method ∷ ms) (sym (changed_calls made.threads t thread (returned result) there.given_out ∙ ap calls are ∙ returned_calls result (f ∷ below)))),
+        (λ _. is_left),
       )
 
-  returned_keeps : (frame : MethodFrame) (below : List Frame) (m : Method) (result : Option Value) → HasFrames (stack_frame.Call frame ∷ below) → method_at program frame.method ≡ Some m → IsResultOf m.method_type.result result → IfSome result (IsValue s.heap) → KeepsSound (returned_decision frame.method below result)
-  unfolding applied_to items_of
-  returned_keeps frame [] m result stands m_is gives result_is = (
-    (λ _. cond_both (t == 0) _ _ (Sound program limits) (λ _. ended_is_sound frame result stands result_is) (λ _. ended_is_sound frame s.result stands stands.sound.result)),
-    (λ _ _. tt),
-    left_mark program t (calls_of s t) _ frame.method
-        (ap calls_in stands.given_out ∙ ap calls stands.frames_are
-        ∙ ap (λ (ms : List MethodNumber). frame.method ∷ ms) (sym (result_calls (with_changed s t ended) t result ∙ changed_calls s.threads t thread ended stands.given_out))),
-  )
-  returned_keeps frame (f ∷ below) m result stands m_is gives result_is =
-      returns_keeps frame f below result stands result_is (has_room_for_result program frame m result f below m_is gives (frames_are_stack stands).1.0)
+  returns_to_keeps : (frame : MethodFrame) (below : List Frame) (m : Method) (result : Option Value) → HasFrames (stack_frame.Call frame ∷ below) → method_at program frame.method ≡ Some m → IsResultOf m.method_type.result result → IfSome result (IsValue s.heap) → (unlock : Option MonitorUse) → IfSome unlock (IsLeft s) → KeepsSound (returns_to frame.method below result unlock)
+  returns_to_keeps frame [] m result stands m_is gives result_is unlock is_left = ends_keeps frame result stands result_is unlock is_left
+  returns_to_keeps frame (f ∷ below) m result stands m_is gives result_is unlock is_left =
+      returns_keeps frame f below result stands result_is (has_room_for_result program frame m result f below m_is gives (frames_are_stack stands).1.0) unlock is_left
 
-  return_top_keeps : (frame : MethodFrame) (below : List Frame) (m : Method) (k : Kind) (operands : List Value) → HasFrames (stack_frame.Call frame ∷ below) → method_at program frame.method ≡ Some m → AllByRecursion (IsValue s.heap) operands → KeepsSound (return_top_decision frame.method below m.method_type.result k operands)
+  returned_keeps : (frame : MethodFrame) (below : List Frame) (m : Method) (result : Option Value) → HasFrames (stack_frame.Call frame ∷ below) → method_at program frame.method ≡ Some m → IsResultOf m.method_type.result result → IfSome result (IsValue s.heap) → KeepsSound (returned_decision limits s t frame below result)
+  returned_keeps frame below m result stands m_is gives result_is =
+      unlocking_keeps program limits start s t thread frame below stands _ (λ unlock is_left. returns_to_keeps frame below m result stands m_is gives result_is unlock is_left)
+
+  return_top_keeps : (frame : MethodFrame) (below : List Frame) (m : Method) (k : Kind) (operands : List Value) → HasFrames (stack_frame.Call frame ∷ below) → method_at program frame.method ≡ Some m → AllByRecursion (IsValue s.heap) operands → KeepsSound (return_top_decision limits s t frame below m.method_type.result k operands)
   return_top_keeps frame below m k [] stands m_is values = still t stands.sound
   return_top_keeps frame below m k (v ∷ vs) stands m_is values =
       cond_both (is_loaded k v && gives_kind m.method_type.result k) _ _ KeepsSound
       (λ both. returned_keeps frame below m (Some v) stands m_is (gives_one m.method_type.result k (and_parts (is_loaded k v) (gives_kind m.method_type.result k) both).1) values.0)
       (λ _. still t stands.sound)
 
-  return_keeps : (frame : MethodFrame) (below : List Frame) (m : Method) (operands : List Value) (how : ReturnInsn) → HasFrames (stack_frame.Call frame ∷ below) → method_at program frame.method ≡ Some m → AllByRecursion (IsValue s.heap) operands → KeepsSound (return_decision frame.method below operands m.method_type.result how)
-  return_keeps frame below m operands returns.Void stands m_is values =
+  return_keeps : (frame : MethodFrame) (below : List Frame) (m : Method) (how : ReturnInsn) → HasFrames (stack_frame.Call frame ∷ below) → method_at program frame.method ≡ Some m → AllByRecursion (IsValue s.heap) frame.activation.operands → KeepsSound (return_decision limits s t frame below m.method_type.result how)
+  return_keeps frame below m returns.Void stands m_is values =
       cond_both (gives_nothing m.method_type.result) _ _ KeepsSound (λ _. returned_keeps frame below m None stands m_is tt tt) (λ _. still t stands.sound)
-  return_keeps frame below m operands (returns.Value kind.Int) stands m_is values = return_top_keeps frame below m kind.Int operands stands m_is values
-  return_keeps frame below m operands (returns.Value kind.Reference) stands m_is values = return_top_keeps frame below m kind.Reference operands stands m_is values
-  return_keeps frame below m operands (returns.Value _) stands m_is values = still t stands.sound
+  return_keeps frame below m (returns.Value kind.Int) stands m_is values = return_top_keeps frame below m kind.Int frame.activation.operands stands m_is values
+  return_keeps frame below m (returns.Value kind.Reference) stands m_is values = return_top_keeps frame below m kind.Reference frame.activation.operands stands m_is values
+  return_keeps frame below m (returns.Value _) stands m_is values = still t stands.sound
 
-  pub method_return_keeps : (frame : MethodFrame) (below : List Frame) (how : ReturnInsn) (o : Option Method) → HasFrames (stack_frame.Call frame ∷ below) → method_at program frame.method ≡ o → AllByRecursion (IsValue s.heap) frame.activation.operands → KeepsSound (method_return_decision frame below how o)
+  pub method_return_keeps : (frame : MethodFrame) (below : List Frame) (how : ReturnInsn) (o : Option Method) → HasFrames (stack_frame.Call frame ∷ below) → method_at program frame.method ≡ o → AllByRecursion (IsValue s.heap) frame.activation.operands → KeepsSound (method_return_decision limits s t frame below how o)
   method_return_keeps frame below how None stands m_is values = still t stands.sound
-  method_return_keeps frame below how (Some m) stands m_is values =
-      cond_both m.flags.is_synchronized _ _ KeepsSound
-      (λ _. still t stands.sound)
-      (λ _. return_keeps frame below m frame.activation.operands how stands m_is values)
+  method_return_keeps frame below how (Some m) stands m_is values = return_keeps frame below m how stands m_is values

@@ -1,7 +1,8 @@
 -- What a search of a list finds.
-use Rattle.std.proofs.Common.{◌≡◌, ℕ, zero, suc, Bool, true, false, cond, nat_lt, List, [], ◌∷◌, length, Some, slice_get, refl, sym, ap, ◌∙◌, subst}
-use Rattle.std.specs.List.{find, position, position_or_len}
+use Rattle.std.proofs.Common.{◌≡◌, ℕ, zero, suc, ◌+◌, Bool, true, false, cond, nat_lt, List, [], ◌∷◌, length, Some, None, slice_get, refl, sym, ap, ◌∙◌, subst}
+use Rattle.std.specs.List.{AllByRecursion, find, position, position_from, position_or_len}
 use Rattle.std.proofs.lemmas.List.Folds.{find_at}
+use Rattle.std.proofs.lemmas.Iterator.Adapters.{position_from-zero}
 use Rattle.std.proofs.lemmas.Option.{same_Some, none-some, cond_some}
 
 -- What is found passes the test.
@@ -27,3 +28,15 @@ place_by test false y x xs more is = let place = more is in (suc place.0, place.
 pub found_at : {X : Type 0} (test : X → Bool) (xs : List X) (x : X) → find test xs ≡ Some x → (i : ℕ) × (slice_get xs i ≡ Some x)
 found_at test [] x is = absurd (none-some x is)
 found_at test (y ∷ xs) x is = place_by test (test y) y x xs (found_at test xs x) is
+
+-- Where none is found, none passes.
+none_by : {X : Type 0} (test : X → Bool) (b : Bool) (i : ℕ) (x : X) (xs : List X) → test x ≡ b → (position_from test (i + 1) xs ≡ None → AllByRecursion (λ y. test y ≡ false) xs) → cond b (Some i) (position_from test (i + 1) xs) ≡ None → (test x ≡ false) × AllByRecursion (λ y. test y ≡ false) xs
+none_by test true i x xs e more none = absurd (none-some i (sym none))
+none_by test false i x xs e more none = (e, more none)
+
+none_from : {X : Type 0} (test : X → Bool) (i : ℕ) (xs : List X) → position_from test i xs ≡ None → AllByRecursion (λ x. test x ≡ false) xs
+none_from test i [] is = tt
+none_from test i (x ∷ xs) is = none_by test (test x) i x xs refl (none_from test (i + 1) xs) is
+
+pub none_passes : {X : Type 0} (test : X → Bool) (xs : List X) → position test xs ≡ None → AllByRecursion (λ x. test x ≡ false) xs
+none_passes test xs is = none_from test 0 xs (sym (position_from-zero test xs) ∙ is)

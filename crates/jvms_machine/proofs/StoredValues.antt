@@ -3,7 +3,7 @@ use Rattle.std.proofs.Common.{◌≡◌, ℕ, zero, suc, ◌+◌, ◌<◌, ◌�
 use Rattle.std.specs.List.{AllByRecursion, position_from}
 use Rattle.std.specs.Map.{lookup}
 use Rattle.std.proofs.lemmas.Bool.{cond_both}
-use Rattle.std.proofs.lemmas.Option.{none-some, same_Some}
+use Rattle.std.proofs.lemmas.Option.{none-some, same_Some, slice_get_within}
 use Rattle.jvms_machine.specs.declared.value.Value.{Value}
 use Rattle.jvms_machine.specs.declared.value.Value.TheVariants as value
 use Rattle.jvms_file.specs.declared.descriptor.FieldType.{FieldType}
@@ -99,3 +99,8 @@ with_element_becomes index v (instance class fields) = (fields, refl)
 with_element_becomes index v (array class elements) = (slice_set elements index v, refl)
 with_element_becomes index v (text units) = refl
 with_element_becomes index v (class_object name) = refl
+
+-- What leads to an object is a reference.
+pub leads_is_reference : (heap : List Object) (r : ℕ) (o : Object) → object_at heap r ≡ Some o → IsReference heap r
+leads_is_reference heap zero o at = absurd (none-some o at)
+leads_is_reference heap (suc i) o at = let within = slice_get_within heap i o at in (omega arith, omega arith)

@@ -1,5 +1,5 @@
 -- A sound state stays sound where one thread is changed to another that is one.
-use Rattle.std.proofs.Common.{◌≡◌, ℕ, zero, suc, ◌<◌, ◌≤◌, Bool, false, List, [], ◌∷◌, length, Option, Some, None, IfSome, slice_get, slice_set, count_by, refl, sym, ap, ◌∙◌, subst, length-set}
+use Rattle.std.proofs.Common.{◌≡◌, ℕ, zero, suc, ◌≤◌, Bool, false, List, [], ◌∷◌, length, Option, Some, None, IfSome, slice_get, slice_set, count_by, refl, sym, ap, ◌∙◌, subst, length-set, arith}
 use Rattle.std.specs.List.{AllByRecursion}
 use Rattle.std.proofs.lemmas.Option.{same_Some}
 use Rattle.jvms_machine.specs.declared.value.Value.{Value}
@@ -31,11 +31,12 @@ first_thread_set [] t thread after at same none = tt
 first_thread_set (u ∷ us) zero thread after at same none = same ∙ sym (ap (λ (v : Thread). v.object) (same_Some u thread at)) ∙ none
 first_thread_set (u ∷ us) (suc t) thread after at same none = none
 
--- A monitor is held by a thread that was given out, also among as many other threads.
-monitors_among : (heap : List Object) (threads others : List Thread) → length others ≡ length threads → (monitors : List (ℕ × Hold)) → AreMonitors heap threads monitors → AreMonitors heap others monitors
+-- A monitor is held by a thread that was given out, also among as many other threads, or more.
+pub monitors_among : (heap : List Object) (threads others : List Thread) → length threads ≤ length others → (monitors : List (ℕ × Hold)) → AreMonitors heap threads monitors → AreMonitors heap others monitors
 monitors_among heap threads others same [] are = tt
 monitors_among heap threads others same (m ∷ monitors) are =
-    (are.0, (subst (λ n. m.1.owner < n) (sym same) are.1.0, are.1.1, are.1.2), are.2, monitors_among heap threads others same monitors are.3)
+    let given_out = are.1.0 in
+    (are.0, (omega arith, are.1.1, are.1.2), are.2, monitors_among heap threads others same monitors are.3)
 
 -- ---- Stacks
 
@@ -104,7 +105,7 @@ module _ {program : List Class} {limits : Limits} {s : State} {t : ℕ} {thread 
       (record {
         opened = sound.opened;
         objects_are = sound.objects_are;
-        monitors = monitors_among s.heap s.threads (slice_set s.threads t after) as_many s.monitors sound.monitors;
+        monitors = monitors_among s.heap s.threads (slice_set s.threads t after) (omega arith) s.monitors sound.monitors;
         out_of_memory = sound.out_of_memory;
         stack_overflow = sound.stack_overflow;
         statics = sound.statics;

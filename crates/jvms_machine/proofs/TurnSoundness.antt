@@ -27,6 +27,7 @@ use Rattle.jvms_machine.proofs.FrameSoundness as frame_soundness
 use Rattle.jvms_machine.proofs.MarkLaws.{unmarked_by, changed_calls, gone_on_calls}
 use Rattle.jvms_machine.proofs.ThreadChanges.{Stands}
 use Rattle.jvms_machine.proofs.KeptStates.{Keeps, still}
+use Rattle.jvms_machine.proofs.EventLaws.{IsTold, decision_is_told}
 use Rattle.jvms_machine.proofs.ExceptionSoundness.{throws_keeps}
 use Rattle.jvms_machine.proofs.InitializerSoundness.{initialisation_keeps}
 use Rattle.jvms_machine.proofs.CallSoundness.{first_call_keeps, invoke_keeps}
@@ -34,6 +35,7 @@ use Rattle.jvms_machine.proofs.ReturnSoundness.{method_return_keeps}
 use Rattle.jvms_machine.proofs.UnwindingSoundness.{throw_keeps, unwinding_keeps}
 use Rattle.jvms_machine.proofs.EffectSoundness.{frame_is_fit, gone_on_is_sound}
 use Rattle.jvms_machine.proofs.FieldSoundness.{field_keeps}
+use Rattle.jvms_machine.proofs.MonitorSoundness.{monitor_enter_keeps, monitor_exit_keeps}
 use Rattle.jvms_machine.proofs.ArraySoundness.{array_keeps, new_arrays_keeps}
 use Rattle.jvms_machine.proofs.ClassSoundness.{class_keeps, loadable_keeps}
 
@@ -54,6 +56,7 @@ module _ (program : List Class) (limits : Limits) (start : Start) (s : State) (t
       (λ _. gone_on_is_sound frame below act stands keeps.0 keeps.1),
       (λ _ _. subst (λ o. IfSome o (λ (th : Thread). top_step th.frames ≡ frame_decided.Does act)) (sym stands.given_out) does),
       unmarked_by program t (calls_of s t) _ (changed_calls s.threads t thread (gone_on act) stands.given_out ∙ gone_on_calls act thread.frames ∙ sym (ap calls_in stands.given_out)),
+      (λ _. tt),
     )
 
     -- An instruction that touches more than its frame.
@@ -68,6 +71,8 @@ module _ (program : List Class) (limits : Limits) (start : Start) (s : State) (t
     reaching_keeps frame below (instruction.Class how name) stands at = class_keeps program limits start s t thread frame below stands how name
     reaching_keeps frame below (instruction.MultiNewArray name dimensions) stands at = new_arrays_keeps program limits start s t thread frame below stands name dimensions
     reaching_keeps frame below (instruction.Simple (simple.Object object_insn.Throw)) stands at = throw_keeps program limits start s t thread frame below stands
+    reaching_keeps frame below (instruction.Simple (simple.Object object_insn.MonitorEnter)) stands at = monitor_enter_keeps program limits start s t thread frame below stands
+    reaching_keeps frame below (instruction.Simple (simple.Object object_insn.MonitorExit)) stands at = monitor_exit_keeps program limits start s t thread frame below stands
     reaching_keeps frame below _ stands at = still t stands.sound
 
     instruction_keeps : (frame : MethodFrame) (below : List Frame) (i : Instruction) (d : FrameDecision) → HasFrames (stack_frame.Call frame ∷ below) → instruction_at frame ≡ Some i → top_step thread.frames ≡ d → frame_soundness.Keeps s.heap frame.body frame.activation d → KeepsSound (instruction_decision program limits s t thread frame below i d)
@@ -118,3 +123,10 @@ decided_is_ready program limits start s t is are starts sound = (decide_keeps pr
 pub turn_marks : (program : List Class) (limits : Limits) (start : Start) (s : State) (t : ℕ) → IsTrue (are_limits limits) → IsStart start → Sound program limits s → filter is_mark (turn program limits start s t).items ≡ marks_between program t (calls_of s t) (calls_of (turn program limits start s t).state t)
 unfolding turn
 turn_marks program limits start s t are starts sound = (decide_keeps program limits start s t starts sound).2
+
+-- Its events are those that its states tell.
+pub turn_is_told : (program : List Class) (limits : Limits) (start : Start) (s : State) (t : ℕ) → IsProgram program → IsTrue (are_limits limits) → IsStart start → Sound program limits s → IsTold t s (turn program limits start s t).state (turn program limits start s t).items
+unfolding turn
+turn_is_told program limits start s t is are starts sound =
+    let keeps = decide_keeps program limits start s t starts sound in
+    decision_is_told program limits start s t sound (decide program limits start s t) (keeps.1 is are) (keeps.3 is)

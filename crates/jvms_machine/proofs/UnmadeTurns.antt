@@ -21,21 +21,21 @@ action_is_enabled (action.Goes act) = refl
 action_is_enabled (action.Reaches effect act) = refl
 action_is_enabled (action.Begins class) = refl
 action_is_enabled (action.Finishes class) = refl
-action_is_enabled (action.Enters method code) = refl
-action_is_enabled (action.Ends method result) = refl
-action_is_enabled (action.Calls method code takes) = refl
-action_is_enabled (action.Returns method result) = refl
+action_is_enabled (action.Enters method code lock) = refl
+action_is_enabled (action.Ends method result unlock) = refl
+action_is_enabled (action.Calls method code takes lock) = refl
+action_is_enabled (action.Returns method result unlock) = refl
 action_is_enabled (action.Initialises method code) = refl
 action_is_enabled (action.Throws r) = refl
 action_is_enabled (action.Catches r target) = refl
-action_is_enabled (action.Unwinds method last) = unwound_is_enabled last
+action_is_enabled (action.Unwinds method last unlock) = unwound_is_enabled last
+action_is_enabled (action.FailsToUnlock method e last) = unwound_is_enabled last
 action_is_enabled (action.FailsInitialisation class e last) = unwound_is_enabled last
 action_is_enabled (action.Raises e) = refl
 action_is_enabled (action.Fails e) = refl
 
 unmade_keeps : (program : List Class) (start : Start) (s : State) (t : ℕ) (d : TurnDecision) → is_enabled (outcome_of d) ≡ false → (state_after program start s t d ≡ s) × (items_after program t d ≡ [])
 unmade_keeps program start s t (decision.Unmade o) disabled = (refl, refl)
-unmade_keeps program start s t decision.Later disabled = (refl, refl)
 unmade_keeps program start s t (decision.Makes act) disabled = absurd (cc (action_is_enabled act))
 
 pub unmade_turn_keeps : (program : List Class) (limits : Limits) (start : Start) (s : State) (t : ℕ) → is_enabled (turn program limits start s t).outcome ≡ false → ((turn program limits start s t).state ≡ s) × ((turn program limits start s t).items ≡ [])

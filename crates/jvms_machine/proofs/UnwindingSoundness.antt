@@ -1,43 +1,41 @@
 -- A turn of a thread with a pending exception leaves a sound state sound: a handler takes the object, or the frame on top is
 -- popped; and so does athrow.
-use Rattle.std.proofs.Common.{◌≡◌, ℕ, zero, suc, ◌<◌, ◌≤◌, Bool, not, ◌&&◌, ◌==◌, List, [], ◌∷◌, length, Option, Some, None, IfSome, codes, slice_get, slice_set, drop, refl, sym, ap, ◌∙◌, subst, arith, length-set}
+use Rattle.std.proofs.Common.{◌≡◌, ℕ, ◌<◌, ◌≤◌, Bool, not, ◌&&◌, ◌==◌, List, [], ◌∷◌, length, Option, Some, None, IfSome, codes, slice_get, slice_set, drop, refl, sym, ap, ◌∙◌, subst, arith, length-set}
 use Rattle.std.proofs.lemmas.Bool.{cond_both, eqb-false}
-use Rattle.std.proofs.lemmas.Option.{none-some, slice_get_within}
 use Rattle.jvms_machine.specs.declared.value.Value.{Value}
 use Rattle.jvms_machine.specs.declared.machine.Limits.{Limits}
 use Rattle.jvms_machine.specs.declared.state.Initialisation.TheVariants as initialisation
 use Rattle.jvms_machine.specs.declared.state.StackFrame.TheVariants as stack_frame
 use Rattle.jvms_machine.specs.declared.action.Exception.{Exception}
+use Rattle.jvms_machine.specs.declared.action.MonitorUse.{MonitorUse}
 use Rattle.jvms_machine.specs.declared.action.Action.TheVariants as action
 use Rattle.jvms_machine.specs.declared.action.Decision.TheVariants as decision
 use Rattle.jvms_program.specs.declared.program.Class.{Class}
 use Rattle.jvms_program.specs.declared.program.ExceptionHandler.{ExceptionHandler}
-use Rattle.jvms_program.specs.declared.program.Method.{Method}
 use Rattle.jvms_program.specs.declared.number.MethodNumber.{MethodNumber}
 use Rattle.jvms_program.specs.declared.thrown.Thrown.TheVariants as thrown
-use Rattle.jvms_program.specs.Program.{IsProgram, method_at}
+use Rattle.jvms_program.specs.Program.{IsProgram}
 use Rattle.jvms_program.specs.Resolution.{fits}
 use Rattle.jvms_machine.specs.Decisions.{TurnDecision}
-use Rattle.jvms_machine.specs.State.{State, Object, Thread, Frame, MethodFrame, object_at, class_of, IsReference, IsThrowable, Sound}
+use Rattle.jvms_machine.specs.State.{State, Object, Thread, Frame, MethodFrame, object_at, class_of, IsThrowable, Sound}
 use Rattle.jvms_machine.specs.Start.{Start}
 use Rattle.jvms_machine.specs.Exceptions.{exception_reference}
-use Rattle.jvms_machine.specs.Unwinding.{handler_of, is_empty, popped_decision, handler_decision, is_error, failed_with, top_decision, object_decision, unwinding_decision, throwable_decision, throw_top, throw_decision}
-use Rattle.jvms_machine.specs.Actions.{given, top_given, top_operands, thrown_in, handling, top_handling, caught, raised, unwound, with_changed, with_initialisation, with_exception, applied_to, items_of}
+use Rattle.jvms_machine.specs.Unwinding.{handler_of, popped_decision, handler_decision, is_error, failed_with, top_decision, object_decision, unwinding_decision, throwable_decision, throw_top, throw_decision}
+use Rattle.jvms_machine.specs.Monitors.{is_empty}
+use Rattle.jvms_machine.specs.Actions.{with_unlock, given, top_given, top_operands, thrown_in, handling, top_handling, caught, raised, unwound, with_changed, with_initialisation, with_exception, applied_to, items_of}
 use Rattle.jvms_machine.specs.Marks.{calls, calls_in, calls_of}
 use Rattle.jvms_machine.specs.Turn.{HasRoomToHandle}
 use Rattle.jvms_machine.proofs.InitialisationOrder.{order_over, count_call}
-use Rattle.jvms_machine.proofs.MarkLaws.{unmarked_by, left_mark, changed_calls}
+use Rattle.jvms_machine.proofs.MarkLaws.{unmarked_by, left_mark, marked_with_unlock, changed_calls}
 use Rattle.jvms_machine.proofs.ThreadChanges.{Stands, pending_is, frames_are_stack, thread_with, changed_is_sound, struck_is_sound, moved_is_sound, stack_below, stack_goes_on}
-use Rattle.jvms_machine.proofs.KeptStates.{Keeps, still}
+use Rattle.jvms_machine.proofs.StoredValues.{leads_is_reference}
+use Rattle.jvms_machine.proofs.KeptStates.{IsLeft, Keeps, still}
 use Rattle.jvms_machine.proofs.ExceptionSoundness.{throwable_by, IsThrown, exception_is_thrown, exception_is_throwable, stands_with_exception}
+use Rattle.jvms_machine.proofs.LockSoundness.{stands_with_unlock}
+use Rattle.jvms_machine.proofs.UnlockSoundness.{unlocking_keeps}
 use Rattle.jvms_machine.proofs.CallSoundness.{given_is_frame}
 use Rattle.jvms_machine.proofs.EffectSoundness.{if_deep_keeps}
 use Rattle.jvms_machine.proofs.ArraySoundness.{with_object_keeps}
-
--- What leads to an object is a reference.
-leads_is_reference : (heap : List Object) (r : ℕ) (o : Object) → object_at heap r ≡ Some o → IsReference heap r
-leads_is_reference heap zero o at = absurd (none-some o at)
-leads_is_reference heap (suc i) o at = let within = slice_get_within heap i o at in (omega arith, omega arith)
 
 module _ (program : List Class) (limits : Limits) (start : Start) (s : State) (t : ℕ) (thread : Thread) where
   abbrev KeepsSound : TurnDecision → Type 0
@@ -63,6 +61,7 @@ module _ (program : List Class) (limits : Limits) (start : Start) (s : State) (t
               (λ c. count_call c (given 1 frame) below ∙ sym (count_call c frame below))),
           (λ _ _. subst (λ o. IfSome o (λ (th : Thread). 1 ≤ length (top_operands th.frames))) (sym stands.given_out) (subst (λ (fs : List Frame). 1 ≤ length (top_operands fs)) (sym stands.frames_are) there)),
           unmarked_by program t (calls_of s t) _ (changed_calls s.threads t thread (thrown_in r) stands.given_out ∙ ap calls are ∙ sym (ap calls stands.frames_are) ∙ sym (ap calls_in stands.given_out)),
+          (λ _. tt),
         )
 
     throwable_keeps : (r : ℕ) (o : Object) → object_at s.heap r ≡ Some o → 1 ≤ length frame.activation.operands → KeepsSound (throwable_decision program r o)
@@ -99,28 +98,30 @@ module _ (program : List Class) (limits : Limits) (start : Start) (s : State) (t
               (λ c. count_call c after below ∙ sym (count_call c frame below))),
           (λ _ _. subst (λ o. IfSome o (λ (th : Thread). HasRoomToHandle th.frames)) (sym stands.given_out) (subst HasRoomToHandle (sym stands.frames_are) room)),
           unmarked_by program t (calls_of s t) _ (changed_calls s.threads t thread (caught r target) stands.given_out ∙ ap calls are ∙ sym (ap calls stands.frames_are) ∙ sym (ap calls_in stands.given_out)),
+          (λ _. tt),
         )
 
     -- The call is popped.
-    unwinds_keeps : (last : Bool) → KeepsSound (decision.Makes (action.Unwinds frame.method last))
+    unwinds_keeps : (last : Bool) (unlock : Option MonitorUse) → IfSome unlock (IsLeft s) → KeepsSound (decision.Makes (action.Unwinds frame.method last unlock))
     unfolding applied_to items_of
-    unwinds_keeps last =
-        let frames = frames_are_stack stands in
+    unwinds_keeps last unlock is_left =
+        let there = stands_with_unlock stands unlock in
+        let frames = frames_are_stack there in
         let few = frames.2 in
         let are : (unwound last thread).frames ≡ below = ap (λ (fs : List Frame). drop 1 fs) stands.frames_are in (
-          (λ _. moved_is_sound stands (unwound last) below are refl refl frames.0.1 (stack_below program (stack_frame.Call frame) below frames.1) (omega arith) (λ c. sym (count_call c frame below))),
+          (λ _. moved_is_sound there (unwound last) below are refl refl frames.0.1 (stack_below program (stack_frame.Call frame) below frames.1) (omega arith) (λ c. sym (count_call c frame below))),
           (λ _ _. tt),
-          left_mark program t (calls_of s t) _ frame.method
+          marked_with_unlock program t frame.method unlock ∙ left_mark program t (calls_of s t) _ frame.method
               (ap calls_in stands.given_out ∙ ap calls stands.frames_are
-              ∙ ap (λ (ms : List MethodNumber). frame.method ∷ ms) (sym (changed_calls s.threads t thread (unwound last) stands.given_out ∙ ap calls are))),
+              ∙ ap (λ (ms : List MethodNumber). frame.method ∷ ms) (sym (changed_calls (with_unlock s unlock).threads t thread (unwound last) there.given_out ∙ ap calls are))),
+          (λ _. is_left),
         )
 
-    popped_keeps : (o : Option Method) → KeepsSound (popped_decision frame.method below o)
-    popped_keeps None = still t stands.sound
-    popped_keeps (Some m) = cond_both m.flags.is_synchronized _ _ KeepsSound (λ _. still t stands.sound) (λ _. unwinds_keeps (is_empty below))
+    popped_keeps : KeepsSound (popped_decision limits s t frame below)
+    popped_keeps = unlocking_keeps program limits start s t thread frame below stands _ (λ unlock is_left. unwinds_keeps (is_empty below) unlock is_left)
 
-    handler_keeps : (r : ℕ) (o : Option ExceptionHandler) → thread.pending ≡ Some r → KeepsSound (handler_decision program frame below r o)
-    handler_keeps r None pending = popped_keeps (method_at program frame.method)
+    handler_keeps : (r : ℕ) (o : Option ExceptionHandler) → thread.pending ≡ Some r → KeepsSound (handler_decision limits s t frame below r o)
+    handler_keeps r None pending = popped_keeps
     handler_keeps r (Some h) pending =
         cond_both (frame.body.max_stack == 0) _ _ KeepsSound
         (λ _. still t stands.sound)
@@ -164,20 +165,20 @@ module _ (program : List Class) (limits : Limits) (start : Start) (s : State) (t
 
     fails_keeps : (e : Exception) (last : Bool) → IsThrown program limits s e → KeepsSound (decision.Makes (action.FailsInitialisation class e last))
     unfolding applied_to items_of
-    fails_keeps e last is = (failed_is_sound e last is, (λ _ _. tt), unmarked_by program t (calls_of s t) _ (failed_calls e last is))
+    fails_keeps e last is = (failed_is_sound e last is, (λ _ _. tt), unmarked_by program t (calls_of s t) _ (failed_calls e last is), (λ _. tt))
 
   -- ---- The turn
 
-  top_keeps : (frames : List Frame) (r : ℕ) (o : Object) → HasFrames frames → thread.pending ≡ Some r → KeepsSound (top_decision program limits s frames r o)
+  top_keeps : (frames : List Frame) (r : ℕ) (o : Object) → HasFrames frames → thread.pending ≡ Some r → KeepsSound (top_decision program limits s t frames r o)
   top_keeps [] r o stands pending = still t stands.sound
   top_keeps (stack_frame.Call f ∷ below) r o stands pending = handler_keeps f below stands r (handler_of program (class_of o) f) pending
   top_keeps (stack_frame.Initialisation class called ∷ below) r o stands pending =
       fails_keeps class called below stands (failed_with program limits s called r o) (is_empty below) (failed_is_thrown stands called r o pending)
 
-  object_keeps : (r : ℕ) (o : Option Object) → HasFrames thread.frames → thread.pending ≡ Some r → KeepsSound (object_decision program limits s thread.frames r o)
+  object_keeps : (r : ℕ) (o : Option Object) → HasFrames thread.frames → thread.pending ≡ Some r → KeepsSound (object_decision program limits s t thread.frames r o)
   object_keeps r None stands pending = still t stands.sound
   object_keeps r (Some o) stands pending = top_keeps thread.frames r o stands pending
 
-  pub unwinding_keeps : (r : ℕ) → HasFrames thread.frames → thread.pending ≡ Some r → KeepsSound (unwinding_decision program limits s thread r)
+  pub unwinding_keeps : (r : ℕ) → HasFrames thread.frames → thread.pending ≡ Some r → KeepsSound (unwinding_decision program limits s t thread r)
   unfolding unwinding_decision
   unwinding_keeps r stands pending = object_keeps r (object_at s.heap r) stands pending

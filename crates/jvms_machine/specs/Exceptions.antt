@@ -1,13 +1,10 @@
 -- Exceptions that the machine throws (JVMS 2.10). A test that throws changes nothing but the object that it makes and
 -- what is pending: operands, local variables and place stay.
 use Rattle.std.specs.Prelude.{ℕ, ◌+◌, nat_le, Bool, if◌then◌else◌, List, [], ◌∷◌, length, codes}
-use Rattle.jvms_program.specs.declared.program.Class.{Class}
-use Rattle.jvms_program.specs.declared.program.Body.{Body}
 use Rattle.jvms_program.specs.declared.thrown.Thrown.{Thrown}
 use Rattle.jvms_program.specs.declared.thrown.Thrown.TheVariants as thrown
 use Rattle.jvms_machine.specs.declared.machine.Limits.{Limits}
 use Rattle.jvms_machine.specs.declared.action.Action.TheVariants as action
-use Rattle.jvms_machine.specs.declared.action.Decision.{Decision}
 use Rattle.jvms_machine.specs.declared.action.Decision.TheVariants as decision
 use Rattle.jvms_machine.specs.declared.action.Exception.{Exception}
 use Rattle.jvms_machine.specs.declared.action.Exception.TheVariants as exception

@@ -1,5 +1,5 @@
 -- The heap (JVMS 2.4, 2.7): what is made, and what is changed of what is there.
-use Rattle.std.specs.Prelude.{ℕ, zero, suc, ◌+◌, ◌*◌, ◌-◌, Bool, true, false, not, ◌&&◌, ◌==◌, nat_le, if◌then◌else◌, List, [], ◌∷◌, ◌++◌, length, map, drop, replicate, Option, Some, None, slice_set, codes, ℤ}
+use Rattle.std.specs.Prelude.{ℕ, zero, suc, ◌+◌, ◌*◌, ◌-◌, Bool, true, false, not, ◌&&◌, ◌==◌, nat_le, if◌then◌else◌, List, [], ◌∷◌, ◌++◌, length, map, drop, replicate, Option, Some, None, slice_get, slice_set, codes, ℤ}
 use Rattle.std.specs.List.{flat_map, range_with_len}
 use Rattle.jvms_machine.specs.declared.value.Value.{Value}
 use Rattle.jvms_machine.specs.declared.value.Value.TheVariants as value
@@ -16,7 +16,8 @@ use Rattle.jvms_file.specs.declared.insn.ArrayType.TheVariants as array_type
 use Rattle.jvms_program.specs.declared.key.FieldKey.{FieldKey}
 use Rattle.jvms_program.specs.Slots.{same_key}
 use Rattle.jvms_file.specs.Descriptors.{field_type, is_array_name}
-use Rattle.jvms_machine.specs.State.{State, Object, instance, array, text, class_object, default_value}
+use Rattle.jvms_program.specs.declared.program.Class.{Class}
+use Rattle.jvms_machine.specs.State.{State, Object, instance, array, default_value}
 
 -- ---- Room
 
@@ -135,3 +136,13 @@ new_arrays r class (n ∷ []) = array class (replicate n (first_element class)) 
 new_arrays r class (n ∷ m ∷ lengths) =
     array class (map value.Reference (part_references (r + 1) (arrays_made (m ∷ lengths)) n))
     ∷ flat_map (λ part. new_arrays part (drop 1 class) (m ∷ lengths)) (part_references (r + 1) (arrays_made (m ∷ lengths)) n)
+
+-- ---- Objects of classes
+
+-- The class of a number's name.
+abbrev pub class_name_at : List Class → ℕ → List ℕ
+class_name_at program class = name (slice_get program class)
+  where
+    name : Option Class → List ℕ
+    name None = []
+    name (Some c) = c.name

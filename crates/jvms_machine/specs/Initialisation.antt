@@ -13,7 +13,6 @@ use Rattle.jvms_program.specs.declared.program.Loadable.TheVariants as loadable
 use Rattle.jvms_program.specs.declared.program.Body.{Body}
 use Rattle.jvms_program.specs.declared.number.MethodNumber.{MethodNumber}
 use Rattle.jvms_program.specs.declared.thrown.Thrown.TheVariants as thrown
-use Rattle.jvms_machine.specs.declared.action.Decision.{Decision}
 use Rattle.jvms_machine.specs.declared.action.Decision.TheVariants as decision
 use Rattle.jvms_machine.specs.declared.action.Action.TheVariants as action
 use Rattle.jvms_program.specs.Program.{class_number, declared_number}

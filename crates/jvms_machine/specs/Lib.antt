@@ -6,6 +6,7 @@ pub mod Branches
 pub mod Calls
 pub mod Constants
 pub mod Decisions
+pub mod Events
 pub mod Examples
 pub mod Exceptions
 pub mod Fields
@@ -13,7 +14,9 @@ pub mod Heap
 pub mod Initialisation
 pub mod Limits
 pub mod Locals
+pub mod Locking
 pub mod Marks
+pub mod Monitors
 pub mod Natives
 pub mod Objects
 pub mod Opening
@@ -27,5 +30,6 @@ pub mod State
 pub mod Status
 pub mod Steps
 pub mod Switches
+pub mod Threads
 pub mod Turn
 pub mod Unwinding

@@ -1,23 +1,22 @@
--- The native methods of built-in classes: what System.out prints. Each is done in the turn of its call.
-use Rattle.std.specs.Prelude.{ℕ, ◌+◌, Bool, true, false, ◌&&◌, if◌then◌else◌, List, [], ◌∷◌, Option, Some, None, codes}
+-- The native methods of built-in classes: what System.out prints, and starts and joins of threads. Each is done in the turn
+-- of its call.
+use Rattle.std.specs.Prelude.{ℕ, Bool, true, ◌&&◌, if◌then◌else◌, List, ◌∷◌, Option, Some, None, codes}
 use Rattle.jvms_machine.specs.declared.value.Value.{Value}
 use Rattle.jvms_machine.specs.declared.value.Value.TheVariants as value
 use Rattle.jvms_machine.specs.declared.machine.BadCause.TheVariants as cause
 use Rattle.jvms_machine.specs.declared.machine.Limits.{Limits}
 use Rattle.jvms_program.specs.declared.program.Class.{Class}
 use Rattle.jvms_program.specs.declared.program.Method.{Method}
-use Rattle.jvms_program.specs.declared.number.MethodNumber.{MethodNumber}
 use Rattle.jvms_program.specs.declared.thrown.Thrown.TheVariants as thrown
 use Rattle.jvms_machine.specs.declared.action.Printed.{Printed}
 use Rattle.jvms_machine.specs.declared.action.Printed.TheVariants as printed
 use Rattle.jvms_machine.specs.declared.action.Effect.TheVariants as effect
-use Rattle.jvms_machine.specs.declared.action.Decision.TheVariants as decision
 use Rattle.jvms_file.specs.Names.{same_text}
-use Rattle.jvms_program.specs.BuiltIn.{is_built_in}
 use Rattle.jvms_machine.specs.Decisions.{TurnDecision, bad, never_seen}
 use Rattle.jvms_machine.specs.State.{State, Thread, Activation, Object, text, object_at}
 use Rattle.jvms_machine.specs.Exceptions.{throws}
 use Rattle.jvms_machine.specs.Fields.{reaches, taking}
+use Rattle.jvms_machine.specs.Threads.{thread_native_decision}
 
 -- What a print takes: the receiver, and, of all but println()V, what is printed.
 abbrev pub prints : Activation → ℕ → Printed → Bool → TurnDecision
@@ -41,9 +40,10 @@ print_decision s a m =
     if same_text m.name (codes "println") && same_text m.descriptor (codes "()V") then prints a 1 printed.Nothing true
     else top_printed s a (same_text m.name (codes "println")) a.operands
 
--- A native method of PrintStream prints; start and join of Thread are yet to come; any other has no body.
+-- Native methods are those of PrintStream and of Thread; any other has no body.
 abbrev pub native_of_class : Limits → State → Thread → Activation → Method → Option Class → TurnDecision
 native_of_class limits s thread a m None = never_seen
 native_of_class limits s thread a m (Some c) =
     if same_text c.name (codes "java/io/PrintStream") then print_decision s a m
-    else (if is_built_in c.name then decision.Later else throws limits s thread thrown.UnsatisfiedLinkError)
+    else (if same_text c.name (codes "java/lang/Thread") then thread_native_decision limits s thread a m a.operands
+    else throws limits s thread thrown.UnsatisfiedLinkError)

@@ -1,5 +1,5 @@
 -- Objects of classes, strings and class objects (JVMS 6.5 new, checkcast, instanceof, ldc).
-use Rattle.std.specs.Prelude.{ℕ, ◌+◌, Bool, true, false, not, if◌then◌else◌, List, [], ◌∷◌, Option, Some, None, pos}
+use Rattle.std.specs.Prelude.{ℕ, Bool, true, false, not, if◌then◌else◌, List, ◌∷◌, Option, Some, None, pos}
 use Rattle.jvms_machine.specs.declared.value.Value.{Value}
 use Rattle.jvms_machine.specs.declared.value.Value.TheVariants as value
 use Rattle.jvms_machine.specs.declared.machine.BadCause.TheVariants as cause
@@ -16,12 +16,10 @@ use Rattle.jvms_machine.specs.declared.action.FrameAction.TheVariants as frame_a
 use Rattle.jvms_machine.specs.declared.action.NewObject.{NewObject}
 use Rattle.jvms_machine.specs.declared.action.NewObject.TheVariants as new_object
 use Rattle.jvms_machine.specs.declared.action.Effect.TheVariants as effect
-use Rattle.jvms_machine.specs.declared.action.Decision.TheVariants as decision
 use Rattle.jvms_program.specs.Program.{class_named, class_number}
 use Rattle.jvms_program.specs.Resolution.{class_exists, fits}
 use Rattle.jvms_machine.specs.Decisions.{TurnDecision, bad, never_seen}
 use Rattle.jvms_machine.specs.State.{State, Thread, MethodFrame, Object, object_at, class_of, text_reference, class_reference}
-use Rattle.jvms_machine.specs.Heap.{has_room_for_elements}
 use Rattle.jvms_machine.specs.Exceptions.{throws, has_room_for}
 use Rattle.jvms_machine.specs.Initialisation.{asking}
 use Rattle.jvms_machine.specs.Fields.{reaches, taking}

@@ -1,5 +1,5 @@
 -- A machine at its opening, or why there is none.
-use Rattle.std.specs.Prelude.{ℕ, Bool, false, ◌&&◌, if◌then◌else◌, List, [], ◌∷◌, map, Option, Some, None, codes, Result, Ok, Err}
+use Rattle.std.specs.Prelude.{Bool, ◌&&◌, if◌then◌else◌, List, [], ◌∷◌, map, Option, Some, None, codes, Result, Ok, Err}
 use Rattle.jvms_machine.specs.declared.value.Value.{Value}
 use Rattle.jvms_machine.specs.declared.value.Value.TheVariants as value
 use Rattle.jvms_machine.specs.declared.machine.Entry.{Entry}
@@ -10,7 +10,7 @@ use Rattle.jvms_program.specs.declared.program.Class.{Class}
 use Rattle.jvms_program.specs.declared.key.FieldKey.{FieldKey}
 use Rattle.jvms_file.specs.Names.{same_text}
 use Rattle.jvms_program.specs.BuiltIn.{is_built_in}
-use Rattle.jvms_machine.specs.State.{State, Object, array, Thread, first_instance, static_fields}
+use Rattle.jvms_machine.specs.State.{State, Object, array, first_instance, static_fields, new_thread}
 use Rattle.jvms_machine.specs.Start.{Start, start_of}
 use Rattle.jvms_machine.specs.Limits.{are_limits}
 
@@ -51,9 +51,6 @@ opening_static f = (f.0, if is_system_out f.0 then value.Reference 3 else f.1)
 abbrev pub opening_initialisation : Class → Initialisation
 opening_initialisation c = if is_built_in c.name then initialisation.Done else initialisation.NotBegun
 
-abbrev pub new_thread : Thread
-new_thread = record { object = None; frames = []; pending = None; first_call_made = false; ended = false }
-
 unfoldable pub opening : List Class → State
 opening program =
     record {
@@ -61,7 +58,7 @@ opening program =
       monitors = [];
       statics = map opening_static (static_fields program);
       initialisations = map opening_initialisation program;
-      threads = new_thread ∷ [];
+      threads = new_thread None ∷ [];
       elements = 0;
       output = [];
       result = None;

@@ -1,12 +1,10 @@
 -- A pending exception (JVMS 2.10): the handler that takes it, or the frame that it pops; and athrow (JVMS 6.5).
-use Rattle.std.specs.Prelude.{◌≡◌, ℕ, ◌<◌, ◌==◌, ◌&&◌, Bool, true, false, not, nat_le, nat_lt, if◌then◌else◌, List, [], ◌∷◌, Option, Some, None, codes}
+use Rattle.std.specs.Prelude.{ℕ, ◌<◌, ◌==◌, ◌&&◌, Bool, true, not, nat_le, nat_lt, if◌then◌else◌, List, [], ◌∷◌, Option, Some, None, codes}
 use Rattle.std.specs.List.{find}
-use Rattle.jvms_program.specs.declared.number.MethodNumber.{MethodNumber}
 use Rattle.jvms_program.specs.declared.program.Catch.{Catch}
 use Rattle.jvms_program.specs.declared.program.Catch.TheVariants as catch
 use Rattle.jvms_program.specs.declared.program.Class.{Class}
 use Rattle.jvms_program.specs.declared.program.ExceptionHandler.{ExceptionHandler}
-use Rattle.jvms_program.specs.declared.program.Method.{Method}
 use Rattle.jvms_program.specs.declared.thrown.Thrown.TheVariants as thrown
 use Rattle.jvms_machine.specs.declared.machine.BadCause.TheVariants as cause
 use Rattle.jvms_machine.specs.declared.machine.Limits.{Limits}
@@ -16,10 +14,10 @@ use Rattle.jvms_machine.specs.declared.action.Action.TheVariants as action
 use Rattle.jvms_machine.specs.declared.action.Decision.TheVariants as decision
 use Rattle.jvms_machine.specs.declared.action.Exception.{Exception}
 use Rattle.jvms_machine.specs.declared.action.Exception.TheVariants as exception
-use Rattle.jvms_program.specs.Program.{method_at}
+use Rattle.jvms_machine.specs.Monitors.{fails_to_unlock, is_empty, unlocking}
 use Rattle.jvms_program.specs.Resolution.{fits}
 use Rattle.jvms_machine.specs.Decisions.{TurnDecision, bad, never_seen}
-use Rattle.jvms_machine.specs.State.{State, Thread, Frame, MethodFrame, Object, object_at, class_of, is_synchronized_at}
+use Rattle.jvms_machine.specs.State.{State, Thread, Frame, MethodFrame, Object, object_at, class_of}
 use Rattle.jvms_machine.specs.Exceptions.{exception_of}
 use Rattle.jvms_machine.specs.Arrays.{if_deep, with_object_of}
 
@@ -42,19 +40,16 @@ handler_of program class f = find (handles program class f.activation.place) f.b
 
 -- ---- The frame on top
 
-abbrev pub is_empty : List Frame → Bool
-is_empty [] = true
-is_empty (f ∷ frames) = false
-
--- A call is popped. That of a synchronized method leaves its monitor, which is yet to come.
-abbrev pub popped_decision : MethodNumber → List Frame → Option Method → TurnDecision
-popped_decision method below None = never_seen
-popped_decision method below (Some m) = if m.flags.is_synchronized then decision.Later else decision.Makes (action.Unwinds method (is_empty below))
+-- A call is popped, and leaves its monitor.
+abbrev pub popped_decision : Limits → State → ℕ → MethodFrame → List Frame → TurnDecision
+popped_decision limits s t f below =
+    unlocking s t f.monitor (fails_to_unlock limits s f.method below)
+    (λ unlock. decision.Makes (action.Unwinds f.method (is_empty below) unlock))
 
 -- The handler takes the object, for which there has to be room; without a handler the call is popped.
-abbrev pub handler_decision : List Class → MethodFrame → List Frame → ℕ → Option ExceptionHandler → TurnDecision
-handler_decision program f below r None = popped_decision f.method below (method_at program f.method)
-handler_decision program f below r (Some h) = if f.body.max_stack == 0 then bad cause.Depth else decision.Makes (action.Catches r h.target)
+abbrev pub handler_decision : Limits → State → ℕ → MethodFrame → List Frame → ℕ → Option ExceptionHandler → TurnDecision
+handler_decision limits s t f below r None = popped_decision limits s t f below
+handler_decision limits s t f below r (Some h) = if f.body.max_stack == 0 then bad cause.Depth else decision.Makes (action.Catches r h.target)
 
 abbrev pub is_error : List Class → Object → Bool
 is_error program o = fits program (class_of o) (codes "java/lang/Error")
@@ -64,26 +59,27 @@ abbrev pub failed_with : List Class → Limits → State → Bool → ℕ → Ob
 failed_with program limits s called r o =
     if called && not (is_error program o) then exception_of limits s thrown.ExceptionInInitializerError else exception.Held r
 
-abbrev pub top_decision : List Class → Limits → State → List Frame → ℕ → Object → TurnDecision
-top_decision program limits s [] r o = never_seen
-top_decision program limits s (stack_frame.Call f ∷ below) r o = handler_decision program f below r (handler_of program (class_of o) f)
-top_decision program limits s (stack_frame.Initialisation class called ∷ below) r o =
+abbrev pub top_decision : List Class → Limits → State → ℕ → List Frame → ℕ → Object → TurnDecision
+top_decision program limits s t [] r o = never_seen
+top_decision program limits s t (stack_frame.Call f ∷ below) r o =
+    handler_decision limits s t f below r (handler_of program (class_of o) f)
+top_decision program limits s t (stack_frame.Initialisation class called ∷ below) r o =
     decision.Makes (action.FailsInitialisation class (failed_with program limits s called r o) (is_empty below))
 
-abbrev pub object_decision : List Class → Limits → State → List Frame → ℕ → Option Object → TurnDecision
-object_decision program limits s frames r None = never_seen
-object_decision program limits s frames r (Some o) = top_decision program limits s frames r o
+abbrev pub object_decision : List Class → Limits → State → ℕ → List Frame → ℕ → Option Object → TurnDecision
+object_decision program limits s t frames r None = never_seen
+object_decision program limits s t frames r (Some o) = top_decision program limits s t frames r o
 
 -- The turn of a thread with a pending exception.
-unfoldable pub unwinding_decision : List Class → Limits → State → Thread → ℕ → TurnDecision
-unwinding_decision program limits s thread r = object_decision program limits s thread.frames r (object_at s.heap r)
+unfoldable pub unwinding_decision : List Class → Limits → State → ℕ → Thread → ℕ → TurnDecision
+unwinding_decision program limits s t thread r = object_decision program limits s t thread.frames r (object_at s.heap r)
 
--- The frame on top is popped, or a handler of it takes the object: that of a call whose method isn't synchronized, and has
--- room for the object, or that of an initialisation.
-abbrev pub CanBeUnwound : List Class → List Frame → Type 0
-CanBeUnwound program [] = ⊥
-CanBeUnwound program (stack_frame.Call f ∷ below) = (is_synchronized_at program f.method ≡ false) × (0 < f.body.max_stack)
-CanBeUnwound program (stack_frame.Initialisation class called ∷ below) = Unit {0}
+-- The frame on top is popped, or a handler of it takes the object: that of a call with room for the object, or that of an
+-- initialisation.
+abbrev pub CanBeUnwound : List Frame → Type 0
+CanBeUnwound [] = ⊥
+CanBeUnwound (stack_frame.Call f ∷ below) = 0 < f.body.max_stack
+CanBeUnwound (stack_frame.Initialisation class called ∷ below) = Unit {0}
 
 -- ---- athrow
 

@@ -1,6 +1,6 @@
 //! What a turn comes to: decided first, with nothing changed, and then made.
 
-use crate::machine::{BadCause, Outcome};
+use crate::machine::{BadCause, Outcome, ThreadId};
 use crate::value::Value;
 use jvms_file::insn::StackForm;
 use jvms_program::number::{FieldNumber, MethodNumber};
@@ -68,6 +68,26 @@ pub enum Printed {
     Text { reference: u32 },
 }
 
+/// A monitor that is entered or left (JVMS 2.11.10).
+#[derive(Clone, Copy, Debug, PartialEq, Eq)]
+pub struct MonitorUse {
+    /// The object's reference.
+    pub reference: u32,
+    /// It is free before it is entered, or after it is left.
+    pub outermost: bool,
+}
+
+/// What a call enters with its frame (JVMS 2.11.10).
+#[derive(Clone, Copy, Debug, PartialEq, Eq)]
+pub enum Lock {
+    /// Nothing: its method isn't synchronized.
+    Nothing,
+    /// The monitor of an object that is there.
+    Monitor(MonitorUse),
+    /// The monitor of the object of a class, which is made with it, under this reference.
+    NewClass { class: usize, reference: u32 },
+}
+
 /// What an instruction does beside what it makes of its frame.
 #[derive(Clone, Copy)]
 pub enum Effect<T> {
@@ -102,6 +122,19 @@ pub enum Effect<T> {
         what: Printed,
         ends_line: bool,
     },
+    /// A monitor is entered.
+    Locks(MonitorUse),
+    /// A monitor is left.
+    Unlocks(MonitorUse),
+    /// The thread of an object is started under this number.
+    Starts {
+        reference: u32,
+        thread: ThreadId,
+    },
+    /// This thread has ended, and was waited for.
+    Joins {
+        thread: ThreadId,
+    },
 }
 
 /// How a turn changes the state, with what its making needs. `C` is a method's code, or what leads to it, and `T` a
@@ -120,26 +153,30 @@ pub enum Action<C, T> {
     Finishes {
         class: usize,
     },
-    /// The entry's method, which has this code, is called.
+    /// The first call of the thread is made: of this method, which has this code.
     Enters {
         method: MethodNumber,
         code: C,
+        lock: Lock,
     },
     /// The first call, of this method, returns, and the thread ends.
     Ends {
         method: MethodNumber,
         result: Option<Value>,
+        unlock: Option<MonitorUse>,
     },
     /// A method is called, which has this code: so many operands of the call on top are its arguments.
     Calls {
         method: MethodNumber,
         code: C,
         takes: u16,
+        lock: Lock,
     },
     /// The call on top, of this method, returns to the frame below.
     Returns {
         method: MethodNumber,
         result: Option<Value>,
+        unlock: Option<MonitorUse>,
     },
     /// The `<clinit>` of the class whose initialisation is on top is called, which has this code.
     Initialises {
@@ -158,6 +195,14 @@ pub enum Action<C, T> {
     /// The call on top, of this method, is popped by the pending exception. With the last frame the thread ends.
     Unwinds {
         method: MethodNumber,
+        last: bool,
+        unlock: Option<MonitorUse>,
+    },
+    /// The call on top, of this method, is popped by its return or by an exception, and its thread doesn't own the monitor
+    /// that it would leave: this exception is pending. With the last frame the thread ends.
+    FailsToUnlock {
+        method: MethodNumber,
+        exception: Exception,
         last: bool,
     },
     /// The initialisation of a class, which is on top, is popped by the pending exception: the class is erroneous, and
@@ -178,7 +223,5 @@ pub enum Action<C, T> {
 pub enum Decision<C, T> {
     /// It isn't made: nothing changes.
     Unmade(Outcome),
-    /// A later version of the instruction table makes it; this one says that it is out of the profile.
-    Later,
     Makes(Action<C, T>),
 }

@@ -49,7 +49,7 @@ pub enum BlockedOn {
 pub enum BadCause {
     /// No instruction stands there.
     FellOff,
-    /// The instruction, or the entry's descriptor, is outside the profile, or is made by a later version.
+    /// The instruction, or the entry's descriptor, is outside the profile.
     OutOfProfile,
     /// Too few operands, or no room for the result.
     Depth,

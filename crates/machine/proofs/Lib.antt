@@ -5,6 +5,7 @@ mod ConstantTexts
 mod CountLaws
 mod Deciding
 mod Effects
+mod Entering
 mod EntryLaws
 mod FailedClasses
 mod HeapLaws

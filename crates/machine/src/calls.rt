@@ -1,63 +1,83 @@
-//! Calls (JVMS 2.6.1, 2.6.4): how a method is entered, and the first call of thread 0, which is the entry's. Synchronized
-//! methods are yet to come.
+//! Calls (JVMS 2.6.1, 2.6.4): how a method is entered, and the first call of a thread: of thread 0 the entry's, of another
+//! `run` of its Thread object.
 
 ghost use Rattle.std.specs.Prelude.{◌≡◌, Some};
 ghost use Rattle.jvms_program.specs.declared.program.Body.{Body as Code};
+ghost use Rattle.jvms_machine.specs.declared.action.Lock.{Lock as Locked};
 ghost use Rattle.jvms_machine.specs.Decisions.{TurnDecision};
-ghost use Rattle.jvms_machine.specs.Calls.{enter_decision as enters, called_decision as calls, entry_decision as enters_entry, first_call_decision as calls_first};
+ghost use Rattle.jvms_machine.specs.Calls.{enter_decision as enters, called_decision as calls, entry_decision as enters_entry, first_call as calls_first, first_call_decision as calls_at_first};
 ghost use Rattle.machine.specs.Decided.{seen};
-ghost use Rattle.machine.specs.Calling.{made_of, entry_call};
+ghost use Rattle.machine.specs.Calling.{made_of};
 
 mod invoke;
 mod operands;
+mod run_method;
 
 use crate::decision::{Decided, bad, never_seen};
+use crate::monitor_use::Locking;
 use crate::parts::Parts;
 use crate::thread::Thread;
 use exec::is_outside_method;
-use jvms_machine::action::{Action, Decision};
+use jvms_machine::action::{Action, Decision, Lock};
 use jvms_machine::machine::BadCause;
+use jvms_program::number::MethodNumber;
 use jvms_program::program::{Body, Method};
 use jvms_program::thrown::Thrown;
 
 /// What the call of a method comes to.
 #[derive(Clone, Copy)]
 pub(crate) enum Called<'p> {
-    /// This code is entered.
-    Enters(&'p Body),
+    /// This code is entered, with what is locked.
+    Enters(&'p Body, Lock),
     /// The method is native, and has none.
     IsNative,
     /// The turn comes to this before.
     Stops(Decided<'p>),
 }
 
+/// Of what a method is called: the receiver, if it has one, and how many arguments there are, the receiver among them.
+#[derive(Clone, Copy)]
+pub(crate) struct Given {
+    pub(crate) receiver: Option<u32>,
+    pub(crate) arguments: usize,
+}
+
 impl<'p> Parts<'p> {
-    /// A method's code is entered with so many arguments, if there is room for one frame more and the locals have room
-    /// for them. The monitor of a synchronized method comes behind that.
+    /// A method's code is entered, if there is room for one frame more, the locals have room for the arguments, and, of a
+    /// synchronized method, the monitor can be entered.
     fn enter_decision(
         &self,
+        t: usize,
         thread: &Thread,
-        arguments: usize,
+        n: MethodNumber,
         method: &Method,
+        given: Given,
         code: &'p Body,
     ) -> Called<'p>
-        ensures { (native : TurnDecision) → (make : Code → TurnDecision) → made_of native make result ≡ enters self.now.limits self.now.state thread.now arguments method.now code.now (make code.now) }
+        ensures { (native : TurnDecision) → (make : Code → Locked → TurnDecision) → made_of native make result ≡ enters self.now.program self.now.limits self.now.state t thread.now n method.now given.receiver given.arguments code.now (make code.now) }
     {
         if self.limits.frames as usize <= thread.height() {
             return Called::Stops(self.throws(thread, Thrown::StackOverflowError));
         }
-        if usize::from(code.max_locals) < arguments {
+        if usize::from(code.max_locals) < given.arguments {
             return Called::Stops(bad(BadCause::Local));
         }
-        if method.flags.is_synchronized {
-            return Called::Stops(Decision::Later);
+        match self.locking(t, thread, n, method, given.receiver) {
+            Locking::Stops(decision) => Called::Stops(decision),
+            Locking::Locks(lock) => Called::Enters(code, lock),
         }
-        Called::Enters(code)
     }
 
-    /// A method, which was selected, is called with so many arguments.
-    fn called_decision(&self, thread: &Thread, arguments: usize, method: &'p Method) -> Called<'p>
-        ensures { (native : TurnDecision) → (make : Code → TurnDecision) → made_of native make result ≡ calls self.now.limits self.now.state thread.now arguments method.now native make }
+    /// A method, which was selected, is called.
+    fn called_decision(
+        &self,
+        t: usize,
+        thread: &Thread,
+        n: MethodNumber,
+        method: &'p Method,
+        given: Given,
+    ) -> Called<'p>
+        ensures { (native : TurnDecision) → (make : Code → Locked → TurnDecision) → made_of native make result ≡ calls self.now.program self.now.limits self.now.state t thread.now n method.now given.receiver given.arguments native make }
     {
         if method.flags.is_abstract {
             return Called::Stops(self.throws(thread, Thrown::AbstractMethodError));
@@ -67,43 +87,55 @@ impl<'p> Parts<'p> {
         }
         match &method.body {
             None => Called::Stops(never_seen()),
-            Some(code) => self.enter_decision(thread, arguments, method, code),
+            Some(code) => self.enter_decision(t, thread, n, method, given, code),
         }
     }
 
-    /// The entry's method is called, once its class is initialised.
-    fn entry_call(&self, thread: &Thread, method: &'p Method) -> Decided<'p>
-        ensures { seen result ≡ entry_call self.now.limits self.now.start self.now.state thread.now method.now }
+    /// A method is the first that a thread calls.
+    fn first_call(
+        &self,
+        t: usize,
+        thread: &Thread,
+        n: MethodNumber,
+        method: &'p Method,
+        given: Given,
+    ) -> Decided<'p>
+        ensures { seen result ≡ calls_first self.now.program self.now.limits self.now.state t thread.now given.receiver given.arguments n method.now }
     {
-        match self.called_decision(thread, self.arguments.len(), method) {
+        match self.called_decision(t, thread, n, method, given) {
             Called::Stops(decision) => decision,
             Called::IsNative => self.throws(thread, Thrown::UnsatisfiedLinkError),
-            Called::Enters(code) => Decision::Makes(Action::Enters {
-                method: self.method,
+            Called::Enters(code, lock) => Decision::Makes(Action::Enters {
+                method: n,
                 code,
+                lock,
             }),
         }
     }
 
-    /// The entry's method is called.
+    /// The entry's method is called, once its class is initialised.
     fn entry_decision(&self, t: usize, thread: &Thread, method: &'p Method) -> Decided<'p>
         ensures { seen result ≡ enters_entry self.now.program self.now.limits self.now.start self.now.state t thread.now (Some method.now) }
     {
         if is_outside_method(method.method_type.get()) {
             return bad(BadCause::OutOfProfile);
         }
-        match self.asking(t, thread, self.method.class) {
-            Some(decision) => decision,
-            None => self.entry_call(thread, method),
+        if let Some(decision) = self.asking(t, thread, self.method.class) {
+            return decision;
         }
+        let given = Given {
+            receiver: None,
+            arguments: self.arguments.len(),
+        };
+        self.first_call(t, thread, self.method, method, given)
     }
 
     /// The first call of a thread.
     pub(crate) fn first_call_decision(&self, t: usize, thread: &Thread) -> Decided<'p>
-        ensures { seen result ≡ calls_first self.now.program self.now.limits self.now.start self.now.state t thread.now }
+        ensures { seen result ≡ calls_at_first self.now.program self.now.limits self.now.start self.now.state t thread.now }
     {
         if t != 0 {
-            return Decision::Later;
+            return self.run_decision(t, thread);
         }
         match self.program().method(self.method) {
             None => never_seen(),

@@ -35,7 +35,7 @@ pub(crate) fn bad<'p>(cause: BadCause) -> Decided<'p>
     Decision::Unmade(Outcome::Bad { cause })
 }
 
-/// What stands for a class or a method that isn't there. In a sound state each is.
+/// What stands for what never comes, as a class or a method that isn't there. In a sound state each is.
 pub(crate) fn never_seen<'p>() -> Decided<'p>
     ensures { seen result ≡ no_turn }
 {
@@ -72,25 +72,24 @@ pub(crate) fn taking(takes: u8, frame: &Frame) -> FrameAction
     }
 }
 
-/// The outcome of what was decided. What a later version makes is out of the profile of this one: said here alone.
+/// The outcome of what was decided.
 pub(crate) fn outcome(decision: Decided<'_>) -> Outcome
     ensures { result ≡ outcome_of (seen decision.entry) }
 {
     match decision {
         Decision::Unmade(outcome) => outcome,
-        Decision::Later => Outcome::Bad {
-            cause: BadCause::OutOfProfile,
-        },
         Decision::Makes(
             Action::Ends { .. }
             | Action::Fails(_)
             | Action::Unwinds { last: true, .. }
+            | Action::FailsToUnlock { last: true, .. }
             | Action::FailsInitialisation { last: true, .. },
         ) => Outcome::Ended { last: true },
         Decision::Makes(
             Action::Raises(_)
             | Action::Throws { .. }
             | Action::Unwinds { .. }
+            | Action::FailsToUnlock { .. }
             | Action::FailsInitialisation { .. },
         ) => Outcome::Raised,
         Decision::Makes(_) => Outcome::Ran,

@@ -10,8 +10,10 @@ mod fault;
 mod fields;
 mod initialisation;
 mod limits;
+mod locking;
 mod machine;
 mod making;
+mod monitor_use;
 mod natives;
 mod objects;
 mod opening;
@@ -23,6 +25,7 @@ mod state;
 mod status;
 mod stored;
 mod thread;
+mod threads;
 mod turn;
 mod unwinding;
 

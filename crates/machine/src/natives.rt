@@ -1,16 +1,18 @@
-//! The native methods of built-in classes: what `System.out` prints. Each is done in the turn of its call.
+//! The native methods of built-in classes: what `System.out` prints, and starts and joins of threads. Each is done in the
+//! turn of its call.
 
 ghost use Rattle.std.specs.Prelude.{◌≡◌, ◌+◌, ◌<◌, ◌^◌, slice_get};
 ghost use Rattle.jvms_machine.specs.Natives.{prints as printing, object_printed as prints_object, top_printed as prints_top, print_decision as prints_as, native_of_class};
 ghost use Rattle.jvms_machine.specs.State.{object_at};
 ghost use Rattle.machine.specs.Decided.{seen};
+ghost use Rattle.machine.specs.Ready.{AreNumbered};
 
 use crate::decision::{Decided, bad, never_seen, reaches, taking};
 use crate::parts::Parts;
 use crate::thread::Thread;
 use descriptor::same_text;
 use frames::Frame;
-use jvms_machine::action::{Decision, Effect, Printed};
+use jvms_machine::action::{Effect, Printed};
 use jvms_machine::machine::BadCause;
 use jvms_machine::value::Value;
 use jvms_program::program::Method;
@@ -19,6 +21,11 @@ use jvms_program::thrown::Thrown;
 /// `java/io/PrintStream`
 const PRINT_STREAM: [u16; 19] = [
     106, 97, 118, 97, 47, 105, 111, 47, 80, 114, 105, 110, 116, 83, 116, 114, 101, 97, 109,
+];
+
+/// `java/lang/Thread`
+const THREAD: [u16; 16] = [
+    106, 97, 118, 97, 47, 108, 97, 110, 103, 47, 84, 104, 114, 101, 97, 100,
 ];
 
 /// `println`
@@ -77,8 +84,8 @@ impl<'p> Parts<'p> {
         }
     }
 
-    /// A native method of the class of a number is called by the frame on top. `start` and `join` of `Thread` are yet to
-    /// come; a method of a class that isn't built in has no body.
+    /// A native method of the class of a number is called by the frame on top: it is `PrintStream`'s or `Thread`'s; any other
+    /// has no body.
     pub(crate) fn native_decision(
         &self,
         thread: &Thread,
@@ -86,7 +93,8 @@ impl<'p> Parts<'p> {
         method: &Method,
         class: usize,
     ) -> Decided<'p>
-        requires { frame.now.activation.place + 1 < 2 ^ 64 }
+        requires place { frame.now.activation.place + 1 < 2 ^ 64 }
+        requires numbered { AreNumbered self.now.state }
         ensures { seen result ≡ native_of_class self.now.limits self.now.state thread.now frame.now.activation method.now (slice_get self.now.program class) }
     {
         let Some(c) = self.program().class(class) else {
@@ -95,10 +103,9 @@ impl<'p> Parts<'p> {
         if same_text(c.name.as_slice(), &PRINT_STREAM) {
             return self.print_decision(frame, method);
         }
-        if self.program().is_built_in(class) {
-            Decision::Later
-        } else {
-            self.throws(thread, Thrown::UnsatisfiedLinkError)
+        if same_text(c.name.as_slice(), &THREAD) {
+            return self.thread_native_decision(thread, frame, method);
         }
+        self.throws(thread, Thrown::UnsatisfiedLinkError)
     }
 }

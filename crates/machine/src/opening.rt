@@ -14,6 +14,7 @@ use jvms_machine::state::Initialisation;
 use jvms_machine::value::Value;
 use jvms_program::number::MethodNumber;
 use jvms_program::program::Class;
+use monitors::Monitors;
 use program::{Program, is_built_in};
 use std::alloc::{AllocError, Global};
 
@@ -79,7 +80,7 @@ impl<'p> Parts<'p> {
         let heap = Heap::opening(alloc, program)?;
         let statics = Statics::opening(alloc, program)?;
         let initialisations = initialisations(alloc, program.classes())?;
-        let threads = vec![in alloc; Thread::new(alloc)]?;
+        let threads = vec![in alloc; Thread::new(alloc, None)]?;
         Ok(Parts {
             alloc,
             limits,
@@ -89,6 +90,7 @@ impl<'p> Parts<'p> {
             statics,
             initialisations,
             threads,
+            monitors: Monitors::new(alloc),
             output: Vec::new(alloc),
             result: None,
         })

@@ -9,6 +9,7 @@ use jvms_machine::machine::Limits;
 use jvms_machine::state::{Hold, Initialisation};
 use jvms_machine::value::Value;
 use jvms_program::number::MethodNumber;
+use monitors::Monitors;
 use program::Program;
 use std::alloc::Global;
 use std::marker::Model;
@@ -24,12 +25,12 @@ pub(crate) struct Parts<'p> {
     pub(crate) statics: Statics<'p>,
     pub(crate) initialisations: Vec<Initialisation>,
     pub(crate) threads: Vec<Thread<'p>>,
+    pub(crate) monitors: Monitors,
     pub(crate) output: Vec<u8>,
     pub(crate) result: Option<Value>,
 }
 
 impl<'p> Model for Parts<'p> {
-    ghost use Rattle.std.specs.Prelude.{[]};
     ghost use Rattle.machine.specs.Machine.{Machine as Seen};
 
     ghost Value = { Seen };
@@ -40,7 +41,7 @@ impl<'p> Model for Parts<'p> {
       start = record { method = m.method; arguments = m.arguments.items };
       state = record {
         heap = m.heap.objects;
-        monitors = [];
+        monitors = m.monitors;
         statics = m.statics.fields;
         initialisations = m.initialisations.items;
         threads = m.threads.items;
@@ -59,12 +60,10 @@ impl<'p> Parts<'p> {
         self.heap.program()
     }
 
-    /// How a monitor is held: none is.
+    /// How the monitor of an object is held, if it is.
     pub(crate) fn monitor(&self, reference: u32) -> Option<Hold>
         ensures { result ≡ monitor_at self.now.state.monitors reference }
     {
-        let _ = &self.limits;
-        let _ = reference;
-        None
+        self.monitors.hold(reference)
     }
 }

@@ -2,17 +2,18 @@
 
 ghost use Rattle.std.specs.Prelude.{◌≡◌, drop};
 ghost use Rattle.jvms_program.specs.Program.{method_at};
-ghost use Rattle.jvms_machine.specs.Returns.{kind_of_element as element_kind, kind_of_type as type_kind, gives_kind as gives, gives_nothing as nothing, returned_decision as returned, return_top_decision as returns_top, return_decision as returns, method_return_decision as method_returns};
+ghost use Rattle.jvms_machine.specs.Returns.{kind_of_element as element_kind, kind_of_type as type_kind, gives_kind as gives, gives_nothing as nothing, returns_to, returned_decision as returned, return_top_decision as returns_top, return_decision as returns, method_return_decision as method_returns};
 ghost use Rattle.machine.specs.Decided.{seen};
 
 use crate::decision::{Decided, bad, never_seen};
+use crate::monitor_use::Unlocking;
 use crate::parts::Parts;
 use crate::thread::Thread;
 use exec::is_loaded;
 use frames::Frame;
 use jvms_file::descriptor::{Element, FieldType, Primitive, ResultType};
 use jvms_file::insn::{Kind, ReturnInsn};
-use jvms_machine::action::{Action, Decision};
+use jvms_machine::action::{Action, Decision, MonitorUse};
 use jvms_machine::machine::BadCause;
 use jvms_machine::value::Value;
 
@@ -58,77 +59,112 @@ fn gives_nothing(given: &ResultType) -> bool
 
 impl Thread<'_> {
     /// The call on top returns this: the first call ends the thread, another goes back to the frame below.
-    fn returned_decision<'p>(&self, frame: &Frame, value: Option<Value>) -> Decided<'p>
-        ensures { seen result ≡ returned frame.now.method (drop 1 self.now.frames) value }
+    fn returns_to<'p>(
+        &self,
+        frame: &Frame,
+        value: Option<Value>,
+        unlock: Option<MonitorUse>,
+    ) -> Decided<'p>
+        ensures { seen result ≡ returns_to frame.now.method (drop 1 self.now.frames) value unlock }
     {
         let method = frame.method();
         let action = if self.height() <= 1 {
             Action::Ends {
                 method,
                 result: value,
+                unlock,
             }
         } else {
             Action::Returns {
                 method,
                 result: value,
+                unlock,
             }
         };
         Decision::Makes(action)
     }
+}
+
+impl<'p> Parts<'p> {
+    /// The call of this frame, which is on top, returns this, and leaves its monitor.
+    fn returned_decision(
+        &self,
+        t: usize,
+        thread: &Thread,
+        frame: &Frame,
+        value: Option<Value>,
+    ) -> Decided<'p>
+        ensures { seen result ≡ returned self.now.limits self.now.state t frame.now (drop 1 thread.now.frames) value }
+    {
+        match self.unlocking(t, frame) {
+            Unlocking::Leaves(unlock) => thread.returns_to(frame, value, unlock),
+            Unlocking::Fails => self.fails_to_unlock(thread, frame),
+        }
+    }
 
     /// A return of a value of this kind, which is the top of the operands.
-    fn return_top_decision<'p>(&self, frame: &Frame, given: &ResultType, kind: Kind) -> Decided<'p>
-        ensures { seen result ≡ returns_top frame.now.method (drop 1 self.now.frames) given.now kind frame.now.activation.operands }
+    fn return_top_decision(
+        &self,
+        t: usize,
+        thread: &Thread,
+        frame: &Frame,
+        given: &ResultType,
+        kind: Kind,
+    ) -> Decided<'p>
+        ensures { seen result ≡ returns_top self.now.limits self.now.state t frame.now (drop 1 thread.now.frames) given.now kind frame.now.activation.operands }
     {
         if frame.height() == 0 {
             return bad(BadCause::Depth);
         }
         let value = frame.top();
         if is_loaded(kind, value) && gives_kind(given, kind) {
-            self.returned_decision(frame, Some(value))
+            self.returned_decision(t, thread, frame, Some(value))
         } else {
             bad(BadCause::Kind)
         }
     }
 
     /// A return of a method that gives this.
-    fn return_decision<'p>(&self, frame: &Frame, given: &ResultType, how: ReturnInsn) -> Decided<'p>
-        ensures { seen result ≡ returns frame.now.method (drop 1 self.now.frames) frame.now.activation.operands given.now how }
+    fn return_decision(
+        &self,
+        t: usize,
+        thread: &Thread,
+        frame: &Frame,
+        given: &ResultType,
+        how: ReturnInsn,
+    ) -> Decided<'p>
+        ensures { seen result ≡ returns self.now.limits self.now.state t frame.now (drop 1 thread.now.frames) given.now how }
     {
         match how {
             ReturnInsn::Void => {
                 if gives_nothing(given) {
-                    self.returned_decision(frame, None)
+                    self.returned_decision(t, thread, frame, None)
                 } else {
                     bad(BadCause::Kind)
                 }
             }
             ReturnInsn::Value(kind @ (Kind::Int | Kind::Reference)) => {
-                self.return_top_decision(frame, given, kind)
+                self.return_top_decision(t, thread, frame, given, kind)
             }
             ReturnInsn::Value(Kind::Long | Kind::Float | Kind::Double) => {
                 bad(BadCause::OutOfProfile)
             }
         }
     }
-}
 
-impl<'p> Parts<'p> {
-    /// The call of this frame, which is on top, returns. A synchronized method's leaves its monitor, which is yet to come.
+    /// The call of this frame, which is on top, returns.
     pub(crate) fn method_return_decision(
         &self,
+        t: usize,
         thread: &Thread,
         frame: &Frame,
         how: ReturnInsn,
     ) -> Decided<'p>
-        ensures { seen result ≡ method_returns frame.now (drop 1 thread.now.frames) how (method_at self.now.program frame.now.method) }
+        ensures { seen result ≡ method_returns self.now.limits self.now.state t frame.now (drop 1 thread.now.frames) how (method_at self.now.program frame.now.method) }
     {
         let Some(method) = self.program().method(frame.method()) else {
             return never_seen();
         };
-        if method.flags.is_synchronized {
-            return Decision::Later;
-        }
-        thread.return_decision(frame, &method.method_type.get().result, how)
+        self.return_decision(t, thread, frame, &method.method_type.get().result, how)
     }
 }

@@ -1,7 +1,6 @@
 //! A pending exception (JVMS 2.10): the handler that takes it, or the frame that it pops; and athrow (JVMS 6.5).
 
 ghost use Rattle.std.specs.Prelude.{◌≡◌, option_copied, drop};
-ghost use Rattle.jvms_program.specs.Program.{method_at};
 ghost use Rattle.jvms_machine.specs.declared.value.Value.TheVariants as value;
 ghost use Rattle.jvms_machine.specs.Arrays.{with_object_of};
 ghost use Rattle.jvms_machine.specs.State.{Object, class_of};
@@ -10,6 +9,7 @@ ghost use Rattle.machine.specs.Decided.{seen};
 ghost use Rattle.machine.specs.Telling.{is_replaced};
 
 use crate::decision::{Decided, bad, has_depth, never_seen};
+use crate::monitor_use::Unlocking;
 use crate::parts::Parts;
 use crate::thread::Thread;
 use frames::Frame;
@@ -72,35 +72,34 @@ fn handler_of<'p>(
 }
 
 impl<'p> Parts<'p> {
-    /// The call of this frame is popped. That of a synchronized method leaves its monitor, which is yet to come.
-    fn popped_decision(&self, thread: &Thread, frame: &Frame) -> Decided<'p>
-        ensures { seen result ≡ pops frame.now.method (drop 1 thread.now.frames) (method_at self.now.program frame.now.method) }
+    /// The call of this frame is popped, and leaves its monitor.
+    fn popped_decision(&self, t: usize, thread: &Thread, frame: &Frame) -> Decided<'p>
+        ensures { seen result ≡ pops self.now.limits self.now.state t frame.now (drop 1 thread.now.frames) }
     {
-        let Some(method) = self.program().method(frame.method()) else {
-            return never_seen();
-        };
-        if method.flags.is_synchronized {
-            return Decision::Later;
+        match self.unlocking(t, frame) {
+            Unlocking::Fails => self.fails_to_unlock(thread, frame),
+            Unlocking::Leaves(unlock) => Decision::Makes(Action::Unwinds {
+                method: frame.method(),
+                last: thread.height() <= 1,
+                unlock,
+            }),
         }
-        Decision::Makes(Action::Unwinds {
-            method: frame.method(),
-            last: thread.height() <= 1,
-        })
     }
 
     /// The call of this frame, with an object of a class pending: a handler takes it, for which there has to be room, or
     /// the call is popped.
     fn handler_decision(
         &self,
+        t: usize,
         thread: &Thread,
         frame: &Frame,
         reference: u32,
         class: &[u16],
     ) -> Decided<'p>
-        ensures { seen result ≡ handled self.now.program frame.now (drop 1 thread.now.frames) reference (handler_of self.now.program class.now frame.now) }
+        ensures { seen result ≡ handled self.now.limits self.now.state t frame.now (drop 1 thread.now.frames) reference (handler_of self.now.program class.now frame.now) }
     {
         match handler_of(self.program(), class, frame) {
-            None => self.popped_decision(thread, frame),
+            None => self.popped_decision(t, thread, frame),
             Some(handler) => {
                 if frame.body().max_stack == 0 {
                     return bad(BadCause::Depth);
@@ -134,13 +133,19 @@ impl<'p> Parts<'p> {
     }
 
     /// The turn of a thread with an object of a class pending.
-    fn unwound_by_top(&self, thread: &Thread, reference: u32, class: &[u16]) -> Decided<'p>
-        ensures { (o : Object) → class.now ≡ class_of o → seen result ≡ unwinds_top self.now.program self.now.limits self.now.state thread.now.frames reference o }
+    fn unwound_by_top(
+        &self,
+        t: usize,
+        thread: &Thread,
+        reference: u32,
+        class: &[u16],
+    ) -> Decided<'p>
+        ensures { (o : Object) → class.now ≡ class_of o → seen result ≡ unwinds_top self.now.program self.now.limits self.now.state t thread.now.frames reference o }
     {
         match thread.frame(0) {
             None => never_seen(),
             Some(StackFrame::Call(frame)) => {
-                self.handler_decision(thread, frame, reference, class)
+                self.handler_decision(t, thread, frame, reference, class)
             }
             Some(
                 StackFrame::Initialisation {
@@ -159,12 +164,17 @@ impl<'p> Parts<'p> {
 
     /// The turn of a thread with a pending exception.
     #[tactic(auto, unfolding(jvms_machine::specs::Unwinding::unwinding_decision))]
-    pub(crate) fn unwinding_decision(&self, thread: &Thread, reference: u32) -> Decided<'p>
-        ensures { seen result ≡ unwinds self.now.program self.now.limits self.now.state thread.now reference }
+    pub(crate) fn unwinding_decision(
+        &self,
+        t: usize,
+        thread: &Thread,
+        reference: u32,
+    ) -> Decided<'p>
+        ensures { seen result ≡ unwinds self.now.program self.now.limits self.now.state t thread.now reference }
     {
         match self.heap.class_of(reference) {
             None => never_seen(),
-            Some(class) => self.unwound_by_top(thread, reference, class),
+            Some(class) => self.unwound_by_top(t, thread, reference, class),
         }
     }
 

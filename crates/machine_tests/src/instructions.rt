@@ -55,7 +55,7 @@ fn frame_of<'p>(
     operands: &[Value],
 ) -> Result<Frame<'p>, Fail> {
     assert!(rt; locals.len() <= usize::from(body.max_locals));
-    let mut frame = Frame::new(alloc, METHOD, body, locals)?;
+    let mut frame = Frame::new(alloc, METHOD, body, None, locals)?;
     for value in operands {
         assert!(rt; frame.height() < frame.body().max_stack);
         frame.push(*value);

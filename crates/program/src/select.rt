@@ -1,7 +1,7 @@
 //! Selection of methods (JVMS 6.5 invokevirtual, invokeinterface, invokespecial).
 
 ghost use Rattle.std.specs.Prelude.{◌≡◌};
-ghost use Rattle.jvms_program.specs.Resolution.{MethodFound, chain, is_superclass, names_class, selected_from, selected_special};
+ghost use Rattle.jvms_program.specs.Resolution.{MethodFound, chain, first_in, is_superclass, members_class as class_of_members, names_class, selectable_in, selected_from, selected_special};
 ghost use Rattle.program.specs.Places.{IsMethodAt, Locates};
 
 use crate::chain::superclass_name;
@@ -48,11 +48,21 @@ impl Program {
         if method.flags.is_private {
             return Some(place);
         }
-        let look = Selectable {
-            name: method.name.as_slice(),
-            descriptor: method.descriptor.as_slice(),
-        };
-        first_up(self, members_class(class), &look)
+        self.select_named(class, method.name.as_slice(), method.descriptor.as_slice())
+    }
+
+    /// The first method of a name and a descriptor that is neither static nor private, from the class of a name up its
+    /// superclasses.
+    #[tactic(auto, using(crate::proofs::PlaceLaws::named_up))]
+    pub fn select_named(
+        &self,
+        class: &[u16],
+        name: &[u16],
+        descriptor: &[u16],
+    ) -> Option<(usize, usize)>
+        ensures { Locates (IsMethodAt self.now) (first_in (selectable_in name.now descriptor.now) (chain self.now (class_of_members class.now))) result }
+    {
+        first_up(self, members_class(class), &Selectable { name, descriptor })
     }
 
     /// The method that an invokespecial in the class `current` selects: the one at the place, but where it

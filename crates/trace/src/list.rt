@@ -1,6 +1,6 @@
 //! The list of items.
 
-ghost use Rattle.std.specs.Prelude.{◌≡◌, ◌++◌, ◌∷◌, [], length, IsTrue, ◌↔◌, OnOk, OnErr};
+ghost use Rattle.std.specs.Prelude.{◌≡◌, ◌++◌, ◌∷◌, [], length, take, IsTrue, ◌↔◌, OnOk, OnErr};
 
 use jvms_machine::trace::Item;
 use std::alloc::{AllocError, Global};
@@ -38,6 +38,13 @@ impl Trace {
     {
         self.items.push(item)?;
         Ok(())
+    }
+
+    /// Takes away the items behind so many.
+    pub fn truncate(&mut self, count: usize)
+        ensures { self.new ≡ take count self.old }
+    {
+        self.items.truncate(count);
     }
 
     /// The items in order.

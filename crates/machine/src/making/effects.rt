@@ -16,9 +16,11 @@ use super::marks::push_listed;
 use crate::decision::ActionText;
 use crate::fields::field_name;
 use crate::parts::Parts;
+use crate::thread::Thread;
 use heap::Heap;
 use jvms_machine::action::{Effect, FrameAction, Printed};
 use jvms_machine::machine::ThreadId;
+use jvms_machine::trace::Item;
 use jvms_machine::value::Value;
 use jvms_program::number::FieldNumber;
 use printing::put_line;
@@ -62,7 +64,7 @@ impl<'p> Parts<'p> {
     fn put(&mut self, t: ThreadId, effect: Effect<ActionText<'p>>)
         requires makeable { CanBeMade self.old.state (operands_of (slice_get self.old.state.threads t)) (seen_effect effect) }
         requires puts { PutsAtMost (seen_effect effect) }
-        ensures { self.new ≡ with_state self.old (affected self.old.program self.old.state (operands_of (slice_get self.old.state.threads t)) (seen_effect effect.entry)) }
+        ensures { self.new ≡ with_state self.old (affected self.old.program self.old.state t (operands_of (slice_get self.old.state.threads t)) (seen_effect effect.entry)) }
     {
         match effect {
             Effect::PutField {
@@ -82,12 +84,34 @@ impl<'p> Parts<'p> {
 
     /// A line, or what of one is printed.
     fn print(&mut self, what: Printed, ends_line: bool) -> Result<(), AllocError>
-        ensures ok { OnOk result (self.new ≡ with_state self.old (affected self.old.program self.old.state [] (effects.Prints what ends_line))) }
+        ensures ok { OnOk result (self.new ≡ with_state self.old (affected self.old.program self.old.state 0 [] (effects.Prints what ends_line))) }
         ensures err { OnErr result (self.new ≡ self.old) }
         ensures none { line_bytes self.old.state.heap what ends_line ≡ [] → IsOk result }
     {
         let text = printed_text(&self.heap, what);
         put_line(&mut self.output, what, text, ends_line)
+    }
+
+    /// A thread is started of a Thread object, with its event. Without memory nothing changes.
+    fn start_thread(
+        &mut self,
+        t: ThreadId,
+        reference: u32,
+        started: ThreadId,
+        trace: &mut Trace,
+    ) -> Result<(), AllocError>
+        ensures state { OnOk result (self.new ≡ with_state self.old (affected self.old.program self.old.state t [] (effects.Starts reference started))) }
+        ensures items { OnOk result (trace.new ≡ trace.old ++ effect_items self.old.program t (effects.Starts reference started)) }
+        ensures kept { OnErr result (self.new ≡ self.old) }
+        ensures no_items { OnErr result (trace.new ≡ trace.old) }
+    {
+        self.threads.push(Thread::new(self.alloc, Some(reference)))?;
+        let fork = Item::Fork { thread: t, started };
+        if let Err(error) = trace.push(fork) {
+            self.threads.pop();
+            return Err(error);
+        }
+        Ok(())
     }
 
     /// What an effect makes of the machine, with its event.
@@ -98,7 +122,7 @@ impl<'p> Parts<'p> {
         trace: &mut Trace,
     ) -> Result<(), AllocError>
         requires { CanBeMade self.old.state (operands_of (slice_get self.old.state.threads t)) (seen_effect effect) }
-        ensures state { OnOk result (self.new ≡ with_state self.old (affected self.old.program self.old.state (operands_of (slice_get self.old.state.threads t)) (seen_effect effect.entry))) }
+        ensures state { OnOk result (self.new ≡ with_state self.old (affected self.old.program self.old.state t (operands_of (slice_get self.old.state.threads t)) (seen_effect effect.entry))) }
         ensures items { OnOk result (trace.new ≡ trace.old ++ effect_items self.old.program t (seen_effect effect.entry)) }
         ensures kept { OnErr result (self.new ≡ self.old) }
         ensures no_items { OnErr result (trace.new ≡ trace.old) }
@@ -107,6 +131,9 @@ impl<'p> Parts<'p> {
         match effect {
             Effect::Makes(what) => self.make_object(t, what),
             Effect::Prints { what, ends_line } => self.print(what, ends_line),
+            Effect::Locks(monitor) => self.enter_monitor(t, monitor, trace),
+            Effect::Unlocks(monitor) => self.exit_monitor(t, monitor, trace),
+            Effect::Starts { reference, thread } => self.start_thread(t, reference, thread, trace),
             _ => {
                 let item = self.effect_item(t, effect)?;
                 push_listed(trace, item)?;
@@ -117,7 +144,7 @@ impl<'p> Parts<'p> {
     }
 
     /// The call on top goes on by an instruction that touches more than its frame.
-    #[tactic(auto, unfolding(jvms_machine::specs::Actions::applied_to, jvms_machine::specs::Actions::items_of), using(jvms_machine::proofs::EffectSoundness::affected_threads))]
+    #[tactic(auto, unfolding(jvms_machine::specs::Actions::applied_to, jvms_machine::specs::Actions::items_of), using(jvms_machine::proofs::EffectSoundness::affected_thread))]
     pub(super) fn reach(
         &mut self,
         t: ThreadId,

@@ -7,6 +7,7 @@ ghost use Rattle.jvms_program.specs.Program.{field_key_at};
 ghost use Rattle.machine.specs.Decided.{seen_effect};
 ghost use Rattle.machine.specs.Marks.{listed, event_key};
 
+use super::locks::{acquire_item, release_item};
 use crate::decision::ActionText;
 use crate::parts::Parts;
 use jvms_machine::action::Effect;
@@ -89,7 +90,7 @@ impl<'p> Parts<'p> {
         Ok(Some(Variable::Static { field }))
     }
 
-    /// The event of a read or a write. Nothing else has one.
+    /// The event of an instruction, if it has one.
     pub(super) fn effect_item(
         &self,
         t: ThreadId,
@@ -117,6 +118,16 @@ impl<'p> Parts<'p> {
                 index,
                 ..
             } => Ok(write_of(t, Some(Variable::Element { reference, index }))),
+            Effect::Joins { thread } => Ok(Some(Item::Join {
+                thread: t,
+                ended: thread,
+            })),
+            Effect::Locks(monitor) => Ok(acquire_item(t, monitor)),
+            Effect::Unlocks(monitor) => Ok(release_item(t, monitor)),
+            Effect::Starts { thread, .. } => Ok(Some(Item::Fork {
+                thread: t,
+                started: thread,
+            })),
             Effect::Nothing | Effect::Makes(_) | Effect::Prints { .. } => Ok(None),
         }
     }

@@ -24,6 +24,25 @@ pub(super) fn push_listed(trace: &mut Trace, item: Option<Item>) -> Result<(), A
     }
 }
 
+/// Puts at most two items behind the others, or none where there is no memory for both.
+pub(super) fn push_both(
+    trace: &mut Trace,
+    first: Option<Item>,
+    second: Option<Item>,
+) -> Result<(), AllocError>
+    ensures ok { OnOk result (trace.new ≡ trace.old ++ (listed first ++ listed second)) }
+    ensures err { OnErr result (trace.new ≡ trace.old) }
+    ensures none { listed first ++ listed second ≡ [] → IsOk result }
+{
+    let before = trace.len();
+    push_listed(trace, first)?;
+    if let Err(error) = push_listed(trace, second) {
+        trace.truncate(before);
+        return Err(error);
+    }
+    Ok(())
+}
+
 impl Parts<'_> {
     /// The key of a method for its marks: there is none of a method of a built-in class.
     fn mark_key(&self, method: MethodNumber) -> Result<Option<MethodKey>, AllocError>

@@ -9,11 +9,12 @@ ghost use Rattle.machine.specs.Machine.{after};
 ghost use Rattle.machine.specs.Marks.{listed};
 ghost use Rattle.machine.specs.Ready.{HasReference};
 
-use super::marks::push_listed;
+use super::locks::unlock_item;
+use super::marks::{push_both, push_listed};
 use crate::parts::Parts;
 use crate::thread::Thread;
 use frames::Frame;
-use jvms_machine::action::Exception;
+use jvms_machine::action::{Exception, MonitorUse};
 use jvms_machine::machine::ThreadId;
 use jvms_machine::state::Initialisation;
 use jvms_machine::trace::Item;
@@ -59,7 +60,7 @@ impl<'p> Parts<'p> {
         ensures kept { OnErr result (self.new ≡ self.old) }
         ensures no_items { OnErr result (trace.new ≡ trace.old) }
     {
-        let frame = Frame::new(self.alloc, method, code, &[])?;
+        let frame = Frame::new(self.alloc, method, code, None, &[])?;
         let item = self.enter_item(t, method)?;
         call_initializer(&mut self.threads[t as usize], frame, item, trace)?;
         Ok(())
@@ -94,17 +95,53 @@ impl<'p> Parts<'p> {
         t: ThreadId,
         method: MethodNumber,
         last: bool,
+        unlock: Option<MonitorUse>,
         trace: &mut Trace,
     ) -> Result<(), AllocError>
-        ensures state { OnOk result (self.new ≡ after self.old t (action.Unwinds method last)) }
-        ensures items { OnOk result (trace.new ≡ trace.old ++ items_of self.old.program t (action.Unwinds method last)) }
+        ensures state { OnOk result (self.new ≡ after self.old t (action.Unwinds method last unlock)) }
+        ensures items { OnOk result (trace.new ≡ trace.old ++ items_of self.old.program t (action.Unwinds method last unlock)) }
         ensures kept { OnErr result (self.new ≡ self.old) }
         ensures no_items { OnErr result (trace.new ≡ trace.old) }
-        ensures none { items_of self.old.program t (action.Unwinds method last) ≡ [] → IsOk result }
+        ensures none { items_of self.old.program t (action.Unwinds method last unlock) ≡ [] → IsOk result }
     {
         let item = self.exit_item(t, method)?;
-        push_listed(trace, item)?;
+        push_both(trace, unlock_item(t, unlock), item)?;
+        self.unlock(unlock);
         if let Some(thread) = self.threads.get_mut(t as usize) {
+            thread.unwind(last);
+        }
+        Ok(())
+    }
+
+    /// The call on top, of this method, is popped, and this exception is pending: its thread doesn't own the monitor.
+    #[tactic(auto, unfolding(jvms_machine::specs::Actions::applied_to, jvms_machine::specs::Actions::items_of))]
+    pub(super) fn fail_to_unlock(
+        &mut self,
+        t: ThreadId,
+        method: MethodNumber,
+        exception: Exception,
+        last: bool,
+        trace: &mut Trace,
+    ) -> Result<(), AllocError>
+        requires { HasReference self.old.state }
+        ensures state { OnOk result (self.new ≡ after self.old t (action.FailsToUnlock method exception last)) }
+        ensures items { OnOk result (trace.new ≡ trace.old ++ items_of self.old.program t (action.FailsToUnlock method exception last)) }
+        ensures kept { OnErr result (self.new ≡ self.old) }
+        ensures no_items { OnErr result (trace.new ≡ trace.old) }
+        ensures none { IsTrue (is_held exception) → items_of self.old.program t (action.FailsToUnlock method exception last) ≡ [] → IsOk result }
+    {
+        let item = self.exit_item(t, method)?;
+        let before = trace.len();
+        push_listed(trace, item)?;
+        let reference = match self.throw(exception) {
+            Ok(reference) => reference,
+            Err(error) => {
+                trace.truncate(before);
+                return Err(error);
+            }
+        };
+        if let Some(thread) = self.threads.get_mut(t as usize) {
+            thread.raise(reference);
             thread.unwind(last);
         }
         Ok(())

@@ -4,5 +4,5 @@ use Rattle.program.proofs.list.Program.select_from.Goals as goal
 
 pub returns : goal.returns
 returns c =
-    λ found at. selected_above c.args.self.now c.args.self.now c.args.class.now _ _ _ found c.args.place c.in_ok-method.method.now c.first_up.result
-    refl (search rules) c.if-method.false c.as_slice.ensures c.as_slice-2.ensures c.members_class.ensures c.first_up.ensures at
+    λ found at. selected_above c.args.self.now c.args.self.now c.args.class.now _ _ found c.args.place c.in_ok-method.method.now c.select_named.result
+    refl (search rules) c.if-method.false c.as_slice.ensures c.as_slice-2.ensures c.select_named.ensures at

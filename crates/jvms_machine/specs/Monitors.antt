@@ -1,0 +1,117 @@
+-- Monitors (JVMS 2.11.10): how they are entered and left. They are re-entrant; that entries and exits are structured isn't
+-- asked.
+use Rattle.std.specs.Prelude.{ℕ, ◌+◌, ◌-◌, ◌==◌, nat_lt, Bool, true, false, not, if◌then◌else◌, List, [], ◌∷◌, Option, Some, None}
+use Rattle.std.specs.Map.{remove_entry}
+use Rattle.jvms_machine.specs.declared.machine.Outcome.TheVariants as outcome
+use Rattle.jvms_machine.specs.declared.machine.BlockedOn.TheVariants as blocked
+use Rattle.jvms_machine.specs.declared.machine.Limits.{Limits}
+use Rattle.jvms_machine.specs.declared.state.Hold.{Hold}
+use Rattle.jvms_machine.specs.declared.action.MonitorUse.{MonitorUse}
+use Rattle.jvms_machine.specs.declared.action.Lock.{Lock}
+use Rattle.jvms_machine.specs.declared.action.Lock.TheVariants as lock
+use Rattle.jvms_machine.specs.declared.action.Action.TheVariants as action
+use Rattle.jvms_machine.specs.declared.action.Decision.TheVariants as decision
+use Rattle.jvms_program.specs.declared.number.MethodNumber.{MethodNumber}
+use Rattle.jvms_program.specs.declared.program.Class.{Class}
+use Rattle.jvms_program.specs.declared.program.Method.{Method}
+use Rattle.jvms_program.specs.declared.thrown.Thrown.TheVariants as thrown
+use Rattle.jvms_machine.specs.Decisions.{TurnDecision, never_seen}
+use Rattle.jvms_machine.specs.State.{State, Thread, Frame, class_reference, monitor_at}
+use Rattle.jvms_machine.specs.Heap.{class_name_at, next_reference}
+use Rattle.jvms_machine.specs.Exceptions.{exception_of, throws, has_room_for}
+
+-- ---- The monitors that are held
+
+-- With this under a reference, in the order of the references.
+abbrev pub with_hold : ℕ → Hold → List (ℕ × Hold) → List (ℕ × Hold)
+with_hold r h [] = (r, h) ∷ []
+with_hold r h (m ∷ monitors) =
+    if r == m.0 then (r, h) ∷ monitors else (if nat_lt r m.0 then (r, h) ∷ m ∷ monitors else m ∷ with_hold r h monitors)
+
+-- A thread has entered the monitor of an object.
+abbrev pub entered_monitor : ℕ → ℕ → List (ℕ × Hold) → List (ℕ × Hold)
+entered_monitor t r monitors = with_hold r (once_more (monitor_at monitors r)) monitors
+  where
+    once_more : Option Hold → Hold
+    once_more None = record { owner = t; count = 1 }
+    once_more (Some h) = record { owner = h.owner; count = h.count + 1 }
+
+-- Its owner has left the monitor of an object once.
+abbrev pub left_monitor : ℕ → List (ℕ × Hold) → List (ℕ × Hold)
+left_monitor r monitors = once_less (monitor_at monitors r)
+  where
+    once_less : Option Hold → List (ℕ × Hold)
+    once_less None = monitors
+    once_less (Some h) =
+        if h.count == 1 then remove_entry (λ q. q == r) monitors
+        else with_hold r (record { owner = h.owner; count = h.count - 1 }) monitors
+
+-- ---- Entering and leaving
+
+-- What a turn that enters the monitor of an object does first, and else what is made of it: another thread's is waited
+-- for; one can't be entered more than 4,294,967,295 times (own).
+abbrev pub entering_held : Limits → State → ℕ → Thread → ℕ → Option Hold → (MonitorUse → TurnDecision) → TurnDecision
+entering_held limits s t thread r None make = make (record { reference = r; outermost = true })
+entering_held limits s t thread r (Some h) make =
+    if not (h.owner == t) then decision.Unmade (outcome.Blocked (blocked.Monitor r h.owner))
+    else (if h.count == 4294967295 then throws limits s thread thrown.OutOfMemoryError
+    else make (record { reference = r; outermost = false }))
+
+abbrev pub entering : Limits → State → ℕ → Thread → ℕ → (MonitorUse → TurnDecision) → TurnDecision
+entering limits s t thread r make = entering_held limits s t thread r (monitor_at s.monitors r) make
+
+-- How a thread leaves a monitor, if it is the owner.
+abbrev pub leaving_held : ℕ → ℕ → Option Hold → Option MonitorUse
+leaving_held t r None = None
+leaving_held t r (Some h) = if h.owner == t then Some (record { reference = r; outermost = h.count == 1 }) else None
+
+abbrev pub leaving : State → ℕ → ℕ → Option MonitorUse
+leaving s t r = leaving_held t r (monitor_at s.monitors r)
+
+-- ---- Synchronized methods
+
+-- The monitor of an object that is there.
+abbrev pub object_locking : Limits → State → ℕ → Thread → Option ℕ → (Lock → TurnDecision) → TurnDecision
+object_locking limits s t thread None make = never_seen
+object_locking limits s t thread (Some r) make = entering limits s t thread r (λ monitor. make (lock.Monitor monitor))
+
+-- The monitor of the object of a class, which is made at its first use.
+abbrev pub class_locking : Limits → State → ℕ → Thread → ℕ → Option ℕ → (Lock → TurnDecision) → TurnDecision
+class_locking limits s t thread class (Some r) make = entering limits s t thread r (λ monitor. make (lock.Monitor monitor))
+class_locking limits s t thread class None make =
+    if has_room_for 1 limits s then make (lock.NewClass class (next_reference s.heap))
+    else throws limits s thread thrown.OutOfMemoryError
+
+-- What a call of a method enters: of a synchronized method the monitor of the receiver, or of its class's object.
+abbrev pub locking : List Class → Limits → State → ℕ → Thread → MethodNumber → Method → Option ℕ → (Lock → TurnDecision) → TurnDecision
+locking program limits s t thread n m receiver make =
+    if not m.flags.is_synchronized then make lock.Nothing
+    else (if m.flags.is_static
+    then class_locking limits s t thread n.class (class_reference s.heap (class_name_at program n.class)) make
+    else object_locking limits s t thread receiver make)
+
+-- The monitor that a call holds with its frame.
+abbrev pub locked_reference : Lock → Option ℕ
+locked_reference lock.Nothing = None
+locked_reference (lock.Monitor monitor) = Some monitor.reference
+locked_reference (lock.NewClass class r) = Some r
+
+-- ---- Calls that are popped
+
+-- A call leaves the monitor of its frame, if it has one; a thread that isn't the owner can't.
+abbrev pub unlocking : State → ℕ → Option ℕ → TurnDecision → (Option MonitorUse → TurnDecision) → TurnDecision
+unlocking s t None fails make = make None
+unlocking s t (Some r) fails make = left (leaving s t r)
+  where
+    left : Option MonitorUse → TurnDecision
+    left None = fails
+    left (Some monitor) = make (Some monitor)
+
+abbrev pub is_empty : List Frame → Bool
+is_empty [] = true
+is_empty (f ∷ frames) = false
+
+-- The call of a method, above these frames, can't leave its monitor.
+abbrev pub fails_to_unlock : Limits → State → MethodNumber → List Frame → TurnDecision
+fails_to_unlock limits s method below =
+    decision.Makes (action.FailsToUnlock method (exception_of limits s thrown.IllegalMonitorStateException) (is_empty below))

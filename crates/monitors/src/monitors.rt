@@ -1,0 +1,95 @@
+//! Monitors by reference.
+
+ghost use Rattle.std.specs.Prelude.{◌≡◌, ℕ, ◌+◌, ◌^◌, ◌<◌, [], length, IsTrue, ◌↔◌, IsSome, IfSome, IsOk, OnOk, OnErr};
+ghost use Rattle.jvms_machine.specs.Monitors.{entered_monitor, left_monitor};
+ghost use Rattle.jvms_machine.specs.State.{monitor_at};
+
+use jvms_machine::machine::ThreadId;
+use jvms_machine::state::Hold;
+use std::alloc::{AllocError, Global};
+use std::collections::BTreeMap;
+use std::marker::Model;
+
+/// The monitors that are held. Contracts see the list of them, each under the reference of its object, in the order of
+/// the references.
+#[derive(Drop)]
+pub struct Monitors {
+    holds: BTreeMap<u32, Hold>,
+}
+
+impl Model for Monitors {
+    ghost use Rattle.std.specs.Prelude.{ℕ, List};
+    ghost use Rattle.jvms_machine.specs.declared.state.Hold.{Hold};
+
+    ghost Value = { List (ℕ × Hold) };
+
+    ghost view = { λ m. m.holds.entries };
+}
+
+impl Monitors {
+    /// No monitor is held. Takes no memory.
+    pub fn new(alloc: Global) -> Self
+        ensures { result ≡ [] }
+    {
+        Monitors {
+            holds: BTreeMap::new(alloc),
+        }
+    }
+
+    /// How many monitors are held.
+    pub fn len(&self) -> usize
+        ensures { result ≡ length self.now }
+    {
+        self.holds.len()
+    }
+
+    /// Whether none is held.
+    pub fn is_empty(&self) -> bool
+        ensures { IsTrue result ↔ (self.now ≡ []) }
+    {
+        self.holds.is_empty()
+    }
+
+    /// How the monitor of an object is held, if it is.
+    pub fn hold(&self, reference: u32) -> Option<Hold>
+        ensures { result ≡ monitor_at self.now reference }
+    {
+        self.holds.get(&reference).copied()
+    }
+
+    /// A thread enters the monitor of an object. Where it is held already its owner has entered it once more, whichever
+    /// thread is named. Only a monitor that wasn't held takes memory, and without it nothing changes.
+    pub fn enter(&mut self, reference: u32, thread: ThreadId) -> Result<(), AllocError>
+        requires { IfSome (monitor_at self.old reference) (λ h. h.count + 1 < 2 ^ 32) }
+        ensures ok { OnOk result (self.new ≡ entered_monitor thread reference self.old) }
+        ensures err { OnErr result (self.new ≡ self.old) }
+        ensures again { IsSome (monitor_at self.old reference) → IsOk result }
+    {
+        let hold = match self.hold(reference) {
+            None => Hold {
+                owner: thread,
+                count: 1,
+            },
+            Some(hold) => Hold {
+                owner: hold.owner,
+                count: hold.count + 1,
+            },
+        };
+        self.holds.insert(reference, hold)?;
+        Ok(())
+    }
+
+    /// The owner of the monitor of an object leaves it once; where no thread holds it nothing changes. Takes no memory.
+    pub fn leave(&mut self, reference: u32)
+        ensures { self.new ≡ left_monitor reference self.old }
+    {
+        let Some(hold) = self.holds.get_mut(&reference) else {
+            return;
+        };
+        if hold.count == 1 {
+            self.holds.remove(&reference);
+        } else {
+            hold.count = hold.count.saturating_sub(1);
+        }
+    }
+}

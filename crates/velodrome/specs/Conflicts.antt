@@ -1,0 +1,64 @@
+-- When two events of a trace conflict (Velodrome, section 3; forks and joins own).
+use Rattle.std.specs.Prelude.{ℕ, Bool, true, false, ◌==◌, ◌&&◌, ◌||◌, Option, Some, None}
+use Rattle.jvms_program.specs.Slots.{same_key}
+use Rattle.jvms_machine.specs.declared.trace.Item.{Item}
+use Rattle.jvms_machine.specs.declared.trace.Item.TheVariants as item
+use Rattle.jvms_machine.specs.declared.trace.Variable.{Variable}
+use Rattle.jvms_machine.specs.declared.trace.Variable.TheVariants as variable
+
+-- The thread whose item it is.
+abbrev pub thread_of : Item → ℕ
+thread_of (item.Read t v) = t
+thread_of (item.Write t v) = t
+thread_of (item.Acquire t r) = t
+thread_of (item.Release t r) = t
+thread_of (item.Fork t u) = t
+thread_of (item.Join t u) = t
+thread_of (item.Enter t m) = t
+thread_of (item.Exit t m) = t
+
+-- The object whose monitor an event enters or leaves.
+abbrev pub monitor_of : Item → Option ℕ
+monitor_of (item.Acquire t r) = Some r
+monitor_of (item.Release t r) = Some r
+monitor_of _ = None
+
+-- The variable that an event reads or writes.
+abbrev pub variable_of : Item → Option Variable
+variable_of (item.Read t v) = Some v
+variable_of (item.Write t v) = Some v
+variable_of _ = None
+
+abbrev pub is_write : Item → Bool
+is_write (item.Write t v) = true
+is_write _ = false
+
+-- The thread that an event starts, or whose end it waited for.
+abbrev pub touched_by : Item → Option ℕ
+touched_by (item.Fork t u) = Some u
+touched_by (item.Join t u) = Some u
+touched_by _ = None
+
+abbrev pub same_number : Option ℕ → Option ℕ → Bool
+same_number (Some a) (Some b) = a == b
+same_number _ _ = false
+
+abbrev pub same_variable : Variable → Variable → Bool
+same_variable (variable.Instance r k) (variable.Instance q l) = r == q && same_key k l
+same_variable (variable.Static k) (variable.Static l) = same_key k l
+same_variable (variable.Element r i) (variable.Element q j) = r == q && i == j
+same_variable _ _ = false
+
+abbrev pub on_one_variable : Option Variable → Option Variable → Bool
+on_one_variable (Some v) (Some w) = same_variable v w
+on_one_variable _ _ = false
+
+-- Two events conflict where they are of one thread, or on one monitor, or on one variable with a write among them, or
+-- one is a fork or a join of the other's thread.
+unfoldable pub conflict : Item → Item → Bool
+conflict a b =
+    thread_of a == thread_of b
+    || same_number (monitor_of a) (monitor_of b)
+    || (on_one_variable (variable_of a) (variable_of b) && (is_write a || is_write b))
+    || same_number (touched_by a) (Some (thread_of b))
+    || same_number (Some (thread_of a)) (touched_by b)

@@ -1,0 +1,43 @@
+-- Edges between transactions, and cycles of them (Velodrome, section 3).
+use Rattle.std.specs.Prelude.{◌≡◌, ◌≢◌, ℕ, ◌<◌, ◌≤◌, ◌==◌, ◌⊎◌, List, [], ◌∷◌, length, take, IsTrue}
+use Rattle.std.specs.List.{IsDistinct}
+use Rattle.velodrome.specs.Conflicts.{conflict}
+use Rattle.velodrome.specs.Transactions.{Event}
+
+-- x stands in the list.
+abbrev pub IsIn : {X : Type 0} → X → List X → Type 0
+IsIn x [] = ⊥
+IsIn x (y ∷ ys) = (x ≡ y) ⊎ IsIn x ys
+
+-- One event is before another, and they conflict.
+abbrev pub IsBefore : Event → Event → Type 0
+IsBefore e f = (e.number < f.number) × IsTrue (conflict e.item f.item)
+
+-- An event of transaction a is before one of transaction b, and they conflict.
+abbrev pub IsPair : List Event → ℕ → ℕ → Event → Event → Type 0
+IsPair events a b e f = IsIn e events × IsIn f events × (e.transaction ≡ a) × (f.transaction ≡ b) × IsBefore e f
+
+-- An edge leads from a transaction to another one.
+abbrev pub IsEdge : List Event → ℕ → ℕ → Type 0
+IsEdge events a b = (a ≢ b) × (e : Event) × (f : Event) × IsPair events a b e f
+
+-- Edges lead from each to the next, and from the last to the first.
+abbrev pub AreEdgesRound : List Event → ℕ → List ℕ → Type 0
+AreEdgesRound events first [] = ⊥
+AreEdgesRound events first (a ∷ []) = IsEdge events a first
+AreEdgesRound events first (a ∷ b ∷ transactions) = IsEdge events a b × AreEdgesRound events first (b ∷ transactions)
+
+-- At least two different transactions, with edges all round.
+abbrev pub IsCycle : List Event → List ℕ → Type 0
+IsCycle events [] = ⊥
+IsCycle events (a ∷ transactions) =
+    (1 ≤ length transactions) × IsDistinct (λ x y. x == y) (a ∷ transactions) × AreEdgesRound events a (a ∷ transactions)
+
+-- No cycle of edges exists.
+abbrev pub AreAtomic : List Event → Type 0
+AreAtomic events = (transactions : List ℕ) → IsCycle events transactions → ⊥
+
+-- The least number of events whose trace has a cycle.
+abbrev pub IsFirstAt : List Event → ℕ → Type 0
+IsFirstAt events n =
+    ((transactions : List ℕ) × IsCycle (take n events) transactions) × ((m : ℕ) → m < n → AreAtomic (take m events))

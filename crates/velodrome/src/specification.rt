@@ -1,0 +1,32 @@
+//! Which methods are to be atomic.
+
+use held::shared::Text;
+
+/// The methods that a line of a specification speaks of, by the class that declares them.
+#[derive(Debug, PartialEq, Eq, Drop)]
+pub enum Pattern {
+    /// `*`: every method.
+    All,
+    /// `C.*`: every method of a class.
+    Class {
+        class: Text,
+    },
+    /// `C.m`: the methods of a class with a name.
+    Named {
+        class: Text,
+        name: Text,
+    },
+    /// `C.m.D`: one method.
+    Exactly {
+        class: Text,
+        name: Text,
+        descriptor: Text,
+    },
+}
+
+/// A line of a specification: `atomic P` or `plain P`.
+#[derive(Debug, PartialEq, Eq, Drop)]
+pub struct SpecificationLine {
+    pub is_atomic: bool,
+    pub pattern: Pattern,
+}
