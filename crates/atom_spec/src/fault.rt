@@ -1,0 +1,26 @@
+//! Why a text is no specification.
+
+ghost use Rattle.std.specs.Prelude.{◌≡◌};
+ghost use Rattle.atom_spec.specs.declared.fault.SpecFault.TheVariants as fault;
+
+use std::alloc::AllocError;
+use thiserror::Error;
+
+/// Why a text is no specification.
+#[derive(Clone, Copy, Debug, PartialEq, Eq, Error)]
+pub enum SpecFault {
+    /// E01: the first line, from 1, that is neither skipped nor that of a specification.
+    #[error("E01 Syntax line {line}")]
+    Syntax { line: usize },
+    /// E02: there was no memory.
+    #[error("E02 Memory")]
+    Memory,
+}
+
+impl From<AllocError> for SpecFault {
+    ghost from_gives = { λ _ e. e ≡ fault.Memory };
+
+    fn from(_error: AllocError) -> SpecFault {
+        SpecFault::Memory
+    }
+}

@@ -1,0 +1,221 @@
+//! What the lines of a specification say, by class, name and descriptor.
+
+ghost use Rattle.std.specs.Prelude.{◌≡◌, ℕ, List, true, false, ◌&&◌, OnOk, if◌then◌else◌};
+ghost use Rattle.jvms_file.specs.Names.{same_text};
+
+use crate::texts::Texts;
+use jvms_program::key::MethodKey;
+use std::alloc::{AllocError, Global};
+use velodrome::specification::{Pattern, SpecificationLine};
+
+/// What is said of the methods of a class with a name: of each descriptor that lines name, and of all others.
+#[derive(Drop)]
+struct NameTable {
+    other: bool,
+    exactly: Texts<bool>,
+}
+
+/// What is said of the methods of a class: of each name that lines name, and of all others.
+#[derive(Drop)]
+struct ClassTable {
+    other: bool,
+    names: Texts<NameTable>,
+}
+
+/// What is said of methods: of each class that lines name, and of all others.
+#[derive(Drop)]
+pub(crate) struct Table {
+    other: bool,
+    classes: Texts<ClassTable>,
+}
+
+impl NameTable {
+    ghost use Rattle.atom_spec.specs.Tables.{said_of_name};
+
+    /// The same of all descriptors.
+    fn new(alloc: Global, other: bool) -> NameTable
+        ensures { (q : List ℕ) → said_of_name result q ≡ other }
+    {
+        NameTable {
+            other,
+            exactly: Texts::new(alloc),
+        }
+    }
+
+    /// What is said of a descriptor.
+    fn said(&self, descriptor: &[u16]) -> bool
+        ensures { result ≡ said_of_name self.now descriptor.now }
+    {
+        match self.exactly.find(descriptor) {
+            Some(said) => *said,
+            None => self.other,
+        }
+    }
+
+    /// Says so of a descriptor.
+    fn put(&mut self, alloc: Global, descriptor: &[u16], said: bool) -> Result<(), AllocError>
+        ensures { OnOk result ((q : List ℕ) → said_of_name self.new q ≡ (if same_text q descriptor.now then said else said_of_name self.old q)) }
+    {
+        self.exactly.put(alloc, descriptor, said)
+    }
+}
+
+impl ClassTable {
+    ghost use Rattle.atom_spec.specs.Tables.{said_of_name, said_of_class};
+
+    /// The same of all names.
+    fn new(alloc: Global, other: bool) -> ClassTable
+        ensures { (p q : List ℕ) → said_of_class result p q ≡ other }
+    {
+        ClassTable {
+            other,
+            names: Texts::new(alloc),
+        }
+    }
+
+    /// What is said of a name and a descriptor.
+    fn said(&self, name: &[u16], descriptor: &[u16]) -> bool
+        ensures { result ≡ said_of_class self.now name.now descriptor.now }
+    {
+        match self.names.find(name) {
+            Some(table) => table.said(descriptor),
+            None => self.other,
+        }
+    }
+
+    /// Takes out what is said of a name.
+    fn take(&mut self, alloc: Global, name: &[u16]) -> NameTable
+        ensures value { (q : List ℕ) → said_of_name result q ≡ said_of_class self.old name.now q }
+        ensures others { (p q : List ℕ) → same_text p name.now ≡ false → said_of_class self.new p q ≡ said_of_class self.old p q }
+    {
+        match self.names.take(name) {
+            Some(table) => table,
+            None => NameTable::new(alloc, self.other),
+        }
+    }
+
+    /// Says so of a name.
+    fn put_name(&mut self, alloc: Global, name: &[u16], said: bool) -> Result<(), AllocError>
+        ensures { OnOk result ((p q : List ℕ) → said_of_class self.new p q ≡ (if same_text p name.now then said else said_of_class self.old p q)) }
+    {
+        self.names.put(alloc, name, NameTable::new(alloc, said))
+    }
+
+    /// Says so of a name with a descriptor.
+    fn put_exactly(
+        &mut self,
+        alloc: Global,
+        name: &[u16],
+        descriptor: &[u16],
+        said: bool,
+    ) -> Result<(), AllocError>
+        ensures { OnOk result ((p q : List ℕ) → said_of_class self.new p q ≡ (if same_text p name.now && same_text q descriptor.now then said else said_of_class self.old p q)) }
+    {
+        let mut table = self.take(alloc, name);
+        table.put(alloc, descriptor, said)?;
+        self.names.put(alloc, name, table)
+    }
+}
+
+impl Table {
+    ghost use Rattle.jvms_program.specs.declared.key.MethodKey.{MethodKey};
+    ghost use Rattle.velodrome.specs.Specification.{is_of};
+    ghost use Rattle.atom_spec.specs.Tables.{said_of_class, said_of};
+
+    /// The same of all methods.
+    pub(crate) fn new(alloc: Global, other: bool) -> Table
+        ensures { (m : MethodKey) → said_of result m ≡ other }
+    {
+        Table {
+            other,
+            classes: Texts::new(alloc),
+        }
+    }
+
+    /// What is said of a method.
+    pub(crate) fn said(&self, method: &MethodKey) -> bool
+        ensures { result ≡ said_of self.now method.now }
+    {
+        match self.classes.find(method.class.as_slice()) {
+            Some(table) => table.said(method.name.as_slice(), method.descriptor.as_slice()),
+            None => self.other,
+        }
+    }
+
+    /// Takes out what is said of a class.
+    fn take(&mut self, alloc: Global, class: &[u16]) -> ClassTable
+        ensures value { (m : MethodKey) → same_text m.class class.now ≡ true → said_of_class result m.name m.descriptor ≡ said_of self.old m }
+        ensures others { (m : MethodKey) → same_text m.class class.now ≡ false → said_of self.new m ≡ said_of self.old m }
+    {
+        match self.classes.take(class) {
+            Some(table) => table,
+            None => ClassTable::new(alloc, self.other),
+        }
+    }
+
+    /// Says so of a class.
+    fn put_class(&mut self, alloc: Global, class: &[u16], said: bool) -> Result<(), AllocError>
+        ensures { OnOk result ((m : MethodKey) → said_of self.new m ≡ (if same_text m.class class.now then said else said_of self.old m)) }
+    {
+        self.classes.put(alloc, class, ClassTable::new(alloc, said))
+    }
+
+    /// Says so of the methods of a class with a name.
+    fn put_name(
+        &mut self,
+        alloc: Global,
+        class: &[u16],
+        name: &[u16],
+        said: bool,
+    ) -> Result<(), AllocError>
+        ensures { OnOk result ((m : MethodKey) → said_of self.new m ≡ (if same_text m.class class.now && same_text m.name name.now then said else said_of self.old m)) }
+    {
+        let mut table = self.take(alloc, class);
+        table.put_name(alloc, name, said)?;
+        self.classes.put(alloc, class, table)
+    }
+
+    /// Says so of one method.
+    fn put_exactly(
+        &mut self,
+        alloc: Global,
+        class: &[u16],
+        name: &[u16],
+        descriptor: &[u16],
+        said: bool,
+    ) -> Result<(), AllocError>
+        ensures { OnOk result ((m : MethodKey) → said_of self.new m ≡ (if same_text m.class class.now && same_text m.name name.now && same_text m.descriptor descriptor.now then said else said_of self.old m)) }
+    {
+        let mut table = self.take(alloc, class);
+        table.put_exactly(alloc, name, descriptor, said)?;
+        self.classes.put(alloc, class, table)
+    }
+
+    /// Says what a line says.
+    pub(crate) fn put(&mut self, alloc: Global, line: &SpecificationLine) -> Result<(), AllocError>
+        ensures { OnOk result ((m : MethodKey) → said_of self.new m ≡ (if is_of line.now.pattern m then line.now.is_atomic else said_of self.old m)) }
+    {
+        let said = line.is_atomic;
+        match &line.pattern {
+            Pattern::All => {
+                *self = Table::new(alloc, said);
+                Ok(())
+            }
+            Pattern::Class { class } => self.put_class(alloc, class.as_slice(), said),
+            Pattern::Named { class, name } => {
+                self.put_name(alloc, class.as_slice(), name.as_slice(), said)
+            }
+            Pattern::Exactly {
+                class,
+                name,
+                descriptor,
+            } => self.put_exactly(
+                alloc,
+                class.as_slice(),
+                name.as_slice(),
+                descriptor.as_slice(),
+                said,
+            ),
+        }
+    }
+}

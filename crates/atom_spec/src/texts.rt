@@ -1,0 +1,61 @@
+//! Values by texts.
+
+ghost use Rattle.std.specs.Prelude.{◌≡◌, ℕ, List, [], false, Some, OnOk, if◌then◌else◌};
+ghost use Rattle.std.specs.Option.{option_copied};
+ghost use Rattle.jvms_file.specs.Names.{same_text};
+ghost use Rattle.atom_spec.specs.Found.{found};
+
+use std::alloc::{AllocError, Global};
+use std::collections::BTreeMap;
+use std::marker::Model;
+
+/// Values by texts, in the texts' order. Contracts see the list of both.
+#[derive(Drop)]
+pub(crate) struct Texts<V> {
+    values: BTreeMap<Vec<u16>, V>,
+}
+
+impl<V> Model for Texts<V> {
+    ghost use Rattle.std.specs.Prelude.{ℕ, List, map};
+
+    ghost Value = { List (List ℕ × V) };
+
+    ghost view = { λ t. map (λ e. (e.0.items, e.1)) t.values.entries };
+}
+
+impl<V> Texts<V> {
+    /// No value of any text.
+    pub(crate) fn new(alloc: Global) -> Self
+        ensures { result ≡ [] }
+    {
+        Texts {
+            values: BTreeMap::new(alloc),
+        }
+    }
+
+    /// The value of a text.
+    pub(crate) fn find(&self, text: &[u16]) -> Option<&V>
+        ensures { option_copied result ≡ found self.now text.now }
+    {
+        self.values.get(text)
+    }
+
+    /// Takes the value of a text out.
+    pub(crate) fn take(&mut self, text: &[u16]) -> Option<V>
+        ensures value { result ≡ found self.old text.now }
+        ensures others { (q : List ℕ) → same_text q text.now ≡ false → found self.new q ≡ found self.old q }
+    {
+        self.values.remove(text)
+    }
+
+    /// Puts the value of a text.
+    pub(crate) fn put(&mut self, alloc: Global, text: &[u16], value: V) -> Result<(), AllocError>
+    where
+        V: Drop,
+        ensures { OnOk result ((q : List ℕ) → found self.new q ≡ (if same_text q text.now then Some value else found self.old q)) }
+    {
+        let key = Vec::from_slice(alloc, text)?;
+        self.values.insert(key, value)?;
+        Ok(())
+    }
+}

@@ -1,0 +1,4 @@
+pub mod Cutting
+pub mod Spelling
+pub mod Members
+pub mod Dots

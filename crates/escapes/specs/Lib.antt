@@ -1,0 +1,4 @@
+pub mod Escapes
+pub mod Keys
+pub mod Readings
+pub mod Cuts

@@ -1,0 +1,90 @@
+//! Members, written and read: the class, the name and the descriptor, parted by dots.
+
+ghost use Rattle.std.specs.Prelude.{◌≡◌, ◌++◌, OnOk, IfOk};
+ghost use Rattle.std.specs.String.{string_bytes};
+ghost use Rattle.escapes.specs.Keys.{IsMember, IsFieldKey, IsMethodKey, member_text, field_text, method_text};
+ghost use Rattle.escapes.specs.Readings.{IsReadAs};
+
+use crate::cuts::cut_twice;
+use crate::name::{name_of, put_name};
+use crate::sort::NameSort;
+use held::shared::Text;
+use jvms_program::key::{FieldKey, MethodKey};
+use std::alloc::{AllocError, Global};
+
+const DOT: u8 = b'.';
+
+/// Puts a field behind a text: `C.x.D`.
+pub fn put_field(out: &mut String, field: &FieldKey) -> Result<(), AllocError>
+    ensures { OnOk result (string_bytes out.new ≡ string_bytes out.old ++ field_text field.now) }
+{
+    put_name(out, field.class.as_slice())?;
+    out.push_str(".")?;
+    put_name(out, field.name.as_slice())?;
+    out.push_str(".")?;
+    put_name(out, field.descriptor.as_slice())
+}
+
+/// Puts a method behind a text: `C.m.D`.
+pub fn put_method(out: &mut String, method: &MethodKey) -> Result<(), AllocError>
+    ensures { OnOk result (string_bytes out.new ≡ string_bytes out.old ++ method_text method.now) }
+{
+    put_name(out, method.class.as_slice())?;
+    out.push_str(".")?;
+    put_name(out, method.name.as_slice())?;
+    out.push_str(".")?;
+    put_name(out, method.descriptor.as_slice())
+}
+
+/// The class, the name and the descriptor of the member that a text writes, the last two of these sorts; `None` where
+/// it writes none.
+fn member_of(
+    alloc: Global,
+    name_sort: NameSort,
+    descriptor_sort: NameSort,
+    text: &[u8],
+) -> Result<Option<(Text, Text, Text)>, AllocError>
+    ensures { IfOk result (IsReadAs (λ x. IsMember name_sort descriptor_sort x.0 x.1 x.2) (λ x. member_text x.0 x.1 x.2) text.now) }
+{
+    let Some((class, name, descriptor)) = cut_twice(text, DOT) else {
+        return Ok(None);
+    };
+    let Some(class) = name_of(alloc, NameSort::Class, class)? else {
+        return Ok(None);
+    };
+    let Some(name) = name_of(alloc, name_sort, name)? else {
+        return Ok(None);
+    };
+    let Some(descriptor) = name_of(alloc, descriptor_sort, descriptor)? else {
+        return Ok(None);
+    };
+    Ok(Some((class, name, descriptor)))
+}
+
+/// The field that a text `C.x.D` writes; `None` where it writes none.
+pub fn field_of(alloc: Global, text: &[u8]) -> Result<Option<FieldKey>, AllocError>
+    ensures { IfOk result (IsReadAs IsFieldKey field_text text.now) }
+{
+    match member_of(alloc, NameSort::Field, NameSort::FieldDescriptor, text)? {
+        Some((class, name, descriptor)) => Ok(Some(FieldKey {
+            class,
+            name,
+            descriptor,
+        })),
+        None => Ok(None),
+    }
+}
+
+/// The method that a text `C.m.D` writes; `None` where it writes none.
+pub fn method_of(alloc: Global, text: &[u8]) -> Result<Option<MethodKey>, AllocError>
+    ensures { IfOk result (IsReadAs IsMethodKey method_text text.now) }
+{
+    match member_of(alloc, NameSort::Method, NameSort::MethodDescriptor, text)? {
+        Some((class, name, descriptor)) => Ok(Some(MethodKey {
+            class,
+            name,
+            descriptor,
+        })),
+        None => Ok(None),
+    }
+}

@@ -1,0 +1,14 @@
+//! Names and members as texts write them: in ASCII, with escapes, each in one spelling.
+#![tactic(auto)]
+
+mod cuts;
+mod key;
+mod name;
+mod sort;
+mod unit;
+
+pub use cuts::{cut, cut_twice, dots_in};
+pub use jvms_program::key::{FieldKey, MethodKey};
+pub use key::{field_of, method_of, put_field, put_method};
+pub use name::{name_of, put_name};
+pub use sort::NameSort;

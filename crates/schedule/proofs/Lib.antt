@@ -1,0 +1,4 @@
+mod Choices
+mod Ranges
+mod Spelling
+mod Texts

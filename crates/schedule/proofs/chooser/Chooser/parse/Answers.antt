@@ -1,0 +1,16 @@
+use Rattle.std.proofs.Common.{ℕ, List, ap, ◌∙◌}
+use Rattle.schedule.specs.Schedules.{Schedule, Spells, Listed}
+use Rattle.schedule.specs.Choosers.{opened}
+use Rattle.schedule.proofs.Spelling.{same_schedule, handed_on, is_syntax}
+use Rattle.schedule.proofs.chooser.Chooser.parse.Goals as goal
+
+pub returns-in_err-rule-clause-syntax : goal.returns-in_err-rule-clause-syntax
+returns-in_err-rule-clause-syntax c =
+    is_syntax ((s : Schedule) → ¬ (Spells c.args.text.now s)) ((threads : List ℕ) × Spells c.args.text.now (Listed threads))
+    c.from_residual.result c.in_err-rule.field-0.0 (handed_on c.from_residual.result c.in_err-rule.field-0.0 c.from_residual.ensures)
+    c.in_err-rule.ensures.syntax c.in_err-rule.ensures.memory (λ never spelled. never (Listed spelled.0) spelled.1)
+
+pub returns-clause-only : goal.returns-clause-only
+returns-clause-only c =
+    let own = c.in_ok-rule.ensures.rule in
+    λ schedule spelled. own.2 ∙ ap opened (same_schedule c.args.text.now own.0 schedule own.1 spelled)

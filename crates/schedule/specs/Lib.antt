@@ -1,0 +1,5 @@
+pub mod Choosers
+pub mod Enabled
+pub mod Past
+pub mod Rules
+pub mod Schedules

@@ -1,0 +1,129 @@
+//! Choosers: each choice names the thread of the next turn.
+
+ghost use Rattle.std.specs.Prelude.{ℕ, List, ◌≡◌, ◌↔◌, IfOk, IsErrOf, MatchOption};
+ghost use Rattle.schedule.specs.Schedules.{Schedule, Listed, Spells, WritesSeed};
+ghost use Rattle.schedule.specs.Enabled.{enabled_threads};
+ghost use Rattle.schedule.specs.Rules.{shown};
+ghost use Rattle.schedule.specs.Choosers.{opened, enabled_of, by_word, next, Seeded, IsSeeded};
+
+use crate::fault::ScheduleFault;
+use crate::list::listed;
+use crate::numbers::{long_number, quantum};
+use crate::round_robin::Turns;
+use crate::threads::{Threads, enabled_at, enabled_count};
+use jvms_machine::machine::ThreadId;
+use machine::Machine;
+use rand_core::utils::NextWord;
+use rand_pcg::Lcg64Xsh32;
+use std::alloc::Global;
+use std::marker::Model;
+use std::vec::IntoIter;
+
+/// By what a chooser chooses.
+#[derive(Drop)]
+enum Rule {
+    /// The threads of a list that are still to come.
+    Listed(IntoIter<ThreadId>),
+    /// Each enabled thread in turn.
+    RoundRobin(Turns),
+    /// Random words.
+    Seeded(Lcg64Xsh32),
+}
+
+/// A chooser: what is left of a schedule.
+#[derive(Drop)]
+pub struct Chooser {
+    rule: Rule,
+}
+
+impl Model for Chooser {
+    ghost use Rattle.schedule.specs.Choosers.{Chooser as Seen};
+    ghost use Rattle.schedule.specs.Rules.{shown};
+
+    ghost Value = { Seen };
+
+    ghost view = { λ c. shown c.rule };
+}
+
+/// The generator whose state and stream a text writes, parted by a colon.
+fn generator(text: &str) -> Option<Lcg64Xsh32>
+    ensures { MatchOption result ((state stream : ℕ) → ¬ (WritesSeed text.now state stream)) (IsSeeded text.now) }
+{
+    let (state, stream) = text.split_once(':')?;
+    Some(Lcg64Xsh32::new(long_number(state)?, long_number(stream)?))
+}
+
+/// The rule of the schedule that a text spells.
+fn rule_of(alloc: Global, text: &str) -> Result<Rule, ScheduleFault>
+    ensures rule { IfOk result (λ rule. (schedule : Schedule) × Spells text.now schedule × (shown rule ≡ opened schedule)) }
+    ensures syntax { IsErrOf result ScheduleFault.Syntax → (schedule : Schedule) → ¬ (Spells text.now schedule) }
+    ensures memory { IsErrOf result ScheduleFault.Memory → (threads : List ℕ) × Spells text.now (Listed threads) }
+{
+    if let Some(threads) = text.strip_prefix("list:") {
+        let threads = listed(alloc, threads)?;
+        return Ok(Rule::Listed(threads.into_iter()));
+    }
+    if let Some(number) = text.strip_prefix("rr:") {
+        let quantum = quantum(number).ok_or(ScheduleFault::Syntax)?;
+        return Ok(Rule::RoundRobin(Turns {
+            quantum,
+            thread: 0,
+            turns: 0,
+        }));
+    }
+    let Some(seed) = text.strip_prefix("seed:") else {
+        return Err(ScheduleFault::Syntax);
+    };
+    let generator = generator(seed).ok_or(ScheduleFault::Syntax)?;
+    Ok(Rule::Seeded(generator))
+}
+
+/// The thread that a generator's next word names; without an enabled thread no word is taken.
+fn next_by_word<T: Threads>(generator: &mut Lcg64Xsh32, threads: &T) -> Option<ThreadId>
+    ensures { (result, Seeded generator.new) ≡ by_word generator.old (enabled_of (T.passes threads.now) (T.count threads.now)) }
+{
+    let enabled = enabled_count(threads);
+    if enabled == 0 {
+        return None;
+    }
+    enabled_at(threads, generator.next_word() % enabled)
+}
+
+impl Chooser {
+    /// The chooser of the schedule that a text spells: `list:` and numbers of threads of at most 4,294,967,295 parted
+    /// by commas, maybe none; `rr:Q` with a quantum from 1 to 1,000,000; `seed:S:K` with a state and a stream below
+    /// 2^64. Numbers are decimal digits, maybe behind zeros.
+    ///
+    /// `Syntax` where the text spells no schedule, and nowhere else; `Memory` where there is none for a list.
+    pub fn parse(alloc: Global, text: &str) -> Result<Chooser, ScheduleFault>
+        ensures chooser { IfOk result (λ chooser. (schedule : Schedule) × Spells text.now schedule × (chooser ≡ opened schedule)) }
+        // No text spells two schedules.
+        ensures only { (schedule : Schedule) → Spells text.now schedule → IfOk result (λ chooser. chooser ≡ opened schedule) }
+        ensures syntax { IsErrOf result ScheduleFault.Syntax ↔ ((schedule : Schedule) → ¬ (Spells text.now schedule)) }
+        ensures memory { IsErrOf result ScheduleFault.Memory → (threads : List ℕ) × Spells text.now (Listed threads) }
+    {
+        let rule = rule_of(alloc, text)?;
+        Ok(Chooser { rule })
+    }
+
+    /// The next choice among threads.
+    pub(crate) fn choose<T: Threads>(&mut self, threads: &T) -> Option<ThreadId>
+        ensures { (result, self.new) ≡ next self.old (enabled_of (T.passes threads.now) (T.count threads.now)) }
+    {
+        match &mut self.rule {
+            Rule::Listed(rest) => rest.next(),
+            Rule::RoundRobin(turns) => turns.next(threads),
+            Rule::Seeded(generator) => next_by_word(generator, threads),
+        }
+    }
+
+    /// The next choice, if there is one: the next thread of a list, enabled or not; by `rr:Q` the thread that was
+    /// chosen last, while it is enabled and had fewer than Q turns in a row, else the next enabled one by rising number,
+    /// round to the least; by `seed:S:K` an enabled thread that the next random word names. It takes no memory.
+    pub fn next(&mut self, machine: &Machine<'_>) -> Option<ThreadId>
+        ensures choice { result ≡ (next self.old (enabled_threads machine.now)).0 }
+        ensures after { self.new ≡ (next self.old (enabled_threads machine.now)).1 }
+    {
+        self.choose(machine)
+    }
+}

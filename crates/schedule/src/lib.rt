@@ -1,0 +1,16 @@
+//! Schedules: which thread takes the next turn of a run.
+#![tactic(auto)]
+
+mod chooser;
+mod fault;
+pub mod laws;
+mod list;
+mod numbers;
+mod round_robin;
+mod threads;
+
+pub use chooser::Chooser;
+pub use fault::ScheduleFault;
+
+#[cfg(test)]
+mod tests;

@@ -1,0 +1,196 @@
+//! Texts that spell schedules, and what they choose.
+
+use super::*;
+use crate::threads::Threads;
+use jvms_machine::machine::ThreadId;
+use std::alloc::Global;
+use std::process::Abort;
+use std::test::*;
+
+/// Threads of which these are enabled.
+#[derive(Clone, Copy)]
+struct Flags<'a> {
+    enabled: &'a [bool],
+    count: u32,
+}
+
+impl Threads for Flags<'_> {
+    ghost use Rattle.std.specs.Prelude.{slice_get, false};
+    ghost use Rattle.std.specs.Option.{unwrap_or};
+
+    ghost count = { λ f. f.count };
+
+    ghost passes = { λ f t. unwrap_or (slice_get f.enabled.now t) false };
+
+    fn count(&self) -> u32 {
+        self.count
+    }
+
+    fn is_enabled(&self, thread: ThreadId) -> bool {
+        self.enabled.get(thread as usize).copied().unwrap_or(false)
+    }
+}
+
+/// That the chooser of a text makes these choices, one after another, where each time these threads are enabled.
+fn are_chosen(
+    rt: &impl Abort,
+    alloc: Global,
+    text: &str,
+    turns: &[(&[bool], Option<ThreadId>)],
+) -> Result<(), Fail> {
+    let mut chooser = Chooser::parse(alloc, text)?;
+    for (enabled, chosen) in turns {
+        let count = u32::try_from(enabled.len()).unwrap_or(0);
+        let flags = Flags { enabled, count };
+        assert_eq!(rt; chooser.choose(&flags), *chosen);
+    }
+    Ok(())
+}
+
+#[test]
+fn refuses_what_spells_no_schedule(rt: HostRuntime) -> Result<(), Fail> {
+    let texts = [
+        "",
+        "list",
+        "rr",
+        "seed",
+        "list:1,",
+        "list:,",
+        "list:,1",
+        "list:1,,2",
+        "list: 1",
+        "list:1 ",
+        "list:1, 2",
+        "list:+1",
+        "list:-1",
+        "list:a",
+        "list:0x1",
+        "list:4294967296",
+        "list:1;2",
+        "LIST:1",
+        "List:1",
+        " list:1",
+        "rr:",
+        "rr:0",
+        "rr:000",
+        "rr:1000001",
+        "rr:+1",
+        "rr:-1",
+        "rr:1 ",
+        "rr: 1",
+        "rr:1,2",
+        "rr:1:2",
+        "RR:1",
+        "rr:a",
+        "rr:18446744073709551617",
+        "seed:",
+        "seed:1",
+        "seed::",
+        "seed:1:",
+        "seed::1",
+        "seed:1:2:3",
+        "seed:1,2",
+        "seed:+1:2",
+        "seed:1:+2",
+        "seed:18446744073709551616:1",
+        "seed:1:18446744073709551616",
+        "seed:1: 2",
+        "Seed:1:2",
+        "list:1\n",
+        "rr:1\n",
+        "seed:1:2\n",
+        "list:\u{661}",
+    ];
+    for text in texts {
+        assert!(rt; matches!(Chooser::parse(rt.alloc(), text), Err(ScheduleFault::Syntax)));
+    }
+    Ok(())
+}
+
+#[test]
+fn a_list_gives_its_threads(rt: HostRuntime) -> Result<(), Fail> {
+    let alloc = rt.alloc();
+    let none: &[bool] = &[];
+    are_chosen(&rt, alloc, "list:", &[(none, None), (none, None)])?;
+    are_chosen(
+        &rt,
+        alloc,
+        "list:4294967295",
+        &[(none, Some(4294967295)), (none, None)],
+    )?;
+    let turns = [
+        (none, Some(0)),
+        (none, Some(7)),
+        (none, Some(7)),
+        (none, Some(12)),
+        (none, None),
+    ];
+    are_chosen(&rt, alloc, "list:0,007,7,0000000000000000000000012", &turns)
+}
+
+#[test]
+fn round_robin_gives_each_thread_its_turns(rt: HostRuntime) -> Result<(), Fail> {
+    let all: &[bool] = &[true, true, true];
+    let turns = [
+        (all, Some(0)),
+        (all, Some(0)),
+        (all, Some(1)),
+        (all, Some(1)),
+        (all, Some(2)),
+        (all, Some(2)),
+        (all, Some(0)),
+        (all, Some(0)),
+    ];
+    are_chosen(&rt, rt.alloc(), "rr:2", &turns)?;
+    are_chosen(&rt, rt.alloc(), "rr:0000000002", &turns)
+}
+
+#[test]
+fn turns_alone_are_still_in_a_row(rt: HostRuntime) -> Result<(), Fail> {
+    let alone: &[bool] = &[true, false, false];
+    let both: &[bool] = &[true, false, true];
+    let none: &[bool] = &[false, false, false];
+    let turns = [
+        (alone, Some(0)),
+        (alone, Some(0)),
+        (alone, Some(0)),
+        (both, Some(2)),
+        (none, None),
+        (both, Some(2)),
+        (both, Some(0)),
+        (both, Some(0)),
+        (alone, Some(0)),
+        (both, Some(2)),
+    ];
+    are_chosen(&rt, rt.alloc(), "rr:2", &turns)
+}
+
+/// The words of PCG's demonstration of pcg32, with state 42 and stream 54, are a15c02b7 7b47f409 ba1d3330 83d2f293
+/// bfa4784b cbed606e.
+#[test]
+fn random_words_name_enabled_threads(rt: HostRuntime) -> Result<(), Fail> {
+    let alloc = rt.alloc();
+    let many = vec![in alloc; true; 1000]?;
+    let all = many.as_slice();
+    let none: &[bool] = &[false, false];
+    let turns = [
+        (all, Some(783)),
+        (none, None),
+        (all, Some(97)),
+        (all, Some(824)),
+        (all, Some(955)),
+        (all, Some(955)),
+        (all, Some(566)),
+    ];
+    are_chosen(&rt, alloc, "seed:42:54", &turns)?;
+    let some: &[bool] = &[false, true, false, false, true, false, true];
+    let turns = [
+        (some, Some(1)),
+        (some, Some(1)),
+        (some, Some(6)),
+        (some, Some(4)),
+        (some, Some(4)),
+        (some, Some(4)),
+    ];
+    are_chosen(&rt, alloc, "seed:0042:9223372036854775862", &turns)
+}

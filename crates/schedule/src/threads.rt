@@ -1,0 +1,103 @@
+//! Threads, some of which are enabled.
+
+ghost use Rattle.std.specs.Prelude.{◌≡◌, ℕ, ◌-◌, Bool, length, slice_get};
+ghost use Rattle.std.specs.List.{find, range_with_len};
+ghost use Rattle.schedule.specs.Choosers.{enabled_of, next_of};
+ghost use Rattle.schedule.specs.Enabled.{can_go_on};
+
+use jvms_machine::machine::ThreadId;
+use machine::{Machine, is_enabled};
+
+/// Threads, numbered from 0 on, some of which are enabled.
+pub(crate) trait Threads {
+    // How many there are.
+    ghost count: { Self → ℕ };
+
+    // Whether the thread of a number is enabled.
+    ghost passes: { Self → ℕ → Bool };
+
+    /// How many threads there are.
+    fn count(&self) -> u32
+        ensures { result ≡ count self.now };
+
+    /// Whether the thread of a number is enabled.
+    fn is_enabled(&self, thread: ThreadId) -> bool
+        ensures { result ≡ passes self.now thread };
+}
+
+impl Threads for Machine<'_> {
+    ghost count = { λ m. length m.state.threads };
+
+    ghost passes = { can_go_on };
+
+    fn count(&self) -> u32 {
+        self.state_is_sound();
+        let most = self.limits().threads;
+        let count = self.thread_count();
+        prove!(count <= most as usize);
+        count as u32
+    }
+
+    fn is_enabled(&self, thread: ThreadId) -> bool {
+        is_enabled(self.peek(thread))
+    }
+}
+
+/// The first enabled thread from one number up to another.
+#[tactic(auto, using(crate::proofs::Ranges::range_more, crate::proofs::Ranges::range_none))]
+fn first_enabled<T: Threads>(threads: &T, from: u32, to: u32) -> Option<ThreadId>
+    ensures { result ≡ find (T.passes threads.now) (range_with_len from (to - from)) }
+{
+    for thread in from..to {
+        if threads.is_enabled(thread) {
+            return Some(thread);
+        }
+    }
+    None
+}
+
+/// The next enabled thread behind one: the least above it, else the least of all.
+#[tactic(auto, using(crate::proofs::Ranges::next_of_within, crate::proofs::Ranges::next_of_beyond))]
+pub(crate) fn next_enabled<T: Threads>(threads: &T, thread: ThreadId) -> Option<ThreadId>
+    ensures { result ≡ next_of thread (enabled_of (T.passes threads.now) (T.count threads.now)) }
+{
+    let count = threads.count();
+    if thread >= count {
+        return first_enabled(threads, 0, count);
+    }
+    match first_enabled(threads, thread + 1, count) {
+        Some(next) => Some(next),
+        None => first_enabled(threads, 0, thread + 1),
+    }
+}
+
+/// How many threads are enabled.
+#[tactic(auto, using(crate::proofs::Ranges::range_more, crate::proofs::Ranges::range_none))]
+pub(crate) fn enabled_count<T: Threads>(threads: &T) -> u32
+    ensures { result ≡ length (enabled_of (T.passes threads.now) (T.count threads.now)) }
+{
+    let mut enabled = 0;
+    for thread in 0..threads.count() {
+        if threads.is_enabled(thread) {
+            enabled += 1;
+        }
+    }
+    enabled
+}
+
+/// The enabled thread at a place among them, from 0 on.
+#[tactic(auto, using(crate::proofs::Ranges::range_more, crate::proofs::Ranges::range_none))]
+pub(crate) fn enabled_at<T: Threads>(threads: &T, place: u32) -> Option<ThreadId>
+    ensures { result ≡ slice_get (enabled_of (T.passes threads.now) (T.count threads.now)) place }
+{
+    let mut before = place;
+    for thread in 0..threads.count() {
+        if threads.is_enabled(thread) {
+            if before == 0 {
+                return Some(thread);
+            }
+            before -= 1;
+        }
+    }
+    None
+}

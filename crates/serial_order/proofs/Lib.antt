@@ -1,0 +1,12 @@
+pub mod Members
+pub mod Counts
+pub mod Walks
+pub mod Ranks
+pub mod Writes
+pub mod Rearranged
+pub mod Blocks
+pub mod Following
+pub mod Asked
+pub mod Verdicts
+pub mod Example
+pub mod Spans

@@ -1,0 +1,12 @@
+//! A serial order of a trace's events, where its transactions have an order (Velodrome, section 3).
+#![tactic(auto)]
+
+mod chains;
+pub mod laws;
+mod numbers;
+pub mod transactions;
+
+pub use numbers::serial;
+
+#[cfg(test)]
+mod tests;

@@ -1,0 +1,4 @@
+pub mod Numbers
+pub mod Variables
+pub mod Lines
+pub mod OneReading

@@ -1,0 +1,6 @@
+-- The law.
+use Rattle.trace_text.proofs.OneReading.{one_fault}
+use Rattle.trace_text.proofs.laws.a_text_has_one_first_fault.Goals as goal
+
+pub returns : goal.returns
+returns c = one_fault

@@ -1,0 +1,26 @@
+//! Why a text is no trace.
+
+ghost use Rattle.std.specs.Prelude.{◌≡◌};
+ghost use Rattle.trace_text.specs.declared.fault.TraceFault.TheVariants as fault;
+
+use std::alloc::AllocError;
+use thiserror::Error;
+
+/// Why a text is no trace.
+#[derive(Clone, Copy, Debug, PartialEq, Eq, Error)]
+pub enum TraceFault {
+    /// X01: the first line, from 1, that no item is written by, or that has no LF.
+    #[error("X01 Syntax line {line}")]
+    Syntax { line: usize },
+    /// X02: there was no memory.
+    #[error("X02 Memory")]
+    Memory,
+}
+
+impl From<AllocError> for TraceFault {
+    ghost from_gives = { λ _ e. e ≡ fault.Memory };
+
+    fn from(_error: AllocError) -> TraceFault {
+        TraceFault::Memory
+    }
+}

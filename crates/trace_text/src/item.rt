@@ -1,0 +1,113 @@
+//! Items, written and read.
+
+ghost use Rattle.std.specs.Prelude.{◌≡◌, ◌++◌, ◌∷◌, OnOk, IfOk};
+ghost use Rattle.std.specs.Fmt.{decimal};
+ghost use Rattle.std.specs.String.{string_bytes};
+ghost use Rattle.escapes.specs.Readings.{IsReadAs};
+ghost use Rattle.trace_text.specs.Items.{IsItem, item_text, touched_text, thread_of as thread_of_item};
+ghost use Rattle.trace_text.specs.Parts.{IsItemOf, word_text, kind_of as kind_of_item};
+
+use crate::number::{number_of, put_number};
+use crate::variable::{put_variable, variable_of};
+use crate::word::Word;
+use escapes::{cut_twice, method_of, put_method};
+use jvms_machine::machine::ThreadId;
+use jvms_machine::trace::Item;
+use std::alloc::{AllocError, Global};
+
+const SPACE: u8 = b' ';
+
+/// The word of an item.
+fn kind_of(item: &Item) -> Word
+    ensures { result ≡ kind_of_item item.now }
+{
+    match item {
+        Item::Read { .. } => Word::Read,
+        Item::Write { .. } => Word::Write,
+        Item::Acquire { .. } => Word::Acquire,
+        Item::Release { .. } => Word::Release,
+        Item::Fork { .. } => Word::Fork,
+        Item::Join { .. } => Word::Join,
+        Item::Enter { .. } => Word::Enter,
+        Item::Exit { .. } => Word::Exit,
+    }
+}
+
+/// The thread whose item it is.
+fn thread_of(item: &Item) -> ThreadId
+    ensures { result ≡ thread_of_item item.now }
+{
+    match item {
+        Item::Read { thread, .. }
+        | Item::Write { thread, .. }
+        | Item::Acquire { thread, .. }
+        | Item::Release { thread, .. }
+        | Item::Fork { thread, .. }
+        | Item::Join { thread, .. }
+        | Item::Enter { thread, .. }
+        | Item::Exit { thread, .. } => *thread,
+    }
+}
+
+/// Puts what an item touches behind a text.
+fn put_touched(out: &mut String, item: &Item) -> Result<(), AllocError>
+    ensures { OnOk result (string_bytes out.new ≡ string_bytes out.old ++ touched_text item.now) }
+{
+    match item {
+        Item::Read { variable, .. } | Item::Write { variable, .. } => put_variable(out, variable),
+        Item::Acquire { reference, .. } | Item::Release { reference, .. } => {
+            put_number(out, *reference)
+        }
+        Item::Fork { started, .. } => put_number(out, *started),
+        Item::Join { ended, .. } => put_number(out, *ended),
+        Item::Enter { method, .. } | Item::Exit { method, .. } => put_method(out, method),
+    }
+}
+
+/// Puts an item behind a text, without the end of its line.
+pub(crate) fn put_item(out: &mut String, item: &Item) -> Result<(), AllocError>
+    ensures { OnOk result (string_bytes out.new ≡ string_bytes out.old ++ item_text item.now) }
+{
+    out.push_str(kind_of(item).text())?;
+    out.push_str(" ")?;
+    put_number(out, thread_of(item))?;
+    out.push_str(" ")?;
+    put_touched(out, item)
+}
+
+/// The item with this word and this thread whose touched part a text writes; `None` where it writes none.
+fn touching(
+    alloc: Global,
+    word: Word,
+    thread: ThreadId,
+    text: &[u8],
+) -> Result<Option<Item>, AllocError>
+    ensures { IfOk result (IsReadAs (IsItemOf word thread) touched_text text.now) }
+{
+    Ok(match word {
+        Word::Read => variable_of(alloc, text)?.map(|variable| Item::Read { thread, variable }),
+        Word::Write => variable_of(alloc, text)?.map(|variable| Item::Write { thread, variable }),
+        Word::Acquire => number_of(text).map(|reference| Item::Acquire { thread, reference }),
+        Word::Release => number_of(text).map(|reference| Item::Release { thread, reference }),
+        Word::Fork => number_of(text).map(|started| Item::Fork { thread, started }),
+        Word::Join => number_of(text).map(|ended| Item::Join { thread, ended }),
+        Word::Enter => method_of(alloc, text)?.map(|method| Item::Enter { thread, method }),
+        Word::Exit => method_of(alloc, text)?.map(|method| Item::Exit { thread, method }),
+    })
+}
+
+/// The item that a line writes; `None` where it writes none. An item has one spelling.
+pub(crate) fn item_of(alloc: Global, line: &[u8]) -> Result<Option<Item>, AllocError>
+    ensures { IfOk result (IsReadAs IsItem item_text line.now) }
+{
+    let Some((word, thread, text)) = cut_twice(line, SPACE) else {
+        return Ok(None);
+    };
+    let Some(word) = Word::of(word) else {
+        return Ok(None);
+    };
+    let Some(thread) = number_of(thread) else {
+        return Ok(None);
+    };
+    touching(alloc, word, thread, text)
+}

@@ -1,0 +1,22 @@
+//! Laws about the definitions, owed to the gate: each is the contract of a function that does nothing.
+
+ghost use Rattle.std.specs.Prelude.{◌≡◌, ℕ, List};
+ghost use Rattle.std.specs.List.{AllByRecursion};
+ghost use Rattle.jvms_machine.specs.declared.trace.Item.{Item};
+ghost use Rattle.trace_text.specs.Items.{IsItem};
+ghost use Rattle.trace_text.specs.Traces.{trace_text, IsTextOf, IsFaulty};
+
+/// The text of items has one reading.
+pub fn a_text_is_of_one_trace()
+    ensures { (a b : List Item) → AllByRecursion IsItem a → AllByRecursion IsItem b → trace_text a ≡ trace_text b → a ≡ b }
+{}
+
+/// The text of items has no faulty line.
+pub fn a_text_of_items_has_no_fault()
+    ensures { (text : List ℕ) (items : List Item) (line : ℕ) → IsTextOf text items → IsFaulty text line → ⊥ }
+{}
+
+/// One line alone is the first faulty one.
+pub fn a_text_has_one_first_fault()
+    ensures { (text : List ℕ) (j k : ℕ) → IsFaulty text j → IsFaulty text k → j ≡ k }
+{}

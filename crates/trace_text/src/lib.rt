@@ -1,0 +1,17 @@
+//! The text of a trace: one item a line.
+#![tactic(auto)]
+
+mod fault;
+mod item;
+mod laws;
+mod number;
+mod reading;
+mod variable;
+mod word;
+mod writing;
+
+pub use fault::TraceFault;
+pub use laws::{a_text_has_one_first_fault, a_text_is_of_one_trace, a_text_of_items_has_no_fault};
+pub use reading::read;
+pub use trace::Trace;
+pub use writing::write;

@@ -1,0 +1,95 @@
+//! The variables that items read and write.
+
+ghost use Rattle.std.specs.Prelude.{◌≡◌, ◌++◌, OnOk, IfOk};
+ghost use Rattle.std.specs.String.{string_bytes};
+ghost use Rattle.escapes.specs.Readings.{IsReadAs};
+ghost use Rattle.trace_text.specs.Items.{IsVariable, variable_text};
+ghost use Rattle.trace_text.specs.Parts.{IsVariableWith};
+
+use crate::number::{number_of, put_number};
+use escapes::{cut, dots_in, field_of, put_field};
+use jvms_machine::trace::Variable;
+use std::alloc::{AllocError, Global};
+
+const DOT: u8 = b'.';
+
+const OPEN: u8 = b'[';
+
+const CLOSE: u8 = b']';
+
+/// Puts an element behind a text: `R[i]`.
+fn put_element(out: &mut String, reference: u32, index: u32) -> Result<(), AllocError>
+    ensures { OnOk result (string_bytes out.new ≡ string_bytes out.old ++ variable_text (Variable.Element reference index)) }
+{
+    put_number(out, reference)?;
+    out.push_str("[")?;
+    put_number(out, index)?;
+    out.push_str("]")
+}
+
+/// Puts a variable behind a text: `R.C.x.D`, `C.x.D` or `R[i]`.
+pub(crate) fn put_variable(out: &mut String, variable: &Variable) -> Result<(), AllocError>
+    ensures { OnOk result (string_bytes out.new ≡ string_bytes out.old ++ variable_text variable.now) }
+{
+    match variable {
+        Variable::Instance { reference, field } => {
+            put_number(out, *reference)?;
+            out.push_str(".")?;
+            put_field(out, field)
+        }
+        Variable::Static { field } => put_field(out, field),
+        Variable::Element { reference, index } => put_element(out, *reference, *index),
+    }
+}
+
+/// The element that a text without dots writes: `R[i]`.
+fn element_of(text: &[u8]) -> Option<Variable>
+    ensures { IsReadAs (IsVariableWith 0) variable_text text.now result }
+{
+    let (reference, behind) = cut(text, OPEN)?;
+    let (index, rest) = cut(behind, CLOSE)?;
+    if !rest.is_empty() {
+        return None;
+    }
+    let reference = number_of(reference)?;
+    let index = number_of(index)?;
+    Some(Variable::Element { reference, index })
+}
+
+/// The static field that a text with two dots writes: `C.x.D`.
+fn static_of(alloc: Global, text: &[u8]) -> Result<Option<Variable>, AllocError>
+    ensures { IfOk result (IsReadAs (IsVariableWith 2) variable_text text.now) }
+{
+    match field_of(alloc, text)? {
+        Some(field) => Ok(Some(Variable::Static { field })),
+        None => Ok(None),
+    }
+}
+
+/// The instance field that a text with three dots writes: `R.C.x.D`.
+fn instance_of(alloc: Global, text: &[u8]) -> Result<Option<Variable>, AllocError>
+    ensures { IfOk result (IsReadAs (IsVariableWith 3) variable_text text.now) }
+{
+    let Some((reference, field)) = cut(text, DOT) else {
+        return Ok(None);
+    };
+    let Some(reference) = number_of(reference) else {
+        return Ok(None);
+    };
+    match field_of(alloc, field)? {
+        Some(field) => Ok(Some(Variable::Instance { reference, field })),
+        None => Ok(None),
+    }
+}
+
+/// The variable that a text writes; `None` where it writes none.
+pub(crate) fn variable_of(alloc: Global, text: &[u8]) -> Result<Option<Variable>, AllocError>
+    ensures { IfOk result (IsReadAs IsVariable variable_text text.now) }
+{
+    match dots_in(text) {
+        0 => Ok(element_of(text)),
+        2 => static_of(alloc, text),
+        3 => instance_of(alloc, text),
+        _ => Ok(None),
+    }
+}

@@ -1,0 +1,29 @@
+//! Traces, written.
+
+ghost use Rattle.std.specs.Prelude.{◌≡◌, ◌++◌, OnOk, IfOk};
+ghost use Rattle.std.specs.String.{string_bytes};
+ghost use Rattle.trace_text.specs.Traces.{item_line, trace_text};
+
+use crate::item::put_item;
+use jvms_machine::trace::Item;
+use std::alloc::{AllocError, Global};
+use trace::Trace;
+
+/// Puts the line of an item behind a text.
+fn put_line(out: &mut String, item: &Item) -> Result<(), AllocError>
+    ensures { OnOk result (string_bytes out.new ≡ string_bytes out.old ++ item_line item.now) }
+{
+    put_item(out, item)?;
+    out.push_str("\n")
+}
+
+/// The text of a trace: one item a line, each ended by LF. Without memory there is none.
+pub fn write(alloc: Global, trace: &Trace) -> Result<String, AllocError>
+    ensures { IfOk result (λ text. string_bytes text ≡ trace_text trace.now) }
+{
+    let mut text = String::new(alloc);
+    for item in trace.items() {
+        put_line(&mut text, item)?;
+    }
+    Ok(text)
+}
