@@ -1,0 +1,16 @@
+pub mod Members
+pub mod Pairs
+pub mod Marks
+pub mod Edges
+pub mod Kept
+pub mod Ranks
+pub mod Reached
+pub mod Cycle
+pub mod Places
+pub mod Unheld
+pub mod Regions
+pub mod Loops
+pub mod Taken
+pub mod Moved
+pub mod Changes
+pub mod Back

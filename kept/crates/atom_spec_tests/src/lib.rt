@@ -1,0 +1,7 @@
+//! Tests of specifications.
+#![tactic(auto)]
+
+#[cfg(test)]
+mod faults;
+#[cfg(test)]
+mod lines;

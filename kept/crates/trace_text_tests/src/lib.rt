@@ -1,0 +1,7 @@
+//! Tests of the texts of traces.
+#![tactic(auto)]
+
+#[cfg(test)]
+mod faults;
+#[cfg(test)]
+mod lines;
