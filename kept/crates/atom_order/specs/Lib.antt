@@ -1,5 +1,0 @@
-pub mod Keeping
-pub mod Marking
-pub mod Reaching
-pub mod Shapes
-pub mod Trails

@@ -1,7 +1,0 @@
-//! Tests of specifications.
-#![tactic(auto)]
-
-#[cfg(test)]
-mod faults;
-#[cfg(test)]
-mod lines;
