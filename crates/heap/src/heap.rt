@@ -85,7 +85,7 @@ impl<'p> Heap<'p> {
 
     /// The object that a reference leads to.
     #[tactic(auto, using(crate::proofs::HeldLaws::shown_of, crate::proofs::HeldLaws::kept_of))]
-    fn object(&self, reference: u32) -> Option<&HeldObject>
+    pub(crate) fn object(&self, reference: u32) -> Option<&HeldObject>
         ensures shown { option_map (λ o. shown self.now.program o.now) result ≡ object_at self.now.objects reference }
         ensures kept { IfSome result (λ o. IsKept self.now.program o.now) }
     {

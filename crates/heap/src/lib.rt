@@ -12,6 +12,7 @@ mod kind;
 pub mod laws;
 mod making;
 mod named_fields;
+mod numbered_fields;
 mod opening;
 mod primitive_arrays;
 mod statics;

@@ -8,8 +8,10 @@ mod Effects
 mod Entering
 mod EntryLaws
 mod FailedClasses
+mod FieldPlaces
 mod HeapLaws
 mod Made
 mod RunLaws
+mod Sites
 mod Stacks
 mod StatusLaws

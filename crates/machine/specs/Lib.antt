@@ -8,6 +8,7 @@ pub mod Machine
 pub mod Marks
 pub mod Ready
 pub mod Runs
+pub mod Sites
 pub mod Started
 pub mod Statuses
 pub mod Telling

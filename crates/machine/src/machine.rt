@@ -80,7 +80,7 @@ impl<'p> Machine<'p> {
     }
 
     /// What the turn of a thread would come to, with nothing changed. It takes no memory.
-    #[tactic(auto, using(crate::proofs::Callers::threads_are_numbered))]
+    #[tactic(auto, using(crate::proofs::Callers::threads_are_numbered, crate::proofs::Sites::have_their_code))]
     pub fn peek(&self, t: ThreadId) -> Outcome
         ensures { result ≡ (row_of self.now t).outcome }
     {

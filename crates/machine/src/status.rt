@@ -4,6 +4,7 @@ ghost use Rattle.std.specs.Prelude.{◌≡◌, drop};
 ghost use Rattle.std.specs.List.{list_all};
 ghost use Rattle.jvms_machine.specs.Status.{is_enabled as enabled, is_bad as bad, status_of};
 ghost use Rattle.machine.specs.Ready.{AreNumbered};
+ghost use Rattle.machine.specs.Sites.{HaveTheirCode};
 ghost use Rattle.machine.specs.Statuses.{any_thread};
 
 use crate::machine::Machine;
@@ -42,6 +43,7 @@ impl Parts<'_> {
     /// Whether a thread from number `t` on is enabled.
     fn any_enabled(&self, t: usize) -> bool
         requires numbered { AreNumbered self.now.state }
+        requires code { HaveTheirCode self.now }
         ensures { result ≡ any_thread enabled self.now t (drop t self.now.state.threads) }
     {
         if t >= self.threads.len() {
@@ -53,6 +55,7 @@ impl Parts<'_> {
     /// Whether a thread from number `t` on can't go on.
     fn any_bad(&self, t: usize) -> bool
         requires numbered { AreNumbered self.now.state }
+        requires code { HaveTheirCode self.now }
         ensures { result ≡ any_thread bad self.now t (drop t self.now.state.threads) }
     {
         if t >= self.threads.len() {
@@ -65,6 +68,7 @@ impl Parts<'_> {
     #[tactic(auto, using(crate::proofs::StatusLaws::any_is), unfolding(jvms_machine::specs::Status::status_of))]
     fn status(&self) -> Status
         requires numbered { AreNumbered self.now.state }
+        requires code { HaveTheirCode self.now }
         ensures { result ≡ status_of self.now.program self.now.limits self.now.start self.now.state }
     {
         if self.all_ended() {
@@ -82,7 +86,7 @@ impl Parts<'_> {
 impl Machine<'_> {
     /// How the machine stands: finished, if all threads have ended; running, if one is enabled; stalled, if
     /// one can't go on; else deadlocked. It takes no memory.
-    #[tactic(auto, using(crate::proofs::Callers::threads_are_numbered))]
+    #[tactic(auto, using(crate::proofs::Callers::threads_are_numbered, crate::proofs::Sites::have_their_code))]
     pub fn status(&self) -> Status
         ensures { result ≡ status_of self.now.program self.now.limits self.now.start self.now.state }
     {

@@ -8,3 +8,7 @@ pub mod PlaceLaws
 pub mod WalkLaws
 pub mod SearchLaws
 pub mod SlotLaws
+pub mod TableLaws
+pub mod LinkLaws
+pub mod SignatureLaws
+pub mod SelectLaws

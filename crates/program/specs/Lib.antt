@@ -5,4 +5,8 @@ pub mod Numbers
 pub mod Ordinary
 pub mod Places
 pub mod Searches
+pub mod Selecting
+pub mod Signatures
 pub mod Slots
+pub mod Tables
+pub mod TablesOf

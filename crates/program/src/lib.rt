@@ -23,6 +23,7 @@ mod resolve;
 mod select;
 mod slots;
 mod subtypes;
+mod tables;
 mod text;
 mod throwables;
 mod walk;

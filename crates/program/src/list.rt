@@ -10,6 +10,7 @@ ghost use Rattle.program.specs.Slots.{AreCountable};
 use crate::all::{built_in_classes, is_built_in};
 use crate::lookup::method_of;
 use crate::numbers::numbers_by_name;
+use crate::tables::{Tables, no_tables, tables_of};
 use held::items::Items;
 use jvms_program::key::MethodKey;
 use jvms_program::number::MethodNumber;
@@ -21,11 +22,13 @@ use std::marker::Model;
 /// A program: the built-in classes, then others. Contracts see the list of its classes.
 #[derive(Debug, Drop)]
 pub struct Program {
-    classes: Vec<Class>,
+    pub(crate) classes: Vec<Class>,
     /// Whether each class is built in.
     built_in: Vec<bool>,
     /// The number of each class by its name.
     by_name: BTreeMap<Vec<u16>, usize>,
+    /// What is looked up often.
+    pub(crate) tables: Tables,
 }
 
 impl Model for Program {
@@ -35,12 +38,13 @@ impl Model for Program {
     ghost use Rattle.jvms_program.specs.Program.{IsProgram};
     ghost use Rattle.program.specs.Numbers.{AreNumbersOf};
     ghost use Rattle.program.specs.Slots.{AreCountable};
+    ghost use Rattle.program.specs.TablesOf.{AreTablesOf};
 
     ghost Value = { List Class };
 
     ghost view = { λ p. p.classes.items };
 
-    ghost invariant = { λ p. (p.built_in.items ≡ map (λ c. is_built_in c.name) p.classes.items) × AreNumbersOf p.classes.items p.by_name × IsProgram p.classes.items × AreCountable p.classes.items };
+    ghost invariant = { λ p. (p.built_in.items ≡ map (λ c. is_built_in c.name) p.classes.items) × AreNumbersOf p.classes.items p.by_name × IsProgram p.classes.items × AreCountable p.classes.items × AreTablesOf p.classes.items p.tables };
 }
 
 /// Whether each of these classes is built in.
@@ -89,11 +93,15 @@ impl Program {
         count_fields(classes.as_slice())?;
         let built_in = built_in_marks(alloc, classes.as_slice())?;
         let by_name = numbers_by_name(alloc, classes.as_slice())?;
-        Ok(Program {
+        let mut program = Program {
             classes,
             built_in,
             by_name,
-        })
+            tables: no_tables(alloc),
+        };
+        let tables = tables_of(alloc, &program)?;
+        program.tables = tables;
+        Ok(program)
     }
 
     /// The classes are a program: the built-in classes stand first, and types are those that descriptors spell. Nothing

@@ -14,7 +14,6 @@ ghost use Rattle.machine.specs.Ready.{HasCaller};
 
 use super::marks::push_listed;
 use crate::decision::ActionText;
-use crate::fields::field_name;
 use crate::parts::Parts;
 use crate::thread::Thread;
 use heap::Heap;
@@ -46,16 +45,14 @@ impl<'p> Parts<'p> {
     fn put_field(&mut self, reference: u32, field: FieldNumber, value: Value)
         ensures { self.new ≡ with_state self.old (field_put self.old.state reference value (field_key_at self.old.program field)) }
     {
-        if let Some(name) = field_name(self.program(), field) {
-            self.heap.put_field_named(reference, &name, value);
-        }
+        self.heap.put_field_numbered(reference, field, value);
     }
 
     /// A value is put into a static field.
     fn put_static(&mut self, field: FieldNumber, value: Value)
         ensures { self.new ≡ with_state self.old (static_put self.old.state value (field_key_at self.old.program field)) }
     {
-        if let Some(name) = field_name(self.program(), field) {
+        if let Some(name) = self.program().field_name(field) {
             self.statics.put(&name, value);
         }
     }
