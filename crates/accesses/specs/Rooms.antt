@@ -1,0 +1,51 @@
+-- What is remembered of a trace, and the room for an item (own).
+use Rattle.std.specs.Prelude.{◌≡◌, ℕ, false, List, [], ◌∷◌, Option, Some, None, slice_get, MatchOption}
+use Rattle.jvms_machine.specs.declared.trace.Item.{Item}
+use Rattle.velodrome.specs.Conflicts.{thread_of}
+use Rattle.accesses.specs.Accesses.{Access, Last, OfThread, Place, main_at, accesses_beside}
+use Rattle.accesses.specs.Kept.{HasSpare, IsNotedIn, kept_in}
+use Rattle.accesses.specs.Places.{place_of}
+use Rattle.accesses.specs.declared.place.Place.{Place as Key}
+use Rattle.indexmap.specs.IndexMap.{set_value_at}
+use Rattle.accesses.specs.declared.lasts.Lasts.{Lasts}
+use Rattle.accesses.specs.declared.lasts.Noted.{Noted}
+use Rattle.accesses.specs.declared.slot.Slot.{Slot}
+
+-- Entries by place, and those that were made ready for an item: its thread's, and that of what the thread touches.
+pub record Remembered : Type 0 where
+  pub entries : List (Key × Lasts)
+  pub own : ℕ
+  pub touched : Option Slot
+
+abbrev pub kept_of : Remembered → List Last
+kept_of r = kept_in r.entries
+
+-- The entry is that of a place.
+abbrev pub IsEntryOf : List (Key × Lasts) → ℕ → Place → Type 0
+IsEntryOf es n p = MatchOption (slice_get es n) ⊥ (λ e. place_of e.0 ≡ p)
+
+-- If the entry is there, it has room for one more access beside the main one.
+abbrev pub HasRoomAt : List (Key × Lasts) → ℕ → Type 0
+HasRoomAt es n = MatchOption (slice_get es n) (Unit {0}) (λ e. HasSpare e.1)
+
+-- The entry is that of an access, with room for it.
+abbrev pub IsReady : List (Key × Lasts) → ℕ → Access → Type 0
+IsReady es n x = MatchOption (slice_get es n) ⊥ (λ e. (place_of e.0 ≡ x.place) × (x.is_main ≡ false → HasSpare e.1))
+
+abbrev pub AreReady : List (Key × Lasts) → Option Slot → List Access → Type 0
+AreReady es None [] = Unit {0}
+AreReady es (Some s) (x ∷ []) = IsReady es s.index x × (s.is_main ≡ x.is_main)
+AreReady es _ _ = ⊥
+
+-- Each access of an item has its entry, where one beside has room for one more.
+pub record HasRoom (r : Remembered) (i : Item) : Type 0 where
+  pub own : IsReady r.entries r.own (main_at (OfThread (thread_of i)))
+  pub touched : AreReady r.entries r.touched (accesses_beside i)
+
+-- An access was noted at an entry.
+pub record IsNotedAt (s : Slot) (n : Noted) (old new : List (Key × Lasts)) : Type 0 where
+  pub entry : Key × Lasts
+  pub now : Lasts
+  pub at : slice_get old s.index ≡ Some entry
+  pub noted : IsNotedIn s.is_main n entry.1 now
+  pub others : new ≡ set_value_at old s.index now

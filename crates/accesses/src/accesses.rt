@@ -1,0 +1,226 @@
+//! The last accesses of a trace.
+
+ghost use Rattle.std.specs.Prelude.{◌≡◌, ℕ, [], ◌∷◌, false, None, Some, IfOk, OnOk, MatchOption, slice_get};
+ghost use Rattle.indexmap.specs.IndexMap.{get};
+ghost use Rattle.velodrome.specs.Conflicts.{thread_of};
+ghost use Rattle.accesses.specs.Accesses.{AreLinks, IsNoted, OfThread, Place as Kind, accesses_beside, main_at};
+ghost use Rattle.accesses.specs.Kept.{HasSpare, kept_at, kept_in};
+ghost use Rattle.accesses.specs.Links.{AreAdded, AreAt};
+ghost use Rattle.accesses.specs.OnePlace.{same_keys};
+ghost use Rattle.accesses.specs.Places.{place_of};
+ghost use Rattle.accesses.specs.Rooms.{AreReady, HasRoom, HasRoomAt, IsEntryOf, IsNotedAt, IsReady, kept_of};
+ghost use Rattle.accesses.specs.Touches.{access_of};
+
+use crate::lasts::{Lasts, Noted};
+use crate::place::Place;
+use crate::slot::Slot;
+use crate::touch::{Touch, own, thread_of, touched};
+use atom_order::Link;
+use indexmap::IndexMap;
+use jvms_machine::trace::Item;
+use std::alloc::{AllocError, Global};
+use std::marker::Model;
+
+/// The last accesses of a trace: at each place the last main one, and since then the last beside it by each thread.
+/// Contracts see them by place, with the entries that were made ready for an item.
+#[derive(Drop)]
+pub struct Accesses {
+    lasts: IndexMap<Place, Lasts>,
+    /// The entry that was made ready for an item as one of its thread.
+    own: usize,
+    /// The entry that was made ready for what the item's thread touches.
+    touched: Option<Slot>,
+    alloc: Global,
+}
+
+impl Model for Accesses {
+    ghost use Rattle.accesses.specs.Rooms.{Remembered};
+
+    ghost Value = { Remembered };
+
+    ghost view = { λ a. record { entries = a.lasts.entries; own = a.own; touched = a.touched } };
+}
+
+impl Accesses {
+    /// No access yet.
+    pub fn new(alloc: Global) -> Self
+        ensures { kept_of result ≡ [] }
+    {
+        Accesses {
+            lasts: IndexMap::new(alloc),
+            own: 0,
+            touched: None,
+            alloc,
+        }
+    }
+
+    /// The links of a new event.
+    pub fn links(&self, number: u64, item: &Item) -> Result<Vec<Link>, AllocError>
+        ensures { IfOk result (λ v. AreLinks (kept_of self.now) number item.now v.items) }
+    {
+        let mut links = Vec::new(self.alloc);
+        self.push_own(number, item, &mut links)?;
+        self.push_touched(number, item, &mut links)?;
+        Ok(links)
+    }
+
+    /// Adds the links of a new event as one of its thread.
+    fn push_own(&self, number: u64, item: &Item, links: &mut Vec<Link>) -> Result<(), AllocError>
+        ensures { OnOk result (AreAdded (kept_of self.now) number (main_at (OfThread (thread_of item.now)) ∷ []) links.old.items links.new.items) }
+    {
+        let touch = own(item);
+        self.push_links(&touch, number, links)
+    }
+
+    /// Adds the links of a new event at what its thread touches.
+    fn push_touched(
+        &self,
+        number: u64,
+        item: &Item,
+        links: &mut Vec<Link>,
+    ) -> Result<(), AllocError>
+        ensures { OnOk result (AreAdded (kept_of self.now) number (accesses_beside item.now) links.old.items links.new.items) }
+    {
+        match touched(item)? {
+            Some(touch) => self.push_links(&touch, number, links),
+            None => Ok(()),
+        }
+    }
+
+    /// Adds the links of an access of a new event.
+    fn push_links(
+        &self,
+        touch: &Touch,
+        number: u64,
+        links: &mut Vec<Link>,
+    ) -> Result<(), AllocError>
+        ensures { OnOk result (AreAdded (kept_of self.now) number (access_of touch.now ∷ []) links.old.items links.new.items) }
+    {
+        match self.lasts_at(&touch.place) {
+            Some(lasts) => lasts.push_links(touch.is_main, number, links),
+            None => Ok(()),
+        }
+    }
+
+    /// What is kept at a place.
+    fn lasts_at(&self, place: &Place) -> Option<&Lasts>
+        ensures { MatchOption result (AreAt (kept_of self.now) (place_of place.now) []) (λ l. AreAt (kept_of self.now) (place_of place.now) (kept_at (place_of place.now) l.now)) }
+    {
+        let index = self.lasts.get_index_of(place)?;
+        let (_, lasts) = self.lasts.get_index(index)?;
+        Some(lasts)
+    }
+
+    /// Takes the memory that noting an item needs. What is remembered stays as it is.
+    pub fn reserve(&mut self, item: &Item) -> Result<(), AllocError>
+        ensures same { kept_of self.new ≡ kept_of self.old }
+        ensures room { OnOk result (HasRoom self.new item.now) }
+    {
+        let slot = self.ready(own(item))?;
+        self.own = slot.index;
+        self.ready_touched(item)
+    }
+
+    /// Makes ready the entry of what the thread of an item touches.
+    fn ready_touched(&mut self, item: &Item) -> Result<(), AllocError>
+        ensures same { kept_of self.new ≡ kept_of self.old }
+        ensures own { self.new.own ≡ self.old.own }
+        ensures ready { OnOk result (AreReady self.new.entries self.new.touched (accesses_beside item.now)) }
+        ensures places { (n : ℕ) (p : Kind) → IsEntryOf self.old.entries n p → IsEntryOf self.new.entries n p }
+    {
+        match touched(item)? {
+            Some(touch) => {
+                let slot = self.ready(touch)?;
+                self.touched = Some(slot);
+            }
+            None => self.touched = None,
+        }
+        Ok(())
+    }
+
+    /// Makes the entry of an access ready: one beside has room for one more.
+    fn ready(&mut self, touch: Touch) -> Result<Slot, AllocError>
+        ensures same { kept_of self.new ≡ kept_of self.old }
+        ensures own { self.new.own ≡ self.old.own }
+        ensures ready { IfOk result (λ s. IsReady self.new.entries s.index (access_of touch) × (s.is_main ≡ touch.is_main)) }
+        ensures places { (n : ℕ) (p : Kind) → IsEntryOf self.old.entries n p → IsEntryOf self.new.entries n p }
+    {
+        let is_main = touch.is_main;
+        let index = enter(&mut self.lasts, touch.place, self.alloc)?;
+        if !is_main {
+            make_room(&mut self.lasts, index)?;
+        }
+        Ok(Slot { index, is_main })
+    }
+
+    /// Notes an event, for which there is room.
+    pub fn note(&mut self, number: u64, transaction: u64, item: &Item)
+        requires { HasRoom self.old item.now }
+        ensures { IsNoted number transaction item.now (kept_of self.old) (kept_of self.new) }
+    {
+        let noted = Noted {
+            number,
+            transaction,
+            thread: thread_of(item),
+        };
+        let own = Slot {
+            index: self.own,
+            is_main: true,
+        };
+        note_at(&mut self.lasts, own, noted);
+        match self.touched {
+            Some(slot) => note_at(&mut self.lasts, slot, noted),
+            None => {}
+        }
+    }
+}
+
+/// The entry of a place, which is made if there is none yet.
+fn enter(
+    lasts: &mut IndexMap<Place, Lasts>,
+    place: Place,
+    alloc: Global,
+) -> Result<usize, AllocError>
+    ensures same { kept_in lasts.new.entries ≡ kept_in lasts.old.entries }
+    ensures at { IfOk result (λ n. IsEntryOf lasts.new.entries n (place_of place)) }
+    ensures places { (n : ℕ) (p : Kind) → IsEntryOf lasts.old.entries n p → IsEntryOf lasts.new.entries n p }
+{
+    match lasts.get_index_of(&place) {
+        Some(index) => Ok(index),
+        None => add(lasts, place, alloc),
+    }
+}
+
+/// The entry of a place that has none yet: it is put behind the others.
+fn add(lasts: &mut IndexMap<Place, Lasts>, place: Place, alloc: Global) -> Result<usize, AllocError>
+    requires { get same_keys lasts.old place ≡ None }
+    ensures same { kept_in lasts.new.entries ≡ kept_in lasts.old.entries }
+    ensures at { IfOk result (λ n. IsEntryOf lasts.new.entries n (place_of place)) }
+    ensures places { (n : ℕ) (p : Kind) → IsEntryOf lasts.old.entries n p → IsEntryOf lasts.new.entries n p }
+{
+    let (index, _) = lasts.insert_full(place, Lasts::new(alloc))?;
+    Ok(index)
+}
+
+/// Takes the memory for one more access beside the main one of an entry.
+fn make_room(lasts: &mut IndexMap<Place, Lasts>, index: usize) -> Result<(), AllocError>
+    ensures same { kept_in lasts.new.entries ≡ kept_in lasts.old.entries }
+    ensures room { OnOk result (HasRoomAt lasts.new.entries index) }
+    ensures places { (n : ℕ) (p : Kind) → IsEntryOf lasts.old.entries n p → IsEntryOf lasts.new.entries n p }
+{
+    match lasts.get_index_mut(index) {
+        Some(last) => last.reserve(),
+        None => Ok(()),
+    }
+}
+
+/// Notes an access at its entry.
+fn note_at(lasts: &mut IndexMap<Place, Lasts>, slot: Slot, noted: Noted)
+    requires { MatchOption (slice_get lasts.old.entries slot.index) ⊥ (λ e. slot.is_main ≡ false → HasSpare e.1) }
+    ensures { IsNotedAt slot noted lasts.old.entries lasts.new.entries }
+{
+    match lasts.get_index_mut(slot.index) {
+        Some(last) => last.note(slot.is_main, noted),
+        None => {}
+    }
+}

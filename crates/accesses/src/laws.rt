@@ -1,0 +1,12 @@
+//! Laws about accesses, owed to the gate: each is the contract of a function that does nothing.
+
+ghost use Rattle.std.specs.Prelude.{◌≡◌, ◌↔◌, true};
+ghost use Rattle.accesses.specs.Accesses.{Access, accesses_of, against};
+ghost use Rattle.jvms_machine.specs.declared.trace.Item.{Item};
+ghost use Rattle.velodrome.specs.Conflicts.{conflict};
+ghost use Rattle.velodrome.specs.Cycles.{IsIn};
+
+/// Two items conflict exactly where two of their accesses are against each other.
+pub fn conflicts_are_accesses_against_each_other()
+    ensures { (a b : Item) → (conflict a b ≡ true) ↔ ((x : Access) × (y : Access) × IsIn x (accesses_of a) × IsIn y (accesses_of b) × (against x y ≡ true)) }
+{}

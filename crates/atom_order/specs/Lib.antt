@@ -1,0 +1,5 @@
+pub mod Keeping
+pub mod Marking
+pub mod Reaching
+pub mod Shapes
+pub mod Trails

@@ -1,0 +1,106 @@
+-- The graph as data: lists by transaction, from 0, which none is (own).
+use Rattle.std.specs.Prelude.{◌≡◌, ℕ, ◌<◌, ◌≤◌, ◌==◌, Bool, true, false, not, cond, ◌||◌, ◌&&◌, List, [], ◌∷◌, ◌++◌, length, get_or, take, drop}
+use Rattle.std.specs.List.{IsDistinct, filter}
+use Rattle.velodrome.specs.Cycles.{IsIn}
+use Rattle.atom_order.specs.declared.link.Link.{Link}
+use Rattle.atom_order.specs.declared.link.Closing.{Closing}
+use Rattle.atom_order.specs.Keeping.{Order, sides, IsHeld, IsReach, IsLeft}
+use Rattle.atom_order.specs.Reaching.{is_among, marked, unheld, LeadForward}
+use Rattle.atom_order.specs.Marking.{has_key, HasMarks}
+use Rattle.atom_order.specs.Trails.{IsTrail}
+
+pub record Shape : Type 0 where
+  pub dropped : List ℕ
+  pub live : List ℕ
+  pub is_open : List Bool
+  pub into : List (List Link)
+
+abbrev pub open_in : Shape → ℕ → Bool
+open_in s y = get_or s.is_open y false
+
+abbrev pub into_in : Shape → ℕ → List Link
+into_in s y = get_or s.into y []
+
+abbrev pub order_of : Shape → Order
+order_of s = record { dropped = s.dropped; live = s.live; is_open = open_in s; into = into_in s }
+
+abbrev pub no_transactions : Shape
+no_transactions = record { dropped = []; live = []; is_open = false ∷ []; into = [] ∷ [] }
+
+-- Each live transaction has a slot, which tells its place.
+pub record ArePlaces (live places : List ℕ) (opens : List Bool) (into : List (List Link)) : Type 0 where
+  pub places_fit : length places ≡ length into
+  pub opens_fit : length opens ≡ length into
+  pub slots : (i : ℕ) → i < length live → get_or live i 0 < length into
+  pub at : (i : ℕ) → i < length live → get_or places (get_or live i 0) 0 ≡ i
+
+-- From a place on, the live transactions were put into another order, or some left out.
+pub record IsMoved (place : ℕ) (live now : List ℕ) : Type 0 where
+  pub front : take place now ≡ take place live
+  pub fits : place ≤ length live
+  pub long : place ≤ length now
+  pub members : (x : ℕ) → IsIn x now → IsIn x live
+  pub distinct : IsDistinct (λ x y. x == y) now
+
+-- Of links, those from live transactions but this one.
+abbrev pub live_links : ℕ → List ℕ → List Link → List Link
+live_links t live links = filter (λ (l : Link). is_among l.from live && not (l.from == t)) links
+
+abbrev pub is_empty : List Link → Bool
+is_empty [] = true
+is_empty (l ∷ links) = false
+
+-- A transaction begins with links. Where it is closed already and has none, it is dropped at once.
+abbrev pub begun : Bool → List Link → Shape → Shape
+begun is_open links s = record {
+  dropped = cond (is_open || not (is_empty links)) s.dropped (s.dropped ++ length s.into ∷ []);
+  live = cond (is_open || not (is_empty links)) (s.live ++ length s.into ∷ []) s.live;
+  is_open = s.is_open ++ is_open ∷ [];
+  into = s.into ++ links ∷ [];
+}
+
+-- What holds of the graph between events.
+pub record IsUsable (s : Shape) : Type 0 where
+  pub distinct : IsDistinct (λ x y. x == y) s.live
+  pub leads : LeadForward (into_in s) s.live
+  pub opens : (y : ℕ) → open_in s y ≡ true → IsIn y s.live
+  pub held : (y : ℕ) → IsIn y s.live → IsHeld s.live (open_in s) (into_in s) y
+
+-- A transaction was closed, and what isn't held any more dropped.
+pub record IsClosing (t : ℕ) (old new : Shape) : Type 0 where
+  pub keeps : ℕ → Bool
+  pub left : IsLeft t keeps (order_of old)
+  pub dropped : new.dropped ≡ old.dropped ++ filter (λ x. not (keeps x)) old.live
+  pub live : new.live ≡ filter keeps old.live
+  pub is_open : (y : ℕ) → open_in new y ≡ cond (y == t) false (open_in old y)
+  pub into : (y : ℕ) → keeps y ≡ true → into_in new y ≡ into_in old y
+  pub slots : length new.into ≡ length old.into
+
+-- From a place on, what nothing holds once a transaction is closed, and the others.
+pub record AreParts (t place : ℕ) (s : Shape) (gone left : List ℕ) : Type 0 where
+  pub keys : List ℕ
+  pub has : HasMarks keys (unheld (λ y. cond (y == t) false (open_in s y)) (λ y. is_among y s.live) (into_in s) [] (drop place s.live))
+  pub gone_are : gone ≡ filter (λ x. has_key keys x) (drop place s.live)
+  pub left_are : left ≡ filter (λ x. not (has_key keys x)) (drop place s.live)
+
+-- Links into a transaction were added.
+pub record IsLinking (t : ℕ) (links : List Link) (old new : Shape) : Type 0 where
+  pub reaches : ℕ → Bool
+  pub reach : IsReach t links reaches (order_of old)
+  pub dropped : new.dropped ≡ old.dropped
+  pub live : new.live ≡ sides reaches old.live
+  pub is_open : new.is_open ≡ old.is_open
+  pub into : (y : ℕ) → into_in new y ≡ cond (y == t) (into_in old y ++ links) (into_in old y)
+  pub slots : length new.into ≡ length old.into
+
+-- A link closes a cycle: others lead back from where it begins to the transaction.
+pub record ClosesCycle (t : ℕ) (links : List Link) (s : Shape) (c : Closing) : Type 0 where
+  pub among : IsIn c.by links
+  pub way : IsTrail s.live (into_in s) t c.by.from c.trail.items
+
+-- From a place on, those that a transaction reaches, put behind the others.
+pub record ArePushedBack (t place : ℕ) (links : List Link) (s : Shape) (numbers : List ℕ) : Type 0 where
+  pub keys : List ℕ
+  pub has : HasMarks keys (marked (λ y. y == t) (into_in s) [] (drop place s.live))
+  pub apart : (l : Link) → IsIn l links → has_key keys l.from ≡ false
+  pub are : numbers ≡ sides (λ x. has_key keys x) (drop place s.live)

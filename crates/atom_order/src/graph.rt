@@ -1,0 +1,446 @@
+//! The graph of live transactions.
+
+ghost use Rattle.std.specs.Prelude.{ℕ, ◌==◌, ◌||◌, ◌&&◌, not, cond, ◌≡◌, ◌<◌, ◌+◌, ◌^◌, ◌++◌, [], false, true, length, drop, get_or, IfOk, OnOk, OnErr, MatchOption};
+ghost use Rattle.std.specs.List.{find, list_any};
+ghost use Rattle.atom_order.specs.Trails.{IsTrail};
+ghost use Rattle.std.specs.Ordering.{nat_cmp};
+ghost use Rattle.atom_order.specs.declared.link.Link.{Link};
+ghost use Rattle.atom_order.specs.Reaching.{is_among, marked, unheld};
+ghost use Rattle.atom_order.specs.Shapes.{no_transactions, live_links, begun, open_in, into_in, IsUsable, IsClosing, IsLinking, ClosesCycle, AreParts};
+ghost use Rattle.velodrome.specs.Cycles.{IsIn};
+ghost use Rattle.atom_order.specs.Marking.{HasMarks, has_key};
+
+use crate::link::{Closing, Link};
+use crate::links::Links;
+use crate::moves::{forget, inside, outside, rearrange, set_behind};
+use std::alloc::{AllocError, Global};
+use std::collections::BTreeSet;
+use std::marker::Model;
+
+/// Transactions by number, from 1: an order of all, and links between the live ones.
+#[derive(Drop)]
+pub struct Graph {
+    dropped: Vec<u64>,
+    live: Vec<u64>,
+    is_open: Vec<bool>,
+    into: Vec<Links>,
+    places: Vec<usize>,
+    alloc: Global,
+}
+
+/// Live transactions in two parts.
+#[derive(Drop)]
+struct Parts {
+    gone: Vec<u64>,
+    left: Vec<u64>,
+}
+
+impl Model for Graph {
+    ghost use Rattle.atom_order.specs.Shapes.{Shape, ArePlaces};
+
+    ghost Value = { Shape };
+
+    ghost view = { λ g. record { dropped = g.dropped.items; live = g.live.items; is_open = g.is_open.items; into = g.into.items } };
+
+    ghost invariant = { λ g. ArePlaces g.live.items g.places.items g.is_open.items g.into.items };
+}
+
+impl Graph {
+    /// No transaction yet.
+    pub fn new(alloc: Global) -> Result<Self, AllocError>
+        ensures { IfOk result (λ g. g ≡ no_transactions) }
+    {
+        let mut into = Vec::new(alloc);
+        into.push(Links::new(alloc))?;
+        Ok(Graph {
+            dropped: Vec::new(alloc),
+            live: Vec::new(alloc),
+            is_open: vec![in alloc; false]?,
+            into,
+            places: vec![in alloc; 0]?,
+            alloc,
+        })
+    }
+
+    /// Where a transaction stands among the live ones.
+    fn place_of(&self, transaction: u64) -> Option<usize>
+        ensures { MatchOption result (is_among transaction self.now.live ≡ false) (λ i. (i < length self.now.live) × (get_or self.now.live i 0 ≡ transaction)) }
+    {
+        let slot = transaction as usize;
+        if slot >= self.places.len() {
+            return None;
+        }
+        let place = self.places[slot];
+        if place >= self.live.len() {
+            return None;
+        }
+        if self.live[place] != transaction {
+            return None;
+        }
+        Some(place)
+    }
+
+    /// Whether an open transaction reaches it, or it is open itself.
+    pub fn is_live(&self, transaction: u64) -> bool
+        ensures { result ≡ is_among transaction self.now.live }
+    {
+        match self.place_of(transaction) {
+            Some(_) => true,
+            None => false,
+        }
+    }
+
+    /// The live transactions in order.
+    pub fn live(&self) -> &[u64]
+        ensures { result.now ≡ self.now.live }
+    {
+        self.live.as_slice()
+    }
+
+    /// The dropped transactions in order: all before the live ones.
+    pub fn dropped(&self) -> &[u64]
+        ensures { result.now ≡ self.now.dropped }
+    {
+        self.dropped.as_slice()
+    }
+
+    /// The number of the next transaction.
+    pub fn next(&self) -> u64
+        ensures { result ≡ length self.now.into }
+    {
+        self.into.len() as u64
+    }
+
+    /// Each transaction that has begun is open or closed, and has links into it. Does nothing: a caller's proof learns it.
+    pub fn slots_fit(&self)
+        ensures { length self.now.is_open ≡ length self.now.into }
+    {
+        let _ = &self.dropped;
+    }
+
+    /// Of links, those from live transactions but this one.
+    pub fn live_links(&self, transaction: u64, links: &[Link]) -> Result<Vec<Link>, AllocError>
+        ensures { IfOk result (λ v. v.items ≡ live_links transaction self.now.live links.now) }
+    {
+        links
+            .iter()
+            .copied()
+            .filter(|link| self.is_live(link.from) && link.from != transaction)
+            .collect(self.alloc)
+    }
+
+    /// The next transaction begins, with these links. Where it is closed already and has none, it is dropped at once.
+    /// Without memory nothing changes.
+    pub fn begin(&mut self, is_open: bool, links: Vec<Link>) -> Result<(), AllocError>
+        requires { length self.old.into < 2 ^ 63 }
+        ensures ok { OnOk result (self.new ≡ begun is_open links.items self.old) }
+        ensures err { OnErr result (self.new ≡ self.old) }
+    {
+        self.live.reserve(1)?;
+        self.dropped.reserve(1)?;
+        self.places.reserve(1)?;
+        self.is_open.reserve(1)?;
+        self.into.reserve(1)?;
+        let transaction = self.into.len() as u64;
+        if is_open || !links.is_empty() {
+            self.places.push_reserved(self.live.len());
+            self.live.push_reserved(transaction);
+            self.is_open.push_reserved(is_open);
+            self.into.push_reserved(Links::from_vec(links));
+            return Ok(());
+        }
+        self.places.push_reserved(0);
+        self.dropped.push_reserved(transaction);
+        self.is_open.push_reserved(false);
+        self.into.push_reserved(Links::from_vec(links));
+        Ok(())
+    }
+
+    /// The links into a transaction: none where it hasn't begun.
+    fn links_into(&self, transaction: u64) -> &[Link]
+        ensures { result.now ≡ into_in self.now transaction }
+    {
+        let slot = transaction as usize;
+        if slot >= self.into.len() {
+            return &[];
+        }
+        self.into[slot].as_slice()
+    }
+
+    /// Whether a transaction is open.
+    pub fn is_open(&self, transaction: u64) -> bool
+        ensures { result ≡ open_in self.now transaction }
+    {
+        let slot = transaction as usize;
+        if slot >= self.is_open.len() {
+            return false;
+        }
+        self.is_open[slot]
+    }
+
+    /// Whether a link leads into a transaction from a marked one.
+    fn is_led(&self, transaction: u64, marks: &BTreeSet<u64>) -> bool
+        ensures { result ≡ list_any (λ (l : Link). has_key marks.now.keys l.from) (into_in self.now transaction) }
+    {
+        self.links_into(transaction)
+            .iter()
+            .any(|link| marks.contains(&link.from))
+    }
+
+    /// Whether it is this transaction, or a link leads into it from a marked one.
+    fn is_entered(&self, y: u64, transaction: u64, marks: &BTreeSet<u64>) -> bool
+        ensures { result ≡ ((y == transaction) || list_any (λ (l : Link). has_key marks.now.keys l.from) (into_in self.now y)) }
+    {
+        y == transaction || self.is_led(y, marks)
+    }
+
+    /// Of a part of the order, a transaction and what it reaches by links within the part.
+    fn reached(&self, region: &[u64], transaction: u64) -> Result<BTreeSet<u64>, AllocError>
+        ensures { IfOk result (λ s. HasMarks s.keys (marked (λ y. y == transaction) (into_in self.now) [] region.now)) }
+    {
+        let mut marks = BTreeSet::new(self.alloc);
+        for y in region {
+            if self.is_entered(*y, transaction, &marks) {
+                marks.insert(*y)?;
+            }
+        }
+        Ok(marks)
+    }
+
+    /// Whether a link leads into a transaction from a live one that isn't gone.
+    fn is_linked(&self, transaction: u64, gone: &BTreeSet<u64>) -> bool
+        ensures { result ≡ list_any (λ (l : Link). is_among l.from self.now.live && not (has_key gone.now.keys l.from)) (into_in self.now transaction) }
+    {
+        self.links_into(transaction).iter().any(|link| self.is_live(link.from)
+            && !gone.contains(&link.from))
+    }
+
+    /// Whether it stays, once a transaction is closed and these are gone.
+    fn is_held(&self, y: u64, closing: u64, gone: &BTreeSet<u64>) -> bool
+        ensures { result ≡ (cond (y == closing) false (open_in self.now y)
+            || list_any (λ (l : Link). is_among l.from self.now.live && not (has_key gone.now.keys l.from)) (into_in self.now y)) }
+    {
+        y != closing && self.is_open(y) || self.is_linked(y, gone)
+    }
+
+    /// Of a part of the order, those that nothing holds once a transaction is closed.
+    fn unheld(&self, region: &[u64], closing: u64) -> Result<BTreeSet<u64>, AllocError>
+        ensures { IfOk result (λ s. HasMarks s.keys
+            (unheld (λ y. cond (y == closing) false (open_in self.now y)) (λ y. is_among y self.now.live) (into_in self.now) [] region.now)) }
+    {
+        let mut gone = BTreeSet::new(self.alloc);
+        for y in region {
+            if !self.is_held(*y, closing, &gone) {
+                gone.insert(*y)?;
+            }
+        }
+        Ok(gone)
+    }
+
+    /// Closes a transaction that is live: what open ones don't reach any more is dropped, behind what was before. Without
+    /// memory for it nothing changes.
+    pub fn close(&mut self, transaction: u64) -> Result<(), AllocError>
+        requires live { is_among transaction self.old.live ≡ true }
+        requires usable { IsUsable self.old }
+        ensures ok { OnOk result (IsClosing transaction self.old self.new) }
+        ensures err { OnErr result (self.new ≡ self.old) }
+    {
+        match self.place_of(transaction) {
+            Some(place) => self.close_at(transaction, place),
+            None => Ok(()),
+        }
+    }
+
+    /// Whether a link leads into a transaction from a live one.
+    fn has_live_link(&self, transaction: u64) -> bool
+        ensures { result ≡ list_any (λ (l : Link). is_among l.from self.now.live) (into_in self.now transaction) }
+    {
+        self.links_into(transaction)
+            .iter()
+            .any(|link| self.is_live(link.from))
+    }
+
+    /// The live transactions from a place on.
+    fn live_from(&self, place: usize) -> &[u64]
+        requires { place < length self.now.live }
+        ensures { result.now ≡ drop place self.now.live }
+    {
+        &self.live[place..]
+    }
+
+    /// The live transactions from a place on, in two parts: those that nothing holds once one is closed, and the others.
+    fn parts(&self, closing: u64, place: usize) -> Result<Parts, AllocError>
+        requires { place < length self.now.live }
+        ensures { IfOk result (λ p. AreParts closing place self.now p.gone.items p.left.items) }
+    {
+        let region = self.live_from(place);
+        let gone = self.unheld(region, closing)?;
+        Ok(Parts {
+            gone: inside(self.alloc, region, &gone)?,
+            left: outside(self.alloc, region, &gone)?,
+        })
+    }
+
+    /// Closes the transaction at a place.
+    fn close_at(&mut self, transaction: u64, place: usize) -> Result<(), AllocError>
+        requires place { place < length self.old.live }
+        requires there { get_or self.old.live place 0 ≡ transaction }
+        requires usable { IsUsable self.old }
+        ensures ok { OnOk result (IsClosing transaction self.old self.new) }
+        ensures err { OnErr result (self.new ≡ self.old) }
+    {
+        if self.has_live_link(transaction) {
+            self.is_open[transaction as usize] = false;
+            return Ok(());
+        }
+        let parts = self.parts(transaction, place)?;
+        self.dropped.extend_from_slice(parts.gone.as_slice())?;
+        self.is_open[transaction as usize] = false;
+        rearrange(
+            &mut self.live,
+            &mut self.places,
+            place,
+            parts.left.as_slice(),
+        );
+        forget(&mut self.into, parts.gone.as_slice(), self.alloc);
+        Ok(())
+    }
+
+    /// A link into a transaction from a marked one.
+    fn link_from(&self, transaction: u64, marks: &BTreeSet<u64>) -> Option<Link>
+        ensures { result ≡ find (λ (l : Link). has_key marks.now.keys l.from) (into_in self.now transaction) }
+    {
+        self.links_into(transaction)
+            .iter()
+            .copied()
+            .find(|link| marks.contains(&link.from))
+    }
+
+    /// The links back to a transaction at a place from one that it reaches, which are marked.
+    fn trail(&self, place: usize, from: u64, marks: &BTreeSet<u64>) -> Result<Vec<Link>, AllocError>
+        requires usable { IsUsable self.now }
+        requires place { place < length self.now.live }
+        requires marks { HasMarks marks.now.keys (marked (λ y. y == get_or self.now.live place 0) (into_in self.now) [] (drop place self.now.live)) }
+        requires from { has_key marks.now.keys from ≡ true }
+        ensures { IfOk result (λ v. IsTrail self.now.live (into_in self.now) (get_or self.now.live place 0) from v.items) }
+    {
+        let mut trail = Vec::new(self.alloc);
+        let mut at = from;
+        let mut i = self.live.len();
+        while i > place + 1 {
+            i -= 1;
+            if self.live[i] != at {
+                continue;
+            }
+            match self.link_from(at, marks) {
+                Some(link) => {
+                    trail.push(link)?;
+                    at = link.from;
+                }
+                None => continue,
+            }
+        }
+        Ok(trail)
+    }
+
+    /// A link that leads from a marked transaction.
+    fn closing_link(&self, links: &[Link], marks: &BTreeSet<u64>) -> Option<Link>
+        ensures { result ≡ find (λ (l : Link). has_key marks.now.keys l.from) links.now }
+    {
+        links
+            .iter()
+            .copied()
+            .find(|link| marks.contains(&link.from))
+    }
+
+    /// Whether a link leads from a transaction at a place or behind it.
+    fn leads_back(&self, links: &[Link], place: usize) -> bool
+        requires { place < length self.now.live }
+        ensures { result ≡ list_any (λ (l : Link). is_among l.from (drop place self.now.live)) links.now }
+    {
+        links
+            .iter()
+            .any(|link| self.stands_behind(link.from, place))
+    }
+
+    /// Whether a transaction stands at a place or behind it.
+    fn stands_behind(&self, transaction: u64, place: usize) -> bool
+        ensures { result ≡ is_among transaction (drop place self.now.live) }
+    {
+        let _ = &self.dropped;
+        match self.place_of(transaction) {
+            Some(found) => place <= found,
+            None => false,
+        }
+    }
+
+    /// Adds links into a live transaction, and puts what it reaches behind the others where a link leads back. Where one
+    /// closes a cycle, or without memory, nothing changes.
+    pub fn link(&mut self, transaction: u64, links: &[Link]) -> Result<Option<Closing>, AllocError>
+        requires live { is_among transaction self.old.live ≡ true }
+        requires usable { IsUsable self.old }
+        ensures ok { IfOk result (λ o. MatchOption o (IsLinking transaction links.now self.old self.new)
+            (λ c. (self.new ≡ self.old) × ClosesCycle transaction links.now self.old c)) }
+        ensures err { OnErr result (self.new ≡ self.old) }
+    {
+        match self.place_of(transaction) {
+            Some(place) => self.link_at(transaction, place, links),
+            None => Ok(None),
+        }
+    }
+
+    /// Adds links into the transaction at a place.
+    fn link_at(
+        &mut self,
+        transaction: u64,
+        place: usize,
+        links: &[Link],
+    ) -> Result<Option<Closing>, AllocError>
+        requires place { place < length self.old.live }
+        requires there { get_or self.old.live place 0 ≡ transaction }
+        requires usable { IsUsable self.old }
+        ensures ok { IfOk result (λ o. MatchOption o (IsLinking transaction links.now self.old self.new)
+            (λ c. (self.new ≡ self.old) × ClosesCycle transaction links.now self.old c)) }
+        ensures err { OnErr result (self.new ≡ self.old) }
+    {
+        if !self.leads_back(links, place) {
+            let slot = &mut self.into[transaction as usize];
+            slot.append(links)?;
+            return Ok(None);
+        }
+        let marks = self.reached(self.live_from(place), transaction)?;
+        match self.closing_link(links, &marks) {
+            Some(by) => Ok(Some(Closing {
+                by,
+                trail: self.trail(place, by.from, &marks)?,
+            })),
+            None => {
+                self.push_back(transaction, place, &marks, links)?;
+                Ok(None)
+            }
+        }
+    }
+
+    /// Adds links into the transaction at a place, and puts what is marked behind the others from there on.
+    fn push_back(
+        &mut self,
+        transaction: u64,
+        place: usize,
+        marks: &BTreeSet<u64>,
+        links: &[Link],
+    ) -> Result<(), AllocError>
+        requires place { place < length self.old.live }
+        requires there { get_or self.old.live place 0 ≡ transaction }
+        requires usable { IsUsable self.old }
+        requires marks { HasMarks marks.now.keys (marked (λ y. y == transaction) (into_in self.old) [] (drop place self.old.live)) }
+        requires apart { (l : Link) → IsIn l links.now → has_key marks.now.keys l.from ≡ false }
+        ensures ok { OnOk result (IsLinking transaction links.now self.old self.new) }
+        ensures err { OnErr result (self.new ≡ self.old) }
+    {
+        let numbers = set_behind(self.alloc, self.live_from(place), marks)?;
+        let slot = &mut self.into[transaction as usize];
+        slot.append(links)?;
+        rearrange(&mut self.live, &mut self.places, place, numbers.as_slice());
+        Ok(())
+    }
+}

@@ -1,0 +1,11 @@
+//! The order of transactions and the links between those that open ones reach (Velodrome, PLDI 2008, section 4).
+#![tactic(auto)]
+
+mod graph;
+mod link;
+mod links;
+mod moves;
+
+pub use graph::Graph;
+pub use link::{Closing, Link};
+pub use links::Links;

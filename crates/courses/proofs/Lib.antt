@@ -1,0 +1,5 @@
+pub mod Changes
+pub mod Marks
+pub mod Steps
+pub mod Tables
+pub mod Tops

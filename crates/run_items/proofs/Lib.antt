@@ -1,0 +1,4 @@
+pub mod CallChanges
+pub mod EventCounts
+pub mod Matching
+pub mod Runs
