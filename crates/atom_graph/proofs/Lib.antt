@@ -1,0 +1,10 @@
+pub mod Along
+pub mod Checked
+pub mod Feeding
+pub mod Growing
+pub mod Judged
+pub mod Opened
+pub mod Places
+pub mod Steps
+pub mod Suffices
+pub mod Watching

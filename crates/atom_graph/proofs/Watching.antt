@@ -1,0 +1,180 @@
+-- What the items of a trace make of the watch for a cycle.
+use Rattle.std.proofs.Common.{◌≡◌, ◌≢◌, ℕ, ◌+◌, ◌<◌, Bool, true, false, if◌then◌else◌, ◌⊎◌, ◌↔◌, inl, inr, List, [], ◌∷◌, ◌++◌, length, drop, Option, Some, None, refl, sym, ap, subst, ◌∙◌, arith}
+use Rattle.std.proofs.lemmas.Option.{none-some, same_Some}
+use Rattle.jvms_machine.specs.declared.trace.Item.{Item}
+use Rattle.velodrome.specs.Conflicts.{thread_of}
+use Rattle.velodrome.specs.Cycles.{IsIn}
+use Rattle.velodrome.specs.Reach.{IsOpen}
+use Rattle.velodrome.specs.Specification.{Specification}
+use Rattle.velodrome.specs.Transactions.{Course, Event, Walk, begun_after, exited, happened, has_atomic, next_transaction, with_course}
+use Rattle.atom_order.specs.Shapes.{Shape}
+use Rattle.atom_order.proofs.Members.{among_from_in}
+use Rattle.atom_order.proofs.Same.{usable_of_kept}
+use Rattle.accesses.specs.Accesses.{Last}
+use Rattle.accesses.specs.Rooms.{kept_of}
+use Rattle.atom_graph.specs.declared.found.Found.{Found}
+use Rattle.atom_graph.specs.declared.reduced.Reduced.{Reduced}
+use Rattle.atom_graph.specs.Reduced.{IsLike, IsOverIn, IsReady, IsTaken, MayClose, StaysLive}
+use Rattle.atom_graph.specs.Walked.{course_after, over_by, stay_of}
+use Rattle.atom_graph.specs.Watched.{IsGraphOf, IsLeftFrom, IsOnFrom, IsWatched}
+use Rattle.atom_graph.proofs.Growing.{cycle_found, found_more, graph_begun, graph_closed, graph_linked, graph_same}
+use Rattle.atom_graph.proofs.Steps.{IsFair, IsOpenBy, by_open, open_by, open_is}
+use Rattle.atom_graph.proofs.Suffices.{MeetByAccesses}
+
+chosen_some : (b : Bool) (n a : ℕ) → (if b then Some n else None) ≡ Some a → (b ≡ true) × (a ≡ n)
+chosen_some true n a is = (refl, sym (same_Some n a is))
+chosen_some false n a is = absurd (none-some a is)
+
+-- ---- The open transactions behind a mark
+
+module _ (lines : Specification) (w : Walk) (fair : IsFair lines w) (t : ℕ) (course : Course) where
+  -- The thread stays in its transaction, or in none.
+  pub opens_stay : course.transaction ≡ (w.courses t).transaction → (a : ℕ) → IsOpen (with_course t course w) a ↔ IsOpen w a
+  opens_stay same a = (λ is. forth (open_by w t course a is), λ is. by_open w t course a (back (open_is w t a is)))
+    where
+      forth : IsOpenBy w t course a → IsOpen w a
+      forth (inl is) = (t, sym same ∙ is)
+      forth (inr other) = (other.0, other.2)
+
+      back : IsOpenBy w t (w.courses t) a → IsOpenBy w t course a
+      back (inl is) = inl (same ∙ is)
+      back (inr other) = inr other
+
+  -- Its transaction is over.
+  pub opens_left : (n : ℕ) → (w.courses t).transaction ≡ Some n → course.transaction ≡ None → (a : ℕ) → IsOpen (with_course t course w) a ↔ (IsOpen w a × (a ≢ n))
+  opens_left n was none a = (λ is. forth (open_by w t course a is), λ is. by_open w t course a (back is.1 (open_is w t a is.0)))
+    where
+      forth : IsOpenBy w t course a → IsOpen w a × (a ≢ n)
+      forth (inl is) = absurd (none-some a (sym none ∙ is))
+      forth (inr other) = ((other.0, other.2), λ same. other.1 (fair.owned.one other.0 t a other.2 (was ∙ ap (λ (k : ℕ). Some k) (sym same))))
+
+      back : (a ≢ n) → IsOpenBy w t (w.courses t) a → IsOpenBy w t course a
+      back apart (inl is) = absurd (apart (sym (same_Some n a (sym was ∙ is))))
+      back apart (inr other) = inr other
+
+-- ---- An event
+
+module _ (meet : MeetByAccesses) (lines : Specification) (w : Walk) (fair : IsFair lines w) (i : Item) where
+  abbrev t : ℕ
+  t = thread_of i
+
+  abbrev course : Course
+  course = w.courses t
+
+  abbrev goes_on : Bool
+  goes_on = has_atomic lines course.methods
+
+  abbrev n : ℕ
+  n = next_transaction course.transaction w.transactions
+
+  abbrev event : Event
+  event = record { number = length w.events + 1; transaction = n; item = i }
+
+  abbrev v : Walk
+  v = happened lines i course n w
+
+  abbrev grown : Walk
+  grown = record { courses = w.courses; events = w.events ++ event ∷ []; transactions = begun_after course.transaction w.transactions }
+
+  abbrev after : Course
+  after = course_after lines n course
+
+  opens_new : course.transaction ≡ None → (a : ℕ) → IsOpen v a ↔ (((a ≡ n) × (goes_on ≡ true)) ⊎ IsOpen w a)
+  opens_new none a = (λ is. forth (open_by grown t after a is), λ is. by_open grown t after a (back is))
+    where
+      forth : IsOpenBy grown t after a → ((a ≡ n) × (goes_on ≡ true)) ⊎ IsOpen w a
+      forth (inl is) = let parts = chosen_some goes_on n a is in inl (parts.1, parts.0)
+      forth (inr other) = inr (other.0, other.2)
+
+      back : ((a ≡ n) × (goes_on ≡ true)) ⊎ IsOpen w a → IsOpenBy grown t after a
+      back (inl new) = inl (ap (λ b. if b then Some n else None) new.1 ∙ ap (λ (k : ℕ). Some k) (sym new.0))
+      back (inr was) = elim (open_is w t a was) [ inl is ↦ absurd (none-some a (sym none ∙ is)) | inr other ↦ inr other ]
+
+  opens_on : (m : ℕ) → course.transaction ≡ Some m → (a : ℕ) → IsOpen v a ↔ IsOpen w a
+  opens_on m some a = (λ is. forth (open_by grown t after a is), λ is. by_open grown t after a (back (open_is w t a is)))
+    where
+      own : n ≡ m
+      own = ap (λ o. next_transaction o w.transactions) some
+
+      forth : IsOpenBy grown t after a → IsOpen w a
+      forth (inl is) = (t, some ∙ ap (λ (k : ℕ). Some k) (sym own ∙ sym (chosen_some goes_on n a is).1))
+      forth (inr other) = (other.0, other.2)
+
+      back : IsOpenBy w t course a → IsOpenBy grown t after a
+      back (inl is) = inl (ap (λ b. if b then Some n else None) (fair.owned.atomic t m some) ∙ ap (λ (k : ℕ). Some k) own ∙ sym some ∙ is)
+      back (inr other) = inr other
+
+  event_graph : (o : Option ℕ) (old new : Reduced) → course.transaction ≡ o → IsGraphOf w old.graph (kept_of old.accesses)
+      → IsTaken (length w.events + 1) n (stay_of o goes_on) i old new → IsGraphOf v new.graph (kept_of new.accesses)
+  event_graph None old new is g taken =
+      graph_begun meet w v event old new g refl refl goes_on (ap (λ o. next_transaction o w.transactions) is) (ap (λ o. begun_after o w.transactions) is) (opens_new is) taken
+  event_graph (Some m) old new is g taken =
+      let own : n ≡ m = ap (λ o. next_transaction o w.transactions) is in
+      let there : IsIn n old.graph.live = subst (λ k. IsIn k old.graph.live) (sym own) (g.keeps.opens m ((g.opens m).1 (t, is))) in
+      graph_linked meet w v event old new g refl refl (ap (λ o. begun_after o w.transactions) is) there (opens_on m is) taken
+
+  -- Behind the event the watch is right again.
+  pub event_watched : (found now : Option Found) (old new : Reduced) → IsWatched w old found
+      → IsOnFrom (length w.events + 1) n (stay_of course.transaction goes_on) i found now old new → IsWatched v new now
+  event_watched None None old new watched on = event_graph course.transaction old new refl watched on
+  event_watched None (Some f) old new watched on = cycle_found meet w event old watched refl f on
+  event_watched (Some f) now old new watched on = subst (λ (o : Option Found). IsWatched v new o) (sym on) (found_more w.events (event ∷ []) f watched)
+
+  -- The graph is ready for the event.
+  pub event_ready : (s : Shape) (kept : List Last) → w.transactions < 100000001 → IsGraphOf w s kept → IsReady (stay_of course.transaction goes_on) n s
+  event_ready s kept few g = record {
+    usable = usable_of_kept w.events w.transactions s g.keeps;
+    slots = let long = g.slots in omega arith;
+    live = by course.transaction refl;
+  }
+    where
+      by : (o : Option ℕ) → course.transaction ≡ o → StaysLive (stay_of o goes_on) (next_transaction o w.transactions) s
+      by None is = tt
+      by (Some m) is = among_from_in m s.live (g.keeps.opens m ((g.opens m).1 (t, is)))
+
+-- ---- The exit of a method
+
+module _ (lines : Specification) (w : Walk) (fair : IsFair lines w) (t : ℕ) where
+  abbrev left : Course
+  left = exited lines (w.courses t)
+
+  abbrev u : Walk
+  u = with_course t left w
+
+  like : (old new : Reduced) → left.transaction ≡ (w.courses t).transaction → IsGraphOf w old.graph (kept_of old.accesses) → IsLike old new → IsGraphOf u new.graph (kept_of new.accesses)
+  like old new same g is =
+      graph_same w u new.graph (kept_of new.accesses) refl refl (opens_stay lines w fair t left same)
+      (subst (λ (s : Shape). IsGraphOf w s (kept_of new.accesses)) (sym is.graph) (subst (IsGraphOf w old.graph) (sym is.kept) g))
+
+  exit_graph : (b : Bool) (o : Option ℕ) (old new : Reduced) → has_atomic lines (drop 1 (w.courses t).methods) ≡ b → (w.courses t).transaction ≡ o
+      → IsGraphOf w old.graph (kept_of old.accesses) → IsOverIn (if b then None else o) old new → IsGraphOf u new.graph (kept_of new.accesses)
+  exit_graph true o old new stays is g over = like old new (ap (λ b. if b then (w.courses t).transaction else None) stays) g over
+  exit_graph false None old new stays is g over = like old new (ap (λ b. if b then (w.courses t).transaction else None) stays ∙ sym is) g over
+  exit_graph false (Some n) old new stays is g over =
+      graph_closed w u n old.graph new.graph (kept_of new.accesses) refl refl
+      (opens_left lines w fair t left n is (ap (λ b. if b then (w.courses t).transaction else None) stays)) over.0 (subst (IsGraphOf w old.graph) (sym over.1) g)
+
+  -- Behind the exit the watch is right again.
+  pub exit_watched : (found : Option Found) (old new : Reduced) → IsWatched w old found → IsLeftFrom (over_by lines (w.courses t)) found old new → IsWatched u new found
+  exit_watched None old new watched over = exit_graph (has_atomic lines (drop 1 (w.courses t).methods)) (w.courses t).transaction old new refl refl watched over
+  exit_watched (Some f) old new watched over = watched
+
+  -- The graph is ready for the exit.
+  pub exit_ready : (s : Shape) (kept : List Last) → IsGraphOf w s kept → MayClose (over_by lines (w.courses t)) s
+  exit_ready s kept g = by (has_atomic lines (drop 1 (w.courses t).methods)) (w.courses t).transaction refl
+    where
+      by : (b : Bool) (o : Option ℕ) → (w.courses t).transaction ≡ o → MayClose (if b then None else o) s
+      by true o is = tt
+      by false None is = tt
+      by false (Some n) is = (usable_of_kept w.events w.transactions s g.keeps, among_from_in n s.live (g.keeps.opens n ((g.opens n).1 (t, is))))
+
+-- The entry of a method changes nothing.
+pub enter_watched : (lines : Specification) (w : Walk) (fair : IsFair lines w) (t : ℕ) (entered : Course) → entered.transaction ≡ (w.courses t).transaction
+    → (found : Option Found) (r : Reduced) → IsWatched w r found → IsWatched (with_course t entered w) r found
+enter_watched lines w fair t entered same None r watched = graph_same w (with_course t entered w) r.graph (kept_of r.accesses) refl refl (opens_stay lines w fair t entered same) watched
+enter_watched lines w fair t entered same (Some f) r watched = watched
+
+-- Where neither the graph nor what is remembered has changed, the watch is right still.
+pub like_watched : (w : Walk) (found : Option Found) (old new : Reduced) → IsLike old new → IsWatched w old found → IsWatched w new found
+like_watched w None old new is watched = subst (λ (s : Shape). IsGraphOf w s (kept_of new.accesses)) (sym is.graph) (subst (IsGraphOf w old.graph) (sym is.kept) watched)
+like_watched w (Some f) old new is watched = watched

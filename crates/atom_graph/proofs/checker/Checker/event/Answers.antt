@@ -1,0 +1,30 @@
+use Rattle.std.proofs.Common.{◌≡◌, ◌+◌, ◌<◌, length, arith}
+use Rattle.atom_graph.proofs.Checked.{checker_same}
+use Rattle.atom_graph.proofs.Feeding.{begun_fits, event_may_be, happened_right}
+use Rattle.atom_graph.proofs.checker.Checker.event.Goals as goal
+
+pub next-transaction-requires : goal.next-transaction-requires
+next-transaction-requires c =
+    let few : length c.self.inside.walked.transactions.items < 100000000 = omega arith in
+    begun_fits c.self.inside.walked c.prepare.new.self c.self.inside.watch c.self.invariant c.prepare.ensures.same few
+
+pub event-requires : goal.event-requires
+event-requires c =
+    let few : length c.self.inside.walked.transactions.items < 100000000 = omega arith in
+    event_may_be c.self.inside.walked c.prepare.new.self c.self.inside.watch c.self.invariant c.prepare.ensures.same c.args.item.now c.args.thread
+    c.next-transaction.result c.stay-stay.result c.requires.thread c.requires.event c.next-transaction.ensures c.stay-stay.ensures few
+
+pub invariant_of-self-in_err-event : goal.invariant_of-self-in_err-event
+invariant_of-self-in_err-event c = checker_same c.self.inside.walked c.prepare.new.self c.self.inside.watch c.event.new.self c.self.invariant c.prepare.ensures.same c.in_err-event.ensures.err
+
+pub happened-requires-clause-begun : goal.happened-requires-clause-begun
+happened-requires-clause-begun c =
+    let few : length c.self.inside.walked.transactions.items < 100000000 = omega arith in
+    begun_fits c.self.inside.walked c.prepare.new.self c.self.inside.watch c.self.invariant c.prepare.ensures.same few
+
+pub invariant_of-self-2 : goal.invariant_of-self-2
+invariant_of-self-2 c =
+    let count : c.len-events.result + 1 ≡ length c.self.inside.walked.transactions.items + 1 = omega arith in
+    happened_right c.self.inside.walked c.prepare.new.self c.self.inside.watch c.self.invariant c.prepare.ensures.same c.happened.new.self c.event.new.self c.args.item.now c.in_ok-copy.copy
+    c.args.thread c.next-transaction.result (c.len-events.result + 1) c.stay-stay.result c.requires.thread c.requires.event c.in_ok-copy.ensures.room.0
+    c.next-transaction.ensures c.stay-stay.ensures count c.in_ok-event.ensures.ok c.happened.ensures

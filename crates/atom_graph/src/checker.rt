@@ -1,0 +1,172 @@
+//! The checker.
+
+ghost use Rattle.std.specs.Prelude.{◌≡◌, ℕ, true, List, [], length, IfOk, MatchOption};
+ghost use Rattle.velodrome.specs.Conflicts.{thread_of};
+ghost use Rattle.velodrome.specs.Cycles.{AreAtomic, IsCycle};
+ghost use Rattle.velodrome.specs.Reach.{AreReached};
+ghost use Rattle.velodrome.specs.Rearrangements.{IsRearrangement, IsSerial};
+ghost use Rattle.velodrome.specs.Transactions.{is_event};
+ghost use Rattle.velodrome.specs.Verdicts.{IsVerdict};
+ghost use Rattle.jvms_machine.specs.declared.trace.Item.TheVariants.{Enter, Exit};
+ghost use Rattle.atom_graph.specs.Checking.{IsFeeding, walk_of};
+
+use crate::copies::copied_method;
+use crate::counts::Counts;
+use crate::fault::FeedFault;
+use crate::walked::Walked;
+use crate::watch::Watch;
+use atom_spec::Spec;
+use held::items::Items;
+use jvms_machine::machine::ThreadId;
+use jvms_machine::trace::Item;
+use jvms_program::key::MethodKey;
+use std::alloc::{AllocError, Global};
+use std::marker::Model;
+use velodrome::verdict::Verdict;
+
+/// How many events are taken at most.
+const MOST_EVENTS: usize = 100_000_000;
+
+/// A checker of atomicity. Contracts see the specification's lines and the items that it was fed.
+#[derive(Drop)]
+pub struct Checker {
+    walked: Walked,
+    watch: Watch,
+}
+
+impl Model for Checker {
+    ghost use Rattle.atom_graph.specs.Checked.{IsChecker};
+    ghost use Rattle.atom_graph.specs.Checking.{Fed};
+    ghost use Rattle.atom_graph.specs.Walked.{fed_of};
+
+    ghost Value = { Fed };
+
+    ghost view = { λ c. fed_of c.walked };
+
+    ghost invariant = { λ c. IsChecker c.walked c.watch };
+}
+
+impl Checker {
+    /// A checker of traces under a specification.
+    pub fn new(alloc: Global, spec: Spec) -> Result<Self, AllocError>
+        ensures { IfOk result (λ c. c ≡ record { lines = spec; items = [] }) }
+    {
+        let watch = Watch::new(alloc)?;
+        let walked = Walked::new(alloc, spec);
+        Ok(Checker { walked, watch })
+    }
+
+    /// Takes an item behind those before. Where it is not taken nothing changes.
+    ///
+    /// # Errors
+    ///
+    /// F01 where it is the exit of another method than its thread's innermost open one, F02 where it is an event past
+    /// 100,000,000, and F03 where there was no memory.
+    pub fn feed(&mut self, item: &Item) -> Result<(), FeedFault>
+        ensures { IsFeeding self.old item.now result self.new }
+    {
+        match item {
+            Item::Enter { thread, method } => self.enter(*thread, method, item),
+            Item::Exit { thread, method } => self.exit(*thread, method, item),
+            Item::Read { thread, .. } => self.event(*thread, item),
+            Item::Write { thread, .. } => self.event(*thread, item),
+            Item::Acquire { thread, .. } => self.event(*thread, item),
+            Item::Release { thread, .. } => self.event(*thread, item),
+            Item::Fork { thread, .. } => self.event(*thread, item),
+            Item::Join { thread, .. } => self.event(*thread, item),
+        }
+    }
+
+    /// Takes the entry of a method.
+    fn enter(&mut self, thread: ThreadId, method: &MethodKey, item: &Item) -> Result<(), FeedFault>
+        requires { item.now ≡ Enter thread method.now }
+        ensures { IsFeeding self.old item.now result self.new }
+    {
+        let key = copied_method(method)?;
+        let copy = self.walked.prepare(thread, item)?;
+        self.walked.entered(thread, key, copy);
+        Ok(())
+    }
+
+    /// Takes the exit of a method.
+    fn exit(&mut self, thread: ThreadId, method: &MethodKey, item: &Item) -> Result<(), FeedFault>
+        requires { item.now ≡ Exit thread method.now }
+        ensures { IsFeeding self.old item.now result self.new }
+    {
+        if !self.walked.courses.is_innermost(thread, method) {
+            return Err(FeedFault::Unmatched);
+        }
+        let copy = self.walked.prepare(thread, item)?;
+        let over = self.walked.over(thread);
+        self.watch.leave(over)?;
+        self.walked.exited(thread, copy);
+        Ok(())
+    }
+
+    /// Takes an event.
+    fn event(&mut self, thread: ThreadId, item: &Item) -> Result<(), FeedFault>
+        requires thread { thread_of item.now ≡ thread }
+        requires event { is_event item.now ≡ true }
+        ensures { IsFeeding self.old item.now result self.new }
+    {
+        let events = self.walked.transactions.len();
+        if events >= MOST_EVENTS {
+            return Err(FeedFault::TooMany);
+        }
+        let copy = self.walked.prepare(thread, item)?;
+        let transaction = self.walked.next(thread);
+        let stay = self.walked.stay(thread);
+        self.watch
+            .event(events as u64 + 1, transaction, stay, item)?;
+        self.walked.happened(thread, transaction, copy);
+        Ok(())
+    }
+
+    /// How many events and transactions the items are.
+    pub fn counts(&self) -> Counts
+        ensures events { result.events ≡ length (walk_of self.now).events }
+        ensures transactions { result.transactions ≡ (walk_of self.now).transactions }
+    {
+        Counts {
+            events: self.walked.transactions.len() as u64,
+            transactions: self.walked.begun,
+        }
+    }
+
+    /// How many transactions open ones reach, while no cycle was found.
+    pub fn live(&self) -> u64
+        ensures { AreAtomic (walk_of self.now).events → AreReached (walk_of self.now) result }
+    {
+        self.watch.reduced.graph.live().len() as u64
+    }
+
+    /// Whether the trace is atomic, with an order of its transactions, or else its first cycle.
+    pub fn verdict(&self) -> Result<Verdict, AllocError>
+        ensures { IfOk result (IsVerdict (walk_of self.now)) }
+    {
+        match &self.watch.found {
+            Some(found) => found.verdict(self.watch.alloc),
+            None => Ok(Verdict::Atomic {
+                order: Items::from_vec(self.watch.reduced.order(self.watch.alloc)?),
+            }),
+        }
+    }
+
+    /// The events in a serial order, if there is one.
+    pub fn serial(&self) -> Result<Option<Vec<u64>>, AllocError>
+        ensures { IfOk result (λ o. MatchOption o (((ts : List ℕ) × IsCycle (walk_of self.now).events ts) × ((numbers : List ℕ) → IsRearrangement (walk_of self.now).events numbers → ⊥))
+            (λ v. AreAtomic (walk_of self.now).events × IsSerial (walk_of self.now).events v.items)) }
+    {
+        if self.watch.found.is_some() {
+            return Ok(None);
+        }
+        let alloc = self.watch.alloc;
+        let order = self.watch.reduced.order(alloc)?;
+        let numbers = serial_order::serial(
+            alloc,
+            self.walked.transactions.as_slice(),
+            order.as_slice(),
+        )?;
+        Ok(Some(Vec::from_slice(alloc, numbers.as_slice())?))
+    }
+}

@@ -1,0 +1,17 @@
+//! The checker of atomicity: whether the transactions of a trace have a cycle, told with the first event that closes one
+//! (Velodrome, PLDI 2008).
+#![tactic(auto)]
+
+mod checker;
+mod copies;
+mod counts;
+mod fault;
+mod found;
+mod reduced;
+mod stay;
+mod walked;
+mod watch;
+
+pub use checker::Checker;
+pub use counts::Counts;
+pub use fault::FeedFault;

@@ -1,0 +1,66 @@
+//! The watch for a cycle.
+
+ghost use Rattle.std.specs.Prelude.{◌≡◌, [], None, IfOk, OnOk, OnErr};
+ghost use Rattle.atom_order.specs.Shapes.{no_transactions};
+ghost use Rattle.accesses.specs.Rooms.{kept_of};
+ghost use Rattle.atom_graph.specs.Reduced.{IsReady, MayClose};
+ghost use Rattle.atom_graph.specs.Watched.{IsIdle, IsLeft, IsOn};
+
+use crate::found::Found;
+use crate::reduced::Reduced;
+use crate::stay::Stay;
+use jvms_machine::trace::Item;
+use std::alloc::{AllocError, Global};
+
+/// The graph of live transactions until a cycle is found, and then the cycle.
+#[derive(Drop)]
+pub(crate) struct Watch {
+    pub reduced: Reduced,
+    pub found: Option<Found>,
+    pub alloc: Global,
+}
+
+impl Watch {
+    /// Nothing has happened.
+    pub(crate) fn new(alloc: Global) -> Result<Self, AllocError>
+        ensures { IfOk result (λ v. (v.reduced.graph ≡ no_transactions) × (kept_of v.reduced.accesses ≡ []) × (v.found ≡ None)) }
+    {
+        Ok(Watch {
+            reduced: Reduced::new(alloc)?,
+            found: None,
+            alloc,
+        })
+    }
+
+    /// An event happens in a transaction. Without memory nothing changes.
+    pub(crate) fn event(
+        &mut self,
+        number: u64,
+        transaction: u64,
+        stay: Stay,
+        item: &Item,
+    ) -> Result<(), AllocError>
+        requires { self.old.found ≡ None → IsReady stay transaction self.old.reduced.graph }
+        ensures ok { OnOk result (IsOn number transaction stay item.now self.old self.new) }
+        ensures err { OnErr result (IsIdle self.old self.new) }
+    {
+        if self.found.is_none() {
+            self.found = self
+                .reduced
+                .event(self.alloc, number, transaction, stay, item)?;
+        }
+        Ok(())
+    }
+
+    /// A transaction is over, or none is. Without memory nothing changes.
+    pub(crate) fn leave(&mut self, over: Option<u64>) -> Result<(), AllocError>
+        requires { self.old.found ≡ None → MayClose over self.old.reduced.graph }
+        ensures ok { OnOk result (IsLeft over self.old self.new) }
+        ensures err { OnErr result (IsIdle self.old self.new) }
+    {
+        if self.found.is_none() {
+            self.reduced.leave(over)?;
+        }
+        Ok(())
+    }
+}
