@@ -1,7 +1,7 @@
 //! Choosers: each choice names the thread of the next turn.
 
 ghost use Rattle.std.specs.Prelude.{ℕ, List, ◌≡◌, ◌↔◌, IfOk, IsErrOf, MatchOption};
-ghost use Rattle.schedule.specs.Schedules.{Schedule, Listed, Spells, WritesSeed};
+ghost use Rattle.schedule.specs.Schedules.{Schedule, Listed, RoundRobin, Spells, WritesSeed};
 ghost use Rattle.schedule.specs.Enabled.{enabled_threads};
 ghost use Rattle.schedule.specs.Rules.{shown};
 ghost use Rattle.schedule.specs.Choosers.{opened, enabled_of, by_word, next, Seeded, IsSeeded};
@@ -90,6 +90,20 @@ fn next_by_word<T: Threads>(generator: &mut Lcg64Xsh32, threads: &T) -> Option<T
 }
 
 impl Chooser {
+    /// Each enabled thread takes one turn, by rising number and round: the schedule `rr:1`.
+    pub fn in_turn() -> Chooser
+        ensures { result ≡ opened (RoundRobin 1) }
+    {
+        let turns = Turns {
+            quantum: 1,
+            thread: 0,
+            turns: 0,
+        };
+        Chooser {
+            rule: Rule::RoundRobin(turns),
+        }
+    }
+
     /// The chooser of the schedule that a text spells: `list:` and numbers of threads of at most 4,294,967,295 parted
     /// by commas, maybe none; `rr:Q` with a quantum from 1 to 1,000,000; `seed:S:K` with a state and a stream below
     /// 2^64. Numbers are decimal digits, maybe behind zeros.

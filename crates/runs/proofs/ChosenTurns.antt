@@ -1,0 +1,93 @@
+-- Turns that a chooser gives, one after another.
+use Rattle.std.proofs.Common.{◌≡◌, ℕ, zero, suc, ◌+◌, ◌-◌, ◌<◌, ◌≤◌, List, [], ◌∷◌, ◌++◌, length, refl, ap, sym, ◌∙◌, arith, Option, Some, None}
+use Rattle.std.proofs.lemmas.List.{append-nil, append_assoc}
+use Rattle.jvms_machine.specs.declared.machine.Outcome.{Outcome}
+use Rattle.jvms_machine.specs.declared.trace.Item.{Item}
+use Rattle.machine.specs.Machine.{Machine, row_of, with_state}
+use Rattle.machine.specs.Runs.{IsRun}
+use Rattle.runs.proofs.Rows.{run_none, run_more}
+use Rattle.schedule.specs.Choosers.{Chooser, next}
+use Rattle.schedule.specs.Enabled.{enabled_threads}
+use Rattle.runs.specs.Choices.{after_turn, choices_from, first_then}
+
+-- So many turns were made of those that a chooser gives, and these are behind them.
+pub record AreTaken (before : Machine) (first : Chooser) (most : ℕ) (items_before : List Item) (made : ℕ) (choices : List ℕ) (outcomes : List Outcome) (m : Machine) (chooser : Chooser) (items : List Item) : Type 0 where
+  pub within : made ≤ most
+  pub left : choices ++ choices_from (most - made) chooser m ≡ choices_from most first before
+  pub ran : IsRun before choices outcomes m items_before items
+
+-- Which choice is next, and which chooser follows.
+abbrev pub choice_of : Chooser → Machine → Option ℕ
+choice_of chooser m = (next chooser (enabled_threads m)).0
+
+abbrev pub chooser_after : Chooser → Machine → Chooser
+chooser_after chooser m = (next chooser (enabled_threads m)).1
+
+one_left : (n : ℕ) (chooser : Chooser) (m : Machine) (t : ℕ) → choice_of chooser m ≡ Some t → choices_from (suc n) chooser m ≡ t ∷ choices_from n (chooser_after chooser m) (after_turn m t)
+unfolding choices_from
+one_left n chooser m t is = rw is refl
+
+none_left : (n : ℕ) (chooser : Chooser) (m : Machine) → choice_of chooser m ≡ None → choices_from n chooser m ≡ []
+unfolding choices_from
+none_left zero chooser m is = refl
+none_left (suc n) chooser m is = rw is refl
+
+nothing_left : (chooser : Chooser) (m : Machine) → choices_from 0 chooser m ≡ []
+unfolding choices_from
+nothing_left chooser m = refl
+
+-- No turn was made yet.
+pub taken_none : (m : Machine) (chooser : Chooser) (most : ℕ) (items : List Item) (choices : List ℕ) (outcomes : List Outcome) → choices ≡ [] → outcomes ≡ [] → AreTaken m chooser most items 0 choices outcomes m chooser items
+taken_none m chooser most items choices outcomes no_choice no_outcome =
+    rw (no_choice, no_outcome) record {
+      within = omega arith;
+      left = ap (λ n. choices_from n chooser m) (omega arith);
+      ran = run_none m items;
+    }
+
+-- So many are left: one, and those behind it.
+more_left : (most made : ℕ) → made < most → most - made ≡ suc (most - (made + 1))
+more_left most made below = omega arith
+
+-- One more turn is made.
+pub taken_more : (before : Machine) (first : Chooser) (most : ℕ) (items_before : List Item) (made : ℕ) (choices : List ℕ) (outcomes : List Outcome) (m : Machine) (chooser : Chooser) (items : List Item)
+    (t : ℕ) (o : Outcome) (after : Machine) (later : Chooser) (items_after : List Item)
+    → AreTaken before first most items_before made choices outcomes m chooser items → made < most
+    → choice_of chooser m ≡ Some t → later ≡ chooser_after chooser m
+    → o ≡ (row_of m t).outcome → after ≡ with_state m (row_of m t).state → items_after ≡ items ++ (row_of m t).items
+    → AreTaken before first most items_before (made + 1) (choices ++ t ∷ []) (outcomes ++ o ∷ []) after later items_after
+taken_more before first most items_before made choices outcomes m chooser items t o after later items_after taken below chosen later_is outcome state items_are =
+    record {
+      within = omega arith;
+      left =
+          append_assoc choices (t ∷ []) (choices_from (most - (made + 1)) later after)
+          ∙ ap (λ c. choices ++ t ∷ choices_from (most - (made + 1)) c after) later_is
+          ∙ ap (λ x. choices ++ t ∷ choices_from (most - (made + 1)) (chooser_after chooser m) x) state
+          ∙ ap (λ l. choices ++ l) (sym (one_left (most - (made + 1)) chooser m t chosen))
+          ∙ ap (λ n. choices ++ choices_from n chooser m) (sym (more_left most made below))
+          ∙ taken.left;
+      ran = run_more before m after choices outcomes items_before items items_after t o taken.ran outcome state items_are;
+    }
+
+-- No choice is left: none is given.
+pub all_given : (before : Machine) (first : Chooser) (most : ℕ) (items_before : List Item) (made : ℕ) (choices : List ℕ) (outcomes : List Outcome) (m : Machine) (chooser : Chooser) (items : List Item)
+    → AreTaken before first most items_before made choices outcomes m chooser items → choice_of chooser m ≡ None → choices ≡ choices_from most first before
+all_given before first most items_before made choices outcomes m chooser items taken none =
+    sym (append-nil choices) ∙ ap (λ l. choices ++ l) (sym (none_left (most - made) chooser m none)) ∙ taken.left
+
+-- No choice is left: as many were made as may be.
+pub all_made : (before : Machine) (first : Chooser) (most : ℕ) (items_before : List Item) (made : ℕ) (choices : List ℕ) (outcomes : List Outcome) (m : Machine) (chooser : Chooser) (items : List Item)
+    → AreTaken before first most items_before made choices outcomes m chooser items → most ≤ made → choices ≡ choices_from most first before
+all_made before first most items_before made choices outcomes m chooser items taken reached =
+    let none : most - made ≡ 0 = omega arith in
+    sym (append-nil choices) ∙ ap (λ l. choices ++ l) (sym (nothing_left chooser m)) ∙ ap (λ n. choices ++ choices_from n chooser m) (sym none) ∙ taken.left
+
+first_then_few : (n : ℕ) (o : Option ℕ) (rest : ℕ → List ℕ) → ((t : ℕ) → length (rest t) ≤ n) → length (first_then o rest) ≤ suc n
+first_then_few n None rest few = omega arith
+first_then_few n (Some t) rest few = let below = few t in omega arith
+
+-- A chooser gives no more choices than are asked for.
+pub choices_are_few : (n : ℕ) (chooser : Chooser) (m : Machine) → length (choices_from n chooser m) ≤ n
+unfolding choices_from
+choices_are_few zero chooser m = omega arith
+choices_are_few (suc n) chooser m = first_then_few n (choice_of chooser m) _ (λ t. choices_are_few n (chooser_after chooser m) (after_turn m t))

@@ -1,0 +1,3 @@
+pub mod ChosenTurns
+mod OwnTurns
+mod Rows

@@ -1,0 +1,8 @@
+//! Runs by choices: the turns that a chooser gives, or those of thread 0 alone.
+#![tactic(auto)]
+
+mod own;
+mod turns;
+
+pub use own::take_own_turns;
+pub use turns::{Turns, take_turns};

@@ -1,0 +1,51 @@
+//! The turns that a chooser gives.
+
+ghost use Rattle.std.specs.Prelude.{◌≡◌, ◌++◌, IfOk};
+ghost use Rattle.machine.specs.Machine.{with_state};
+ghost use Rattle.machine.specs.Runs.{run_of};
+ghost use Rattle.runs.specs.Choices.{choices_from};
+
+use held::items::Items;
+use machine::{Machine, Outcome, ThreadId};
+use schedule::Chooser;
+use std::alloc::{AllocError, Global};
+use trace::Trace;
+
+/// The turns of a run, in order.
+#[derive(Debug, Drop)]
+pub struct Turns {
+    /// Which thread took each turn.
+    pub choices: Items<ThreadId>,
+    /// What each turn came to.
+    pub outcomes: Items<Outcome>,
+}
+
+/// Makes the turns that a chooser gives, at most so many, and puts their items behind those of the trace. The chooser is
+/// asked before each turn, and no more once it has answered none. Without memory it stops behind some of the turns.
+pub fn take_turns(
+    alloc: Global,
+    machine: &mut Machine<'_>,
+    chooser: &mut Chooser,
+    most: u64,
+    trace: &mut Trace,
+) -> Result<Turns, AllocError>
+    ensures choices { IfOk result (λ r. r.choices ≡ choices_from most chooser.old machine.old) }
+    // Outcomes, machine and items are those of the run of these choices by the instruction table.
+    ensures outcomes { IfOk result (λ r. r.outcomes ≡ (run_of machine.old r.choices).outcomes) }
+    ensures state { IfOk result (λ r. machine.new ≡ with_state machine.old (run_of machine.old r.choices).state) }
+    ensures items { IfOk result (λ r. trace.new ≡ trace.old ++ (run_of machine.old r.choices).items) }
+{
+    let mut choices = Items::new(alloc);
+    let mut outcomes = Items::new(alloc);
+    let mut made = 0;
+    while made < most {
+        let Some(thread) = chooser.next(machine) else {
+            return Ok(Turns { choices, outcomes });
+        };
+        let outcome = machine.step(thread, trace)?;
+        choices.push(thread)?;
+        outcomes.push(outcome)?;
+        made += 1;
+    }
+    Ok(Turns { choices, outcomes })
+}
