@@ -14,4 +14,4 @@ pub use fault::TraceFault;
 pub use laws::{a_text_has_one_first_fault, a_text_is_of_one_trace, a_text_of_items_has_no_fault};
 pub use reading::read;
 pub use trace::Trace;
-pub use writing::write;
+pub use writing::{put_line, write};

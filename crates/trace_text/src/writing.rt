@@ -9,8 +9,8 @@ use jvms_machine::trace::Item;
 use std::alloc::{AllocError, Global};
 use trace::Trace;
 
-/// Puts the line of an item behind a text.
-fn put_line(out: &mut String, item: &Item) -> Result<(), AllocError>
+/// Puts the line of an item, with the LF that ends it, behind a text.
+pub fn put_line(out: &mut String, item: &Item) -> Result<(), AllocError>
     ensures { OnOk result (string_bytes out.new ≡ string_bytes out.old ++ item_line item.now) }
 {
     put_item(out, item)?;

@@ -1,0 +1,2 @@
+pub mod SerialTexts
+pub mod VerdictTexts

@@ -1,0 +1,99 @@
+-- What is said of a trace's text (own): the verdict of the walk of its items, or the first fault.
+use Rattle.std.specs.Prelude.{◌≡◌, ℕ, ◌+◌, Bool, true, false, List, [], ◌∷◌, ◌++◌, length, Option, Some, None, Err}
+use Rattle.std.specs.Io.KnownBytes.{Appends}
+use Rattle.jvms_machine.specs.declared.trace.Item.{Item}
+use Rattle.velodrome.specs.declared.verdict.Verdict.{Verdict}
+use Rattle.velodrome.specs.declared.verdict.Verdict.TheVariants as verdict
+use Rattle.velodrome.specs.Rearrangements.{IsSerial}
+use Rattle.velodrome.specs.Specification.{Specification}
+use Rattle.velodrome.specs.Transactions.{Walk}
+use Rattle.velodrome.specs.Verdicts.{IsVerdict}
+use Rattle.trace.specs.Bytes.{AppendsBeginning}
+use Rattle.trace_text.specs.Traces.{IsRead, IsTextOf}
+use Rattle.atom_graph.specs.declared.counts.Counts.{Counts}
+use Rattle.atom_graph.specs.declared.fault.FeedFault.{FeedFault}
+use Rattle.atom_graph.specs.declared.fault.FeedFault.TheVariants as feed
+use Rattle.atom_graph.specs.Checking.{Fed, fault_of, walk_of, with_item}
+use Rattle.report.specs.SerialTexts.{serial_text}
+use Rattle.report.specs.VerdictTexts.{verdict_text}
+use Rattle.trace_check.specs.declared.fault.CheckFault.{CheckFault}
+use Rattle.trace_check.specs.declared.fault.CheckFault.TheVariants as check
+
+-- ---- Feeding
+
+abbrev pub fed_nothing : Specification → Fed
+fed_nothing lines = record { lines = lines; items = [] }
+
+-- The item of this line is refused, or else the first behind it.
+abbrev pub refused_or : ℕ → Option FeedFault → Option (ℕ × FeedFault) → Option (ℕ × FeedFault)
+refused_or line None behind = behind
+refused_or line (Some why) behind = Some (line, why)
+
+-- The first of these items, an item a line from this line on, that isn't taken behind those that were.
+abbrev pub first_refused : Fed → ℕ → List Item → Option (ℕ × FeedFault)
+first_refused fed line [] = None
+first_refused fed line (i ∷ items) = refused_or line (fault_of fed i) (first_refused (with_item i fed) (line + 1) items)
+
+abbrev pub refusal_of : ℕ → FeedFault → CheckFault
+refusal_of line feed.Unmatched = check.Unmatched line
+refusal_of line feed.TooMany = check.TooMany
+refusal_of line feed.Memory = check.ItemMemory
+
+-- A fault is that of the item that isn't taken, unless memory ran out.
+abbrev pub IsRefused : Option (ℕ × FeedFault) → CheckFault → Type 0
+IsRefused refused check.Memory = Unit {0}
+IsRefused refused check.ItemMemory = Unit {0}
+IsRefused refused fault = (line : ℕ) × (why : FeedFault) × (refused ≡ Some (line, why)) × (fault ≡ refusal_of line why)
+
+-- ---- What is said
+
+abbrev pub counts_of : Walk → Counts
+counts_of w = record { events = length w.events; transactions = w.transactions }
+
+-- The lines of the events in a serial order.
+abbrev pub AreSerialLines : Walk → List Item → List ℕ → Type 0
+AreSerialLines w items part = (numbers : List ℕ) × IsSerial w.events numbers × (part ≡ serial_text items numbers)
+
+-- What stands behind the line of a verdict: the events in a serial order, where these were asked for and there is one.
+abbrev pub IsPart : Walk → List Item → Bool → Verdict → List ℕ → Type 0
+IsPart w items false v part = part ≡ []
+IsPart w items true (verdict.Cycle first_at transactions pairs) part = part ≡ []
+IsPart w items true (verdict.Atomic order) part = AreSerialLines w items part
+
+abbrev pub IsSaid : Walk → List Item → Bool → Verdict → List ℕ → Type 0
+IsSaid w items serial v said =
+    (part : List ℕ) × IsPart w items serial v part × (said ≡ verdict_text v (counts_of w) ++ part)
+
+-- The text is that of items, all of which are taken; the verdict is of their walk, and this is said.
+pub record IsChecked (lines : Specification) (text : List ℕ) (serial : Bool) (v : Verdict) (said : List ℕ) : Type 0 where
+  pub items : List Item
+  pub spelled : IsTextOf text items
+  pub taken : first_refused (fed_nothing lines) 1 items ≡ None
+  pub judged : IsVerdict (walk_of (record { lines = lines; items = items })) v
+  pub told : IsSaid (walk_of (record { lines = lines; items = items })) items serial v said
+
+-- What is said was written, and nothing else.
+abbrev pub Wrote : Specification → List ℕ → Bool → Option (List ℕ) → Option (List ℕ) → Verdict → Type 0
+Wrote lines text serial old new v = (said : List ℕ) × IsChecked lines text serial v said × Appends old new said
+
+-- A beginning of it was written.
+abbrev pub WroteBeginning : Specification → List ℕ → Bool → Option (List ℕ) → Option (List ℕ) → Type 0
+WroteBeginning lines text serial old new =
+    (v : Verdict) × (said : List ℕ) × IsChecked lines text serial v said × AppendsBeginning old new said
+
+-- ---- Faults
+
+-- The text is that of items, of which the first that isn't taken has this fault.
+abbrev pub IsRefusedIn : Specification → List ℕ → CheckFault → Type 0
+IsRefusedIn lines text fault =
+    (items : List Item) × IsTextOf text items × IsRefused (first_refused (fed_nothing lines) 1 items) fault
+
+-- A fault is the first that stands: lines that are no items' come before items that aren't taken. Where memory ran out, or
+-- the writer failed, none need stand.
+abbrev pub IsFault : Specification → List ℕ → CheckFault → Type 0
+IsFault lines text (check.Trace why) = IsRead text (Err why)
+IsFault lines text (check.Unmatched line) = IsRefusedIn lines text (check.Unmatched line)
+IsFault lines text check.TooMany = IsRefusedIn lines text check.TooMany
+IsFault lines text check.ItemMemory = Unit {0}
+IsFault lines text check.Memory = Unit {0}
+IsFault lines text check.Output = Unit {0}

@@ -1,0 +1,11 @@
+//! What is said of a trace's text: whether the methods that a specification calls atomic were.
+#![tactic(auto)]
+
+mod checking;
+mod fault;
+mod feeding;
+mod saying;
+
+pub use checking::check;
+pub use fault::CheckFault;
+pub use saying::Checked;
