@@ -1,0 +1,4 @@
+mod Classes
+mod Fed
+mod ShownRuns
+mod Uncaught

@@ -1,0 +1,47 @@
+-- Faults are why nothing was run, unless memory ran out.
+use Rattle.std.specs.Prelude.{◌≡◌, ◌<◌, ℕ, List, Result, Err}
+use Rattle.jvms_file.specs.declared.class_file.ClassFile.{ClassFile}
+use Rattle.jvms_machine.specs.Opening.{no_entry, no_limits}
+use Rattle.inputs.specs.declared.fault.InputFault.{InputFault}
+use Rattle.inputs.specs.Inputs as inputs
+use Rattle.linker.specs.declared.fault.LinkFault.{LinkFault}
+use Rattle.linker.specs.declared.fault.LinkFault.TheVariants as link_fault
+use Rattle.machine.specs.declared.fault.MachineFault.{MachineFault}
+use Rattle.machine.specs.declared.fault.MachineFault.TheVariants as machine_fault
+use Rattle.judge.specs.declared.fault.JudgeFault.{JudgeFault}
+use Rattle.judge.specs.declared.fault.JudgeFault.TheVariants as judge_fault
+use Rattle.judge.specs.Programs.{NotRun, no_class, not_linked, not_made}
+
+-- It names one of so many inputs.
+abbrev pub NamesFile : ℕ → JudgeFault → Type 0
+NamesFile files (judge_fault.Input file fault) = file < files
+NamesFile files (judge_fault.Link fault) = Unit {0}
+NamesFile files (judge_fault.Machine fault) = Unit {0}
+NamesFile files judge_fault.Memory = Unit {0}
+
+-- Why an input is no class.
+abbrev pub IsFileFault : {A : Type 0} → ℕ → InputFault → Result A NotRun → Type 0
+IsFileFault file fault said = inputs.IsFault (no_class file) fault said
+
+-- Why the classes weren't had.
+abbrev pub IsClassesFault : JudgeFault → Result (List ClassFile) NotRun → Type 0
+IsClassesFault (judge_fault.Input file fault) said = IsFileFault file fault said
+IsClassesFault (judge_fault.Link fault) said = ⊥
+IsClassesFault (judge_fault.Machine fault) said = ⊥
+IsClassesFault judge_fault.Memory said = Unit {0}
+
+abbrev pub IsLinkFault : {A : Type 0} → LinkFault → Result A NotRun → Type 0
+IsLinkFault link_fault.Memory said = Unit {0}
+IsLinkFault fault said = said ≡ Err (not_linked fault)
+
+abbrev pub IsMachineFault : {A : Type 0} → MachineFault → Result A NotRun → Type 0
+IsMachineFault machine_fault.Memory said = Unit {0}
+IsMachineFault machine_fault.NoEntry said = said ≡ Err (not_made no_entry)
+IsMachineFault machine_fault.Limits said = said ≡ Err (not_made no_limits)
+
+-- A fault is what was said.
+abbrev pub IsFault : {A : Type 0} → JudgeFault → Result A NotRun → Type 0
+IsFault (judge_fault.Input file fault) said = IsFileFault file fault said
+IsFault (judge_fault.Link fault) said = IsLinkFault fault said
+IsFault (judge_fault.Machine fault) said = IsMachineFault fault said
+IsFault judge_fault.Memory said = Unit {0}

@@ -1,0 +1,5 @@
+pub mod Faults
+pub mod Judgement
+pub mod Programs
+pub mod Shown
+pub mod Uncaught

@@ -1,0 +1,59 @@
+//! Why nothing was run and judged.
+
+ghost use Rattle.std.specs.Prelude.{◌≡◌};
+ghost use Rattle.judge.specs.declared.fault.JudgeFault.TheVariants.{Link, Machine, Memory};
+
+use inputs::InputFault;
+use linker::LinkFault;
+use machine::MachineFault;
+use std::alloc::{AllocError, AllocFailed};
+use thiserror::Error;
+
+/// Why a program wasn't run and judged.
+#[derive(Clone, Copy, Debug, PartialEq, Eq, Error)]
+pub enum JudgeFault {
+    /// C01 to C18, J01 to J12, A01 to A08: the input of this place, from 0, is no class, or there was no memory for it.
+    #[error("file {file}: {fault}")]
+    Input { file: usize, fault: InputFault },
+    /// K01 to K06: the classes make no program, or there was no memory for it.
+    #[error("{0}")]
+    Link(LinkFault),
+    /// M01 to M03: there is no machine for the entry.
+    #[error("{0}")]
+    Machine(MachineFault),
+    /// There was no memory for anything else.
+    #[error("Memory")]
+    Memory,
+}
+
+impl From<LinkFault> for JudgeFault {
+    ghost from_gives = { λ fault error. error ≡ Link fault };
+
+    fn from(fault: LinkFault) -> JudgeFault {
+        JudgeFault::Link(fault)
+    }
+}
+
+impl From<MachineFault> for JudgeFault {
+    ghost from_gives = { λ fault error. error ≡ Machine fault };
+
+    fn from(fault: MachineFault) -> JudgeFault {
+        JudgeFault::Machine(fault)
+    }
+}
+
+impl From<AllocError> for JudgeFault {
+    ghost from_gives = { λ _ error. error ≡ Memory };
+
+    fn from(_error: AllocError) -> JudgeFault {
+        JudgeFault::Memory
+    }
+}
+
+impl<T: Drop> From<AllocFailed<T>> for JudgeFault {
+    ghost from_gives = { λ _ error. error ≡ Memory };
+
+    fn from(_error: AllocFailed<T>) -> JudgeFault {
+        JudgeFault::Memory
+    }
+}

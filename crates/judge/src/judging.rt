@@ -1,0 +1,119 @@
+//! A run by a chooser's choices, and whether it is atomic.
+
+ghost use Rattle.std.specs.Prelude.{◌≡◌, length, IfOk, IfErr, Ok};
+ghost use Rattle.judge.specs.Faults.{IsFault, NamesFile};
+ghost use Rattle.judge.specs.Judgement.{IsJudgement};
+ghost use Rattle.judge.specs.Shown.{program_judged, run_judged, run_shown, shown_of};
+
+use crate::ending::{Uncaught, uncaught_threads};
+use crate::fault::JudgeFault;
+use crate::verdicts::{Judgement, judge_trace};
+use crate::reading::program_of;
+use atom_spec::Spec;
+use held::items::Items;
+use inputs::Input;
+use jvms_machine::value::Value;
+use machine::{Entry, Limits, Machine, Outcome, Status, ThreadId};
+use program::Program;
+use runs::take_turns;
+use schedule::Chooser;
+use std::alloc::{AllocError, Global};
+use trace::Trace;
+use turn_limit::TurnLimit;
+
+/// A run, and what is said of it.
+#[derive(Debug, Drop)]
+pub struct Judged {
+    /// Which thread took each turn, in order.
+    pub choices: Items<ThreadId>,
+    /// What each turn came to, in order.
+    pub outcomes: Items<Outcome>,
+    /// What the entry's method returned: nothing where it is void, or hasn't returned.
+    pub result: Option<Value>,
+    /// The bytes that the program wrote.
+    pub output: Items<u8>,
+    /// The items of the turns, in order.
+    pub trace: Trace,
+    pub status: Status,
+    /// The threads that ended with an exception, in rising order.
+    pub uncaught: Items<Uncaught>,
+    /// Whether the trace is atomic, if a specification asks for it.
+    pub judgement: Option<Judgement>,
+}
+
+/// Runs a machine by the choices of a chooser, at most so many. Nothing is said of the trace yet.
+fn run_machine(
+    alloc: Global,
+    machine: &mut Machine<'_>,
+    chooser: &mut Chooser,
+    most: u64,
+) -> Result<Judged, AllocError>
+    ensures { IfOk result (λ j. run_shown j ≡ shown_of most chooser.old machine.old) }
+{
+    let mut trace = Trace::new(alloc);
+    let turns = take_turns(alloc, machine, chooser, most, &mut trace)?;
+    let output = machine.output().to_vec(alloc)?;
+    Ok(Judged {
+        choices: turns.choices,
+        outcomes: turns.outcomes,
+        result: machine.result(),
+        output: Items::from_vec(output),
+        trace,
+        status: machine.status(),
+        uncaught: uncaught_threads(alloc, machine)?,
+        judgement: None,
+    })
+}
+
+/// Runs a program from its entry on by the choices of a chooser, at most so many.
+#[tactic(auto, unfolding(crate::specs::Shown::program_judged))]
+fn run_program(
+    alloc: Global,
+    program: &Program,
+    limits: Limits,
+    entry: &Entry,
+    chooser: &mut Chooser,
+    most: u64,
+) -> Result<Judged, JudgeFault>
+    ensures exact { IfOk result (λ j. program_judged most chooser.old limits program.now entry.now ≡ Ok (run_shown j)) }
+    ensures fault { IfErr result (λ fault. IsFault fault (program_judged most chooser.old limits program.now entry.now)) }
+    ensures named { IfErr result (λ fault. NamesFile 0 fault) }
+{
+    let mut machine = Machine::new(alloc, program, limits, entry)?;
+    let judged = run_machine(alloc, &mut machine, chooser, most)?;
+    Ok(judged)
+}
+
+/// Runs the program that class files and sources make, from its entry on, and judges the run by the specification, if
+/// there is one.
+///
+/// # Errors
+///
+/// The fault of the first input that is no class; else why the classes can't be linked; else why there is no machine. No
+/// item of a run is at fault with a checker: each exit is of its thread's innermost method, and there are no more events
+/// than turns.
+#[tactic(auto, unfolding(crate::specs::Shown::run_judged))]
+pub fn judge(
+    alloc: Global,
+    inputs: &[Input],
+    limits: Limits,
+    entry: &Entry,
+    chooser: &mut Chooser,
+    most: TurnLimit,
+    spec: Option<Spec>,
+) -> Result<Judged, JudgeFault>
+    // Its choices are all that the chooser gives, up to the most; outcomes, result, output, trace, status and uncaught
+    // are those of the run of these choices by the instruction table over the program of the inputs.
+    ensures exact { IfOk result (λ j. run_judged most chooser.old limits inputs.now entry.now ≡ Ok (run_shown j)) }
+    // The verdict on the trace, and its counts; none without a specification.
+    ensures judged { IfOk result (λ j. IsJudgement spec j.trace j.judgement) }
+    // A fault comes only where its condition stands, and that of an input names one of these.
+    ensures fault { IfErr result (λ fault. IsFault fault (run_judged most chooser.old limits inputs.now entry.now)) }
+    ensures named { IfErr result (λ fault. NamesFile (length inputs.now) fault) }
+{
+    let program = program_of(alloc, inputs)?;
+    program.is_program();
+    let mut judged = run_program(alloc, &program, limits, entry, chooser, most.turns())?;
+    judged.judgement = judge_trace(alloc, spec, &judged.trace)?;
+    Ok(judged)
+}

@@ -1,0 +1,54 @@
+//! From class files and sources to their program.
+
+ghost use Rattle.std.specs.Prelude.{◌≡◌, length, IfOk, IfErr};
+ghost use Rattle.inputs.specs.Inputs.{Becomes, class_in};
+ghost use Rattle.judge.specs.Faults.{IsClassesFault, IsFault, NamesFile};
+ghost use Rattle.judge.specs.Programs.{classes_from, program_in};
+
+use crate::fault::JudgeFault;
+use inputs::{Input, InputFault, class_of};
+use jvms_file::class_file::ClassFile;
+use linker::link;
+use program::Program;
+use std::alloc::Global;
+
+/// The class that an input is.
+fn class_of_input(alloc: Global, input: &Input) -> Result<ClassFile, InputFault>
+    ensures { Becomes result (class_in input.now) }
+{
+    let class = class_of(alloc, input)?;
+    Ok(class.into_class())
+}
+
+/// The classes of inputs, or the first that is none.
+fn read_all(alloc: Global, inputs: &[Input]) -> Result<Vec<ClassFile>, JudgeFault>
+    ensures classes { IfOk result (λ classes. classes_from 0 inputs.now ≡ Ok classes.items) }
+    ensures fault { IfErr result (λ fault. IsClassesFault fault (classes_from 0 inputs.now)) }
+    ensures named { IfErr result (λ fault. NamesFile (length inputs.now) fault) }
+{
+    let mut classes = Vec::new(alloc);
+    for (file, input) in inputs.iter().enumerate() {
+        match class_of_input(alloc, input) {
+            Ok(class) => classes.push(class)?,
+            Err(fault) => return Err(JudgeFault::Input { file, fault }),
+        }
+    }
+    Ok(classes)
+}
+
+/// The program that class files and sources make with the built-in classes (JVMS 5.3).
+///
+/// # Errors
+///
+/// The fault of the first input that is no class; else why the classes can't be linked.
+#[tactic(auto, unfolding(crate::specs::Programs::program_in))]
+pub fn program_of(alloc: Global, inputs: &[Input]) -> Result<Program, JudgeFault>
+    ensures exact { IfOk result (λ program. program_in inputs.now ≡ Ok program) }
+    // A fault comes only where its condition stands, and that of an input names one of these.
+    ensures fault { IfErr result (λ fault. IsFault fault (program_in inputs.now)) }
+    ensures named { IfErr result (λ fault. NamesFile (length inputs.now) fault) }
+{
+    let classes = read_all(alloc, inputs)?;
+    let program = link(alloc, classes)?;
+    Ok(program)
+}
