@@ -52,8 +52,8 @@ run_may_be_fed lines program limits start choices is are starts short =
     λ before after i parts.
     no_fault lines before i (items_are_matched lines program limits start is are starts choices before after i parts)
     (λ event. events_before lines before i 100000000
-      (let few = run_begins_with_few_events lines program limits start (opening program) choices (before ++ i ∷ []) after (parts ∙ sym (append_assoc before (i ∷ []) after)) in omega arith)
-      event)
+    (let few = run_begins_with_few_events lines program limits start (opening program) choices (before ++ i ∷ []) after (parts ∙ sym (append_assoc before (i ∷ []) after)) in omega arith)
+    event)
 
 split_at : (items : List Item) (k : ℕ) (i : Item) → slice_get items k ≡ Some i → items ≡ take k items ++ i ∷ drop (suc k) items
 split_at [] k i is = absurd (none-some i is)

@@ -29,10 +29,7 @@ fn tell_uncaught(
 }
 
 /// The threads that ended with an exception, in rising order, each with the exception's class.
-pub fn uncaught_threads(
-    alloc: Global,
-    machine: &Machine<'_>,
-) -> Result<Items<Uncaught>, AllocError>
+pub fn uncaught_threads(alloc: Global, machine: &Machine<'_>) -> Result<Items<Uncaught>, AllocError>
     ensures { IfOk result (λ threads. threads ≡ uncaught_threads machine.now.state) }
 {
     // There are no more threads than the limit, so that each has a number.

@@ -7,8 +7,8 @@ ghost use Rattle.judge.specs.Shown.{program_judged, run_judged, run_shown, shown
 
 use crate::ending::{Uncaught, uncaught_threads};
 use crate::fault::JudgeFault;
-use crate::verdicts::{Judgement, judge_trace};
 use crate::reading::program_of;
+use crate::verdicts::{Judgement, judge_trace};
 use atom_spec::Spec;
 use held::items::Items;
 use inputs::Input;

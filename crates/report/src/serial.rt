@@ -53,11 +53,7 @@ fn put_event(out: &mut String, events: &[&Item], number: u64) -> Result<(), Allo
 
 /// The events of a trace in an order that is told by their numbers, one a line: its number from 1, a space, and its line of
 /// the trace.
-pub fn serial_lines(
-    alloc: Global,
-    items: &[Item],
-    numbers: &[u64],
-) -> Result<String, AllocError>
+pub fn serial_lines(alloc: Global, items: &[Item], numbers: &[u64]) -> Result<String, AllocError>
     ensures { IfOk result (λ s. string_bytes s ≡ serial_text items.now numbers.now) }
 {
     let events = events_of(alloc, items)?;
