@@ -2,17 +2,21 @@
 
 use crate::entry::{arguments_of, main_entry, natural_of, static_entry};
 use crate::fault::WordsFault;
-use crate::help::{ASM_HELP, EVAL_HELP, HELP, LIST_HELP, RUN_HELP};
-use crate::syntax::{ARGUMENTS, ENTRY, FILE, FILES, INPUT, MOST, OUTPUT, syntax};
+use crate::help::{ASM_HELP, CHECK_HELP, EVAL_HELP, HELP, LIST_HELP, RUN_HELP, TRACE_HELP};
+use crate::syntax::{
+    ARGUMENTS, ENTRY, FILE, FILES, INPUT, MOST, OUTPUT, SCHEDULE, SERIAL, SPECIFICATION, TRACE,
+    syntax,
+};
 use clap::ArgMatches;
 use jvms_machine::machine::Entry;
 use std::alloc::Global;
+use turn_limit::TurnLimit;
 
-/// How many turns are made at most where `--max` doesn't say it.
+/// Which thread takes each turn where `--sched` doesn't say it.
+const DEFAULT_SCHEDULE: &str = "rr:1";
+
+/// How many turns are taken at most where `--max` doesn't say it.
 const DEFAULT_MOST: u64 = 1_000_000;
-
-/// The most that `--max` may say.
-const MOST_TURNS: u64 = 100_000_000;
 
 /// What a line of words asks for.
 #[derive(Debug, Drop)]
@@ -21,6 +25,10 @@ pub enum Command<'a> {
     Eval(ProgramWords<'a>),
     /// To run a program and print what it writes.
     Run(RunWords<'a>),
+    /// To run a program and print the trace of its threads. Its words name no specification.
+    Trace(RunWords<'a>),
+    /// To tell whether a trace is atomic.
+    Check(CheckWords<'a>),
     /// To write the class file of a source.
     Asm(AsmWords<'a>),
     /// To print the source that the class of a FILE is listed as.
@@ -31,7 +39,7 @@ pub enum Command<'a> {
     Version,
 }
 
-/// The words of `eval`, and of `run` beside its options: a program and where it begins.
+/// The words of `eval`, and of `run` and `trace` beside their options: a program and where it begins.
 #[derive(Debug, Drop)]
 pub struct ProgramWords<'a> {
     pub entry: Entry,
@@ -41,12 +49,27 @@ pub struct ProgramWords<'a> {
     pub files: Vec<&'a str>,
 }
 
-/// The words of `run`.
+/// The words of `run` and of `trace`.
 #[derive(Debug, Drop)]
 pub struct RunWords<'a> {
     pub program: ProgramWords<'a>,
-    /// How many turns are made at most.
-    pub most: u64,
+    /// Which thread takes each turn, as the words have it. It may be no schedule.
+    pub schedule: &'a str,
+    /// How many turns are taken at most.
+    pub most: TurnLimit,
+    /// The file that says which methods are to be atomic, if one does.
+    pub spec: Option<&'a str>,
+}
+
+/// The words of `check`.
+#[derive(Debug, Drop)]
+pub struct CheckWords<'a> {
+    /// The file that says which methods are to be atomic.
+    pub spec: &'a str,
+    /// The file of the trace.
+    pub trace: &'a str,
+    /// Whether the events of an atomic trace are printed in a serial order.
+    pub serial: bool,
 }
 
 /// The words of `asm`.
@@ -116,20 +139,33 @@ fn eval_words<'a>(alloc: Global, matches: &ArgMatches<'a>) -> Result<ProgramWord
 }
 
 /// How many turns the words allow.
-fn most_of(matches: &ArgMatches<'_>) -> Result<u64, WordsFault> {
-    match matches.get_str(MOST) {
-        None => Ok(DEFAULT_MOST),
-        Some(text) => match natural_of(text) {
-            Some(most) if most <= MOST_TURNS => Ok(most),
-            _ => Err(WordsFault::Words),
-        },
-    }
+fn most_of(matches: &ArgMatches<'_>) -> Result<TurnLimit, WordsFault> {
+    let most = match matches.get_str(MOST) {
+        None => DEFAULT_MOST,
+        Some(text) => natural_of(text).ok_or(WordsFault::Words)?,
+    };
+    TurnLimit::new(most).ok_or(WordsFault::Words)
 }
 
-fn run_words<'a>(alloc: Global, matches: &ArgMatches<'a>) -> Result<RunWords<'a>, WordsFault> {
+/// The words of a command that runs a program, with this specification.
+fn run_words<'a>(
+    alloc: Global,
+    matches: &ArgMatches<'a>,
+    spec: Option<&'a str>,
+) -> Result<RunWords<'a>, WordsFault> {
     Ok(RunWords {
         program: program_words(alloc, matches)?,
+        schedule: matches.get_str(SCHEDULE).unwrap_or(DEFAULT_SCHEDULE),
         most: most_of(matches)?,
+        spec,
+    })
+}
+
+fn check_words<'a>(matches: &ArgMatches<'a>) -> Result<CheckWords<'a>, WordsFault> {
+    Ok(CheckWords {
+        spec: matches.get_str(SPECIFICATION).ok_or(WordsFault::Words)?,
+        trace: matches.get_str(TRACE).ok_or(WordsFault::Words)?,
+        serial: matches.get_flag(SERIAL),
     })
 }
 
@@ -155,6 +191,8 @@ fn help_of(command: &str) -> Option<Command<'static>> {
     match command {
         "eval" => Some(Command::Help(EVAL_HELP)),
         "run" => Some(Command::Help(RUN_HELP)),
+        "trace" => Some(Command::Help(TRACE_HELP)),
+        "check" => Some(Command::Help(CHECK_HELP)),
         "asm" => Some(Command::Help(ASM_HELP)),
         "list" => Some(Command::Help(LIST_HELP)),
         _ => None,
@@ -182,22 +220,39 @@ fn text_command(words: &[String]) -> Option<Command<'static>> {
     }
 }
 
+/// What the matches of a command ask for.
+fn matched<'a>(
+    alloc: Global,
+    name: &str,
+    matches: &ArgMatches<'a>,
+) -> Result<Command<'a>, WordsFault> {
+    match name {
+        "eval" => Ok(Command::Eval(eval_words(alloc, matches)?)),
+        "run" => {
+            let spec = matches.get_str(SPECIFICATION);
+            Ok(Command::Run(run_words(alloc, matches, spec)?))
+        }
+        "trace" => Ok(Command::Trace(run_words(alloc, matches, None)?)),
+        "check" => Ok(Command::Check(check_words(matches)?)),
+        "asm" => Ok(Command::Asm(asm_words(matches)?)),
+        "list" => Ok(Command::List(list_word(matches)?)),
+        _ => Err(WordsFault::Words),
+    }
+}
+
 /// What the words behind the program's name ask for: one of the texts, or a command whose options and FILEs
 /// stand in any order behind it. `--x V` is `--x=V`, and behind `--` all words are FILEs.
 ///
 /// P04 where they are no such line: an option that is unknown, comes twice, or has no value; a value that
 /// begins with `-` and isn't joined by `=`; no FILE; an entry, an argument or a number out of its form; a main class
-/// in `eval`, or with arguments.
+/// in `eval`, or with arguments. A schedule isn't read here.
 pub fn command_of<'a>(alloc: Global, words: &'a [String]) -> Result<Command<'a>, WordsFault> {
     if let Some(command) = text_command(words) {
         return Ok(command);
     }
     let matches = syntax(alloc)?.try_get_matches_from(words)?;
     match matches.subcommand() {
-        Some(("eval", matches)) => Ok(Command::Eval(eval_words(alloc, matches)?)),
-        Some(("run", matches)) => Ok(Command::Run(run_words(alloc, matches)?)),
-        Some(("asm", matches)) => Ok(Command::Asm(asm_words(matches)?)),
-        Some(("list", matches)) => Ok(Command::List(list_word(matches)?)),
-        _ => Err(WordsFault::Words),
+        Some((name, matches)) => matched(alloc, name, matches),
+        None => Err(WordsFault::Words),
     }
 }

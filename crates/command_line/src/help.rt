@@ -3,21 +3,24 @@
 /// `jvmx --help`
 pub const HELP: &str = "\
 jvmx: runs Java class files and sources in Jasmin, one turn of one thread at a
-time
+time, and tells whether methods were atomic in a run
 
 Usage: jvmx COMMAND WORDS
 
   eval           runs a static method on int arguments and prints what it gives
-  run            runs a program and prints what it writes
+  run            runs a program and prints what it writes; with --spec, tells
+                 whether methods were atomic in that run
+  trace          runs a program and prints what its threads did
+  check          reads what threads did and tells whether methods were atomic
   asm            writes the class file of a source
   list           prints a class file as a source
   help           prints this text; help COMMAND, how that command is used
   -h, --help     prints this text; behind a command, how that command is used
   -V, --version  prints the program's name and version
 
-Exit status: 0; 1 where a run didn't finish or an exception wasn't caught; 2
-where words or inputs are refused; 3 where memory ran out or a file, standard
-output or standard error failed.
+Exit status: 0; 1 where a run didn't finish, an exception wasn't caught or
+methods weren't atomic; 2 where words or inputs are refused; 3 where memory ran
+out or a file, standard output or standard error failed.
 
 A refusal is one line on standard error, jvmx: FILE: CODE NAME. docs/REFUSALS.md
 says what each code means and what usually causes it.
@@ -47,12 +50,12 @@ Usage: jvmx eval --entry C.m.D [--args N,N] FILE...
 Options and FILEs stand in any order. --args=48,36 is --args 48,36, and behind
 -- all words are FILEs.
 
-The method runs by itself, as thread 0, for at most 1000000 turns, with at most
-1000000 objects, 10000000 elements of arrays, 64 threads and 1024 frames a
-thread. Today the instructions of ints, locals, the stack, jumps, switches and
-calls run, and returns. Objects, fields, arrays, handlers of exceptions, long,
-float and double don't run yet: the run stands still before such an instruction,
-and behind an exception that is thrown, with status Stalled.
+The method runs as thread 0, which takes all turns, at most 1000000: threads
+that it starts wait. jvmx run lets them run. A run has at most 1000000 objects,
+10000000 elements of arrays, 64 threads and 1024 frames a thread.
+
+All instructions run but those of long, float and double: a thread stands still
+before one of these, and where no thread can go on, the status is Stalled.
 
 Standard output: the result and a line end, an int in decimal, a reference as
 null or R:n. Where there is no result, standard error: uncaught T C for each
@@ -70,7 +73,7 @@ prints 12
 pub const RUN_HELP: &str = "\
 jvmx run: runs a program and prints what it writes
 
-Usage: jvmx run --entry E [--args N,N] [--max N] FILE...
+Usage: jvmx run --entry E [--args N,N] [--sched S] [--max N] [--spec F] FILE...
 
   --entry E   where the program begins (required). Without a dot it is a class,
               whose method main([Ljava/lang/String;)V runs on no strings; else a
@@ -78,26 +81,117 @@ Usage: jvmx run --entry E [--args N,N] [--max N] FILE...
               examples: --entry a/b/C, --entry 'G.gcd.(II)I'
   --args N,N  the arguments of a static method, as jvmx help eval says; main has
               none
-  --max N     how many turns may be made: decimal digits, at most 100000000
+  --sched S   which thread takes each turn (default: rr:1)
+              list:0,0,1  these threads, one turn each, and then none; the turn
+                          of a thread that isn't enabled changes nothing
+              rr:Q        the enabled threads by rising number and round, each
+                          for Q turns; Q is from 1 to 1000000
+              seed:S:K    the enabled thread that a random number picks; S, the
+                          generator's state, and K, its stream, are below
+                          18446744073709551616
+              examples: --sched list:0,0,1, --sched rr:2, --sched seed:42:54
+  --max N     how many turns may be taken: decimal digits, at most 100000000
               (default: 1000000)
+  --spec F    which methods are to be atomic, as jvmx help check says: tells
+              whether they were
   FILE...     the classes of the program, as jvmx help eval says
 
 Options and FILEs stand in any order. --max=9 is --max 9, and behind -- all
 words are FILEs.
 
-Thread 0 takes turns while it can. jvmx help eval tells the limits of the run
-and which instructions run today.
+Threads have numbers from 0, in the order of their starts; the entry runs as
+thread 0. A thread is enabled where it can go on: it hasn't ended, waits for no
+other thread, and isn't before an instruction that doesn't run. The run ends
+where no thread is enabled, the list is at its end, or --max turns were taken.
+jvmx help eval has its other limits, and what runs.
 
 Standard output: the bytes that the program writes. Standard error: uncaught T C
 for each thread T that ended with an exception, of class C; then status S turns
-N, with S one of Finished, Running, Stalled, Deadlocked. C is written as names
-are in --entry.
+N, with S one of Finished, Running, Stalled, Deadlocked; with --spec, then the
+line that jvmx check prints. C is written as names are in --entry.
+
+Exit status: 0 where the status is Finished, no exception is uncaught and, with
+--spec, no cycle was found, else 1; 2 and 3 as jvmx --help says.
+docs/REFUSALS.md explains the codes of refusals.
+
+Example: jvmx run --entry LostUpdate --sched rr:1 examples/threads/LostUpdate.j
+prints 1, though each of two threads adds 1
+";
+
+/// `jvmx trace --help`
+pub const TRACE_HELP: &str = "\
+jvmx trace: runs a program and prints what its threads did
+
+Usage: jvmx trace --entry E [--args N,N] [--sched S] [--max N] FILE...
+
+Options and FILEs are those of jvmx run, as jvmx help run says, but for --spec.
+What the program writes isn't printed.
+
+Standard output: the trace, a line for each thing that a thread did, in order:
+
+  rd T V       thread T read the variable V
+  wr T V       it wrote V
+  acq T R      it took the monitor of object R
+  rel T R      it gave that monitor up
+  fork T U     it started thread U
+  join T U     it saw that thread U had ended
+  enter T M    it called the method M
+  exit T M     it left M, by a return or by an exception
+
+M is C.m.D, a class, a method's name and its descriptor. V is C.x.D for a static
+field, R.C.x.D for a field of object R, and R[i] for an element of array R, with
+C the class that declares the field. Names are written as in --entry. Methods
+and fields of built-in classes have no lines. A monitor that a thread owns
+already is neither taken nor given up.
 
 Exit status: 0 where the status is Finished and no exception is uncaught, else
 1; 2 and 3 as jvmx --help says. docs/REFUSALS.md explains the codes of refusals.
 
-Example: jvmx run --entry 'G.gcd.(II)I' --args 48,36 examples/G.j
-writes status Finished turns 25 to standard error
+Example: jvmx trace --entry LostUpdate examples/threads/LostUpdate.j
+";
+
+/// `jvmx check --help`
+pub const CHECK_HELP: &str = "\
+jvmx check: reads what threads did and tells whether methods were atomic
+
+Usage: jvmx check --spec F [--serial] TRACE
+
+  --spec F  which methods are to be atomic (required): lines atomic P or plain
+            P, with P one of
+            *      all methods
+            C.*    the methods that class C declares
+            C.m    those of C whose name is m
+            C.m.D  the method of C with name m and descriptor D
+            The last line that speaks of a method decides; without one it is
+            plain. <clinit> and methods of built-in classes always are. Empty
+            lines and lines that begin with # are skipped. Names are written as
+            in --entry (jvmx help eval)
+  --serial  where the trace is atomic, also prints its events in a serial order
+  TRACE     the trace, as jvmx trace prints it (jvmx help trace has its lines)
+
+Options and TRACE stand in any order. --spec=F is --spec F, and behind -- a word
+is TRACE. Each file is in UTF-8 and has at most 67108864 bytes.
+
+Events are all lines but enter and exit, numbered from 1. What a thread does
+from the entry of an atomic method to its exit is one transaction, with all that
+it calls; any other event is one alone. Two events conflict where they are of
+one thread, on one monitor, on one variable that one of them writes, or where
+one starts or joins the other's thread. A trace is atomic where no transactions
+stand in a cycle, each with an event before one of the next that it conflicts
+with. Then its transactions could have run one at a time, to the same effect.
+
+Standard output: one line,
+  atomic events N transactions M
+  cycle at E events N transactions M: A B ..
+where N events are in M transactions, the first E events are the fewest with a
+cycle, and A, B .. are the transactions of one, numbered by their first events;
+A is that of event E. With --serial, behind an atomic verdict, a line an event:
+its number, a space, and its line of the trace.
+
+Exit status: 0 where the trace is atomic, 1 where a cycle was found; 2 and 3 as
+jvmx --help says. docs/REFUSALS.md explains the codes of refusals.
+
+Example: jvmx check --spec examples/threads/atomic.spec --serial /tmp/trace
 ";
 
 /// `jvmx asm --help`

@@ -8,7 +8,7 @@ mod help;
 mod name;
 mod syntax;
 
-pub use command::{AsmWords, Command, ProgramWords, RunWords, command_of};
+pub use command::{AsmWords, CheckWords, Command, ProgramWords, RunWords, command_of};
 pub use fault::WordsFault;
-pub use help::{ASM_HELP, EVAL_HELP, HELP, LIST_HELP, RUN_HELP, VERSION};
+pub use help::{ASM_HELP, CHECK_HELP, EVAL_HELP, HELP, LIST_HELP, RUN_HELP, TRACE_HELP, VERSION};
 pub use name::put_name;

@@ -9,8 +9,20 @@ pub(crate) const ENTRY: &str = "entry";
 /// The option `--args`.
 pub(crate) const ARGUMENTS: &str = "args";
 
+/// The option `--sched`.
+pub(crate) const SCHEDULE: &str = "sched";
+
 /// The option `--max`.
 pub(crate) const MOST: &str = "max";
+
+/// The option `--spec`.
+pub(crate) const SPECIFICATION: &str = "spec";
+
+/// The flag `--serial`.
+pub(crate) const SERIAL: &str = "serial";
+
+/// TRACE
+pub(crate) const TRACE: &str = "trace";
 
 /// FILE...
 pub(crate) const FILES: &str = "files";
@@ -38,6 +50,11 @@ fn option<'a>(alloc: Global, name: &'a str) -> Arg<'a> {
     Arg::new(alloc, name).long(name).action(ArgAction::Set)
 }
 
+/// An option without a value.
+fn flag<'a>(alloc: Global, name: &'a str) -> Arg<'a> {
+    Arg::new(alloc, name).long(name).action(ArgAction::SetTrue)
+}
+
 /// At least one FILE.
 fn files<'a>(alloc: Global) -> Arg<'a> {
     Arg::new(alloc, FILES)
@@ -55,9 +72,25 @@ fn program_syntax<'a>(alloc: Global, name: &'a str) -> Result<Command<'a>, Alloc
         .arg(files(alloc))
 }
 
-/// `run --entry E [--args N,N] [--max N] FILE...`
+/// `NAME --entry E [--args N,N] [--sched S] [--max N] FILE...`
+fn scheduled_syntax<'a>(alloc: Global, name: &'a str) -> Result<Command<'a>, AllocError> {
+    program_syntax(alloc, name)?
+        .arg(option(alloc, SCHEDULE))?
+        .arg(option(alloc, MOST))
+}
+
+/// `run --entry E [--args N,N] [--sched S] [--max N] [--spec F] FILE...`
 fn run_syntax<'a>(alloc: Global) -> Result<Command<'a>, AllocError> {
-    program_syntax(alloc, "run")?.arg(option(alloc, MOST))
+    scheduled_syntax(alloc, "run")?.arg(option(alloc, SPECIFICATION))
+}
+
+/// `check --spec F [--serial] TRACE`
+fn check_syntax<'a>(alloc: Global) -> Result<Command<'a>, AllocError> {
+    let specification = option(alloc, SPECIFICATION).required(true);
+    bare(alloc, "check")
+        .arg(specification)?
+        .arg(flag(alloc, SERIAL))?
+        .arg(file(alloc, TRACE))
 }
 
 /// One FILE.
@@ -82,6 +115,8 @@ pub(crate) fn syntax<'a>(alloc: Global) -> Result<Command<'a>, AllocError> {
     bare(alloc, "jvmx")
         .subcommand(program_syntax(alloc, "eval")?)?
         .subcommand(run_syntax(alloc)?)?
+        .subcommand(scheduled_syntax(alloc, "trace")?)?
+        .subcommand(check_syntax(alloc)?)?
         .subcommand(asm_syntax(alloc)?)?
         .subcommand(list_syntax(alloc)?)
 }

@@ -1,8 +1,8 @@
 //! Words: what they ask for, as the program's manual says.
 
 use command_line::{
-    ASM_HELP, Command, EVAL_HELP, HELP, LIST_HELP, ProgramWords, RUN_HELP, VERSION, WordsFault,
-    command_of, put_name,
+    ASM_HELP, CHECK_HELP, Command, EVAL_HELP, HELP, LIST_HELP, ProgramWords, RUN_HELP, RunWords,
+    TRACE_HELP, VERSION, WordsFault, command_of, put_name,
 };
 use fixtures::texts::units;
 use held::items::Items;
@@ -82,9 +82,9 @@ fn is_gcd(
 fn refuses_other_words(rt: HostRuntime) -> Result<(), Fail> {
     let refused: [&[&str]; 29] = [
         &[],
-        &["trace"],
+        &["debug"],
         &["--version", "eval"],
-        &["help", "trace"],
+        &["help", "debug"],
         &["help", "eval", "F"],
         &["-h", "eval"],
         &["--entry", GCD, "eval", "F"],
@@ -121,7 +121,7 @@ fn refuses_other_words(rt: HostRuntime) -> Result<(), Fail> {
 
 #[test]
 fn refuses_other_words_of_run(rt: HostRuntime) -> Result<(), Fail> {
-    let refused: [&[&str]; 17] = [
+    let refused: [&[&str]; 20] = [
         &["run"],
         &["run", "F"],
         &["run", "--entry", "G"],
@@ -137,8 +137,19 @@ fn refuses_other_words_of_run(rt: HostRuntime) -> Result<(), Fail> {
         &["run", "--entry", "G", "--max", "100000001", "F"],
         &["run", "--entry", "G", "--max", "18446744073709551616", "F"],
         &["run", "--entry", "G", "--max", "9", "--max", "9", "F"],
-        &["run", "--entry", "G", "--sched", "rr:1", "F"],
-        &["run", "--entry", "G", "--spec", "S", "F"],
+        &["run", "--entry", "G", "--sched", "F"],
+        &[
+            "run",
+            "--entry",
+            "G",
+            "--sched",
+            "rr:1",
+            "--sched=rr:1",
+            "F",
+        ],
+        &["run", "--entry", "G", "--spec", "F"],
+        &["run", "--entry", "G", "--spec", "S", "--spec", "S", "F"],
+        &["run", "--entry", "G", "--serial", "F"],
     ];
     for words in refused {
         assert!(rt; is_refused(rt.alloc(), words)?, "{words:?}");
@@ -191,48 +202,145 @@ fn takes_words_in_any_order(rt: HostRuntime) -> Result<(), Fail> {
     Ok(())
 }
 
-/// Whether words ask to run an entry, as this text writes it, in the program of a file F for so many turns.
-fn is_run(
-    alloc: Global,
-    words: &[&str],
-    entry: &Entry,
-    text: &str,
-    most: u64,
-) -> Result<bool, AllocError> {
-    let words = owned(alloc, words)?;
-    match command_of(alloc, words.as_slice()) {
-        Ok(Command::Run(run)) => { Ok(names(&run.program, entry, text, "F") && run.most == most) }
-        _ => Ok(false),
+#[test]
+fn refuses_other_words_of_trace_and_check(rt: HostRuntime) -> Result<(), Fail> {
+    let refused: [&[&str]; 13] = [
+        &["trace"],
+        &["trace", "--entry", "G"],
+        &["trace", "--entry", "G", "--spec", "S", "F"],
+        &["trace", "--entry", "G", "--serial", "F"],
+        &["trace", "--entry", "G", "--max", "100000001", "F"],
+        &["trace", "--entry", "G", "--args", "1", "F"],
+        &["check"],
+        &["check", "T"],
+        &["check", "--spec", "S"],
+        &["check", "--spec", "S", "T", "U"],
+        &["check", "--spec", "S", "--serial", "--serial", "T"],
+        &["check", "--spec", "S", "--serial=1", "T"],
+        &["check", "--spec", "S", "--entry", "G", "T"],
+    ];
+    for words in refused {
+        assert!(rt; is_refused(rt.alloc(), words)?, "{words:?}");
     }
+    Ok(())
+}
+
+/// A main class that runs, and how: the schedule, the most turns and the specification.
+type Scheduled = (&'static str, u64, Option<&'static str>);
+
+/// Whether words are those of a main class `a/b/C` in the program of a file F, with this schedule, most and specification.
+fn is_scheduled(words: &RunWords<'_>, entry: &Entry, scheduled: Scheduled) -> bool {
+    let (schedule, most, spec) = scheduled;
+    names(&words.program, entry, "a/b/C", "F")
+        && words.schedule == schedule
+        && words.most.turns() == most
+        && words.spec == spec
 }
 
 #[test]
 fn takes_a_main_class_to_run(rt: HostRuntime) -> Result<(), Fail> {
-    let class = units(rt.alloc(), "a/b/C")?;
-    let entry = Entry::Main { class };
-    let taken: [(&[&str], u64); 4] = [
-        (&["run", "--entry", "a/b/C", "F"], 1_000_000),
-        (&["run", "F", "--max=0", "--entry=a/b/C"], 0),
-        (&["run", "--max", "007", "--entry", "a/b/C", "--", "F"], 7),
+    let entry = Entry::Main {
+        class: units(rt.alloc(), "a/b/C")?,
+    };
+    let taken: [(&[&str], Scheduled); 6] = [
+        (&["run", "--entry", "a/b/C", "F"], ("rr:1", 1_000_000, None)),
+        (&["run", "F", "--max=0", "--entry=a/b/C"], ("rr:1", 0, None)),
+        (
+            &["run", "--max", "007", "--entry", "a/b/C", "--", "F"],
+            ("rr:1", 7, None),
+        ),
         (
             &["run", "--entry", "a/b/C", "--max", "100000000", "F"],
-            100_000_000,
+            ("rr:1", 100_000_000, None),
+        ),
+        (
+            &["run", "--sched", "list:", "--entry", "a/b/C", "F"],
+            ("list:", 1_000_000, None),
+        ),
+        (
+            &[
+                "run",
+                "--spec=-S",
+                "--entry",
+                "a/b/C",
+                "--sched=no schedule",
+                "F",
+            ],
+            ("no schedule", 1_000_000, Some("-S")),
         ),
     ];
-    for (words, most) in taken {
-        assert!(rt;
-            is_run(rt.alloc(), words, &entry, "a/b/C", most)?,
-            "{words:?}"
-        );
+    for (words, scheduled) in taken {
+        let owned = owned(rt.alloc(), words)?;
+        let command = command_of(rt.alloc(), owned.as_slice());
+        let Ok(Command::Run(run)) = command else {
+            return Err("no run".into());
+        };
+        assert!(rt; is_scheduled(&run, &entry, scheduled), "{words:?}");
+    }
+    Ok(())
+}
+
+#[test]
+fn takes_a_main_class_to_trace(rt: HostRuntime) -> Result<(), Fail> {
+    let entry = Entry::Main {
+        class: units(rt.alloc(), "a/b/C")?,
+    };
+    let taken: [(&[&str], Scheduled); 2] = [
+        (
+            &["trace", "--entry", "a/b/C", "F"],
+            ("rr:1", 1_000_000, None),
+        ),
+        (
+            &[
+                "trace",
+                "--max",
+                "9",
+                "--sched=seed:1:2",
+                "F",
+                "--entry=a/b/C",
+            ],
+            ("seed:1:2", 9, None),
+        ),
+    ];
+    for (words, scheduled) in taken {
+        let owned = owned(rt.alloc(), words)?;
+        let command = command_of(rt.alloc(), owned.as_slice());
+        let Ok(Command::Trace(run)) = command else {
+            return Err("no trace".into());
+        };
+        assert!(rt; is_scheduled(&run, &entry, scheduled), "{words:?}");
     }
     Ok(())
 }
 
 #[test]
 fn takes_a_static_method_to_run(rt: HostRuntime) -> Result<(), Fail> {
-    let words = ["run", "--entry", GCD, "--args", "48,36", "F"];
+    let words = owned(rt.alloc(), &["run", "--entry", GCD, "--args", "48,36", "F"])?;
     let entry = gcd_on(rt.alloc(), &[48, 36])?;
-    assert!(rt; is_run(rt.alloc(), &words, &entry, GCD, 1_000_000)?);
+    let command = command_of(rt.alloc(), words.as_slice());
+    let Ok(Command::Run(run)) = command else {
+        return Err("no run".into());
+    };
+    assert!(rt; names(&run.program, &entry, GCD, "F"));
+    Ok(())
+}
+
+#[test]
+fn takes_a_trace_to_check(rt: HostRuntime) -> Result<(), Fail> {
+    let taken: [(&[&str], bool); 3] = [
+        (&["check", "--spec", "S", "T"], false),
+        (&["check", "T", "--serial", "--spec=S"], true),
+        (&["check", "--serial", "--spec", "S", "--", "T"], true),
+    ];
+    for (words, serial) in taken {
+        let owned = owned(rt.alloc(), words)?;
+        let command = command_of(rt.alloc(), owned.as_slice());
+        let Ok(Command::Check(check)) = command else {
+            return Err("no check".into());
+        };
+        let taken = check.spec == "S" && check.trace == "T" && check.serial == serial;
+        assert!(rt; taken, "{words:?}");
+    }
     Ok(())
 }
 
@@ -274,7 +382,7 @@ fn writes_names(rt: HostRuntime) -> Result<(), Fail> {
 
 #[test]
 fn gives_texts(rt: HostRuntime) -> Result<(), Fail> {
-    let asked: [(&[&str], &str); 14] = [
+    let asked: [(&[&str], &str); 18] = [
         (&["--help"], HELP),
         (&["-h"], HELP),
         (&["help"], HELP),
@@ -283,6 +391,10 @@ fn gives_texts(rt: HostRuntime) -> Result<(), Fail> {
         (&["eval", "-h"], EVAL_HELP),
         (&["help", "run"], RUN_HELP),
         (&["run", "-h"], RUN_HELP),
+        (&["help", "trace"], TRACE_HELP),
+        (&["trace", "--help"], TRACE_HELP),
+        (&["help", "check"], CHECK_HELP),
+        (&["check", "-h"], CHECK_HELP),
         (&["help", "asm"], ASM_HELP),
         (&["asm", "--help"], ASM_HELP),
         (&["help", "list"], LIST_HELP),
@@ -298,7 +410,10 @@ fn gives_texts(rt: HostRuntime) -> Result<(), Fail> {
 
 #[test]
 fn keeps_texts_to_eighty_columns(rt: HostRuntime) -> Result<(), Fail> {
-    for text in [HELP, EVAL_HELP, RUN_HELP, ASM_HELP, LIST_HELP, VERSION] {
+    let texts = [
+        HELP, EVAL_HELP, RUN_HELP, TRACE_HELP, CHECK_HELP, ASM_HELP, LIST_HELP, VERSION,
+    ];
+    for text in texts {
         assert!(rt; text.ends_with("\n"));
         for line in text.split('\n') {
             assert!(rt; line.len() <= 80, "{line}");

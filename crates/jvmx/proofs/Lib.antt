@@ -1,3 +1,0 @@
-mod Turns
-mod Classes
-mod Uncaught

@@ -1,3 +1,4 @@
 pub mod Ending
 pub mod Evaluation
+pub mod Faults
 pub mod Lines

@@ -5,7 +5,6 @@ use Rattle.std.specs.Fmt.{decimal}
 use Rattle.jvms_machine.specs.declared.machine.Status.{Status}
 use Rattle.jvms_machine.specs.declared.machine.Status.TheVariants as status
 use Rattle.command_line.specs.Names.{name_text}
-use Rattle.jvmx.specs.declared.ending.Ending.{Ending}
 
 abbrev pub status_text : Status → List ℕ
 status_text status.Finished = codes "Finished"
@@ -17,9 +16,10 @@ status_text status.Deadlocked = codes "Deadlocked"
 abbrev pub uncaught_line : ℕ × List ℕ → List ℕ
 uncaught_line u = codes "uncaught " ++ decimal u.0 ++ codes " " ++ name_text u.1 ++ codes "\n"
 
-abbrev pub status_line : Ending → List ℕ
-status_line e = codes "status " ++ status_text e.status ++ codes " turns " ++ decimal e.turns ++ codes "\n"
+-- Of a run of so many turns.
+abbrev pub status_line : Status → ℕ → List ℕ
+status_line s turns = codes "status " ++ status_text s ++ codes " turns " ++ decimal turns ++ codes "\n"
 
 -- The uncaught exceptions, by rising thread, then the status.
-abbrev pub ending_lines : Ending → List ℕ
-ending_lines e = flat_map uncaught_line e.uncaught ++ status_line e
+abbrev pub ending_lines : List (ℕ × List ℕ) → Status → ℕ → List ℕ
+ending_lines uncaught s turns = flat_map uncaught_line uncaught ++ status_line s turns

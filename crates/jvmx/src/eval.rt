@@ -3,12 +3,13 @@
 ghost use Rattle.std.specs.Prelude.{◌≡◌, ◌≢◌, ◌+◌, ◌++◌, ◌∷◌, [], IfOk, IfErr, OnOk, IsErrOf, length, string_bytes};
 ghost use Rattle.std.specs.Io.KnownBytes.{Appends};
 ghost use Rattle.trace.specs.Bytes.{AppendsBeginning};
-ghost use Rattle.jvmx.specs.Ending.{IsFault, NamesFile, WroteBeginning};
+ghost use Rattle.jvmx.specs.Faults.{IsFault, NamesFile, WroteBeginning};
 ghost use Rattle.jvmx.specs.Evaluation.{evaluated, result_text, value_text};
 
 use crate::ending::{Ending, run_inputs};
 use crate::fault::RunFault;
 use inputs::Input;
+use judge::JudgeFault;
 use jvms_machine::machine::Entry;
 use jvms_machine::value::Value;
 use std::alloc::{AllocError, Global};
@@ -41,7 +42,7 @@ fn write_result<W: ByteOut>(
     ensures beginning { IsErrOf result RunFault.Output → AppendsBeginning (W.written output.old) (W.written output.new) (result_text value) }
     ensures failed { IsErrOf result RunFault.Output → W.failures output.new ≡ W.failures output.old + 1 }
     ensures named { IfErr result (λ fault. NamesFile 0 fault) }
-    ensures untouched { IfErr result (λ fault. fault ≢ RunFault.Output → (fault ≡ RunFault.Memory) × (output.new ≡ output.old)) }
+    ensures untouched { IfErr result (λ fault. fault ≢ RunFault.Output → (fault ≡ RunFault.Judge JudgeFault.Memory) × (output.new ≡ output.old)) }
 {
     let Some(value) = value else {
         return Ok(());

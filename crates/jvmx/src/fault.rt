@@ -1,11 +1,10 @@
 //! Why nothing was run, or what a run gave couldn't be written.
 
 ghost use Rattle.std.specs.Prelude.{◌≡◌};
-ghost use Rattle.jvmx.specs.declared.fault.RunFault.TheVariants.{Link, Machine, Memory, Output};
+ghost use Rattle.judge.specs.declared.fault.JudgeFault.TheVariants.{Memory};
+ghost use Rattle.jvmx.specs.declared.fault.RunFault.TheVariants.{Judge, Output};
 
-use inputs::InputFault;
-use linker::LinkFault;
-use machine::MachineFault;
+use judge::JudgeFault;
 use std::alloc::{AllocError, AllocFailed};
 use thiserror::Error;
 use trace::DeviceFailure;
@@ -13,36 +12,19 @@ use trace::DeviceFailure;
 /// Why a program wasn't run, or what it gave wasn't written.
 #[derive(Clone, Copy, Debug, PartialEq, Eq, Error)]
 pub enum RunFault {
-    /// C01 to C18, J01 to J12, A01 to A08: the file of this place, from 0, is no class, or there was no memory for it.
-    #[error("file {file}: {fault}")]
-    Input { file: usize, fault: InputFault },
-    /// K01 to K06: the classes make no program, or there was no memory for it.
+    /// The inputs make no program, there is no machine for the entry, or there was no memory.
     #[error("{0}")]
-    Link(LinkFault),
-    /// M01 to M03: there is no machine for the entry.
-    #[error("{0}")]
-    Machine(MachineFault),
-    /// There was no memory for anything else.
-    #[error("Memory")]
-    Memory,
+    Judge(JudgeFault),
     /// P05: the writer failed.
     #[error("P05 Output")]
     Output,
 }
 
-impl From<LinkFault> for RunFault {
-    ghost from_gives = { λ fault error. error ≡ Link fault };
+impl From<JudgeFault> for RunFault {
+    ghost from_gives = { λ fault error. error ≡ Judge fault };
 
-    fn from(fault: LinkFault) -> RunFault {
-        RunFault::Link(fault)
-    }
-}
-
-impl From<MachineFault> for RunFault {
-    ghost from_gives = { λ fault error. error ≡ Machine fault };
-
-    fn from(fault: MachineFault) -> RunFault {
-        RunFault::Machine(fault)
+    fn from(fault: JudgeFault) -> RunFault {
+        RunFault::Judge(fault)
     }
 }
 
@@ -55,17 +37,17 @@ impl From<DeviceFailure> for RunFault {
 }
 
 impl From<AllocError> for RunFault {
-    ghost from_gives = { λ _ error. error ≡ Memory };
+    ghost from_gives = { λ _ error. error ≡ Judge Memory };
 
     fn from(_error: AllocError) -> RunFault {
-        RunFault::Memory
+        RunFault::Judge(JudgeFault::Memory)
     }
 }
 
 impl<T: Drop> From<AllocFailed<T>> for RunFault {
-    ghost from_gives = { λ _ error. error ≡ Memory };
+    ghost from_gives = { λ _ error. error ≡ Judge Memory };
 
     fn from(_error: AllocFailed<T>) -> RunFault {
-        RunFault::Memory
+        RunFault::Judge(JudgeFault::Memory)
     }
 }

@@ -3,8 +3,8 @@
 ghost use Rattle.std.specs.Prelude.{◌≡◌, ◌++◌, IfOk, OnOk};
 ghost use Rattle.jvmx.specs.Lines.{ending_lines as lines_of, status_line, status_text, uncaught_line};
 
-use crate::ending::{Ending, Uncaught};
 use command_line::put_name;
+use judge::Uncaught;
 use jvms_machine::machine::Status;
 use std::alloc::{AllocError, Global};
 
@@ -33,11 +33,15 @@ fn put_uncaught(alloc: Global, out: &mut Vec<u8>, uncaught: &Uncaught) -> Result
 }
 
 /// Puts the line of the status behind the bytes.
-fn put_status(alloc: Global, out: &mut Vec<u8>, ending: &Ending) -> Result<(), AllocError>
-    ensures { OnOk result (out.new.items ≡ out.old.items ++ status_line ending.now) }
+fn put_status(
+    alloc: Global,
+    out: &mut Vec<u8>,
+    status: Status,
+    turns: u64,
+) -> Result<(), AllocError>
+    ensures { OnOk result (out.new.items ≡ out.old.items ++ status_line status turns) }
 {
-    let status = status_name(ending.status);
-    let turns = ending.turns;
+    let status = status_name(status);
     let line = format!(in alloc; "status {status} turns {turns}\n")?;
     out.extend_from_slice(line.as_bytes())?;
     Ok(())
@@ -45,13 +49,18 @@ fn put_status(alloc: Global, out: &mut Vec<u8>, ending: &Ending) -> Result<(), A
 
 /// The lines of a run that ended so: a line for each thread that ended with an exception, by rising number, then how
 /// the machine stands and how many turns were made.
-pub(crate) fn ending_lines(alloc: Global, ending: &Ending) -> Result<Vec<u8>, AllocError>
-    ensures { IfOk result (λ lines. lines.items ≡ lines_of ending.now) }
+pub(crate) fn ending_lines(
+    alloc: Global,
+    uncaught: &[Uncaught],
+    status: Status,
+    turns: u64,
+) -> Result<Vec<u8>, AllocError>
+    ensures { IfOk result (λ lines. lines.items ≡ lines_of uncaught.now status turns) }
 {
     let mut lines = Vec::new(alloc);
-    for uncaught in ending.uncaught.as_slice() {
-        put_uncaught(alloc, &mut lines, uncaught)?;
+    for thread in uncaught {
+        put_uncaught(alloc, &mut lines, thread)?;
     }
-    put_status(alloc, &mut lines, ending)?;
+    put_status(alloc, &mut lines, status, turns)?;
     Ok(lines)
 }

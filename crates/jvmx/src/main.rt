@@ -1,4 +1,4 @@
-//! The program `jvmx`: runs Java class files, one turn of one thread at a time.
+//! The program `jvmx`: runs Java class files, one turn of one thread at a time, and tells whether methods were atomic.
 #![tactic(auto)]
 
 mod ending;
@@ -7,10 +7,12 @@ mod fault;
 mod files;
 mod lines;
 mod perform;
+mod reading;
 mod refusal;
 mod run;
 #[cfg(test)]
 mod tests;
+mod tracing;
 
 ghost use Rattle.std.specs.Prelude.{◌≡◌, ◌<◌};
 

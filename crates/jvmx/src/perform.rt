@@ -1,66 +1,28 @@
 //! All of the program, over named files, a reader and two writers.
 
-use crate::ending::Ending;
 use crate::eval::eval;
 use crate::files::Files;
 use crate::lines::ending_lines;
+use crate::reading::{read_input, read_inputs, read_source, read_spec, read_text};
 use crate::refusal::Refusal;
 use crate::run::run;
-use command_line::{AsmWords, Command, ProgramWords, RunWords, VERSION, command_of};
+use crate::tracing::write_trace;
+use atom_spec::Spec;
+use command_line::{AsmWords, CheckWords, Command, ProgramWords, RunWords, VERSION, command_of};
 use inputs::{Input, class_of};
+use judge::{Judged, Judgement, Uncaught};
 use jvms_machine::machine::Status;
 use listing::{ClassFile, list};
-use std::alloc::Global;
+use report::verdict_line;
+use schedule::Chooser;
+use std::alloc::{AllocError, Global};
 use trace::{ByteIn, ByteOut};
+use trace_check::check;
+use velodrome::verdict::Verdict;
 
-/// The bytes of a file.
-fn read_file<'w, F: Files>(files: &mut F, name: &'w str) -> Result<Vec<u8>, Refusal<'w>> {
-    files
-        .read(name)
-        .map_err(|fault| Refusal::of_file(name, fault))
-}
-
-/// A source in Jasmin, whatever its name.
-fn read_source<'w, F: Files>(files: &mut F, name: &'w str) -> Result<Input, Refusal<'w>> {
-    match String::from_utf8(read_file(files, name)?) {
-        Ok(text) => Ok(Input::Source(text)),
-        Err(_) => Err(Refusal::NotUtf8 { file: name }),
-    }
-}
-
-/// What a FILE holds: a source where its name ends in `.j`, else a class file.
-fn read_input<'w, F: Files>(files: &mut F, name: &'w str) -> Result<Input, Refusal<'w>> {
-    if name.ends_with(".j") {
-        read_source(files, name)
-    } else {
-        Ok(Input::ClassFile(read_file(files, name)?))
-    }
-}
-
-/// What all FILEs hold, in order.
-fn read_inputs<'w, F: Files>(
-    alloc: Global,
-    files: &mut F,
-    names: &[&'w str],
-) -> Result<Vec<Input>, Refusal<'w>> {
-    let mut inputs = Vec::new(alloc);
-    for name in names {
-        inputs.push(read_input(files, *name)?)?;
-    }
-    Ok(inputs)
-}
-
-/// Tells how a run ended.
-fn tell<'w, E: ByteOut>(alloc: Global, ending: &Ending, errors: &mut E) -> Result<(), Refusal<'w>> {
-    let lines = ending_lines(alloc, ending)?;
-    errors.write_all(lines.as_slice())?;
-    Ok(())
-}
-
-/// The exit status of a run: 0 where it finished and no exception is uncaught, else 1.
-fn exit_status(ending: &Ending) -> u8 {
-    let caught = ending.uncaught.as_slice().is_empty();
-    u8::from(!(caught && ending.status == Status::Finished))
+/// Whether a run finished, and no exception is uncaught.
+fn is_whole(status: Status, uncaught: &[Uncaught]) -> bool {
+    status == Status::Finished && uncaught.is_empty()
 }
 
 /// `eval`: prints the result, or tells how the run ended where there is none.
@@ -76,13 +38,55 @@ fn perform_eval<'w, F: Files, W: ByteOut, E: ByteOut>(
         Ok(ending) => ending,
         Err(fault) => return Err(Refusal::of_run(&words, fault)),
     };
+    let uncaught = ending.uncaught.as_slice();
     if ending.result.is_none() {
-        tell(alloc, &ending, errors)?;
+        let lines = ending_lines(alloc, uncaught, ending.status, ending.turns)?;
+        errors.write_all(lines.as_slice())?;
     }
-    Ok(exit_status(&ending))
+    Ok(u8::from(!is_whole(ending.status, uncaught)))
 }
 
-/// `run`: prints what the program writes, and tells how the run ended.
+/// The chooser of the schedule that a word spells.
+fn chooser_of<'w>(alloc: Global, text: &'w str) -> Result<Chooser, Refusal<'w>> {
+    Chooser::parse(alloc, text).map_err(|fault| Refusal::of_schedule(text, fault))
+}
+
+/// The specification that the words name, if they do.
+fn spec_of<'w, F: Files>(
+    alloc: Global,
+    files: &mut F,
+    name: Option<&'w str>,
+) -> Result<Option<Spec>, Refusal<'w>> {
+    match name {
+        Some(name) => Ok(Some(read_spec(alloc, files, name)?)),
+        None => Ok(None),
+    }
+}
+
+/// Whether no cycle was found, also where none was looked for.
+fn is_without_cycle(judgement: &Option<Judgement>) -> bool {
+    match judgement {
+        Some(judgement) => !is_cycle(&judgement.verdict),
+        None => true,
+    }
+}
+
+fn is_cycle(verdict: &Verdict) -> bool {
+    matches!(verdict, Verdict::Cycle { .. })
+}
+
+/// What is told of a run: how it ended, and its verdict.
+fn run_lines(alloc: Global, judged: &Judged) -> Result<Vec<u8>, AllocError> {
+    let turns = judged.choices.as_slice().len() as u64;
+    let mut lines = ending_lines(alloc, judged.uncaught.as_slice(), judged.status, turns)?;
+    if let Some(judgement) = &judged.judgement {
+        let line = verdict_line(alloc, &judgement.verdict, judgement.counts)?;
+        lines.extend_from_slice(line.as_bytes())?;
+    }
+    Ok(lines)
+}
+
+/// `run`: prints what the program writes, and tells how the run ended and, with a specification, whether it is atomic.
 fn perform_run<'w, F: Files, W: ByteOut, E: ByteOut>(
     alloc: Global,
     words: RunWords<'w>,
@@ -92,15 +96,73 @@ fn perform_run<'w, F: Files, W: ByteOut, E: ByteOut>(
 ) -> Result<u8, Refusal<'w>> {
     let RunWords {
         program: words,
+        schedule,
         most,
+        spec,
     } = words;
+    let mut chooser = chooser_of(alloc, schedule)?;
+    let spec = spec_of(alloc, files, spec)?;
     let inputs = read_inputs(alloc, files, words.files.as_slice())?;
-    let ending = match run(alloc, inputs.as_slice(), &words.entry, most, output) {
-        Ok(ending) => ending,
+    let judged = match run(
+        alloc,
+        inputs.as_slice(),
+        &words.entry,
+        &mut chooser,
+        most,
+        spec,
+        output,
+    ) {
+        Ok(judged) => judged,
         Err(fault) => return Err(Refusal::of_run(&words, fault)),
     };
-    tell(alloc, &ending, errors)?;
-    Ok(exit_status(&ending))
+    errors.write_all(run_lines(alloc, &judged)?.as_slice())?;
+    let whole = is_whole(judged.status, judged.uncaught.as_slice());
+    Ok(u8::from(!(whole && is_without_cycle(&judged.judgement))))
+}
+
+/// `trace`: prints what the threads did.
+fn perform_trace<'w, F: Files, W: ByteOut>(
+    alloc: Global,
+    words: RunWords<'w>,
+    files: &mut F,
+    output: &mut W,
+) -> Result<u8, Refusal<'w>> {
+    let RunWords {
+        program: words,
+        schedule,
+        most,
+        spec: _,
+    } = words;
+    let mut chooser = chooser_of(alloc, schedule)?;
+    let inputs = read_inputs(alloc, files, words.files.as_slice())?;
+    let judged = match write_trace(
+        alloc,
+        inputs.as_slice(),
+        &words.entry,
+        &mut chooser,
+        most,
+        output,
+    ) {
+        Ok(judged) => judged,
+        Err(fault) => return Err(Refusal::of_run(&words, fault)),
+    };
+    let whole = is_whole(judged.status, judged.uncaught.as_slice());
+    Ok(u8::from(!whole))
+}
+
+/// `check`: prints whether a trace is atomic.
+fn perform_check<'w, F: Files, W: ByteOut>(
+    alloc: Global,
+    words: CheckWords<'w>,
+    files: &mut F,
+    output: &mut W,
+) -> Result<u8, Refusal<'w>> {
+    let spec = read_spec(alloc, files, words.spec)?;
+    let text = read_text(files, words.trace)?;
+    match check(alloc, spec, text.as_str(), words.serial, output) {
+        Ok(verdict) => Ok(u8::from(is_cycle(&verdict))),
+        Err(fault) => Err(Refusal::of_check(words.trace, fault)),
+    }
 }
 
 /// The class that a FILE holds.
@@ -158,6 +220,8 @@ fn command<'w, F: Files, W: ByteOut, E: ByteOut>(
     match command_of(alloc, words)? {
         Command::Eval(words) => perform_eval(alloc, words, files, output, errors),
         Command::Run(words) => perform_run(alloc, words, files, output, errors),
+        Command::Trace(words) => perform_trace(alloc, words, files, output),
+        Command::Check(words) => perform_check(alloc, words, files, output),
         Command::Asm(words) => perform_asm(alloc, words, files),
         Command::List(file) => perform_list(alloc, file, files, output),
         Command::Help(text) => print(output, text),
@@ -175,8 +239,8 @@ fn refuse<E: ByteOut>(alloc: Global, refusal: &Refusal<'_>, errors: &mut E) -> u
 }
 
 /// Does all of the program, on the words behind its name. The answer is its exit status: 0; 1 where a run
-/// didn't finish or an exception is uncaught; 2 where words or inputs are refused; 3 where memory ran out or a
-/// device failed.
+/// didn't finish, an exception is uncaught or a cycle was found; 2 where words or inputs are refused; 3 where memory ran
+/// out or a device failed.
 pub fn perform<F: Files, I: ByteIn, W: ByteOut, E: ByteOut>(
     alloc: Global,
     words: &[String],

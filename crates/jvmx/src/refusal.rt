@@ -2,26 +2,36 @@
 
 use crate::fault::RunFault;
 use crate::files::FileFault;
+use atom_spec::SpecFault;
 use command_line::{ProgramWords, WordsFault};
 use inputs::InputFault;
+use judge::JudgeFault;
 use linker::LinkFault;
 use listing::ListFault;
 use machine::MachineFault;
+use schedule::ScheduleFault;
 use std::alloc::{AllocError, AllocFailed};
 use std::fmt;
 use trace::DeviceFailure;
+use trace_check::CheckFault;
 
-/// Why a command was refused, with what its line names: a file, or the entry, as the words have it.
+/// Why a command was refused, with what its line names: a file, the entry or the schedule, as the words have it.
 #[derive(Debug, Drop)]
 pub(crate) enum Refusal<'w> {
     /// P04: the words are no command line.
     Words,
+    /// H01: a word is no schedule.
+    Schedule { text: &'w str },
     /// P02: a file isn't there, or can't be read.
     File { file: &'w str },
     /// P01: a file has too many bytes.
     FileTooLarge { file: &'w str },
-    /// P03: a file ought to be a source and isn't UTF-8.
+    /// P03: a file ought to be a text and isn't UTF-8.
     NotUtf8 { file: &'w str },
+    /// E01, E02: a file is no specification, or there was no memory for it.
+    Spec { file: &'w str, fault: SpecFault },
+    /// X01, X02, F01 to F03: a file is no trace that can be checked, or there was no memory for it.
+    Check { file: &'w str, fault: CheckFault },
     /// C01 to C18, J01 to J12, A01 to A08: a file is no class, or there was no memory for its class.
     Input { file: &'w str, fault: InputFault },
     /// L01 to L03: the class of a file can't be listed.
@@ -75,6 +85,23 @@ impl<'w> Refusal<'w> {
         }
     }
 
+    /// A word that gave no chooser.
+    pub(crate) fn of_schedule(text: &'w str, fault: ScheduleFault) -> Self {
+        match fault {
+            ScheduleFault::Syntax => Refusal::Schedule { text },
+            ScheduleFault::Memory => Refusal::Memory,
+        }
+    }
+
+    /// A trace of which nothing was said, or what was said wasn't written.
+    pub(crate) fn of_check(file: &'w str, fault: CheckFault) -> Self {
+        match fault {
+            CheckFault::Memory => Refusal::Memory,
+            CheckFault::Output => Refusal::Output,
+            _ => Refusal::Check { file, fault },
+        }
+    }
+
     /// A class that wasn't linked.
     fn of_link(words: &ProgramWords<'w>, fault: LinkFault) -> Self {
         match fault {
@@ -90,19 +117,26 @@ impl<'w> Refusal<'w> {
         }
     }
 
-    /// A program that wasn't run, or whose output wasn't written.
-    pub(crate) fn of_run(words: &ProgramWords<'w>, fault: RunFault) -> Self {
+    /// A program that wasn't run and judged.
+    fn of_judge(words: &ProgramWords<'w>, fault: JudgeFault) -> Self {
         match fault {
-            RunFault::Input { file, fault } => Refusal::Input {
+            JudgeFault::Input { file, fault } => Refusal::Input {
                 file: words.file(file),
                 fault,
             },
-            RunFault::Link(fault) => Refusal::of_link(words, fault),
-            RunFault::Machine(fault) => Refusal::Machine {
+            JudgeFault::Link(fault) => Refusal::of_link(words, fault),
+            JudgeFault::Machine(fault) => Refusal::Machine {
                 entry: words.entry_text,
                 fault,
             },
-            RunFault::Memory => Refusal::Memory,
+            JudgeFault::Memory => Refusal::Memory,
+        }
+    }
+
+    /// A program that wasn't run, or whose output wasn't written.
+    pub(crate) fn of_run(words: &ProgramWords<'w>, fault: RunFault) -> Self {
+        match fault {
+            RunFault::Judge(fault) => Refusal::of_judge(words, fault),
             RunFault::Output => Refusal::Output,
         }
     }
@@ -111,6 +145,8 @@ impl<'w> Refusal<'w> {
     pub(crate) fn status(&self) -> u8 {
         match self {
             Refusal::File { .. } | Refusal::LinkMemory | Refusal::Output | Refusal::Memory => 3,
+            Refusal::Spec { fault, .. } if *fault == SpecFault::Memory => 3,
+            Refusal::Check { fault, .. } if fault.is_memory() => 3,
             Refusal::Input { fault, .. } if fault.is_memory() => 3,
             Refusal::List { fault, .. } if *fault == ListFault::Memory => 3,
             Refusal::Machine { fault, .. } if *fault == MachineFault::Memory => 3,
@@ -123,9 +159,12 @@ impl fmt::Display for Refusal<'_> {
     fn fmt<W: fmt::Write>(&self, f: &mut fmt::Formatter<W>) -> fmt::Result {
         match self {
             Refusal::Words => write!(f, "{}", WordsFault::Words),
+            Refusal::Schedule { text } => write!(f, "{text}: {}", ScheduleFault::Syntax),
             Refusal::File { file } => write!(f, "{file}: P02 File"),
             Refusal::FileTooLarge { file } => write!(f, "{file}: P01 FileTooLarge"),
             Refusal::NotUtf8 { file } => write!(f, "{file}: P03 NotUtf8"),
+            Refusal::Spec { file, fault } => write!(f, "{file}: {fault}"),
+            Refusal::Check { file, fault } => write!(f, "{file}: {fault}"),
             Refusal::Input { file, fault } => write!(f, "{file}: {fault}"),
             Refusal::List { file, fault } => write!(f, "{file}: {fault}"),
             Refusal::Link { file, fault } => write!(f, "{file}: {fault}"),

@@ -3,5 +3,5 @@ use Rattle.std.proofs.Common.{◌≡◌, ◌++◌, take, flat_map}
 use Rattle.jvmx.specs.Lines.{uncaught_line}
 use Rattle.jvmx.proofs.lines.ending_lines.Given as goal
 
-abbrev pub invariant-loop-uncaught : goal.invariant-loop-uncaught
-invariant-loop-uncaught l = l.lines.items ≡ l.initial.lines.items ++ flat_map uncaught_line (take l.uncaught-index l.uncaught-items)
+abbrev pub invariant-loop-thread : goal.invariant-loop-thread
+invariant-loop-thread l = l.lines.items ≡ l.initial.lines.items ++ flat_map uncaught_line (take l.thread-index l.uncaught)
