@@ -10,8 +10,6 @@ mod perform;
 mod reading;
 mod refusal;
 mod run;
-#[cfg(test)]
-mod tests;
 mod tracing;
 
 ghost use Rattle.std.specs.Prelude.{◌≡◌, ◌<◌};
