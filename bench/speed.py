@@ -1,7 +1,7 @@
 #!/usr/bin/env python3
 """Times the programs of bench/java by `jvmx run` and by `java -Xint`, one after the other and some times over, and prints
-for each its turns, the seconds of both, turns a second, and how many times slower jvmx is; the last column is how slow it
-may be.
+for each its schedule and its turns, the seconds of both, turns a second, and how many times slower jvmx is; the last
+column is how slow it may be.
 
     bench/speed.py [--jvmx PROGRAM] [--max N] [--times N] [NAME...]
 
@@ -23,7 +23,9 @@ import java_class  # noqa: E402
 import java_examples  # noqa: E402
 
 HERE = Path(__file__).resolve().parent
-AT_MOST = {"Loops": 8, "Sieve": 8, "Objects": 4, "Matrices": 8}
+AT_MOST = {"Loops": 8, "Sieve": 8, "Objects": 4, "Matrices": 8, "Throws": 6, "Locks": 5}
+# The schedules of programs with threads. Of the last of them it is told how slow a program may be.
+SCHEDULES = {"Locks": ["rr:1", "rr:1000"]}
 LEAST_SECONDS = 0.0005
 
 
@@ -43,14 +45,15 @@ def timed(words):
 class Measured:
     """A program's least times so far."""
 
-    def __init__(self, words, main, classes):
-        self.words, self.main = words, main
+    def __init__(self, words, main, classes, schedule):
+        self.words, self.main, self.schedule = words, main, schedule
         self.files = [one.path for one in java_class.program(main, classes)]
         self.empty = self.full = self.java = float("inf")
         self.turns = self.memory = 0
 
     def jvmx(self, most):
-        return timed([self.words.jvmx, "run", f"--max={most}", "--entry", self.main.name, *self.files])
+        options = [f"--max={most}", f"--sched={self.schedule}"]
+        return timed([self.words.jvmx, "run", *options, "--entry", self.main.name, *self.files])
 
     def again(self, expected, folder):
         _, _, took, _ = self.jvmx(0)
@@ -70,7 +73,7 @@ class Measured:
         ratio = took / self.java
         figures = f"{self.turns:11d} {took:8.3f} {self.turns / took:12.0f} {self.memory:7.0f}"
         java = f"{self.java:8.3f} {self.turns / self.java:12.0f}"
-        return ratio, f"{self.main.name:10s} {figures} {java} {ratio:7.2f} {AT_MOST[self.main.name]:3d}"
+        return ratio, f"{self.main.name:10s} {self.schedule:8s} {figures} {java} {ratio:7.2f}"
 
 
 def compiled(folder):
@@ -94,17 +97,20 @@ def read_words():
 def main():
     words = read_words()
     slow = False
-    print("program          turns  jvmx: s, turns a second, MiB     java: s, a second   times may")
+    print("program    schedule       turns  jvmx: s, turns a second, MiB     java: s, a second   times may")
     with tempfile.TemporaryDirectory() as name:
         folder, classes = compiled(Path(name))
         for name in words.names or AT_MOST:
-            measured = Measured(words, classes[name], classes)
             expected = subprocess.run(["java", "-cp", folder, name], capture_output=True, check=True).stdout
-            for _ in range(words.times):
-                measured.again(expected, folder)
-            ratio, line = measured.line()
-            slow |= ratio > AT_MOST[name]
-            print(line, flush=True)
+            schedules = SCHEDULES.get(name, ["rr:1"])
+            for schedule in schedules:
+                measured = Measured(words, classes[name], classes, schedule)
+                for _ in range(words.times):
+                    measured.again(expected, folder)
+                ratio, line = measured.line()
+                judged = schedule == schedules[-1]
+                slow |= judged and ratio > AT_MOST[name]
+                print(f"{line} {AT_MOST[name]:3d}" if judged else line, flush=True)
     return 1 if slow else 0
 
 
