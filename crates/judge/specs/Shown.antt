@@ -14,7 +14,7 @@ use Rattle.machine.specs.Machine.{Machine}
 use Rattle.machine.specs.Runs.{run_of}
 use Rattle.machine.specs.Started.{opened}
 use Rattle.schedule.specs.Choosers.{Chooser}
-use Rattle.runs.specs.Choices.{choices_from}
+use Rattle.runs.specs.Choices.{choices_from, chooser_behind}
 use Rattle.inputs.specs.declared.input.Input.{Input}
 use Rattle.judge.specs.declared.judging.Judged.{Judged}
 use Rattle.judge.specs.Programs.{NotRun, not_made, program_in, refused}
@@ -59,6 +59,18 @@ unfoldable pub run_judged : ℕ → Chooser → Limits → List Input → Entry 
 run_judged most chooser limits inputs entry = do
   program ← program_in inputs
   program_judged most chooser limits program entry
+
+-- The chooser behind its choices, if a machine is made.
+unfoldable pub program_chooser_left : ℕ → Chooser → Limits → List Class → Entry → Result Chooser NotRun
+program_chooser_left most chooser limits program entry = do
+  start ← refused not_made (made program limits entry)
+  Ok (chooser_behind most chooser (opened program limits start))
+
+-- The chooser behind the choices of the program that inputs make, if there is one.
+unfoldable pub chooser_left : ℕ → Chooser → Limits → List Input → Entry → Result Chooser NotRun
+chooser_left most chooser limits inputs entry = do
+  program ← program_in inputs
+  program_chooser_left most chooser limits program entry
 
 -- What is shown of a run that was judged.
 abbrev pub run_shown : Judged → Shown

@@ -1,9 +1,10 @@
 //! A run by a chooser's choices, and whether it is atomic.
 
-ghost use Rattle.std.specs.Prelude.{◌≡◌, length, IfOk, IfErr, Ok};
+ghost use Rattle.std.specs.Prelude.{◌≡◌, length, IfOk, IfErr, OnOk, OnErr, Ok};
 ghost use Rattle.judge.specs.Faults.{IsFault, NamesFile};
 ghost use Rattle.judge.specs.Judgement.{IsJudgement};
-ghost use Rattle.judge.specs.Shown.{program_judged, run_judged, run_shown, shown_of};
+ghost use Rattle.runs.specs.Choices.{chooser_behind};
+ghost use Rattle.judge.specs.Shown.{chooser_left, program_chooser_left, program_judged, run_judged, run_shown, shown_of};
 
 use crate::ending::{Uncaught, uncaught_threads};
 use crate::fault::JudgeFault;
@@ -13,7 +14,8 @@ use atom_spec::Spec;
 use held::items::Items;
 use inputs::Input;
 use jvms_machine::value::Value;
-use machine::{Entry, Limits, Machine, Outcome, Status, ThreadId};
+use machine::{Entry, Limits, Machine, Status, ThreadId};
+use outcome_list::OutcomeList;
 use program::Program;
 use runs::take_turns;
 use schedule::Chooser;
@@ -27,7 +29,7 @@ pub struct Judged {
     /// Which thread took each turn, in order.
     pub choices: Items<ThreadId>,
     /// What each turn came to, in order.
-    pub outcomes: Items<Outcome>,
+    pub outcomes: OutcomeList,
     /// What the entry's method returned: nothing where it is void, or hasn't returned.
     pub result: Option<Value>,
     /// The bytes that the program wrote.
@@ -48,7 +50,8 @@ fn run_machine(
     chooser: &mut Chooser,
     most: u64,
 ) -> Result<Judged, AllocError>
-    ensures { IfOk result (λ j. run_shown j ≡ shown_of most chooser.old machine.old) }
+    ensures shown { IfOk result (λ j. run_shown j ≡ shown_of most chooser.old machine.old) }
+    ensures chooser { OnOk result (chooser.new ≡ chooser_behind most chooser.old machine.old) }
 {
     let mut trace = Trace::new(alloc);
     let turns = take_turns(alloc, machine, chooser, most, &mut trace)?;
@@ -66,7 +69,7 @@ fn run_machine(
 }
 
 /// Runs a program from its entry on by the choices of a chooser, at most so many.
-#[tactic(auto, unfolding(crate::specs::Shown::program_judged))]
+#[tactic(auto, unfolding(crate::specs::Shown::program_judged, crate::specs::Shown::program_chooser_left))]
 fn run_program(
     alloc: Global,
     program: &Program,
@@ -76,11 +79,36 @@ fn run_program(
     most: u64,
 ) -> Result<Judged, JudgeFault>
     ensures exact { IfOk result (λ j. program_judged most chooser.old limits program.now entry.now ≡ Ok (run_shown j)) }
+    ensures chooser { OnOk result (program_chooser_left most chooser.old limits program.now entry.now ≡ Ok chooser.new) }
     ensures fault { IfErr result (λ fault. IsFault fault (program_judged most chooser.old limits program.now entry.now)) }
     ensures named { IfErr result (λ fault. NamesFile 0 fault) }
 {
     let mut machine = Machine::new(alloc, program, limits, entry)?;
     let judged = run_machine(alloc, &mut machine, chooser, most)?;
+    Ok(judged)
+}
+
+/// Runs the program that class files and sources make, by a chooser that may be moved also where nothing is answered.
+#[tactic(auto, unfolding(crate::specs::Shown::run_judged, crate::specs::Shown::chooser_left))]
+fn run_and_judge(
+    alloc: Global,
+    inputs: &[Input],
+    limits: Limits,
+    entry: &Entry,
+    chooser: &mut Chooser,
+    most: TurnLimit,
+    spec: Option<Spec>,
+) -> Result<Judged, JudgeFault>
+    ensures exact { IfOk result (λ j. run_judged most chooser.old limits inputs.now entry.now ≡ Ok (run_shown j)) }
+    ensures judged { IfOk result (λ j. IsJudgement spec j.trace j.judgement) }
+    ensures chooser { OnOk result (chooser_left most chooser.old limits inputs.now entry.now ≡ Ok chooser.new) }
+    ensures fault { IfErr result (λ fault. IsFault fault (run_judged most chooser.old limits inputs.now entry.now)) }
+    ensures named { IfErr result (λ fault. NamesFile (length inputs.now) fault) }
+{
+    let program = program_of(alloc, inputs)?;
+    program.is_program();
+    let mut judged = run_program(alloc, &program, limits, entry, chooser, most.turns())?;
+    judged.judgement = judge_trace(alloc, spec, &judged.trace)?;
     Ok(judged)
 }
 
@@ -91,8 +119,7 @@ fn run_program(
 ///
 /// The fault of the first input that is no class; else why the classes can't be linked; else why there is no machine. No
 /// item of a run is at fault with a checker: each exit is of its thread's innermost method, and there are no more events
-/// than turns.
-#[tactic(auto, unfolding(crate::specs::Shown::run_judged))]
+/// than turns. A refusal leaves the chooser as it was.
 pub fn judge(
     alloc: Global,
     inputs: &[Input],
@@ -107,13 +134,15 @@ pub fn judge(
     ensures exact { IfOk result (λ j. run_judged most chooser.old limits inputs.now entry.now ≡ Ok (run_shown j)) }
     // The verdict on the trace, and its counts; none without a specification.
     ensures judged { IfOk result (λ j. IsJudgement spec j.trace j.judgement) }
+    // The chooser is then behind these choices; at a refusal it is as it was.
+    ensures chooser { OnOk result (chooser_left most chooser.old limits inputs.now entry.now ≡ Ok chooser.new) }
+    ensures kept { OnErr result (chooser.new ≡ chooser.old) }
     // A fault comes only where its condition stands, and that of an input names one of these.
     ensures fault { IfErr result (λ fault. IsFault fault (run_judged most chooser.old limits inputs.now entry.now)) }
     ensures named { IfErr result (λ fault. NamesFile (length inputs.now) fault) }
 {
-    let program = program_of(alloc, inputs)?;
-    program.is_program();
-    let mut judged = run_program(alloc, &program, limits, entry, chooser, most.turns())?;
-    judged.judgement = judge_trace(alloc, spec, &judged.trace)?;
+    let mut moved = chooser.copy()?;
+    let judged = run_and_judge(alloc, inputs, limits, entry, &mut moved, most, spec)?;
+    *chooser = moved;
     Ok(judged)
 }

@@ -1,27 +1,21 @@
 -- Turns that a chooser gives, one after another.
-use Rattle.std.proofs.Common.{◌≡◌, ℕ, zero, suc, ◌+◌, ◌-◌, ◌<◌, ◌≤◌, List, [], ◌∷◌, ◌++◌, length, refl, ap, sym, ◌∙◌, arith, Option, Some, None}
+use Rattle.std.proofs.Common.{◌≡◌, ℕ, zero, suc, ◌+◌, ◌-◌, ◌<◌, ◌≤◌, List, [], ◌∷◌, ◌++◌, length, take, refl, ap, sym, ◌∙◌, arith, Option, Some, None}
 use Rattle.std.proofs.lemmas.List.{append-nil, append_assoc}
+use Rattle.std.proofs.Math.Seq.{take-append_seam}
 use Rattle.jvms_machine.specs.declared.machine.Outcome.{Outcome}
 use Rattle.jvms_machine.specs.declared.trace.Item.{Item}
 use Rattle.machine.specs.Machine.{Machine, row_of, with_state}
 use Rattle.machine.specs.Runs.{IsRun}
 use Rattle.runs.proofs.Rows.{run_none, run_more}
-use Rattle.schedule.specs.Choosers.{Chooser, next}
-use Rattle.schedule.specs.Enabled.{enabled_threads}
-use Rattle.runs.specs.Choices.{after_turn, choices_from, first_then}
+use Rattle.schedule.specs.Choosers.{Chooser}
+use Rattle.runs.specs.Choices.{after_turn, choice_of, chooser_after, choices_from, chooser_behind, first_then, BrokeOff, IsTurnOf}
 
 -- So many turns were made of those that a chooser gives, and these are behind them.
 pub record AreTaken (before : Machine) (first : Chooser) (most : ℕ) (items_before : List Item) (made : ℕ) (choices : List ℕ) (outcomes : List Outcome) (m : Machine) (chooser : Chooser) (items : List Item) : Type 0 where
   pub within : made ≤ most
   pub left : choices ++ choices_from (most - made) chooser m ≡ choices_from most first before
+  pub left_behind : chooser_behind (most - made) chooser m ≡ chooser_behind most first before
   pub ran : IsRun before choices outcomes m items_before items
-
--- Which choice is next, and which chooser follows.
-abbrev pub choice_of : Chooser → Machine → Option ℕ
-choice_of chooser m = (next chooser (enabled_threads m)).0
-
-abbrev pub chooser_after : Chooser → Machine → Chooser
-chooser_after chooser m = (next chooser (enabled_threads m)).1
 
 one_left : (n : ℕ) (chooser : Chooser) (m : Machine) (t : ℕ) → choice_of chooser m ≡ Some t → choices_from (suc n) chooser m ≡ t ∷ choices_from n (chooser_after chooser m) (after_turn m t)
 unfolding choices_from
@@ -31,6 +25,18 @@ none_left : (n : ℕ) (chooser : Chooser) (m : Machine) → choice_of chooser m 
 unfolding choices_from
 none_left zero chooser m is = refl
 none_left (suc n) chooser m is = rw is refl
+
+one_behind : (n : ℕ) (chooser : Chooser) (m : Machine) (t : ℕ) → choice_of chooser m ≡ Some t → chooser_behind (suc n) chooser m ≡ chooser_behind n (chooser_after chooser m) (after_turn m t)
+unfolding chooser_behind
+one_behind n chooser m t is = rw is refl
+
+none_behind : (n : ℕ) (chooser : Chooser) (m : Machine) → choice_of chooser m ≡ None → chooser_behind (suc n) chooser m ≡ chooser_after chooser m
+unfolding chooser_behind
+none_behind n chooser m is = rw is refl
+
+nothing_behind : (chooser : Chooser) (m : Machine) → chooser_behind 0 chooser m ≡ chooser
+unfolding chooser_behind
+nothing_behind chooser m = refl
 
 nothing_left : (chooser : Chooser) (m : Machine) → choices_from 0 chooser m ≡ []
 unfolding choices_from
@@ -42,6 +48,7 @@ taken_none m chooser most items choices outcomes no_choice no_outcome =
     rw (no_choice, no_outcome) record {
       within = omega arith;
       left = ap (λ n. choices_from n chooser m) (omega arith);
+      left_behind = ap (λ n. chooser_behind n chooser m) (omega arith);
       ran = run_none m items;
     }
 
@@ -66,7 +73,33 @@ taken_more before first most items_before made choices outcomes m chooser items 
           ∙ ap (λ l. choices ++ l) (sym (one_left (most - (made + 1)) chooser m t chosen))
           ∙ ap (λ n. choices ++ choices_from n chooser m) (sym (more_left most made below))
           ∙ taken.left;
+      left_behind =
+          ap (λ c. chooser_behind (most - (made + 1)) c after) later_is
+          ∙ ap (λ x. chooser_behind (most - (made + 1)) (chooser_after chooser m) x) state
+          ∙ sym (one_behind (most - (made + 1)) chooser m t chosen)
+          ∙ ap (λ n. chooser_behind n chooser m) (sym (more_left most made below))
+          ∙ taken.left_behind;
       ran = run_more before m after choices outcomes items_before items items_after t o taken.ran outcome state items_are;
+    }
+
+-- The same, of a turn by the next choice.
+pub taken_next : (before : Machine) (first : Chooser) (most : ℕ) (items_before : List Item) (made : ℕ) (choices : List ℕ) (outcomes : List Outcome) (m : Machine) (chooser : Chooser) (items : List Item)
+    (taken : ℕ × Outcome) (after : Machine) (later : Chooser) (more : List Item)
+    → AreTaken before first most items_before made choices outcomes m chooser items → made < most → IsTurnOf m chooser items taken after later more
+    → AreTaken before first most items_before (made + 1) (choices ++ taken.0 ∷ []) (outcomes ++ taken.1 ∷ []) after later more
+taken_next before first most items_before made choices outcomes m chooser items taken after later more are below is =
+    taken_more before first most items_before made choices outcomes m chooser items taken.0 taken.1 after later more are below is.0 is.3 is.1 is.2 is.4
+
+-- A run that breaks off here has made the first of the choices.
+pub broken_here : (before : Machine) (first : Chooser) (most : ℕ) (items_before : List Item) (made : ℕ) (choices : List ℕ) (outcomes : List Outcome) (m : Machine) (chooser : Chooser) (items : List Item)
+    → AreTaken before first most items_before made choices outcomes m chooser items → BrokeOff before (choices_from most first before) m items_before items
+broken_here before first most items_before made choices outcomes m chooser items taken =
+    let rest = choices_from (most - made) chooser m in
+    let are : take (length choices) (choices_from most first before) ≡ choices = ap (λ l. take (length choices) l) (sym taken.left) ∙ take-append_seam choices rest in
+    record {
+      made = length choices;
+      state = rw are taken.ran.1;
+      items = rw are taken.ran.2;
     }
 
 -- No choice is left: none is given.
@@ -81,6 +114,22 @@ pub all_made : (before : Machine) (first : Chooser) (most : ℕ) (items_before :
 all_made before first most items_before made choices outcomes m chooser items taken reached =
     let none : most - made ≡ 0 = omega arith in
     sym (append-nil choices) ∙ ap (λ l. choices ++ l) (sym (nothing_left chooser m)) ∙ ap (λ n. choices ++ choices_from n chooser m) (sym none) ∙ taken.left
+
+-- The chooser at the end, where it gave no choice more.
+pub behind_all_given : (before : Machine) (first : Chooser) (most : ℕ) (items_before : List Item) (made : ℕ) (choices : List ℕ) (outcomes : List Outcome) (m : Machine) (chooser later : Chooser) (items : List Item)
+    → AreTaken before first most items_before made choices outcomes m chooser items → made < most → choice_of chooser m ≡ None → later ≡ chooser_after chooser m → later ≡ chooser_behind most first before
+behind_all_given before first most items_before made choices outcomes m chooser later items taken below none later_is =
+    later_is
+    ∙ sym (none_behind (most - (made + 1)) chooser m none)
+    ∙ ap (λ n. chooser_behind n chooser m) (sym (more_left most made below))
+    ∙ taken.left_behind
+
+-- The chooser at the end, where as many turns were made as may be.
+pub behind_all_made : (before : Machine) (first : Chooser) (most : ℕ) (items_before : List Item) (made : ℕ) (choices : List ℕ) (outcomes : List Outcome) (m : Machine) (chooser : Chooser) (items : List Item)
+    → AreTaken before first most items_before made choices outcomes m chooser items → most ≤ made → chooser ≡ chooser_behind most first before
+behind_all_made before first most items_before made choices outcomes m chooser items taken reached =
+    let none : most - made ≡ 0 = omega arith in
+    sym (nothing_behind chooser m) ∙ ap (λ n. chooser_behind n chooser m) (sym none) ∙ taken.left_behind
 
 first_then_few : (n : ℕ) (o : Option ℕ) (rest : ℕ → List ℕ) → ((t : ℕ) → length (rest t) ≤ n) → length (first_then o rest) ≤ suc n
 first_then_few n None rest few = omega arith

@@ -1,3 +1,4 @@
 pub mod ChosenTurns
+mod NextTurns
 mod OwnTurns
 mod Rows

@@ -2,6 +2,7 @@
 #![tactic(auto)]
 
 mod own;
+mod turn;
 mod turns;
 
 pub use own::take_own_turns;

@@ -1,3 +1,4 @@
+mod Candidates
 mod Choices
 mod Ranges
 mod Spelling

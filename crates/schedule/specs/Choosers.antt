@@ -80,6 +80,12 @@ next (RoundRobin quantum thread turns) enabled =
     (round_robin quantum thread turns enabled, after_choice quantum thread turns (round_robin quantum thread turns enabled))
 next (Seeded generator) enabled = by_word generator enabled
 
+-- The chooser once it has chosen a thread; a list and a generator have moved on by themselves.
+abbrev pub counted : ℕ → Chooser → Chooser
+counted chosen (Listed threads) = Listed threads
+counted chosen (RoundRobin quantum thread turns) = after_choice quantum thread turns (Some chosen)
+counted chosen (Seeded generator) = Seeded generator
+
 -- Whether the chooser asks which threads are enabled.
 abbrev pub asks : Chooser → Bool
 asks (Listed threads) = false

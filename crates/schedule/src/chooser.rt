@@ -1,13 +1,13 @@
 //! Choosers: each choice names the thread of the next turn.
 
-ghost use Rattle.std.specs.Prelude.{ℕ, List, ◌≡◌, ◌↔◌, IfOk, IsErrOf, MatchOption};
+ghost use Rattle.std.specs.Prelude.{ℕ, List, ◌≡◌, ◌↔◌, IfOk, IfSome, IsErrOf, MatchOption, Some, true};
 ghost use Rattle.schedule.specs.Schedules.{Schedule, Listed, RoundRobin, Spells, WritesSeed};
-ghost use Rattle.schedule.specs.Enabled.{enabled_threads};
+ghost use Rattle.schedule.specs.Enabled.{can_go_on, enabled_threads};
 ghost use Rattle.schedule.specs.Rules.{shown};
-ghost use Rattle.schedule.specs.Choosers.{opened, enabled_of, by_word, next, Seeded, IsSeeded};
+ghost use Rattle.schedule.specs.Choosers.{opened, enabled_of, by_word, counted, next, Seeded, IsSeeded};
 
 use crate::fault::ScheduleFault;
-use crate::list::listed;
+use crate::list::{ListLeft, listed};
 use crate::numbers::{long_number, quantum};
 use crate::round_robin::Turns;
 use crate::threads::{Threads, enabled_at, enabled_count};
@@ -15,15 +15,14 @@ use jvms_machine::machine::ThreadId;
 use machine::Machine;
 use rand_core::utils::NextWord;
 use rand_pcg::Lcg64Xsh32;
-use std::alloc::Global;
+use std::alloc::{AllocError, Global};
 use std::marker::Model;
-use std::vec::IntoIter;
 
 /// By what a chooser chooses.
 #[derive(Drop)]
 enum Rule {
     /// The threads of a list that are still to come.
-    Listed(IntoIter<ThreadId>),
+    Listed(ListLeft),
     /// Each enabled thread in turn.
     RoundRobin(Turns),
     /// Random words.
@@ -61,7 +60,10 @@ fn rule_of(alloc: Global, text: &str) -> Result<Rule, ScheduleFault>
 {
     if let Some(threads) = text.strip_prefix("list:") {
         let threads = listed(alloc, threads)?;
-        return Ok(Rule::Listed(threads.into_iter()));
+        let Ok(list) = ListLeft::new(alloc, threads) else {
+            return Err(ScheduleFault::Memory);
+        };
+        return Ok(Rule::Listed(list));
     }
     if let Some(number) = text.strip_prefix("rr:") {
         let quantum = quantum(number).ok_or(ScheduleFault::Syntax)?;
@@ -87,6 +89,19 @@ fn next_by_word<T: Threads>(generator: &mut Lcg64Xsh32, threads: &T) -> Option<T
         return None;
     }
     enabled_at(threads, generator.next_word() % enabled)
+}
+
+impl Rule {
+    /// The same rule once more.
+    fn copy(&self) -> Result<Rule, AllocError>
+        ensures { IfOk result (λ rule. shown rule ≡ shown self.now) }
+    {
+        match self {
+            Rule::Listed(list) => Ok(Rule::Listed(list.copy()?)),
+            Rule::RoundRobin(turns) => Ok(Rule::RoundRobin(*turns)),
+            Rule::Seeded(generator) => Ok(Rule::Seeded(generator.clone()?)),
+        }
+    }
 }
 
 impl Chooser {
@@ -120,12 +135,22 @@ impl Chooser {
         Ok(Chooser { rule })
     }
 
+    /// A chooser that makes the same choices. A list is held once by both of them, so that it takes no memory, however
+    /// long it is.
+    pub fn copy(&self) -> Result<Chooser, AllocError>
+        ensures { IfOk result (λ chooser. chooser ≡ self.now) }
+    {
+        Ok(Chooser {
+            rule: self.rule.copy()?,
+        })
+    }
+
     /// The next choice among threads.
     pub(crate) fn choose<T: Threads>(&mut self, threads: &T) -> Option<ThreadId>
         ensures { (result, self.new) ≡ next self.old (enabled_of (T.passes threads.now) (T.count threads.now)) }
     {
         match &mut self.rule {
-            Rule::Listed(rest) => rest.next(),
+            Rule::Listed(list) => list.next(),
             Rule::RoundRobin(turns) => turns.next(threads),
             Rule::Seeded(generator) => next_by_word(generator, threads),
         }
@@ -139,5 +164,25 @@ impl Chooser {
         ensures after { self.new ≡ (next self.old (enabled_threads machine.now)).1 }
     {
         self.choose(machine)
+    }
+
+    /// The thread that is the next choice where it is enabled, told without a look at any thread, where the schedule tells
+    /// one: by `rr:Q` the thread that was chosen last, while it had fewer than Q turns in a row, else the one behind it.
+    pub fn candidate(&self, machine: &Machine<'_>) -> Option<ThreadId>
+        ensures { IfSome result (λ t. can_go_on machine.now t ≡ true → next self.now (enabled_threads machine.now) ≡ (Some t, counted t self.now)) }
+    {
+        match &self.rule {
+            Rule::RoundRobin(turns) => turns.candidate(machine),
+            Rule::Listed(_) | Rule::Seeded(_) => None,
+        }
+    }
+
+    /// Counts the choice of a candidate, which was enabled.
+    pub fn count(&mut self, chosen: ThreadId)
+        ensures { self.new ≡ counted chosen self.old }
+    {
+        if let Rule::RoundRobin(turns) = &mut self.rule {
+            turns.count(chosen);
+        }
     }
 }

@@ -1,12 +1,62 @@
 //! Lists of threads in texts.
 
-ghost use Rattle.std.specs.Prelude.{ℕ, List, ◌≡◌, ◌++◌, ◌∷◌, [], IfOk, IfSome, IsErrOf, MatchOption};
+ghost use Rattle.std.specs.Prelude.{ℕ, List, ◌≡◌, ◌++◌, ◌∷◌, [], drop, IfOk, IfSome, IsErrOf, MatchOption};
 ghost use Rattle.schedule.specs.Schedules.{WritesThreads};
+ghost use Rattle.schedule.specs.Choosers.{Listed, next};
 
 use crate::fault::ScheduleFault;
 use crate::numbers::thread_number;
+use held::items::Items;
+use held::shared::Shared;
 use jvms_machine::machine::ThreadId;
-use std::alloc::Global;
+use std::alloc::{AllocError, Global};
+use std::marker::Model;
+
+/// What is left of a list of threads: those from a place on. Copies hold the list in common.
+#[derive(Drop)]
+pub(crate) struct ListLeft {
+    threads: Shared<Items<ThreadId>>,
+    place: usize,
+}
+
+impl Model for ListLeft {
+    ghost use Rattle.std.specs.Prelude.{ℕ, List, drop};
+
+    ghost Value = { List ℕ };
+
+    ghost view = { λ l. drop l.place l.threads };
+}
+
+impl ListLeft {
+    /// A list of which nothing is taken yet.
+    pub(crate) fn new(alloc: Global, threads: Vec<ThreadId>) -> Result<ListLeft, AllocError>
+        ensures { IfOk result (λ list. list ≡ threads.items) }
+    {
+        Ok(ListLeft {
+            threads: Shared::new(alloc, Items::from_vec(threads))?,
+            place: 0,
+        })
+    }
+
+    /// The same threads once more.
+    pub(crate) fn copy(&self) -> Result<ListLeft, AllocError>
+        ensures { IfOk result (λ list. list ≡ self.now) }
+    {
+        Ok(ListLeft {
+            threads: self.threads.share()?,
+            place: self.place,
+        })
+    }
+
+    /// Takes the next thread, if there is one.
+    pub(crate) fn next(&mut self) -> Option<ThreadId>
+        ensures { (enabled : List ℕ) → (result, Listed self.new) ≡ next (Listed self.old) enabled }
+    {
+        let thread = self.threads.as_slice().get(self.place).copied()?;
+        self.place += 1;
+        Some(thread)
+    }
+}
 
 /// A list with one thread more. Once memory was refused there is no list.
 fn with_thread(threads: Option<Vec<ThreadId>>, thread: ThreadId) -> Option<Vec<ThreadId>>

@@ -1,13 +1,13 @@
 //! Round robin: each enabled thread in turn, for as many turns as the quantum says.
 
-ghost use Rattle.std.specs.Prelude.{◌≡◌};
+ghost use Rattle.std.specs.Prelude.{◌≡◌, IfSome, Some, true};
 ghost use Rattle.schedule.specs.Choosers.{enabled_of, stays, round_robin, after_choice, turns_with, RoundRobin};
 
 use crate::threads::{Threads, next_enabled};
 use jvms_machine::machine::ThreadId;
 
 /// The turns of a thread.
-#[derive(Drop)]
+#[derive(Clone, Copy)]
 pub(crate) struct Turns {
     /// How many turns in a row a thread has while another one is enabled.
     pub quantum: u32,
@@ -39,8 +39,25 @@ impl Turns {
         }
     }
 
+    /// Whose turn is next where that thread is enabled, without a look at it: the thread of the last choice, while it had
+    /// fewer turns in a row than the quantum, else the one behind it, round to the least.
+    #[tactic(auto, using(crate::proofs::Candidates::same_stays, crate::proofs::Candidates::above, crate::proofs::Candidates::least))]
+    pub(crate) fn candidate<T: Threads>(&self, threads: &T) -> Option<ThreadId>
+        ensures { IfSome result (λ t. T.passes threads.now t ≡ true → round_robin self.now.quantum self.now.thread self.now.turns (enabled_of (T.passes threads.now) (T.count threads.now)) ≡ Some t) }
+    {
+        let count = threads.count();
+        if self.thread >= count {
+            return None;
+        }
+        if self.turns < self.quantum {
+            return Some(self.thread);
+        }
+        let above = self.thread + 1;
+        if above < count { Some(above) } else { Some(0) }
+    }
+
     /// Counts a turn of a thread.
-    fn count(&mut self, chosen: ThreadId)
+    pub(crate) fn count(&mut self, chosen: ThreadId)
         ensures { self.new ≡ record self.old { thread = chosen; turns = turns_with self.old.quantum self.old.thread self.old.turns chosen } }
     {
         if chosen == self.thread {

@@ -38,7 +38,7 @@ fn are_chosen(
     text: &str,
     turns: &[(&[bool], Option<ThreadId>)],
 ) -> Result<(), Fail> {
-    let mut chooser = Chooser::parse(alloc, text)?;
+    let mut chooser = Chooser::parse(alloc, text)?.copy()?;
     for (enabled, chosen) in turns {
         let count = u32::try_from(enabled.len()).unwrap_or(0);
         let flags = Flags { enabled, count };

@@ -17,7 +17,7 @@ pub returns-in-Some-clause-rule : goal.returns-in-Some-clause-rule
 returns-in-Some-clause-rule c =
     let a = c.in-Some.ensures.cases in
     let whole = begins list_kind c.args.text.now c.in-Some.threads.now a.0 a.1.1 a.2 in
-    (Listed c.in_ok-threads.threads.items, (c.in-Some.threads.now, c.in_ok-threads.ensures.threads, whole), ap choosers.Listed c.into_iter.ensures.rest)
+    (Listed c.in_ok-threads.threads.items, (c.in-Some.threads.now, c.in_ok-threads.ensures.threads, whole), ap choosers.Listed c.in-Ok.ensures)
 
 pub returns-in-Some-strip_prefix-clause-rule : goal.returns-in-Some-strip_prefix-clause-rule
 returns-in-Some-strip_prefix-clause-rule c =

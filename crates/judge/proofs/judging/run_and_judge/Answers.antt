@@ -1,7 +1,7 @@
 -- The items of the run may be fed.
 use Rattle.judge.specs.Shown.{run_shown}
 use Rattle.judge.proofs.ShownRuns.{judged_may_be_fed}
-use Rattle.judge.proofs.judging.judge.Goals as goal
+use Rattle.judge.proofs.judging.run_and_judge.Goals as goal
 
 pub judge_trace-requires : goal.judge_trace-requires
 judge_trace-requires c =

@@ -1,0 +1,134 @@
+-- Outcomes by their kinds and names: one more, and one after another.
+use Rattle.std.proofs.Common.{◌≡◌, ℕ, suc, ◌+◌, ◌-◌, ◌≤◌, List, [], ◌∷◌, ◌++◌, length, refl, ap, sym, ◌∙◌, arith, true, false, length-append}
+use Rattle.std.specs.List.{sum_by}
+use Rattle.std.proofs.lemmas.List.{drop-append-le, length-drop, nil_from_length}
+use Rattle.std.proofs.lemmas.List.Sums.{sum_by-append, sum_by-cons}
+use Rattle.jvms_machine.specs.declared.machine.Outcome.{Outcome}
+use Rattle.jvms_machine.specs.declared.machine.Outcome.TheVariants as outcome
+use Rattle.jvms_machine.specs.declared.machine.BlockedOn.TheVariants as blocked_on
+use Rattle.jvms_machine.specs.declared.machine.BadCause.TheVariants as bad_cause
+use Rattle.outcome_list.specs.declared.kind.Kind.{Kind}
+use Rattle.outcome_list.specs.declared.kind.Kind.TheVariants as kind
+use Rattle.outcome_list.specs.Kinds.{kind_of}
+use Rattle.outcome_list.specs.Names.{Names, no_names, followed, names_in}
+use Rattle.outcome_list.specs.Held.{Fit, first, threads_of, references_of, classes_of, outcome_by, names_behind, outcomes_by}
+
+-- An outcome's own kind and names tell it.
+told_whole : (o : Outcome) → outcome_by (kind_of o) (names_in o) ≡ o
+told_whole outcome.Ran = refl
+told_whole outcome.Raised = refl
+told_whole (outcome.Ended true) = refl
+told_whole (outcome.Ended false) = refl
+told_whole (outcome.Blocked (blocked_on.Monitor reference owner)) = refl
+told_whole (outcome.Blocked (blocked_on.Initialisation class owner)) = refl
+told_whole (outcome.Blocked (blocked_on.Join thread)) = refl
+told_whole outcome.NoThread = refl
+told_whole (outcome.Bad bad_cause.FellOff) = refl
+told_whole (outcome.Bad bad_cause.OutOfProfile) = refl
+told_whole (outcome.Bad bad_cause.Depth) = refl
+told_whole (outcome.Bad bad_cause.Kind) = refl
+told_whole (outcome.Bad bad_cause.Local) = refl
+
+-- They are as many names as the kind says.
+one_fits : (o : Outcome) → Fit (kind_of o ∷ []) (names_in o)
+one_fits outcome.Ran = record { threads = refl; references = refl; classes = refl }
+one_fits outcome.Raised = record { threads = refl; references = refl; classes = refl }
+one_fits (outcome.Ended true) = record { threads = refl; references = refl; classes = refl }
+one_fits (outcome.Ended false) = record { threads = refl; references = refl; classes = refl }
+one_fits (outcome.Blocked (blocked_on.Monitor reference owner)) = record { threads = refl; references = refl; classes = refl }
+one_fits (outcome.Blocked (blocked_on.Initialisation class owner)) = record { threads = refl; references = refl; classes = refl }
+one_fits (outcome.Blocked (blocked_on.Join thread)) = record { threads = refl; references = refl; classes = refl }
+one_fits outcome.NoThread = record { threads = refl; references = refl; classes = refl }
+one_fits (outcome.Bad bad_cause.FellOff) = record { threads = refl; references = refl; classes = refl }
+one_fits (outcome.Bad bad_cause.OutOfProfile) = record { threads = refl; references = refl; classes = refl }
+one_fits (outcome.Bad bad_cause.Depth) = record { threads = refl; references = refl; classes = refl }
+one_fits (outcome.Bad bad_cause.Kind) = record { threads = refl; references = refl; classes = refl }
+one_fits (outcome.Bad bad_cause.Local) = record { threads = refl; references = refl; classes = refl }
+
+-- One more fits behind those that fit.
+pub more_fit : (kinds : List Kind) (names : Names) (o : Outcome) → Fit kinds names → Fit (kinds ++ kind_of o ∷ []) (followed names (names_in o))
+more_fit kinds names o fit =
+    let own = one_fits o in
+    record {
+      threads = length-append names.threads (names_in o).threads ∙ ap (λ n. n + length (names_in o).threads) fit.threads ∙ ap (λ n. sum_by threads_of kinds + n) own.threads ∙ sym (sum_by-append threads_of kinds (kind_of o ∷ []));
+      references = length-append names.references (names_in o).references ∙ ap (λ n. n + length (names_in o).references) fit.references ∙ ap (λ n. sum_by references_of kinds + n) own.references ∙ sym (sum_by-append references_of kinds (kind_of o ∷ []));
+      classes = length-append names.classes (names_in o).classes ∙ ap (λ n. n + length (names_in o).classes) fit.classes ∙ ap (λ n. sum_by classes_of kinds + n) own.classes ∙ sym (sum_by-append classes_of kinds (kind_of o ∷ []));
+    }
+
+-- ---- The names of an outcome stand first, also before others
+
+first_before : (xs ys : List ℕ) → 1 ≤ length xs → first (xs ++ ys) ≡ first xs
+first_before [] ys some = absurd (omega arith)
+first_before (x ∷ xs) ys some = refl
+
+-- There are enough names for an outcome.
+record Enough (k : Kind) (names : Names) : Type 0 where
+  pub threads : threads_of k ≤ length names.threads
+  pub references : references_of k ≤ length names.references
+  pub classes : classes_of k ≤ length names.classes
+
+enough : (k : Kind) (kinds : List Kind) (names : Names) → Fit (k ∷ kinds) names → Enough k names
+enough k kinds names fit =
+    let t = fit.threads ∙ sum_by-cons threads_of k kinds in
+    let r = fit.references ∙ sum_by-cons references_of k kinds in
+    let c = fit.classes ∙ sum_by-cons classes_of k kinds in
+    record { threads = omega arith; references = omega arith; classes = omega arith }
+
+less : (whole first rest : ℕ) → whole ≡ first + rest → whole - first ≡ rest
+less whole first rest is = omega arith
+
+behind_fits : (k : Kind) (kinds : List Kind) (names : Names) → Fit (k ∷ kinds) names → Fit kinds (names_behind k names)
+behind_fits k kinds names fit =
+    let t = fit.threads ∙ sum_by-cons threads_of k kinds in
+    let r = fit.references ∙ sum_by-cons references_of k kinds in
+    let c = fit.classes ∙ sum_by-cons classes_of k kinds in
+    record {
+      threads = length-drop (threads_of k) names.threads ∙ less _ _ _ t;
+      references = length-drop (references_of k) names.references ∙ less _ _ _ r;
+      classes = length-drop (classes_of k) names.classes ∙ less _ _ _ c;
+    }
+
+told_before : (k : Kind) (names others : Names) → Enough k names → outcome_by k (followed names others) ≡ outcome_by k names
+told_before kind.Ran names others is = refl
+told_before kind.Raised names others is = refl
+told_before kind.Last names others is = refl
+told_before kind.Ended names others is = refl
+told_before kind.NoThread names others is = refl
+told_before kind.FellOff names others is = refl
+told_before kind.OutOfProfile names others is = refl
+told_before kind.Depth names others is = refl
+told_before kind.WrongKind names others is = refl
+told_before kind.Local names others is = refl
+told_before kind.Monitor names others is =
+    rw (first_before names.threads others.threads is.threads, first_before names.references others.references is.references) refl
+told_before kind.Initialisation names others is =
+    rw (first_before names.threads others.threads is.threads, first_before names.classes others.classes is.classes) refl
+told_before kind.Join names others is = rw (first_before names.threads others.threads is.threads) refl
+
+behind_before : (k : Kind) (names others : Names) → Enough k names → names_behind k (followed names others) ≡ followed (names_behind k names) others
+behind_before k names others is =
+    rw (drop-append-le (threads_of k) names.threads others.threads is.threads, drop-append-le (references_of k) names.references others.references is.references, drop-append-le (classes_of k) names.classes others.classes is.classes)
+    refl
+
+-- Without outcomes there are no names.
+none_left : (names : Names) → Fit [] names → names ≡ no_names
+none_left names fit =
+    rw (nil_from_length names.threads fit.threads, nil_from_length names.references fit.references, nil_from_length names.classes fit.classes) refl
+
+none_before : (names : Names) → followed no_names names ≡ names
+none_before names = refl
+
+-- One more outcome behind those that there are.
+pub one_more : (kinds : List Kind) (names : Names) (o : Outcome) → Fit kinds names → outcomes_by (kinds ++ kind_of o ∷ []) (followed names (names_in o)) ≡ outcomes_by kinds names ++ o ∷ []
+one_more [] names o fit =
+    ap (λ (n : Names). outcome_by (kind_of o) (followed n (names_in o)) ∷ []) (none_left names fit) ∙ ap (λ x. x ∷ []) (told_whole o)
+one_more (k ∷ kinds) names o fit =
+    let is = enough k kinds names fit in
+    ap (λ x. x ∷ outcomes_by (kinds ++ kind_of o ∷ []) (names_behind k (followed names (names_in o)))) (told_before k names (names_in o) is)
+    ∙ ap (λ n. outcome_by k names ∷ outcomes_by (kinds ++ kind_of o ∷ []) n) (behind_before k names (names_in o) is)
+    ∙ ap (λ l. outcome_by k names ∷ l) (one_more kinds (names_behind k names) o (behind_fits k kinds names fit))
+
+-- As many outcomes as kinds.
+pub as_many : (kinds : List Kind) (names : Names) → length (outcomes_by kinds names) ≡ length kinds
+as_many [] names = refl
+as_many (k ∷ kinds) names = ap suc (as_many kinds (names_behind k names))

@@ -1,0 +1,7 @@
+-- Those that are told, and those that are left.
+use Rattle.std.proofs.Common.{◌≡◌, ◌++◌, drop}
+use Rattle.outcome_list.specs.Held.{outcomes_by}
+use Rattle.outcome_list.proofs.list.OutcomeList.outcomes.Given as goal
+
+abbrev pub invariant-loop-kind : goal.invariant-loop-kind
+invariant-loop-kind l = outcomes_by l.kind-items l.initial.names ≡ l.outcomes ++ outcomes_by (drop l.kind-index l.kind-items) l.names

@@ -1,0 +1,82 @@
+//! A list of outcomes.
+
+ghost use Rattle.std.specs.Prelude.{◌≡◌, ◌++◌, ◌∷◌, [], length, ◌==◌, OnOk, OnErr, IfOk};
+
+use crate::kind::Kind;
+use crate::names::Names;
+use held::items::Items;
+use jvms_machine::machine::Outcome;
+use std::alloc::{AllocError, Global};
+use std::marker::Model;
+
+/// A list of outcomes, which contracts see as the list itself. An outcome that names nothing takes one byte, one that is
+/// blocked by a monitor 9, by an initialisation 13, and by a thread that has not ended 5.
+#[derive(Debug, Drop)]
+pub struct OutcomeList {
+    kinds: Vec<Kind>,
+    names: Names,
+}
+
+impl Model for OutcomeList {
+    ghost use Rattle.std.specs.Prelude.{List};
+    ghost use Rattle.jvms_machine.specs.declared.machine.Outcome.{Outcome as Told};
+
+    ghost Value = { List Told };
+
+    ghost use Rattle.outcome_list.specs.Held.{Fit, outcomes_by};
+
+    ghost view = { λ l. outcomes_by l.kinds.items l.names };
+
+    ghost invariant = { λ l. Fit l.kinds.items l.names };
+}
+
+impl OutcomeList {
+    /// A list with no outcomes.
+    pub fn new(alloc: Global) -> OutcomeList
+        ensures { result ≡ [] }
+    {
+        OutcomeList {
+            kinds: Vec::new(alloc),
+            names: Names::new(alloc),
+        }
+    }
+
+    /// How many outcomes there are.
+    #[tactic(auto, using(crate::proofs::Lists::as_many))]
+    pub fn len(&self) -> usize
+        ensures { result ≡ length self.now }
+    {
+        self.kinds.len()
+    }
+
+    /// Whether there are none.
+    #[tactic(auto, using(crate::proofs::Lists::as_many))]
+    pub fn is_empty(&self) -> bool
+        ensures { result ≡ (length self.now == 0) }
+    {
+        self.kinds.is_empty()
+    }
+
+    /// Puts an outcome behind the others. Without memory for it nothing changes.
+    pub fn push(&mut self, outcome: Outcome) -> Result<(), AllocError>
+        ensures ok { OnOk result (self.new ≡ self.old ++ outcome ∷ []) }
+        ensures err { OnErr result (self.new ≡ self.old) }
+    {
+        self.kinds.reserve(1)?;
+        self.names.push(outcome)?;
+        self.kinds.push_reserved(Kind::of(outcome));
+        Ok(())
+    }
+
+    /// The outcomes in order.
+    pub fn outcomes(&self, alloc: Global) -> Result<Items<Outcome>, AllocError>
+        ensures { IfOk result (λ outcomes. outcomes ≡ self.now) }
+    {
+        let mut names = self.names.all();
+        let mut outcomes = Items::new(alloc);
+        for kind in &self.kinds {
+            outcomes.push(names.next_outcome(*kind))?;
+        }
+        Ok(outcomes)
+    }
+}

@@ -1,0 +1,28 @@
+-- The turn of a candidate.
+use Rattle.std.proofs.Common.{◌≡◌, ℕ, true, false, List, ◌++◌, Some, ap, sym, ◌∙◌}
+use Rattle.std.proofs.lemmas.List.{append-nil}
+use Rattle.jvms_machine.specs.declared.machine.Outcome.{Outcome}
+use Rattle.jvms_machine.specs.declared.trace.Item.{Item}
+use Rattle.jvms_machine.specs.Status.{is_enabled}
+use Rattle.jvms_machine.proofs.UnmadeTurns.{unmade_turn_keeps}
+use Rattle.machine.specs.Machine.{Machine, row_of, with_state}
+use Rattle.schedule.specs.Choosers.{Chooser, counted, next}
+use Rattle.schedule.specs.Enabled.{can_go_on, enabled_threads}
+use Rattle.runs.specs.Choices.{choice_of, chooser_after}
+
+-- It wasn't enabled: nothing changed.
+pub unmade : (m after : Machine) (t : ℕ) (o : Outcome) (items more : List Item)
+    → o ≡ (row_of m t).outcome → is_enabled o ≡ false → after ≡ with_state m (row_of m t).state → more ≡ items ++ (row_of m t).items
+    → (after ≡ m) × (more ≡ items)
+unmade m after t o items more outcome disabled state items_are =
+    let kept = unmade_turn_keeps m.program m.limits m.start m.state t (sym (ap is_enabled outcome) ∙ disabled) in
+    (state ∙ ap (with_state m) kept.0, items_are ∙ ap (λ l. items ++ l) kept.1 ∙ append-nil items)
+
+-- It was enabled: it is the choice.
+pub chosen : (m : Machine) (chooser : Chooser) (t : ℕ) (o : Outcome)
+    → (can_go_on m t ≡ true → next chooser (enabled_threads m) ≡ (Some t, counted t chooser))
+    → o ≡ (row_of m t).outcome → is_enabled o ≡ true
+    → (choice_of chooser m ≡ Some t) × (counted t chooser ≡ chooser_after chooser m)
+chosen m chooser t o next_is outcome enabled =
+    let is = next_is (sym (ap is_enabled outcome) ∙ enabled) in
+    (ap (λ n. n.0) is, sym (ap (λ n. n.1) is))
