@@ -1,11 +1,16 @@
 //! The entry and its arguments, as words write them.
 
 use crate::fault::WordsFault;
-use crate::name::name_of;
-use descriptor::{is_class_name, is_method_descriptor, is_method_name};
+use escapes::{NameSort, cut_twice, name_units};
 use held::items::Items;
 use jvms_machine::machine::Entry;
 use std::alloc::Global;
+
+/// The name of this sort that a text writes.
+fn name_of(alloc: Global, sort: NameSort, text: &[u8]) -> Result<Items<u16>, WordsFault> {
+    let name = name_units(alloc, sort, text)?;
+    name.ok_or(WordsFault::Words)
+}
 
 /// The entry that `C.m.D` writes, with its arguments.
 pub(crate) fn static_entry(
@@ -13,41 +18,20 @@ pub(crate) fn static_entry(
     text: &str,
     arguments: Vec<i32>,
 ) -> Result<Entry, WordsFault> {
-    let mut parts = text.as_bytes().split(|byte| *byte == b'.');
-    let (Some(class), Some(name), Some(descriptor), None) = (
-        parts.next(),
-        parts.next(),
-        parts.next(),
-        parts.next(),
-    ) else {
-        return Err(WordsFault::Words);
-    };
-    let class = name_of(alloc, class)?;
-    let name = name_of(alloc, name)?;
-    let descriptor = name_of(alloc, descriptor)?;
-    if is_class_name(class.as_slice())
-        && is_method_name(name.as_slice())
-        && is_method_descriptor(descriptor.as_slice())
-    {
-        Ok(Entry::Static {
-            class,
-            name,
-            descriptor,
-            arguments: Items::from_vec(arguments),
-        })
-    } else {
-        Err(WordsFault::Words)
-    }
+    let parts = cut_twice(text.as_bytes(), b'.');
+    let (class, name, descriptor) = parts.ok_or(WordsFault::Words)?;
+    Ok(Entry::Static {
+        class: name_of(alloc, NameSort::Class, class)?,
+        name: name_of(alloc, NameSort::Method, name)?,
+        descriptor: name_of(alloc, NameSort::MethodDescriptor, descriptor)?,
+        arguments: Items::from_vec(arguments),
+    })
 }
 
 /// The entry of a main class, by the text of its name.
 pub(crate) fn main_entry(alloc: Global, text: &str) -> Result<Entry, WordsFault> {
-    let class = name_of(alloc, text.as_bytes())?;
-    if is_class_name(class.as_slice()) {
-        Ok(Entry::Main { class })
-    } else {
-        Err(WordsFault::Words)
-    }
+    let class = name_of(alloc, NameSort::Class, text.as_bytes())?;
+    Ok(Entry::Main { class })
 }
 
 /// A number in decimal digits, maybe behind a minus sign.

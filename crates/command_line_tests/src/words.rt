@@ -2,8 +2,9 @@
 
 use command_line::{
     ASM_HELP, CHECK_HELP, Command, EVAL_HELP, HELP, LIST_HELP, ProgramWords, RUN_HELP, RunWords,
-    TRACE_HELP, VERSION, WordsFault, command_of, put_name,
+    TRACE_HELP, VERSION, WordsFault, command_of,
 };
+use escapes::put_name;
 use fixtures::texts::units;
 use held::items::Items;
 use jvms_machine::machine::Entry;
@@ -373,9 +374,9 @@ fn writes_names(rt: HostRuntime) -> Result<(), Fail> {
         (&[0, 0xe9, 0xd83d, 0xffff], "\\u0000\\u00e9\\ud83d\\uffff"),
     ];
     for (units, text) in written {
-        let mut out = Vec::new(rt.alloc());
+        let mut out = String::new(rt.alloc());
         put_name(&mut out, units)?;
-        assert!(rt; out.as_slice() == text.as_bytes(), "{text}");
+        assert!(rt; out.as_str() == text, "{text}");
     }
     Ok(())
 }

@@ -1,9 +1,9 @@
 -- No name and no descriptor has a dot, so a member's text is cut at dots in one way.
-use Rattle.std.proofs.Common.{◌≡◌, ◌≢◌, ℕ, zero, suc, ◌+◌, ◌/◌, ◌%◌, ◌<◌, ◌≤◌, ◌==◌, nat_lt, nat_le, nat_eq, ◌&&◌, ◌||◌, not, Bool, true, false, cond, IsTrue, List, [], ◌∷◌, ◌++◌, length, Option, Some, None, refl, sym, ap, subst, ◌∙◌, append_assoc, arith}
+use Rattle.std.proofs.Common.{◌≡◌, ◌≢◌, ℕ, zero, suc, ◌/◌, ◌%◌, ◌<◌, ◌==◌, nat_eq, ◌&&◌, ◌||◌, not, Bool, true, false, cond, List, [], ◌∷◌, ◌++◌, Option, Some, None, refl, sym, ap, ◌∙◌, append_assoc, arith}
 use Rattle.std.specs.Prelude.{replicate, is_some}
 use Rattle.std.specs.Cmp.Lexicographic.{pointwise}
-use Rattle.std.specs.List.{flat_map, list_all, list_any, slice_split, onto_first, AllByRecursion}
-use Rattle.std.proofs.lemmas.Bool.{and_parts, and_from, or_parts, or_from, or_cases, not-true, eqb-true, eqb-false, ne_eqb}
+use Rattle.std.specs.List.{flat_map, list_all, slice_split, onto_first, AllByRecursion}
+use Rattle.std.proofs.lemmas.Bool.{and_parts, and_from, or_parts, or_from, not-true, eqb-true, eqb-false, ne_eqb}
 use Rattle.std.proofs.lemmas.Bool.Decides.{nat_tests}
 use Rattle.std.proofs.lemmas.List.Folds.{list_any-append}
 use Rattle.jvms_file.specs.declared.descriptor.Primitive.{Primitive}
@@ -14,15 +14,14 @@ use Rattle.jvms_file.specs.declared.descriptor.FieldType.{FieldType}
 use Rattle.jvms_file.specs.declared.descriptor.ResultType.{ResultType}
 use Rattle.jvms_file.specs.declared.descriptor.ResultType.TheVariants as result_type
 use Rattle.jvms_file.specs.declared.descriptor.MethodType.{MethodType}
-use Rattle.jvms_file.specs.Names.{is_name, is_class_name, is_method_name, is_constructor_name, is_initializer_name, is_reserved, same_text, is_angle}
+use Rattle.jvms_file.specs.Names.{is_name, is_class_name, is_method_name, is_constructor_name, is_initializer_name, is_reserved, is_angle}
 use Rattle.jvms_file.specs.Descriptors.{letter_of, element_text, field_text as type_text, result_text, method_text as method_type_text, IsElement, IsFieldType, IsResultType, IsMethodType, field_type_of, method_type_of}
-use Rattle.jvms_file.specs.Texts.{IsText}
 use Rattle.jvms_file.proofs.DescriptorLaws.{field_is_spelled, method_is_spelled}
 use Rattle.escapes.specs.declared.sort.NameSort.{NameSort}
 use Rattle.escapes.specs.declared.sort.NameSort.TheVariants as sort
 use Rattle.escapes.specs.Escapes.{is_plain, hexadecimal, four_digits, escaped, spelled}
 use Rattle.escapes.specs.Cuts.{has, IsCutTwice}
-use Rattle.escapes.specs.Keys.{is_of, IsNameOf, IsMember, member_text}
+use Rattle.escapes.specs.Keys.{IsNameOf, IsMember, member_text}
 use Rattle.escapes.proofs.Cutting.{one_cut}
 use Rattle.escapes.proofs.Spelling.{one_name}
 

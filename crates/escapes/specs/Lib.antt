@@ -1,4 +1,5 @@
+pub mod Behind
+pub mod Cuts
 pub mod Escapes
 pub mod Keys
 pub mod Readings
-pub mod Cuts

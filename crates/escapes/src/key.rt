@@ -1,7 +1,8 @@
 //! Members, written and read: the class, the name and the descriptor, parted by dots.
 
-ghost use Rattle.std.specs.Prelude.{◌≡◌, ◌++◌, OnOk, IfOk};
+ghost use Rattle.std.specs.Prelude.{◌≡◌, ◌++◌, OnOk, OnErr, IfOk};
 ghost use Rattle.std.specs.String.{string_bytes};
+ghost use Rattle.escapes.specs.Behind.{IsPutBehind};
 ghost use Rattle.escapes.specs.Keys.{IsMember, IsFieldKey, IsMethodKey, member_text, field_text, method_text};
 ghost use Rattle.escapes.specs.Readings.{IsReadAs};
 
@@ -14,26 +15,67 @@ use std::alloc::{AllocError, Global};
 
 const DOT: u8 = b'.';
 
+/// Puts a member's class, name and descriptor behind a text, or what there was memory for.
+fn put_parts(
+    out: &mut String,
+    class: &[u16],
+    name: &[u16],
+    descriptor: &[u16],
+) -> Result<(), AllocError>
+    ensures exact { OnOk result (string_bytes out.new ≡ string_bytes out.old ++ member_text class.now name.now descriptor.now) }
+    ensures behind { OnErr result (IsPutBehind (string_bytes out.old) (string_bytes out.new)) }
+{
+    put_name(out, class)?;
+    out.push_str(".")?;
+    put_name(out, name)?;
+    out.push_str(".")?;
+    put_name(out, descriptor)
+}
+
+/// Puts a member's class, name and descriptor behind a text.
+fn put_member(
+    out: &mut String,
+    class: &[u16],
+    name: &[u16],
+    descriptor: &[u16],
+) -> Result<(), AllocError>
+    ensures exact { OnOk result (string_bytes out.new ≡ string_bytes out.old ++ member_text class.now name.now descriptor.now) }
+    ensures kept { OnErr result (string_bytes out.new ≡ string_bytes out.old) }
+{
+    let before = out.len();
+    let put = put_parts(out, class, name, descriptor);
+    if put.is_err() {
+        out.truncate(before);
+    }
+    put
+}
+
 /// Puts a field behind a text: `C.x.D`.
 pub fn put_field(out: &mut String, field: &FieldKey) -> Result<(), AllocError>
-    ensures { OnOk result (string_bytes out.new ≡ string_bytes out.old ++ field_text field.now) }
+    ensures exact { OnOk result (string_bytes out.new ≡ string_bytes out.old ++ field_text field.now) }
+    // Without memory the text is as it was.
+    ensures kept { OnErr result (string_bytes out.new ≡ string_bytes out.old) }
 {
-    put_name(out, field.class.as_slice())?;
-    out.push_str(".")?;
-    put_name(out, field.name.as_slice())?;
-    out.push_str(".")?;
-    put_name(out, field.descriptor.as_slice())
+    put_member(
+        out,
+        field.class.as_slice(),
+        field.name.as_slice(),
+        field.descriptor.as_slice(),
+    )
 }
 
 /// Puts a method behind a text: `C.m.D`.
 pub fn put_method(out: &mut String, method: &MethodKey) -> Result<(), AllocError>
-    ensures { OnOk result (string_bytes out.new ≡ string_bytes out.old ++ method_text method.now) }
+    ensures exact { OnOk result (string_bytes out.new ≡ string_bytes out.old ++ method_text method.now) }
+    // Without memory the text is as it was.
+    ensures kept { OnErr result (string_bytes out.new ≡ string_bytes out.old) }
 {
-    put_name(out, method.class.as_slice())?;
-    out.push_str(".")?;
-    put_name(out, method.name.as_slice())?;
-    out.push_str(".")?;
-    put_name(out, method.descriptor.as_slice())
+    put_member(
+        out,
+        method.class.as_slice(),
+        method.name.as_slice(),
+        method.descriptor.as_slice(),
+    )
 }
 
 /// The class, the name and the descriptor of the member that a text writes, the last two of these sorts; `None` where

@@ -1,6 +1,6 @@
 //! Names, written and read.
 
-ghost use Rattle.std.specs.Prelude.{◌≡◌, ◌++◌, OnOk, IfOk};
+ghost use Rattle.std.specs.Prelude.{◌≡◌, ◌++◌, OnOk, OnErr, IfOk};
 ghost use Rattle.std.specs.Option.{option_map};
 ghost use Rattle.std.specs.String.{string_bytes};
 ghost use Rattle.jvms_file.specs.Texts.{IsText};
@@ -17,10 +17,16 @@ use std::alloc::{AllocError, Global};
 /// Puts a name behind a text: each unit from 33 to 126 but the backslash as itself, each other one as `\u` and four
 /// hexadecimal digits in lower case.
 pub fn put_name(out: &mut String, name: &[u16]) -> Result<(), AllocError>
-    ensures { OnOk result (string_bytes out.new ≡ string_bytes out.old ++ spelled name.now) }
+    ensures exact { OnOk result (string_bytes out.new ≡ string_bytes out.old ++ spelled name.now) }
+    // Without memory the text is as it was.
+    ensures kept { OnErr result (string_bytes out.new ≡ string_bytes out.old) }
 {
+    let before = out.len();
     for unit in name {
-        put_unit(out, *unit)?;
+        if let Err(error) = put_unit(out, *unit) {
+            out.truncate(before);
+            return Err(error);
+        }
     }
     Ok(())
 }
@@ -41,8 +47,12 @@ fn units_of(alloc: Global, text: &[u8]) -> Result<Option<Vec<u16>>, AllocError>
     Ok(Some(units))
 }
 
-/// The name that a text writes; `None` where it writes none of this sort. A name has one spelling.
-pub fn name_of(alloc: Global, sort: NameSort, text: &[u8]) -> Result<Option<Text>, AllocError>
+/// The units of the name that a text writes; `None` where it writes none of this sort. A name has one spelling.
+pub fn name_units(
+    alloc: Global,
+    sort: NameSort,
+    text: &[u8],
+) -> Result<Option<Items<u16>>, AllocError>
     ensures { IfOk result (IsReadAs (IsNameOf sort) spelled text.now) }
 {
     let Some(units) = units_of(alloc, text)? else {
@@ -51,6 +61,16 @@ pub fn name_of(alloc: Global, sort: NameSort, text: &[u8]) -> Result<Option<Text
     if !sort.is_of(units.as_slice()) {
         return Ok(None);
     }
-    let name = Shared::new(alloc, Items::from_vec(units))?;
+    Ok(Some(Items::from_vec(units)))
+}
+
+/// The name that a text writes; `None` where it writes none of this sort.
+pub fn name_of(alloc: Global, sort: NameSort, text: &[u8]) -> Result<Option<Text>, AllocError>
+    ensures { IfOk result (IsReadAs (IsNameOf sort) spelled text.now) }
+{
+    let Some(units) = name_units(alloc, sort, text)? else {
+        return Ok(None);
+    };
+    let name = Shared::new(alloc, units)?;
     Ok(Some(name))
 }

@@ -1,6 +1,7 @@
 //! One unit of a name, written and read.
 
-ghost use Rattle.std.specs.Prelude.{◌≡◌, ◌≢◌, ℕ, ◌<◌, ◌++◌, ◌∷◌, [], length, OnOk, IfSome, MatchOption};
+ghost use Rattle.std.specs.Prelude.{◌≡◌, ◌≢◌, ℕ, ◌<◌, ◌++◌, ◌∷◌, [], length, OnOk, OnErr, IfSome, MatchOption};
+ghost use Rattle.std.specs.List.{AllByRecursion};
 ghost use Rattle.std.specs.Option.{option_map};
 ghost use Rattle.std.specs.String.{string_bytes};
 ghost use Rattle.escapes.specs.Escapes.{is_plain as unit_is_plain, hexadecimal as hexadecimal_digit, four_digits, escaped};
@@ -33,38 +34,41 @@ fn hexadecimal(digit: u16) -> u8
 /// Puts an ASCII character behind a text.
 fn put_ascii(out: &mut String, byte: u8) -> Result<(), AllocError>
     requires { byte < 128 }
-    ensures { OnOk result (string_bytes out.new ≡ string_bytes out.old ++ byte ∷ []) }
+    ensures exact { OnOk result (string_bytes out.new ≡ string_bytes out.old ++ byte ∷ []) }
+    ensures kept { OnErr result (string_bytes out.new ≡ string_bytes out.old) }
 {
     out.push(char::from(byte))
 }
 
-/// Puts a hexadecimal digit behind a text.
-fn put_digit(out: &mut String, digit: u16) -> Result<(), AllocError>
-    requires { digit < 16 }
-    ensures { OnOk result (string_bytes out.new ≡ string_bytes out.old ++ hexadecimal_digit digit ∷ []) }
+/// Puts ASCII characters behind a text, all of them or none.
+fn put_all(out: &mut String, bytes: &[u8]) -> Result<(), AllocError>
+    requires { AllByRecursion (λ b. b < 128) bytes.now }
+    ensures exact { OnOk result (string_bytes out.new ≡ string_bytes out.old ++ bytes.now) }
+    ensures kept { OnErr result (string_bytes out.new ≡ string_bytes out.old) }
 {
-    put_ascii(out, hexadecimal(digit))
-}
-
-/// Puts the four hexadecimal digits of a unit behind a text.
-fn put_digits(out: &mut String, unit: u16) -> Result<(), AllocError>
-    ensures { OnOk result (string_bytes out.new ≡ string_bytes out.old ++ four_digits unit) }
-{
-    put_digit(out, unit / 4096)?;
-    put_digit(out, unit / 256 % 16)?;
-    put_digit(out, unit / 16 % 16)?;
-    put_digit(out, unit % 16)
+    let before = out.len();
+    for byte in bytes {
+        if let Err(error) = put_ascii(out, *byte) {
+            out.truncate(before);
+            return Err(error);
+        }
+    }
+    Ok(())
 }
 
 /// Puts a unit behind a text: itself, or `\u` and its four digits.
 pub(crate) fn put_unit(out: &mut String, unit: u16) -> Result<(), AllocError>
-    ensures { OnOk result (string_bytes out.new ≡ string_bytes out.old ++ escaped unit) }
+    ensures exact { OnOk result (string_bytes out.new ≡ string_bytes out.old ++ escaped unit) }
+    ensures kept { OnErr result (string_bytes out.new ≡ string_bytes out.old) }
 {
     if is_plain(unit) {
         return put_ascii(out, unit as u8);
     }
-    out.push_str("\\u")?;
-    put_digits(out, unit)
+    let first = hexadecimal(unit / 4096);
+    let second = hexadecimal(unit / 256 % 16);
+    let third = hexadecimal(unit / 16 % 16);
+    let fourth = hexadecimal(unit % 16);
+    put_all(out, &[BACKSLASH, b'u', first, second, third, fourth])
 }
 
 /// What a hexadecimal digit in lower case stands for.

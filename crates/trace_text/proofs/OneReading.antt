@@ -1,5 +1,5 @@
 -- A text is that of one list of items, or has one first faulty line.
-use Rattle.std.proofs.Common.{◌≡◌, ◌≢◌, ℕ, suc, ◌+◌, ◌<◌, Bool, true, false, List, [], ◌∷◌, ◌++◌, length, Option, Some, None, refl, sym, ap, ◌∙◌, append_assoc, arith}
+use Rattle.std.proofs.Common.{◌≡◌, ◌≢◌, ℕ, suc, ◌+◌, ◌<◌, Bool, true, false, List, [], ◌∷◌, ◌++◌, length, ◌⊎◌, inl, inr, Option, Some, None, Result, Ok, Err, refl, sym, ap, ◌∙◌, append_assoc, arith}
 use Rattle.std.specs.Fmt.{decimal}
 use Rattle.std.specs.List.{AllByRecursion, flat_map}
 use Rattle.jvms_machine.specs.declared.trace.Item.{Item}
@@ -13,9 +13,11 @@ use Rattle.escapes.specs.Cuts.{dots_in}
 use Rattle.escapes.specs.Keys.{IsFieldKey, IsMethodKey, field_text, method_text}
 use Rattle.escapes.proofs.Cutting.{one_cut}
 use Rattle.escapes.proofs.Members.{SameParts, one_member}
+use Rattle.trace_text.specs.declared.fault.TraceFault.{TraceFault}
+use Rattle.trace_text.specs.declared.fault.TraceFault.TheVariants as fault
 use Rattle.trace_text.specs.Items.{IsNumber, IsVariable, IsItem, variable_text, word_of, thread_of, touched_text, item_text}
 use Rattle.trace_text.specs.Parts.{word_text, kind_of, dots_of}
-use Rattle.trace_text.specs.Traces.{item_line, trace_text, IsTextOf, IsFaulty, BeginsWithNoItem}
+use Rattle.trace_text.specs.Traces.{item_line, trace_text, IsTextOf, IsFaulty, BeginsWithNoItem, IsRead}
 use Rattle.trace_text.proofs.Numbers.{one_number, number_below, number_above}
 use Rattle.trace_text.proofs.Variables.{variable_dots, element_is}
 use Rattle.trace_text.proofs.Lines.{word_is, one_word, item_parts, are_item, item_no_end, one_line}
@@ -142,3 +144,9 @@ pub one_fault : (text : List ℕ) (j k : ℕ) → IsFaulty text j → IsFaulty t
 one_fault text j k left right =
     let same = same_length left.items right.items left.rest right.rest left.may_stand right.may_stand (sym left.split ∙ right.split) left.fault right.fault in
     left.count ∙ ap suc same ∙ sym right.count
+
+-- Read again, what was written is the same items.
+pub read_again : (items : List Item) (answer : Result (List Item) TraceFault) → AllByRecursion IsItem items → IsRead (trace_text items) answer → (answer ≡ Ok items) ⊎ (answer ≡ Err fault.Memory)
+read_again items (Ok again) are read = inl (ap (λ (xs : List Item). Ok xs) (sym (one_trace items again are read.may_stand read.written)))
+read_again items (Err (fault.Syntax line)) are read = absurd (no_fault (trace_text items) items line (record { may_stand = are; written = refl }) read)
+read_again items (Err fault.Memory) are read = inr refl

@@ -1,10 +1,12 @@
 //! Laws about the definitions, owed to the gate: each is the contract of a function that does nothing.
 
-ghost use Rattle.std.specs.Prelude.{◌≡◌, ℕ, List};
+ghost use Rattle.std.specs.Prelude.{◌≡◌, ◌⊎◌, ℕ, List, Result, Ok, Err};
 ghost use Rattle.std.specs.List.{AllByRecursion};
 ghost use Rattle.jvms_machine.specs.declared.trace.Item.{Item};
+ghost use Rattle.trace_text.specs.declared.fault.TraceFault.{TraceFault};
+ghost use Rattle.trace_text.specs.declared.fault.TraceFault.TheVariants as fault;
 ghost use Rattle.trace_text.specs.Items.{IsItem};
-ghost use Rattle.trace_text.specs.Traces.{trace_text, IsTextOf, IsFaulty};
+ghost use Rattle.trace_text.specs.Traces.{trace_text, IsTextOf, IsFaulty, IsRead};
 
 /// The text of items has one reading.
 pub fn a_text_is_of_one_trace()
@@ -19,4 +21,10 @@ pub fn a_text_of_items_has_no_fault()
 /// One line alone is the first faulty one.
 pub fn a_text_has_one_first_fault()
     ensures { (text : List ℕ) (j k : ℕ) → IsFaulty text j → IsFaulty text k → j ≡ k }
+{}
+
+/// What is written is read again as the same items, wherever there is memory for them: of all items whose names and
+/// descriptors are well formed, and whose numbers have 32 bits.
+pub fn what_is_written_is_read_again()
+    ensures { (items : List Item) (answer : Result (List Item) TraceFault) → AllByRecursion IsItem items → IsRead (trace_text items) answer → (answer ≡ Ok items) ⊎ (answer ≡ Err fault.Memory) }
 {}

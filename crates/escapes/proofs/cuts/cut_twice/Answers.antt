@@ -1,5 +1,5 @@
 -- Behind the first such byte there is no other.
-use Rattle.escapes.proofs.Cutting.{none_at_all, none_behind}
+use Rattle.escapes.proofs.Cutting.{none_behind}
 use Rattle.escapes.proofs.cuts.cut_twice.Goals as goal
 
 pub returns-in_err-second : goal.returns-in_err-second

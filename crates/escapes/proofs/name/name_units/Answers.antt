@@ -1,9 +1,9 @@
 -- The text writes these units alone, and they are no name of the sort.
-use Rattle.std.proofs.Common.{◌≡◌, sym, ap, ◌∙◌, false, true}
+use Rattle.std.proofs.Common.{◌≡◌, sym, ap, ◌∙◌, false}
 use Rattle.std.proofs.lemmas.Bool.{both_ways}
 use Rattle.escapes.specs.Keys.{is_of}
 use Rattle.escapes.proofs.Spelling.{one_name}
-use Rattle.escapes.proofs.name.name_of.Goals as goal
+use Rattle.escapes.proofs.name.name_units.Goals as goal
 
 pub returns-then-not-is_of : goal.returns-then-not-is_of
 returns-then-not-is_of c x is e =

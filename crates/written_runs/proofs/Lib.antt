@@ -1,0 +1,2 @@
+pub mod ProgramNames
+pub mod RunNames
