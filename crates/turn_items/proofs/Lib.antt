@@ -1,0 +1,16 @@
+pub mod ArrayAccesses
+pub mod CallLeaves
+pub mod DecisionWalks
+pub mod FieldAccesses
+pub mod LowestCalls
+pub mod InstructionWalks
+pub mod ItemParts
+pub mod JoinCalls
+pub mod ResolvedFields
+pub mod SilentItems
+pub mod SilentTurns
+pub mod Successes
+pub mod ThreadLaws
+pub mod ThreadMethods
+pub mod TurnItems
+pub mod TurnWalks

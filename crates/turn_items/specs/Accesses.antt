@@ -1,0 +1,71 @@
+-- The reads and writes of a turn, told from the states before and after it (JVMS 6.5 getfield, getstatic, putfield,
+-- putstatic, and the loads and stores of arrays): each is of a load or store that succeeds.
+use Rattle.std.specs.Prelude.{Bool, Err, List, None, Ok, Option, Result, Some, [], false, if◌then◌else◌, slice_get, true, unsigned_abs, ℕ, ◌∷◌}
+use Rattle.jvms_file.specs.declared.insn.ArrayInsn.{ArrayInsn}
+use Rattle.jvms_file.specs.declared.insn.ArrayInsn.TheVariants as array_insn
+use Rattle.jvms_file.specs.declared.insn.FieldUse.{FieldUse}
+use Rattle.jvms_file.specs.declared.insn.FieldUse.TheVariants as field_use
+use Rattle.jvms_file.specs.declared.insn.Simple.TheVariants as simple
+use Rattle.jvms_program.specs.BuiltIn.{is_built_in}
+use Rattle.jvms_program.specs.Program.{field_key}
+use Rattle.jvms_program.specs.Resolution.{FieldFound, resolved_field}
+use Rattle.jvms_program.specs.declared.key.FieldKey.{FieldKey}
+use Rattle.jvms_program.specs.declared.program.Class.{Class}
+use Rattle.jvms_program.specs.declared.program.Instruction.{Instruction}
+use Rattle.jvms_program.specs.declared.program.Instruction.TheVariants as instruction
+use Rattle.jvms_program.specs.declared.thrown.Thrown.{Thrown}
+use Rattle.jvms_machine.specs.Fields.{is_static_use}
+use Rattle.jvms_machine.specs.State.{MethodFrame, State}
+use Rattle.jvms_machine.specs.Steps.{instruction_at}
+use Rattle.jvms_machine.specs.declared.trace.Item.{Item}
+use Rattle.jvms_machine.specs.declared.trace.Item.TheVariants as item
+use Rattle.jvms_machine.specs.declared.trace.Variable.TheVariants as variable
+use Rattle.jvms_machine.specs.declared.value.Value.{Value}
+use Rattle.jvms_machine.specs.declared.value.Value.TheVariants as value
+use Rattle.turn_items.specs.Progress.{has_gone_on, next_call}
+
+abbrev pub is_access : Item → Bool
+is_access (item.Read t v) = true
+is_access (item.Write t v) = true
+is_access _ = false
+
+-- The fields of built-in classes are no variables.
+abbrev pub of_program : FieldKey → Item → List Item
+of_program key i = if is_built_in key.class then [] else i ∷ []
+
+-- The object of getfield is on top of the operands, that of putfield below the value.
+abbrev pub field_access : ℕ → FieldUse → FieldKey → List Value → List Item
+field_access t field_use.GetStatic key operands = of_program key (item.Read t (variable.Static key))
+field_access t field_use.PutStatic key operands = of_program key (item.Write t (variable.Static key))
+field_access t field_use.Get key (value.Reference r ∷ below) = of_program key (item.Read t (variable.Instance r key))
+field_access t field_use.Put key (v ∷ value.Reference r ∷ below) = of_program key (item.Write t (variable.Instance r key))
+field_access t how key operands = []
+
+-- The field is the one that its reference resolves to, with the class that declares it.
+abbrev pub resolved_access : ℕ → FieldUse → List Value → Result FieldFound Thrown → List Item
+resolved_access t how operands (Err class) = []
+resolved_access t how operands (Ok found) = field_access t how (field_key found.class found.field) operands
+
+-- The index is on top of the array; what is stored is on top of both.
+abbrev pub array_access : ℕ → ArrayInsn → List Value → List Item
+array_access t (array_insn.Load k) (value.Int n ∷ value.Reference r ∷ below) =
+    item.Read t (variable.Element r (unsigned_abs n)) ∷ []
+array_access t (array_insn.Store k) (v ∷ value.Int n ∷ value.Reference r ∷ below) =
+    item.Write t (variable.Element r (unsigned_abs n)) ∷ []
+array_access t i operands = []
+
+-- What an instruction reads or writes with these operands, if it succeeds.
+abbrev pub access_of : List Class → ℕ → List Value → Option Instruction → List Item
+access_of program t operands (Some (instruction.Field how r)) =
+    resolved_access t how operands (resolved_field program (is_static_use how) r)
+access_of program t operands (Some (instruction.Simple (simple.Array i))) = array_access t i operands
+access_of program t operands i = []
+
+abbrev pub access_of_call : List Class → ℕ → Option MethodFrame → List Item
+access_of_call program t None = []
+access_of_call program t (Some f) = access_of program t f.activation.operands (instruction_at f)
+
+-- Thread t reads or writes what the instruction of its call touches, where the call goes on behind it.
+abbrev pub accesses_between : List Class → ℕ → State → State → List Item
+accesses_between program t before after =
+    if has_gone_on t before after then access_of_call program t (next_call (slice_get before.threads t)) else []

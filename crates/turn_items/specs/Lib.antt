@@ -1,0 +1,5 @@
+pub mod Accesses
+pub mod LowestCalls
+pub mod Joins
+pub mod Progress
+pub mod Telling
