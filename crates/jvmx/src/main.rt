@@ -1,22 +1,11 @@
 //! The program `jvmx`: runs Java class files, one turn of one thread at a time, and tells whether methods were atomic.
 #![tactic(auto)]
 
-mod ending;
-mod eval;
-mod fault;
-mod files;
-mod lines;
-mod perform;
-mod reading;
-mod refusal;
-mod run;
-mod tracing;
-
 ghost use Rattle.std.specs.Prelude.{◌≡◌, ◌<◌};
 
-use crate::files::SystemFiles;
-use crate::perform::perform;
 use command_line::WordsFault;
+use commands::SystemFiles;
+use commands::perform::perform;
 use std::env;
 use std::marker::Brand;
 use std::process::ExitCode;

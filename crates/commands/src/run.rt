@@ -1,14 +1,15 @@
-//! `trace`: what the threads of a program did.
+//! `run`: what a program writes.
 
 ghost use Rattle.std.specs.Prelude.{◌≡◌, ◌≢◌, ◌+◌, IfOk, IfErr, OnOk, IsErrOf, length};
 ghost use Rattle.std.specs.Io.KnownBytes.{Appends};
-ghost use Rattle.trace_text.specs.Traces.{trace_text};
+ghost use Rattle.judge.specs.Judgement.{IsJudgement};
 ghost use Rattle.judge.specs.Shown.{run_judged, run_shown};
-ghost use Rattle.jvmx.specs.Ending.{default_limits};
-ghost use Rattle.jvmx.specs.Faults.{IsFault, NamesFile, WroteBeginning};
+ghost use Rattle.commands.specs.Ending.{default_limits};
+ghost use Rattle.commands.specs.Faults.{IsFault, NamesFile, WroteBeginning};
 
 use crate::ending::DEFAULT_LIMITS;
 use crate::fault::RunFault;
+use atom_spec::Spec;
 use inputs::Input;
 use judge::{Judged, judge};
 use jvms_machine::machine::Entry;
@@ -17,31 +18,33 @@ use std::alloc::Global;
 use trace::ByteOut;
 use turn_limit::TurnLimit;
 
-/// Runs the program that class files and sources make, by the choices of a chooser, at most so many, and writes the text
-/// of its trace: one item a line.
-pub fn write_trace<W: ByteOut>(
+/// Runs the program that class files and sources make, by the choices of a chooser, at most so many, and writes the bytes
+/// that it wrote. With a specification it is judged too.
+pub fn run<W: ByteOut>(
     alloc: Global,
     inputs: &[Input],
     entry: &Entry,
     chooser: &mut Chooser,
     most: TurnLimit,
+    spec: Option<Spec>,
     output: &mut W,
 ) -> Result<Judged, RunFault>
-    // The turns, the status, the uncaught exceptions and the items are those of the run by the instruction table.
+    // The turns, the status, the uncaught exceptions and the output are those of the run by the instruction table.
     ensures exact { IfOk result (λ j. run_judged most chooser.old default_limits inputs.now entry.now ≡ Ok (run_shown j)) }
-    // Exactly the text of the items was written.
-    ensures written { IfOk result (λ j. Appends (W.written output.old) (W.written output.new) (trace_text j.trace)) }
+    // The verdict is that on the run's items.
+    ensures judged { IfOk result (λ j. IsJudgement spec j.trace j.judgement) }
+    // Exactly the output's bytes were written.
+    ensures written { IfOk result (λ j. Appends (W.written output.old) (W.written output.new) j.output) }
     ensures count { OnOk result (W.failures output.new ≡ W.failures output.old) }
     // A fault comes only where its condition stands, and that of a file names one of these.
     ensures fault { IfErr result (λ fault. IsFault fault (run_judged most chooser.old default_limits inputs.now entry.now)) }
     ensures named { IfErr result (λ fault. NamesFile (length inputs.now) fault) }
     ensures untouched { IfErr result (λ fault. fault ≢ RunFault.Output → output.new ≡ output.old) }
-    // Output comes only where the writer failed; then a beginning of the text was written.
+    // Output comes only where the writer failed; then a beginning of the bytes was written.
     ensures failed { IsErrOf result RunFault.Output → W.failures output.new ≡ W.failures output.old + 1 }
-    ensures beginning { IsErrOf result RunFault.Output → WroteBeginning (run_judged most chooser.old default_limits inputs.now entry.now) (λ shown. trace_text shown.items) (W.written output.old) (W.written output.new) }
+    ensures beginning { IsErrOf result RunFault.Output → WroteBeginning (run_judged most chooser.old default_limits inputs.now entry.now) (λ shown. shown.output) (W.written output.old) (W.written output.new) }
 {
-    let judged = judge(alloc, inputs, DEFAULT_LIMITS, entry, chooser, most, None)?;
-    let text = trace_text::write(alloc, &judged.trace)?;
-    output.write_all(text.as_bytes())?;
+    let judged = judge(alloc, inputs, DEFAULT_LIMITS, entry, chooser, most, spec)?;
+    output.write_all(judged.output.as_slice())?;
     Ok(judged)
 }

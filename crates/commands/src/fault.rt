@@ -2,7 +2,7 @@
 
 ghost use Rattle.std.specs.Prelude.{◌≡◌};
 ghost use Rattle.judge.specs.declared.fault.JudgeFault.TheVariants.{Memory};
-ghost use Rattle.jvmx.specs.declared.fault.RunFault.TheVariants.{Judge, Output};
+ghost use Rattle.commands.specs.declared.fault.RunFault.TheVariants.{Judge, Output};
 
 use judge::JudgeFault;
 use std::alloc::{AllocError, AllocFailed};

@@ -13,7 +13,7 @@ use Rattle.inputs.specs.declared.input.Input.{Input}
 use Rattle.runs.specs.Choices.{own_choices_from}
 use Rattle.judge.specs.Programs.{NotRun, not_made, program_in, refused}
 use Rattle.judge.specs.Uncaught.{uncaught_threads}
-use Rattle.jvmx.specs.declared.ending.Ending.{Ending}
+use Rattle.commands.specs.declared.ending.Ending.{Ending}
 
 -- What a run may use.
 abbrev pub default_limits : Limits

@@ -3,8 +3,8 @@
 ghost use Rattle.std.specs.Prelude.{◌≡◌, ◌≢◌, ◌+◌, ◌++◌, ◌∷◌, [], IfOk, IfErr, OnOk, IsErrOf, length, string_bytes};
 ghost use Rattle.std.specs.Io.KnownBytes.{Appends};
 ghost use Rattle.trace.specs.Bytes.{AppendsBeginning};
-ghost use Rattle.jvmx.specs.Faults.{IsFault, NamesFile, WroteBeginning};
-ghost use Rattle.jvmx.specs.Evaluation.{evaluated, result_text, value_text};
+ghost use Rattle.commands.specs.Faults.{IsFault, NamesFile, WroteBeginning};
+ghost use Rattle.commands.specs.Evaluation.{evaluated, result_text, value_text};
 
 use crate::ending::{Ending, run_inputs};
 use crate::fault::RunFault;

@@ -1,9 +1,9 @@
 //! The lines that tell how a run ended.
 
 ghost use Rattle.std.specs.Prelude.{◌≡◌, ◌++◌, IfOk, OnOk};
-ghost use Rattle.jvmx.specs.Lines.{ending_lines as lines_of, status_line, status_text, uncaught_line};
+ghost use Rattle.commands.specs.Lines.{ending_lines as lines_of, status_line, status_text, uncaught_line};
 
-use command_line::put_name;
+use escapes::put_name;
 use judge::Uncaught;
 use jvms_machine::machine::Status;
 use std::alloc::{AllocError, Global};
@@ -25,10 +25,10 @@ fn put_uncaught(alloc: Global, out: &mut Vec<u8>, uncaught: &Uncaught) -> Result
     ensures { OnOk result (out.new.items ≡ out.old.items ++ uncaught_line uncaught.now) }
 {
     let (thread, class) = uncaught;
-    let front = format!(in alloc; "uncaught {thread} ")?;
-    out.extend_from_slice(front.as_bytes())?;
-    put_name(out, class.as_slice())?;
-    out.push(b'\n')?;
+    let mut line = format!(in alloc; "uncaught {thread} ")?;
+    put_name(&mut line, class.as_slice())?;
+    line.push_str("\n")?;
+    out.extend_from_slice(line.as_bytes())?;
     Ok(())
 }
 

@@ -3,8 +3,8 @@ use Rattle.std.specs.Prelude.{◌≡◌, ℕ, List, Option, Result, Ok}
 use Rattle.trace.specs.Bytes.{AppendsBeginning}
 use Rattle.judge.specs.Faults as judge
 use Rattle.judge.specs.Programs.{NotRun}
-use Rattle.jvmx.specs.declared.fault.RunFault.{RunFault}
-use Rattle.jvmx.specs.declared.fault.RunFault.TheVariants as run_fault
+use Rattle.commands.specs.declared.fault.RunFault.{RunFault}
+use Rattle.commands.specs.declared.fault.RunFault.TheVariants as run_fault
 
 -- A fault is what was said, unless memory ran out or the writer failed.
 abbrev pub IsFault : {A : Type 0} → RunFault → Result A NotRun → Type 0

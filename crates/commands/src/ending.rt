@@ -3,7 +3,7 @@
 
 ghost use Rattle.std.specs.Prelude.{◌≡◌, length, IfOk, IfErr};
 ghost use Rattle.judge.specs.Faults.{IsFault, NamesFile};
-ghost use Rattle.jvmx.specs.Ending.{ended, ended_program, ending_of};
+ghost use Rattle.commands.specs.Ending.{ended, ended_program, ending_of};
 
 use held::items::Items;
 use inputs::Input;

@@ -5,9 +5,9 @@ use Rattle.jvms_machine.specs.declared.machine.Entry.{Entry}
 use Rattle.jvms_machine.specs.declared.value.Value.{Value}
 use Rattle.jvms_machine.specs.declared.value.Value.TheVariants as value
 use Rattle.inputs.specs.declared.input.Input.{Input}
-use Rattle.jvmx.specs.declared.ending.Ending.{Ending}
+use Rattle.commands.specs.declared.ending.Ending.{Ending}
 use Rattle.judge.specs.Programs.{NotRun}
-use Rattle.jvmx.specs.Ending.{ended}
+use Rattle.commands.specs.Ending.{ended}
 
 unfoldable pub evaluated : List Input → Entry → Result Ending NotRun
 evaluated files entry = ended 1000000 files entry

@@ -76,8 +76,8 @@ fn replace<R: rt::Files>(rt: &R, beside: &str, name: &str, bytes: &[u8]) -> io::
 
 /// The files of the system.
 #[derive(Drop)]
-pub(crate) struct SystemFiles<'r, R> {
-    pub(crate) rt: &'r R,
+pub struct SystemFiles<'r, R> {
+    pub rt: &'r R,
 }
 
 impl<R: rt::Files + AllocGlobal> Files for SystemFiles<'_, R> {

@@ -4,7 +4,7 @@ use Rattle.std.specs.List.{flat_map}
 use Rattle.std.specs.Fmt.{decimal}
 use Rattle.jvms_machine.specs.declared.machine.Status.{Status}
 use Rattle.jvms_machine.specs.declared.machine.Status.TheVariants as status
-use Rattle.command_line.specs.Names.{name_text}
+use Rattle.escapes.specs.Escapes.{spelled}
 
 abbrev pub status_text : Status → List ℕ
 status_text status.Finished = codes "Finished"
@@ -14,7 +14,7 @@ status_text status.Deadlocked = codes "Deadlocked"
 
 -- Of a thread that ended with an exception, of this class.
 abbrev pub uncaught_line : ℕ × List ℕ → List ℕ
-uncaught_line u = codes "uncaught " ++ decimal u.0 ++ codes " " ++ name_text u.1 ++ codes "\n"
+uncaught_line u = codes "uncaught " ++ decimal u.0 ++ codes " " ++ spelled u.1 ++ codes "\n"
 
 -- Of a run of so many turns.
 abbrev pub status_line : Status → ℕ → List ℕ

@@ -1,0 +1,242 @@
+//! Where a case is walked: its files, the command that was given last, and what that has to come to.
+
+use crate::bytes::{hex_of, lines_of, number_of, open_lines_of, spliced};
+use crate::devices::{Room, outcome_of};
+use crate::fault::CaseFault;
+use crate::files::HeldFiles;
+use crate::wanted::Outcome;
+use cases::Section;
+use commands::{FileFault, Files};
+use std::alloc::{AllocError, Global};
+use std::mem;
+
+/// How many commands came to what is wanted and how many didn't, with a line for each of these.
+#[derive(Drop)]
+pub(crate) struct Tally {
+    pub(crate) alike: u64,
+    pub(crate) differences: u64,
+    pub(crate) lines: String,
+}
+
+impl Tally {
+    pub(crate) fn new(alloc: Global) -> Self {
+        Tally {
+            alike: 0,
+            differences: 0,
+            lines: String::new(alloc),
+        }
+    }
+
+    /// Counts something that is as it is wanted.
+    fn count(&mut self) {
+        self.alike = self.alike.saturating_add(1);
+    }
+
+    /// Counts a difference, and puts its line behind the others.
+    fn differ(&mut self, line: &str) -> Result<(), AllocError> {
+        self.differences = self.differences.saturating_add(1);
+        self.lines.push_str(line)
+    }
+
+    /// Tells that a case, or a file of cases, can't be walked.
+    pub(crate) fn unreadable(
+        &mut self,
+        alloc: Global,
+        name: &str,
+        fault: CaseFault,
+    ) -> Result<(), AllocError> {
+        let line = format!(in alloc; "{name}: {fault}\n")?;
+        self.differ(line.as_str())
+    }
+}
+
+/// A command that was given.
+#[derive(Clone, Copy)]
+struct Given<'c> {
+    words: &'c str,
+    room: Room,
+    /// Whether it is also given with devices that fail early.
+    is_short: bool,
+}
+
+/// A case that is walked.
+#[derive(Drop)]
+pub(crate) struct Stage<'c, 't, F> {
+    alloc: Global,
+    name: &'c str,
+    files: HeldFiles<F>,
+    /// The room that the next command has.
+    room: Room,
+    given: Option<Given<'c>>,
+    wanted: Outcome,
+    tally: &'t mut Tally,
+}
+
+impl<'c, 't, F: Files + Drop> Stage<'c, 't, F> {
+    /// A case of which no section was read, over files that are there.
+    pub(crate) fn new(alloc: Global, name: &'c str, beneath: F, tally: &'t mut Tally) -> Self {
+        Stage {
+            alloc,
+            name,
+            files: HeldFiles::new(alloc, beneath),
+            room: Room::AMPLE,
+            given: None,
+            wanted: Outcome::nothing(alloc),
+            tally,
+        }
+    }
+
+    /// Takes the next section.
+    pub(crate) fn take(&mut self, section: &Section<'c>) -> Result<(), CaseFault> {
+        if section.kind == "like" {
+            self.wanted = outcome_of(self.alloc, section.words, &mut self.files, Room::AMPLE)?;
+            return Ok(());
+        }
+        if self.wanted.take(self.alloc, section)? {
+            return Ok(());
+        }
+        self.finish()?;
+        match section.kind {
+            "command" => self.give(section.words, false),
+            "short" => self.give(section.words, true),
+            "room" => self.room.output = number_of(section.words)?,
+            "error-room" => self.room.errors = number_of(section.words)?,
+            "written" => self.compare_file(section.words, hex_of(self.alloc, section.lines)?)?,
+            "same" => self.compare_files(section.words)?,
+            _ => self.take_file(section)?,
+        }
+        Ok(())
+    }
+
+    /// A command is given.
+    fn give(&mut self, words: &'c str, is_short: bool) {
+        self.given = Some(Given {
+            words,
+            room: self.room,
+            is_short,
+        });
+        self.room = Room::AMPLE;
+    }
+
+    /// Takes the section of a file.
+    fn take_file(&mut self, section: &Section<'c>) -> Result<(), CaseFault> {
+        let Section { kind, words, lines } = *section;
+        match kind {
+            "text" => self.files.put(words, lines_of(self.alloc, lines)?)?,
+            "open" => self.files.put(words, open_lines_of(self.alloc, lines)?)?,
+            "hex" => self.files.put(words, hex_of(self.alloc, lines)?)?,
+            "splice" => self.splice(words, lines)?,
+            "fault" => self.fault(words)?,
+            _ => return Err(CaseFault::Kind),
+        }
+        Ok(())
+    }
+
+    /// Takes a file of the bytes of another, some of them replaced.
+    fn splice(&mut self, words: &str, lines: &str) -> Result<(), CaseFault> {
+        let mut words = words.split(' ');
+        let (Some(name), Some(base), Some(place), Some(count)) = (
+            words.next(),
+            words.next(),
+            words.next(),
+            words.next(),
+        ) else {
+            return Err(CaseFault::Words);
+        };
+        let bytes = self.files.read(base)?;
+        let others = hex_of(self.alloc, lines)?;
+        let made = spliced(
+            self.alloc,
+            bytes.as_slice(),
+            number_of(place)?,
+            number_of(count)?,
+            others.as_slice(),
+        )?;
+        self.files.put(name, made)?;
+        Ok(())
+    }
+
+    /// Takes a file that fails.
+    fn fault(&mut self, words: &str) -> Result<(), CaseFault> {
+        let Some((name, fault)) = words.split_once(' ') else {
+            return Err(CaseFault::Words);
+        };
+        let fault = match fault {
+            "File" => FileFault::File,
+            "TooLarge" => FileFault::TooLarge,
+            "Memory" => FileFault::Memory,
+            _ => return Err(CaseFault::Words),
+        };
+        self.files.put_fault(name, fault)?;
+        Ok(())
+    }
+
+    /// Compares what a file holds with these bytes.
+    fn compare_file(&mut self, name: &str, wanted: Vec<u8>) -> Result<(), CaseFault> {
+        let held = self.files.read(name)?;
+        if held.as_slice() != wanted.as_slice() {
+            let case = self.name;
+            let line = format!(in self.alloc; "{case}: {name} holds {held:?}\n")?;
+            self.tally.differ(line.as_str())?;
+        }
+        Ok(())
+    }
+
+    /// Compares what two files hold.
+    fn compare_files(&mut self, words: &str) -> Result<(), CaseFault> {
+        let Some((name, other)) = words.split_once(' ') else {
+            return Err(CaseFault::Words);
+        };
+        let wanted = self.files.read(other)?;
+        self.compare_file(name, wanted)
+    }
+
+    /// Runs the command that was given last, if one was, and compares what it came to with what is wanted.
+    pub(crate) fn finish(&mut self) -> Result<(), CaseFault> {
+        let Some(given) = self.given.take() else {
+            return Ok(());
+        };
+        let wanted = mem::replace(&mut self.wanted, Outcome::nothing(self.alloc));
+        self.compare(given.words, given.room, &wanted)?;
+        if given.is_short {
+            self.shorten(given.words, &wanted)?;
+        }
+        Ok(())
+    }
+
+    /// Compares what a command comes to with what is wanted, where a device fails early.
+    fn shorten(&mut self, words: &str, wanted: &Outcome) -> Result<(), CaseFault> {
+        for output in 0..wanted.output.len() {
+            let wanted = wanted.without_output(self.alloc, output)?;
+            let room = Room {
+                output,
+                ..Room::AMPLE
+            };
+            self.compare(words, room, &wanted)?;
+        }
+        for errors in 0..wanted.errors.len() {
+            let wanted = wanted.without_errors(self.alloc, errors)?;
+            let room = Room {
+                errors,
+                ..Room::AMPLE
+            };
+            self.compare(words, room, &wanted)?;
+        }
+        Ok(())
+    }
+
+    /// Compares what a command comes to with what is wanted.
+    fn compare(&mut self, words: &str, room: Room, wanted: &Outcome) -> Result<(), CaseFault> {
+        let given = outcome_of(self.alloc, words, &mut self.files, room)?;
+        if given.is(wanted) {
+            self.tally.count();
+        } else {
+            let case = self.name;
+            let line = format!(in self.alloc;
+                "{case}: jvmx {words}\n  wanted: {wanted}\n  given:  {given}\n"
+            )?;
+            self.tally.differ(line.as_str())?;
+        }
+        Ok(())
+    }
+}

@@ -1,0 +1,106 @@
+//! What a command comes to, or has to.
+
+use crate::bytes::{hex_of, lines_of, open_lines_of};
+use crate::fault::CaseFault;
+use cases::Section;
+use std::alloc::{AllocError, Global};
+use std::fmt;
+
+/// What a command comes to.
+#[derive(Drop)]
+pub(crate) struct Outcome {
+    pub(crate) status: u8,
+    /// What is written to standard output.
+    pub(crate) output: Vec<u8>,
+    /// What is written to standard error.
+    pub(crate) errors: Vec<u8>,
+}
+
+/// Bytes as they are shown where they differ.
+fn shown(bytes: &[u8]) -> &str {
+    std::str::from_utf8(bytes).unwrap_or("no text")
+}
+
+impl fmt::Display for Outcome {
+    fn fmt<W: fmt::Write>(&self, f: &mut fmt::Formatter<W>) -> fmt::Result {
+        let status = self.status;
+        let output = shown(self.output.as_slice());
+        let errors = shown(self.errors.as_slice());
+        write!(f, "status {status}, output {output:?}, errors {errors:?}")
+    }
+}
+
+/// The bytes that a section asks for: lines, lines without the last line end, or bytes.
+fn bytes_of(alloc: Global, section: &Section<'_>) -> Result<Vec<u8>, CaseFault> {
+    match section.words {
+        "" => lines_of(alloc, section.lines),
+        "open" => open_lines_of(alloc, section.lines),
+        "hex" => hex_of(alloc, section.lines),
+        _ => Err(CaseFault::Words),
+    }
+}
+
+impl Outcome {
+    /// Nothing is written, and the status is 0.
+    pub(crate) fn nothing(alloc: Global) -> Self {
+        Outcome {
+            status: 0,
+            output: Vec::new(alloc),
+            errors: Vec::new(alloc),
+        }
+    }
+
+    /// Where standard output takes so many bytes and then fails.
+    pub(crate) fn without_output(&self, alloc: Global, room: usize) -> Result<Self, AllocError> {
+        Ok(Outcome {
+            status: 3,
+            output: self.output[..room.min(self.output.len())].to_vec(alloc)?,
+            errors: b"jvmx: P05 Output\n".to_vec(alloc)?,
+        })
+    }
+
+    /// Where standard error takes so many bytes and then fails.
+    pub(crate) fn without_errors(&self, alloc: Global, room: usize) -> Result<Self, AllocError> {
+        Ok(Outcome {
+            status: 3,
+            output: self.output.clone()?,
+            errors: self.errors[..room.min(self.errors.len())].to_vec(alloc)?,
+        })
+    }
+
+    /// Whether both are the same.
+    pub(crate) fn is(&self, other: &Outcome) -> bool {
+        self.status == other.status
+            && self.output.as_slice() == other.output.as_slice()
+            && self.errors.as_slice() == other.errors.as_slice()
+    }
+
+    /// Has the line of a refusal be written.
+    fn refuse(&mut self, alloc: Global, status: u8, line: &str) -> Result<(), CaseFault> {
+        self.status = status;
+        self.errors = format!(in alloc; "jvmx: {line}\n")?.into_bytes();
+        Ok(())
+    }
+
+    /// Takes what a section asks for; whether it asks for anything of this kind.
+    pub(crate) fn take(&mut self, alloc: Global, section: &Section<'_>) -> Result<bool, CaseFault> {
+        let words = section.words;
+        match section.kind {
+            "status" => match words.parse::<u8>() {
+                Ok(status) => self.status = status,
+                Err(_) => return Err(CaseFault::Number),
+            },
+            "output" => self.output = bytes_of(alloc, section)?,
+            "errors" => self.errors = bytes_of(alloc, section)?,
+            "prints" => self.output = lines_of(alloc, words)?,
+            "ends" => {
+                self.status = 1;
+                self.errors = lines_of(alloc, words)?;
+            }
+            "refused" => self.refuse(alloc, 2, words)?,
+            "failed" => self.refuse(alloc, 3, words)?,
+            _ => return Ok(false),
+        }
+        Ok(true)
+    }
+}
