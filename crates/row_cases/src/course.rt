@@ -1,0 +1,118 @@
+//! The turns of a case.
+
+use crate::lines::Lines;
+use crate::texts;
+use machine::{Machine, Outcome, ThreadId, is_enabled};
+use std::alloc::{AllocError, Global};
+use trace::Trace;
+use trace_text::put_line;
+
+/// How many turns thread 0 makes at most where a case has no choices.
+const MOST_TURNS: usize = 10_000;
+
+/// What the turns of a case gave.
+#[derive(Drop)]
+pub struct Course {
+    alloc: Global,
+    /// The outcome of each turn, and its items.
+    turns: Lines,
+    outcomes: Lines,
+    items: Lines,
+    trace: Trace,
+    pub choices: Vec<ThreadId>,
+    results: Vec<Outcome>,
+}
+
+impl Course {
+    fn new(alloc: Global) -> Course {
+        Course {
+            alloc,
+            turns: Lines::new(alloc),
+            outcomes: Lines::new(alloc),
+            items: Lines::new(alloc),
+            trace: Trace::new(alloc),
+            choices: Vec::new(alloc),
+            results: Vec::new(alloc),
+        }
+    }
+
+    /// Makes a turn of a thread.
+    fn take(&mut self, machine: &mut Machine<'_>, t: ThreadId) -> Result<(), AllocError> {
+        let before = self.trace.len();
+        let outcome = machine.step(t, &mut self.trace)?;
+        self.choices.push(t)?;
+        self.results.push(outcome)?;
+        let told = texts::outcome(self.alloc, machine, outcome)?;
+        let line = format!(in self.alloc; "{t} {}", told.as_str())?;
+        self.turns.put(line.as_str())?;
+        self.outcomes.put(line.as_str())?;
+        for item in self.trace.items().iter().skip(before) {
+            let mut line = String::new(self.alloc);
+            put_line(&mut line, item)?;
+            self.turns.put_alone(line.as_str().trim_end())?;
+            self.items.put_alone(line.as_str().trim_end())?;
+        }
+        Ok(())
+    }
+
+    /// Ends the lines.
+    fn close(&mut self) -> Result<(), AllocError> {
+        self.turns.close()?;
+        self.outcomes.close()?;
+        self.items.close()
+    }
+
+    /// The turns of thread 0 while it is enabled.
+    pub fn of_own_turns(alloc: Global, machine: &mut Machine<'_>) -> Result<Course, AllocError> {
+        let mut course = Course::new(alloc);
+        for _ in 0..MOST_TURNS {
+            if !is_enabled(machine.peek(0)) {
+                break;
+            }
+            course.take(machine, 0)?;
+        }
+        course.close()?;
+        Ok(course)
+    }
+
+    /// The turns of these choices.
+    pub fn of_choices(
+        alloc: Global,
+        machine: &mut Machine<'_>,
+        choices: &[ThreadId],
+    ) -> Result<Course, AllocError> {
+        let mut course = Course::new(alloc);
+        for t in choices {
+            course.take(machine, *t)?;
+        }
+        course.close()?;
+        Ok(course)
+    }
+
+    /// What a section of this kind ought to say, if it is about turns.
+    pub fn lines(&self, kind: &str) -> Option<&str> {
+        match kind {
+            "turns" => Some(self.turns.text()),
+            "outcomes" => Some(self.outcomes.text()),
+            "items" => Some(self.items.text()),
+            _ => None,
+        }
+    }
+
+    /// The outcome of the last turn.
+    pub fn last(&self) -> Option<Outcome> {
+        self.results.last().copied()
+    }
+
+    /// Whether another machine answers the same to all choices in one run.
+    pub fn is_of_one_run(&self, machine: &mut Machine<'_>) -> bool {
+        let mut trace = Trace::new(self.alloc);
+        match machine.run(self.choices.as_slice(), &mut trace) {
+            Ok(outcomes) => {
+                outcomes.as_slice() == self.results.as_slice()
+                    && trace.items() == self.trace.items()
+            }
+            Err(_) => false,
+        }
+    }
+}

@@ -1,0 +1,57 @@
+//! Runs rows of the instruction table that stand in files of cases, and tells which of them don't give what is wanted.
+//! The words are the names of the files. What is wanted is read off the Java Virtual Machine Specification (JVMS 2, 5,
+//! 6.5) and this project's own rules, and not off the program's answers.
+//!
+//! A case that wants nothing is a group of sources, for the cases of its file that name it. The sections of a case:
+//!
+//! - `source`: a class of the program, in Jasmin. `with GROUP`: the sources of a group.
+//! - `code DESCRIPTOR`: the lines of a static method `m` of a class `M`, which is a class of the program, and the entry.
+//!   Its limits are 6 operands and 3 locals, if the lines don't begin with others.
+//! - `entry CLASS`: its main; `entry C.m.D ARGUMENT ..`: a static method.
+//! - `limits`: words of `objects N`, `elements N`, `threads N`, `frames N`.
+//! - `choices`: thread numbers, each maybe with how often it is chosen, as `0 1x3`. Where there are none, thread 0 is
+//!   chosen while it is enabled.
+//! - `turns`: the outcome of each turn behind its thread, then its items. Equal turns on end are one line, as
+//!   `0 Ran x3`, where only the last has items.
+//! - `items`: the items alone. `outcomes`: the outcomes alone, behind their threads.
+//! - `wants`: what is asked of the machine after all turns, a line each, as `shown.rt` lists them; or why there is no
+//!   machine, as `fault M01 NoEntry`.
+#![tactic(auto)]
+
+mod course;
+mod lines;
+mod make;
+mod objects;
+mod setting;
+mod shown;
+mod stop;
+mod texts;
+mod threads;
+mod walk;
+
+use crate::walk::{Tally, walk};
+use std::process::ExitCode;
+use std::{env, fs, io};
+
+/// Runs the cases of each file, prints those that differ, and counts them.
+fn walk_files(rt: &HostRuntime) -> io::Result<Tally> {
+    let mut tally = Tally::default();
+    for name in env::args(rt)?.skip(1) {
+        let file = fs::read_to_string(rt, name.as_str())?;
+        let mut differences = String::new(rt.alloc());
+        let counted = walk(rt.alloc(), file.as_str(), &mut differences)?;
+        tally = tally.with(counted);
+        print!(rt; "{}", differences.as_str())?;
+    }
+    Ok(tally)
+}
+
+fn main(rt: HostRuntime) -> io::Result<ExitCode> {
+    let tally = walk_files(&rt)?;
+    println!(rt; "{} rows give what is wanted", tally.alike)?;
+    if tally.otherwise > 0 {
+        println!(rt; "{} rows don't", tally.otherwise)?;
+        return Ok(ExitCode::FAILURE);
+    }
+    Ok(ExitCode::SUCCESS)
+}

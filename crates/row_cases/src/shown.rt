@@ -1,0 +1,95 @@
+//! What a case may ask of the machine after its turns: a line, that begins with what is asked, and then says the answer.
+//!
+//! - `status S`; `objects N`, `elements N`, `threads N`: how many there are; `result V`, or `none`; `output "TEXT"`.
+//! - `last OUTCOME`: of the last turn. `peek T OUTCOME`: what a thread's next turn would come to.
+//! - `pending T R C`: the exception that is pending, or `none`; `uncaught T C`: the class of that which ended the thread.
+//! - `at T C.m.D @P`, `at T init C` or `at T nowhere`; `frames T N`; `locals T V ..`, `stack T V ..` of the top frame.
+//! - `ref R text "TEXT"`, `ref R class C`, `ref R C C.x=V ..`, `ref R [E V ..`: the object of a reference.
+//! - `monitor R T xN`, or `free`.
+//! - `class C HOW C.x=V ..`: `new`, `init by T`, `done`, `erroneous`, and its static fields.
+
+use crate::course::Course;
+use crate::{objects, texts, threads};
+use machine::Machine;
+use std::alloc::{AllocError, Global};
+
+/// A number in decimal digits, or 0.
+fn number(word: &str) -> u32 {
+    word.parse().unwrap_or(0)
+}
+
+/// The value that the entry's method returned.
+fn result(alloc: Global, machine: &Machine<'_>) -> Result<String, AllocError> {
+    match machine.result() {
+        Some(value) => texts::value(alloc, value),
+        None => String::from_str(alloc, "none"),
+    }
+}
+
+/// The outcome of the last turn.
+fn last(alloc: Global, machine: &Machine<'_>, course: &Course) -> Result<String, AllocError> {
+    match course.last() {
+        Some(outcome) => texts::outcome(alloc, machine, outcome),
+        None => String::from_str(alloc, "none"),
+    }
+}
+
+/// What is asked by one word.
+fn of_machine(
+    alloc: Global,
+    machine: &Machine<'_>,
+    course: &Course,
+    asked: &str,
+) -> Result<Option<String>, AllocError> {
+    let answer = match asked {
+        "status" => String::from_str(alloc, texts::status(machine.status()))?,
+        "objects" => format!(in alloc; "{}", machine.object_count())?,
+        "elements" => format!(in alloc; "{}", machine.element_count())?,
+        "threads" => format!(in alloc; "{}", machine.thread_count())?,
+        "result" => result(alloc, machine)?,
+        "output" => texts::output(alloc, machine.output())?,
+        "last" => last(alloc, machine, course)?,
+        _ => return Ok(None),
+    };
+    Ok(Some(answer))
+}
+
+/// What is asked of a thread, a reference or a class.
+fn of_part(
+    alloc: Global,
+    machine: &Machine<'_>,
+    asked: &str,
+    part: &str,
+) -> Result<String, AllocError> {
+    match asked {
+        "peek" => texts::outcome(alloc, machine, machine.peek(number(part))),
+        "pending" => threads::pending(alloc, machine, number(part)),
+        "uncaught" => threads::uncaught(alloc, machine, number(part)),
+        "at" => threads::place(alloc, machine, number(part)),
+        "frames" => threads::frames(alloc, machine, number(part)),
+        "locals" => threads::locals(alloc, machine, number(part)),
+        "stack" => threads::operands(alloc, machine, number(part)),
+        "ref" => objects::object(alloc, machine, number(part)),
+        "monitor" => objects::monitor(alloc, machine, number(part)),
+        "class" => objects::class(alloc, machine, part),
+        _ => String::from_str(alloc, "isn't known"),
+    }
+}
+
+/// The line that is given where this one is wanted.
+pub fn shown(
+    alloc: Global,
+    machine: &Machine<'_>,
+    course: &Course,
+    want: &str,
+) -> Result<String, AllocError> {
+    let mut words = want.split_whitespace();
+    let asked = words.next().unwrap_or("");
+    if let Some(answer) = of_machine(alloc, machine, course, asked)? {
+        return format!(in alloc; "{asked} {}", answer.as_str());
+    }
+    let part = words.next().unwrap_or("");
+    let answer = of_part(alloc, machine, asked, part)?;
+    let line = format!(in alloc; "{asked} {part} {}", answer.as_str())?;
+    String::from_str(alloc, line.as_str().trim_end())
+}

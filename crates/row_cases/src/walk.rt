@@ -1,0 +1,211 @@
+//! The walk over the cases of a file.
+
+use crate::course::Course;
+use crate::make::program;
+use crate::setting;
+use crate::shown::shown;
+use crate::stop::{Stop, refused};
+use cases::{Case, cases_of};
+use machine::Machine;
+use program::Program;
+use std::alloc::{AllocError, Global};
+
+/// The sections that say what is wanted.
+const WANTS: [&str; 4] = ["turns", "outcomes", "items", "wants"];
+
+/// How many cases give what is wanted, and how many don't.
+#[derive(Clone, Copy, Default)]
+pub struct Tally {
+    pub alike: usize,
+    pub otherwise: usize,
+}
+
+impl Tally {
+    /// With a case more.
+    fn count(self, alike: bool) -> Tally {
+        if alike {
+            Tally {
+                alike: self.alike.saturating_add(1),
+                ..self
+            }
+        } else {
+            Tally {
+                otherwise: self.otherwise.saturating_add(1),
+                ..self
+            }
+        }
+    }
+
+    /// With those of another.
+    pub fn with(self, other: Tally) -> Tally {
+        Tally {
+            alike: self.alike.saturating_add(other.alike),
+            otherwise: self.otherwise.saturating_add(other.otherwise),
+        }
+    }
+}
+
+/// Whether a case is about a run, and no group of sources.
+fn is_run(case: &Case<'_>) -> bool {
+    WANTS.iter().any(|kind| case.section(*kind).is_some())
+}
+
+/// Puts what is wanted and what is shown, where they differ.
+fn compare(out: &mut String, wanted: &str, shown: &str) -> Result<(), AllocError> {
+    if wanted == shown {
+        return Ok(());
+    }
+    write!(out, "- wanted:\n{wanted}\n- shown:\n{shown}\n")
+}
+
+/// Puts where the lines of a case's sections differ from its course.
+fn compare_course(case: &Case<'_>, course: &Course, out: &mut String) -> Result<(), AllocError> {
+    for section in case.sections.iter() {
+        if let Some(lines) = course.lines(section.kind) {
+            compare(out, section.lines, lines)?;
+        }
+    }
+    Ok(())
+}
+
+/// Puts where what a case wants differs from what is shown of the machine.
+fn compare_machine(
+    alloc: Global,
+    case: &Case<'_>,
+    machine: &Machine<'_>,
+    course: &Course,
+    out: &mut String,
+) -> Result<(), AllocError> {
+    for want in case.lines("wants").unwrap_or("").lines() {
+        let shown = shown(alloc, machine, course, want)?;
+        compare(out, want, shown.as_str())?;
+    }
+    Ok(())
+}
+
+/// The machine of a case, before its turns.
+fn opened<'p>(alloc: Global, case: &Case<'_>, program: &'p Program) -> Result<Machine<'p>, Stop> {
+    let entry = setting::entry(alloc, case)?;
+    match Machine::new(alloc, program, setting::limits(case), &entry) {
+        Ok(machine) => Ok(machine),
+        Err(fault) => Err(refused(alloc, &fault)),
+    }
+}
+
+/// The turns of a case.
+fn course_of(
+    alloc: Global,
+    case: &Case<'_>,
+    machine: &mut Machine<'_>,
+) -> Result<Course, AllocError> {
+    match case.words("choices") {
+        Some(words) => {
+            let choices = setting::choices(alloc, words)?;
+            Course::of_choices(alloc, machine, choices.as_slice())
+        }
+        None => Course::of_own_turns(alloc, machine),
+    }
+}
+
+/// Makes a case's turns, and puts where they and the machine behind them differ from what the case wants.
+fn take_course(
+    alloc: Global,
+    case: &Case<'_>,
+    machine: &mut Machine<'_>,
+    out: &mut String,
+) -> Result<Course, AllocError> {
+    let course = course_of(alloc, case, machine)?;
+    compare_course(case, &course, out)?;
+    compare_machine(alloc, case, machine, &course, out)?;
+    Ok(course)
+}
+
+/// Runs a case turn by turn, and puts where that differs from what it wants.
+fn put_course(
+    alloc: Global,
+    program: &Program,
+    case: &Case<'_>,
+    out: &mut String,
+) -> Result<Course, Stop> {
+    let mut machine = opened(alloc, case, program)?;
+    let course = take_course(alloc, case, &mut machine, out)?;
+    Ok(course)
+}
+
+/// Whether the choices of a course, in one run, give the same.
+fn is_one_run(
+    alloc: Global,
+    program: &Program,
+    case: &Case<'_>,
+    course: &Course,
+) -> Result<bool, Stop> {
+    let mut machine = opened(alloc, case, program)?;
+    let is_same = course.is_of_one_run(&mut machine);
+    Ok(is_same)
+}
+
+/// Puts whether the choices of a course, in one run, give otherwise.
+fn put_run(
+    alloc: Global,
+    program: &Program,
+    case: &Case<'_>,
+    course: &Course,
+    out: &mut String,
+) -> Result<(), Stop> {
+    if !is_one_run(alloc, program, case, course)? {
+        out.push_str("- the same choices in one run give otherwise\n")?;
+    }
+    Ok(())
+}
+
+/// Puts where a case, turn by turn and in one run, differs from what it wants.
+fn put_courses(
+    alloc: Global,
+    program: &Program,
+    case: &Case<'_>,
+    out: &mut String,
+) -> Result<(), Stop> {
+    let course = put_course(alloc, program, case, out)?;
+    put_run(alloc, program, case, &course, out)
+}
+
+/// Puts where a case differs from what it wants.
+fn put_differences(
+    alloc: Global,
+    cases: &[Case<'_>],
+    case: &Case<'_>,
+    out: &mut String,
+) -> Result<(), Stop> {
+    let program = program(alloc, cases, case)?;
+    put_courses(alloc, &program, case, out)
+}
+
+/// Where a case differs from what it wants.
+fn differences(alloc: Global, cases: &[Case<'_>], case: &Case<'_>) -> Result<String, AllocError> {
+    let mut out = String::new(alloc);
+    match put_differences(alloc, cases, case, &mut out) {
+        Ok(()) => {}
+        Err(Stop::Refused(fault)) => {
+            let fault = format!(in alloc; "fault {}", fault.as_str())?;
+            compare(&mut out, case.lines("wants").unwrap_or(""), fault.as_str())?;
+        }
+        Err(Stop::Memory) => out.push_str("- there was no memory\n")?,
+    }
+    Ok(out)
+}
+
+/// Runs the cases of a file, and puts those that differ behind a text.
+pub fn walk(alloc: Global, file: &str, out: &mut String) -> Result<Tally, AllocError> {
+    let cases = cases_of(alloc, file)?;
+    let mut tally = Tally::default();
+    for case in cases.iter() {
+        if is_run(case) {
+            let differences = differences(alloc, cases.as_slice(), case)?;
+            if !differences.is_empty() {
+                write!(out, "== {}\n{}", case.name, differences.as_str())?;
+            }
+            tally = tally.count(differences.is_empty());
+        }
+    }
+    Ok(tally)
+}
