@@ -1,12 +1,13 @@
 #!/usr/bin/env python3
 """Makes small random traces, judges each by all pairs of its events and all paths of transactions, and compares that with
-what `./jvmx check --serial` prints.
+what `jvmx check --serial` prints.
 
-    bench/random_traces.py [HOW_MANY [SEED]]
+    bench/random_traces.py [--jvmx PROGRAM] [HOW_MANY [SEED]]
 
 The reading here is the plain one: transactions, edges between them at each prefix, and the first prefix with a cycle. What
 is shown is tested, not compared: an order of events by its pairs, its transactions and its reads; a cycle by its edges.
 """
+import argparse
 import random
 import subprocess
 import sys
@@ -161,10 +162,17 @@ def is_right(spec, items, printed):
     return distinct and cycle[0] == events[first - 1][3] and all(pair in edges for pair in round_trip)
 
 
+def read_words():
+    parser = argparse.ArgumentParser(description=__doc__.split("\n")[0])
+    parser.add_argument("--jvmx", default=ROOT / "jvmx", help="the program; else the one of this repository")
+    parser.add_argument("how_many", nargs="?", default=1000, type=int)
+    parser.add_argument("seed", nargs="?", default=1, type=int)
+    return parser.parse_args()
+
+
 def main():
-    words = sys.argv[1:]
-    how_many = int(words[0]) if words else 1000
-    generator = random.Random(int(words[1]) if len(words) > 1 else 1)
+    words = read_words()
+    how_many, generator = words.how_many, random.Random(words.seed)
     wrong = cycles = 0
     with tempfile.TemporaryDirectory() as folder:
         spec_file, trace_file = Path(folder) / "spec", Path(folder) / "trace"
@@ -173,7 +181,7 @@ def main():
             trace = "".join(line_of(item) + "\n" for item in items)
             spec_file.write_text(spec)
             trace_file.write_text(trace)
-            command = [str(ROOT / "jvmx"), "check", "--spec", str(spec_file), "--serial", str(trace_file)]
+            command = [words.jvmx, "check", "--spec", spec_file, "--serial", trace_file]
             printed = subprocess.run(command, capture_output=True, text=True).stdout
             cycles += printed.startswith("cycle")
             if not is_right(spec, items, printed):

@@ -1,6 +1,6 @@
 #!/usr/bin/env python3
 """Runs each program of examples/threads under three schedules, and prints what it writes, how it ends and, with the
-specification beside it, whether it was atomic. Where all three write the same, it is compared with what `java` writes for
+specification beside it, whether it was atomic. Where all three write the same, it is compared with what `java -Xint` writes for
 the class that `jvmx asm` makes of the source; a program that doesn't end there within ten seconds is told.
 
     bench/thread_examples.py [--jvmx PROGRAM]
@@ -29,7 +29,7 @@ def by_java(jvmx, source, folder):
     if subprocess.run(asm).returncode != 0:
         return None
     try:
-        java = ["java", "-cp", folder, source.stem]
+        java = ["java", "-Xint", "-cp", folder, source.stem]
         return subprocess.run(java, capture_output=True, text=True, timeout=10).stdout
     except subprocess.TimeoutExpired:
         return None
