@@ -1,17 +1,8 @@
 mod Answered
-mod Asked
 mod Callers
-mod ConstantTexts
-mod CountLaws
 mod Deciding
-mod Effects
-mod Entering
 mod EntryLaws
-mod FailedClasses
-mod FieldPlaces
-mod HeapLaws
 mod Made
 mod RunLaws
 mod Sites
-mod Stacks
 mod StatusLaws

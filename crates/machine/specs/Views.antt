@@ -6,7 +6,7 @@ use Rattle.jvms_machine.specs.State.{Object, Thread, Frame}
 use Rattle.machine.specs.declared.state.threads.FrameView.{FrameView}
 use Rattle.machine.specs.declared.state.threads.FrameView.TheVariants as frame_view
 use Rattle.heap.specs.Objects.{class_at}
-use Rattle.machine.specs.Machine.{Machine}
+use Rattle.machine_parts.specs.Machine.{Machine}
 
 -- ---- Threads
 

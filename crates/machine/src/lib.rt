@@ -2,32 +2,16 @@
 //! table.
 #![tactic(auto)]
 
-mod arrays;
-mod calls;
-mod decision;
-mod exceptions;
 mod fault;
-mod fields;
-mod initialisation;
 mod limits;
-mod locking;
 mod machine;
 mod making;
-mod monitor_use;
-mod natives;
-mod objects;
 mod opening;
-mod parts;
-mod returns;
 mod run;
 mod start;
 mod state;
 mod status;
-mod stored;
-mod thread;
-mod threads;
 mod turn;
-mod unwinding;
 
 pub use fault::MachineFault;
 pub use jvms_machine::machine::{Entry, Limits, Outcome, Status, ThreadId};

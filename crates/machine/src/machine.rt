@@ -3,15 +3,18 @@
 ghost use Rattle.std.specs.Prelude.{◌≡◌, ◌++◌, length, IsOk, IfOk, OnOk, OnErr, is_ok};
 ghost use Rattle.jvms_machine.specs.Opening.{made as made_by};
 ghost use Rattle.jvms_machine.specs.State.{Sound};
-ghost use Rattle.machine.specs.Machine.{row_of, with_state, TakesNone};
+ghost use Rattle.machine_parts.specs.Machine.{row_of, with_state, TakesNone};
 ghost use Rattle.machine.specs.Started.{IsNew};
 
 use crate::fault::MachineFault;
 use crate::limits::are_limits;
-use crate::parts::Parts;
+use crate::making::step;
+use crate::opening::open;
 use crate::start::start_of;
+use crate::turn::peek;
 use jvms_machine::machine::{Entry, Limits, Outcome, ThreadId};
 use jvms_machine::value::Value;
+use machine_parts::Parts;
 use program::Program;
 use std::alloc::{AllocError, Global};
 use std::marker::Model;
@@ -34,7 +37,7 @@ pub struct Machine<'p> {
 }
 
 impl<'p> Model for Machine<'p> {
-    ghost use Rattle.machine.specs.Machine.{Machine as Seen, IsMachine};
+    ghost use Rattle.machine_parts.specs.Machine.{Machine as Seen, IsMachine};
 
     ghost Value = { Seen };
 
@@ -61,7 +64,7 @@ impl<'p> Machine<'p> {
             return Err(MachineFault::Limits);
         }
         program.is_program();
-        let parts = Parts::open(alloc, program, limits, method, entry)?;
+        let parts = open(alloc, program, limits, method, entry)?;
         Ok(Machine { parts })
     }
 
@@ -76,7 +79,7 @@ impl<'p> Machine<'p> {
         // A turn that pushes no frame, makes no object and gives no item takes no memory.
         ensures none { TakesNone self.old t → IsOk result }
     {
-        self.parts.step(t, trace)
+        step(&mut self.parts, t, trace)
     }
 
     /// What the turn of a thread would come to, with nothing changed. It takes no memory.
@@ -84,7 +87,7 @@ impl<'p> Machine<'p> {
     pub fn peek(&self, t: ThreadId) -> Outcome
         ensures { result ≡ (row_of self.now t).outcome }
     {
-        self.parts.peek(t as usize)
+        peek(&self.parts, t as usize)
     }
 
     /// The state of every machine is sound. Nothing is done.

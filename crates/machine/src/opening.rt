@@ -6,14 +6,14 @@ ghost use Rattle.jvms_machine.specs.Start.{entry_arguments};
 ghost use Rattle.jvms_machine.specs.Opening.{opening_initialisation};
 ghost use Rattle.machine.specs.Started.{with_arguments, opened};
 
-use crate::parts::Parts;
-use crate::thread::Thread;
 use heap::{Heap, Statics};
 use jvms_machine::machine::{Entry, Limits};
 use jvms_machine::state::Initialisation;
 use jvms_machine::value::Value;
 use jvms_program::number::MethodNumber;
 use jvms_program::program::Class;
+use machine_parts::Parts;
+use machine_thread::Thread;
 use monitors::Monitors;
 use program::{Program, is_built_in};
 use std::alloc::{AllocError, Global};
@@ -64,35 +64,33 @@ fn initialisations(alloc: Global, classes: &[Class]) -> Result<Vec<Initialisatio
     Ok(marks)
 }
 
-impl<'p> Parts<'p> {
-    /// The parts of a machine at its opening: thread 0 has no frame yet.
-    #[tactic(auto, unfolding(jvms_machine::specs::Opening::opening))]
-    pub(crate) fn open(
-        alloc: Global,
-        program: &'p Program,
-        limits: Limits,
-        method: MethodNumber,
-        entry: &Entry,
-    ) -> Result<Parts<'p>, AllocError>
-        ensures { IfOk result (λ m. m ≡ opened program.now limits (with_arguments entry.now method)) }
-    {
-        let arguments = arguments(alloc, entry)?;
-        let heap = Heap::opening(alloc, program)?;
-        let statics = Statics::opening(alloc, program)?;
-        let initialisations = initialisations(alloc, program.classes())?;
-        let threads = vec![in alloc; Thread::new(alloc, None)]?;
-        Ok(Parts {
-            alloc,
-            limits,
-            method,
-            arguments,
-            heap,
-            statics,
-            initialisations,
-            threads,
-            monitors: Monitors::new(alloc),
-            output: Vec::new(alloc),
-            result: None,
-        })
-    }
+/// The parts of a machine at its opening: thread 0 has no frame yet.
+#[tactic(auto, unfolding(jvms_machine::specs::Opening::opening))]
+pub(crate) fn open<'p>(
+    alloc: Global,
+    program: &'p Program,
+    limits: Limits,
+    method: MethodNumber,
+    entry: &Entry,
+) -> Result<Parts<'p>, AllocError>
+    ensures { IfOk result (λ m. m ≡ opened program.now limits (with_arguments entry.now method)) }
+{
+    let arguments = arguments(alloc, entry)?;
+    let heap = Heap::opening(alloc, program)?;
+    let statics = Statics::opening(alloc, program)?;
+    let initialisations = initialisations(alloc, program.classes())?;
+    let threads = vec![in alloc; Thread::new(alloc, None)]?;
+    Ok(Parts {
+        alloc,
+        limits,
+        method,
+        arguments,
+        heap,
+        statics,
+        initialisations,
+        threads,
+        monitors: Monitors::new(alloc),
+        output: Vec::new(alloc),
+        result: None,
+    })
 }

@@ -3,13 +3,14 @@
 ghost use Rattle.std.specs.Prelude.{◌≡◌, drop};
 ghost use Rattle.std.specs.List.{list_all};
 ghost use Rattle.jvms_machine.specs.Status.{is_enabled as enabled, is_bad as bad, status_of};
-ghost use Rattle.machine.specs.Ready.{AreNumbered};
-ghost use Rattle.machine.specs.Sites.{HaveTheirCode};
+ghost use Rattle.machine_parts.specs.Ready.{AreNumbered};
+ghost use Rattle.machine.specs.CanTurn.{HaveTheirCode};
 ghost use Rattle.machine.specs.Statuses.{any_thread};
 
 use crate::machine::Machine;
-use crate::parts::Parts;
+use crate::turn::peek;
 use jvms_machine::machine::{Outcome, Status};
+use machine_parts::Parts;
 
 /// Whether a thread whose next turn comes to this is enabled: the turn can be made.
 #[inline]
@@ -29,57 +30,56 @@ fn is_bad(outcome: Outcome) -> bool
     matches!(outcome, Outcome::Bad { .. })
 }
 
-impl Parts<'_> {
-    /// Whether all threads have ended.
-    fn all_ended(&self) -> bool
-        ensures { result ≡ list_all (λ x. x.ended) self.now.state.threads }
-    {
-        self.threads
-            .as_slice()
-            .iter()
-            .all(|thread| thread.has_ended())
-    }
+/// Whether all threads have ended.
+fn all_ended(parts: &Parts) -> bool
+    ensures { result ≡ list_all (λ x. x.ended) parts.now.state.threads }
+{
+    parts
+        .threads
+        .as_slice()
+        .iter()
+        .all(|thread| thread.has_ended())
+}
 
-    /// Whether a thread from number `t` on is enabled.
-    fn any_enabled(&self, t: usize) -> bool
-        requires numbered { AreNumbered self.now.state }
-        requires code { HaveTheirCode self.now }
-        ensures { result ≡ any_thread enabled self.now t (drop t self.now.state.threads) }
-    {
-        if t >= self.threads.len() {
-            return false;
-        }
-        is_enabled(self.peek(t)) || self.any_enabled(t + 1)
+/// Whether a thread from number `t` on is enabled.
+fn any_enabled(parts: &Parts, t: usize) -> bool
+    requires numbered { AreNumbered parts.now.state }
+    requires code { HaveTheirCode parts.now }
+    ensures { result ≡ any_thread enabled parts.now t (drop t parts.now.state.threads) }
+{
+    if t >= parts.threads.len() {
+        return false;
     }
+    is_enabled(peek(parts, t)) || any_enabled(parts, t + 1)
+}
 
-    /// Whether a thread from number `t` on can't go on.
-    fn any_bad(&self, t: usize) -> bool
-        requires numbered { AreNumbered self.now.state }
-        requires code { HaveTheirCode self.now }
-        ensures { result ≡ any_thread bad self.now t (drop t self.now.state.threads) }
-    {
-        if t >= self.threads.len() {
-            return false;
-        }
-        is_bad(self.peek(t)) || self.any_bad(t + 1)
+/// Whether a thread from number `t` on can't go on.
+fn any_bad(parts: &Parts, t: usize) -> bool
+    requires numbered { AreNumbered parts.now.state }
+    requires code { HaveTheirCode parts.now }
+    ensures { result ≡ any_thread bad parts.now t (drop t parts.now.state.threads) }
+{
+    if t >= parts.threads.len() {
+        return false;
     }
+    is_bad(peek(parts, t)) || any_bad(parts, t + 1)
+}
 
-    /// How the machine stands.
-    #[tactic(auto, using(crate::proofs::StatusLaws::any_is), unfolding(jvms_machine::specs::Status::status_of))]
-    fn status(&self) -> Status
-        requires numbered { AreNumbered self.now.state }
-        requires code { HaveTheirCode self.now }
-        ensures { result ≡ status_of self.now.program self.now.limits self.now.start self.now.state }
-    {
-        if self.all_ended() {
-            Status::Finished
-        } else if self.any_enabled(0) {
-            Status::Running
-        } else if self.any_bad(0) {
-            Status::Stalled
-        } else {
-            Status::Deadlocked
-        }
+/// How the machine stands.
+#[tactic(auto, using(crate::proofs::StatusLaws::any_is), unfolding(jvms_machine::specs::Status::status_of))]
+fn standing(parts: &Parts) -> Status
+    requires numbered { AreNumbered parts.now.state }
+    requires code { HaveTheirCode parts.now }
+    ensures { result ≡ status_of parts.now.program parts.now.limits parts.now.start parts.now.state }
+{
+    if all_ended(parts) {
+        Status::Finished
+    } else if any_enabled(parts, 0) {
+        Status::Running
+    } else if any_bad(parts, 0) {
+        Status::Stalled
+    } else {
+        Status::Deadlocked
     }
 }
 
@@ -90,6 +90,6 @@ impl Machine<'_> {
     pub fn status(&self) -> Status
         ensures { result ≡ status_of self.now.program self.now.limits self.now.start self.now.state }
     {
-        self.parts.status()
+        standing(&self.parts)
     }
 }

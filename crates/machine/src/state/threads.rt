@@ -5,10 +5,10 @@ ghost use Rattle.std.specs.Option.{option_and_then, option_map};
 ghost use Rattle.machine.specs.Views.{thread_at, frame_at, shown, uncaught};
 
 use crate::machine::Machine;
-use crate::thread::Thread;
 use frames::Frame;
 use jvms_machine::machine::ThreadId;
 use jvms_machine::state::StackFrame;
+use machine_thread::Thread;
 
 /// What stands on a thread's stack.
 #[derive(Clone, Copy)]

@@ -1,0 +1,4 @@
+mod Asked
+pub mod CountLaws
+mod EffectLaws
+mod FieldPlaces

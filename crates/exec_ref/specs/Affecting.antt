@@ -1,0 +1,22 @@
+-- Effects of instructions that take no memory beside their events, and those that put a value at most.
+use Rattle.std.specs.Prelude.{◌≡◌, ℕ, List, []}
+use Rattle.jvms_machine.specs.declared.action.Effect.{Effect}
+use Rattle.jvms_machine.specs.declared.action.Effect.TheVariants as effect
+use Rattle.jvms_machine.specs.Output.{line_bytes}
+use Rattle.jvms_machine.specs.State.{State}
+
+-- An effect makes no object, starts no thread and prints no byte.
+abbrev pub AffectsNone : State → Effect (List ℕ) → Type 0
+AffectsNone s (effect.Makes what) = ⊥
+AffectsNone s (effect.Prints what ends_line) = line_bytes s.heap what ends_line ≡ []
+AffectsNone s (effect.Starts r u) = ⊥
+AffectsNone s _ = Unit {0}
+
+-- An effect puts a value into a field or an element, or does nothing beside its event.
+abbrev pub PutsAtMost : Effect (List ℕ) → Type 0
+PutsAtMost (effect.Makes what) = ⊥
+PutsAtMost (effect.Prints what ends_line) = ⊥
+PutsAtMost (effect.Locks monitor) = ⊥
+PutsAtMost (effect.Unlocks monitor) = ⊥
+PutsAtMost (effect.Starts r u) = ⊥
+PutsAtMost _ = Unit {0}

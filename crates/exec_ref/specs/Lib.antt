@@ -1,0 +1,5 @@
+pub mod Affecting
+pub mod Asked
+pub mod Counting
+pub mod Events
+pub mod Telling

@@ -1,0 +1,154 @@
+//! Arrays (JVMS 6.5 newarray, anewarray, multianewarray, arraylength, and the loads and stores of arrays).
+
+ghost use Rattle.std.specs.Prelude.{◌≡◌, ◌+◌, ◌<◌, ◌^◌, IsTrue, length};
+ghost use Rattle.jvms_machine.specs.Arrays.{if_deep, making as makes, length_decision as makes_of_length, new_array_decision as makes_array, new_class_array_decision as makes_class_array, array_length_decision as measures, array_decision as arrays};
+ghost use Rattle.jvms_machine.specs.Heap.{has_room_for_elements as room_for_elements};
+ghost use Rattle.exec_ref.specs.Asked.{told_length};
+ghost use Rattle.machine_parts.specs.Decided.{seen, seen_object, text_of};
+
+mod components;
+mod elements;
+pub(crate) mod many;
+
+use crate::arrays::elements::{load_decision, store_decision};
+use frames::Frame;
+use held::shared::Text;
+use jvms_file::insn::{ArrayInsn, ArrayType};
+use jvms_machine::action::{Effect, FrameAction, NewObject};
+use jvms_machine::machine::BadCause;
+use jvms_machine::value::Value;
+use jvms_program::thrown::Thrown;
+use machine_parts::{ActionText, Decided, Parts, bad, has_depth, never_seen, reaches};
+use machine_thread::Thread;
+
+/// Whether there is room for so many objects more, and so many elements of arrays more.
+pub(crate) fn has_room_for_elements(parts: &Parts, objects: usize, elements: usize) -> bool
+    ensures exact { result ≡ room_for_elements objects elements parts.now.limits parts.now.state }
+    // Each of their references has a number.
+    ensures number { IsTrue result → length parts.now.state.heap + objects < 2 ^ 32 }
+{
+    let most = parts.limits.elements as usize;
+    let held = parts.heap.elements() as usize;
+    parts.has_room_for(objects) && held <= most && elements <= most - held
+}
+
+/// What is made takes the place of so many operands.
+pub(crate) fn making<'p>(
+    parts: &Parts<'p>,
+    takes: u8,
+    what: NewObject<ActionText<'p>>,
+) -> Decided<'p>
+    requires { length parts.now.state.heap + 1 < 2 ^ 32 }
+    ensures { seen result ≡ makes parts.now.state takes (seen_object what.entry) }
+{
+    let value = Value::Reference(parts.heap.count() as u32 + 1);
+    reaches(Effect::Makes(what), FrameAction::Push { takes, value })
+}
+
+/// An array of a length is made. In this order: the length isn't negative; there is room for the array and its
+/// elements.
+fn length_decision<'p>(
+    parts: &Parts<'p>,
+    thread: &Thread,
+    class: ActionText<'p>,
+    n: i32,
+) -> Decided<'p>
+    ensures { seen result ≡ makes_of_length parts.now.limits parts.now.state thread.now (text_of class.entry) n }
+{
+    if n < 0 {
+        return parts.throws(thread, Thrown::NegativeArraySizeException);
+    }
+    let length = n.unsigned_abs();
+    if !has_room_for_elements(parts, 1, length as usize) {
+        return parts.throws(thread, Thrown::OutOfMemoryError);
+    }
+    making(parts, 1, NewObject::Array { class, length })
+}
+
+/// JVMS 6.5 newarray.
+fn new_array_decision<'p>(
+    parts: &Parts<'p>,
+    thread: &Thread,
+    frame: &Frame,
+    t: ArrayType,
+) -> Decided<'p>
+    ensures { seen result ≡ makes_array parts.now.limits parts.now.state thread.now frame.now t }
+{
+    if !has_depth(frame, 1, 1) {
+        return bad(BadCause::Depth);
+    }
+    let Value::Int(n) = frame.top() else {
+        return bad(BadCause::Kind);
+    };
+    length_decision(parts, thread, ActionText::ArrayOfType(t), n)
+}
+
+/// JVMS 6.5 anewarray: the component's class is resolved before the length is looked at.
+pub(crate) fn new_class_array_decision<'p>(
+    parts: &Parts<'p>,
+    thread: &Thread,
+    frame: &Frame,
+    name: &'p Text,
+) -> Decided<'p>
+    ensures { seen result ≡ makes_class_array parts.now.program parts.now.limits parts.now.state thread.now frame.now name.now }
+{
+    if !has_depth(frame, 1, 1) {
+        return bad(BadCause::Depth);
+    }
+    let Value::Int(n) = frame.top() else {
+        return bad(BadCause::Kind);
+    };
+    if !parts.program().has_class(name.as_slice()) {
+        return parts.throws(thread, Thrown::NoClassDefFoundError);
+    }
+    length_decision(parts, thread, ActionText::ArrayOfClass(name), n)
+}
+
+/// The array of this reference has its length in place of it.
+fn measured<'p>(parts: &Parts<'p>, thread: &Thread, reference: u32) -> Decided<'p>
+    ensures { seen result ≡ told_length parts.now.limits parts.now.state thread.now reference }
+{
+    if parts.heap.class_of(reference).is_none() {
+        return never_seen();
+    }
+    match parts.heap.array_length(reference) {
+        None => bad(BadCause::Kind),
+        Some(length) => {
+            let value = Value::Int(length as i32);
+            reaches(Effect::Nothing, FrameAction::Push { takes: 1, value })
+        }
+    }
+}
+
+/// JVMS 6.5 arraylength.
+fn array_length_decision<'p>(parts: &Parts<'p>, thread: &Thread, frame: &Frame) -> Decided<'p>
+    ensures { seen result ≡ if_deep frame.now 1 1 (measures parts.now.limits parts.now.state thread.now frame.now.activation.operands) }
+{
+    if !has_depth(frame, 1, 1) {
+        return bad(BadCause::Depth);
+    }
+    match frame.top() {
+        Value::Reference(reference) => measured(parts, thread, reference),
+        Value::Null => parts.throws(thread, Thrown::NullPointerException),
+        Value::Int(_) | Value::ReturnAddress(_) | Value::Unset => bad(BadCause::Kind),
+    }
+}
+
+/// The instructions of arrays that name no class.
+#[tactic(auto, unfolding(jvms_machine::specs::Arrays::array_decision))]
+pub fn array_decision<'p>(
+    parts: &Parts<'p>,
+    thread: &Thread,
+    frame: &Frame,
+    what: ArrayInsn,
+) -> Decided<'p>
+    requires { frame.now.activation.place + 1 < 2 ^ 64 }
+    ensures { seen result ≡ arrays parts.now.program parts.now.limits parts.now.state thread.now frame.now what }
+{
+    match what {
+        ArrayInsn::New(t) => new_array_decision(parts, thread, frame, t),
+        ArrayInsn::Length => array_length_decision(parts, thread, frame),
+        ArrayInsn::Load(kind) => load_decision(parts, thread, frame, kind),
+        ArrayInsn::Store(kind) => store_decision(parts, thread, frame, kind),
+    }
+}

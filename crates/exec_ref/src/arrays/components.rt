@@ -1,0 +1,92 @@
+//! The components of arrays (JVMS 2.4), as the names of their classes tell them.
+
+ghost use Rattle.std.specs.Prelude.{◌≡◌, drop};
+ghost use Rattle.jvms_machine.specs.Arrays.{serves as serving, kind_of_elements as element_kind, is_reference_kind as is_references};
+ghost use Rattle.jvms_machine.specs.Heap.{component_class as class_of_components, component_type as type_of_components};
+ghost use Rattle.jvms_program.specs.Resolution.{class_exists};
+ghost use Rattle.jvms_file.specs.declared.descriptor.Element.TheVariants as element;
+ghost use Rattle.descriptor.specs.Scanning.{type_of};
+ghost use Rattle.exec_ref.specs.Asked.{of_element};
+
+use descriptor::{Innermost, Spelled, field_in};
+use jvms_file::descriptor::Primitive;
+use jvms_file::insn::{ArrayKind, Kind};
+
+/// What stands behind the bracket of an array's class.
+pub(crate) fn behind_bracket(class: &[u16]) -> &[u16]
+    ensures { result.now ≡ drop 1 class.now }
+{
+    match class {
+        [] => &[],
+        [_, behind @ ..] => behind,
+    }
+}
+
+/// The type of the components of an array's class.
+pub(crate) fn component_type(class: &[u16]) -> Spelled<'_>
+    ensures { type_of result ≡ type_of_components class.now }
+{
+    match field_in(behind_bracket(class)) {
+        Some(t) => t,
+        None => Spelled {
+            dimensions: 0,
+            innermost: Innermost::Primitive(Primitive::Int),
+        },
+    }
+}
+
+/// The class of the components of an array of references.
+pub(crate) fn component_class(class: &[u16]) -> &[u16]
+    ensures { result.now ≡ class_of_components class.now }
+{
+    match component_type(class) {
+        Spelled {
+            dimensions: 0,
+            innermost: Innermost::Object(name),
+        } => name,
+        _ => behind_bracket(class),
+    }
+}
+
+/// Whether an instruction of a kind serves arrays of primitive values.
+fn serves_primitive(kind: ArrayKind, primitive: Primitive) -> bool
+    ensures { result ≡ serving kind (of_element (element.Primitive primitive)) }
+{
+    match kind {
+        ArrayKind::Int => primitive == Primitive::Int,
+        ArrayKind::Byte => primitive == Primitive::Byte || primitive == Primitive::Boolean,
+        ArrayKind::Char => primitive == Primitive::Char,
+        ArrayKind::Short => primitive == Primitive::Short,
+        ArrayKind::Reference | ArrayKind::Long | ArrayKind::Float | ArrayKind::Double => false,
+    }
+}
+
+/// Whether an instruction of a kind serves arrays with components of a type: that of bytes serves booleans too.
+pub(crate) fn serves(kind: ArrayKind, t: Spelled<'_>) -> bool
+    ensures { result ≡ serving kind (type_of t.entry) }
+{
+    match t.innermost {
+        Innermost::Primitive(primitive) if t.dimensions == 0 => serves_primitive(kind, primitive),
+        _ => is_reference_kind(kind),
+    }
+}
+
+/// The kind of value that an instruction of a kind loads or stores.
+pub(crate) fn kind_of_elements(kind: ArrayKind) -> Kind
+    ensures { result ≡ element_kind kind }
+{
+    match kind {
+        ArrayKind::Reference => Kind::Reference,
+        ArrayKind::Long => Kind::Long,
+        ArrayKind::Float => Kind::Float,
+        ArrayKind::Double => Kind::Double,
+        ArrayKind::Int | ArrayKind::Byte | ArrayKind::Char | ArrayKind::Short => Kind::Int,
+    }
+}
+
+/// Whether an instruction of a kind loads or stores references.
+pub(crate) fn is_reference_kind(kind: ArrayKind) -> bool
+    ensures { result ≡ is_references kind }
+{
+    matches!(kind, ArrayKind::Reference)
+}

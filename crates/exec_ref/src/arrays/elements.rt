@@ -1,0 +1,162 @@
+//! Loads and stores of arrays' elements (JVMS 6.5 aaload to saload, aastore to sastore).
+
+ghost use Rattle.std.specs.Prelude.{◌≡◌, ◌+◌, ◌<◌, ◌^◌};
+ghost use Rattle.std.specs.Option.{option_and_then};
+ghost use Rattle.jvms_machine.specs.Arrays.{if_deep, fits_component as fits_into, load_operands, store_operands};
+ghost use Rattle.jvms_machine.specs.State.{object_at};
+ghost use Rattle.exec_ref.specs.Asked.{element_by, loads_from, stores_to};
+ghost use Rattle.machine_parts.specs.Decided.{seen};
+
+use super::components::{
+    component_class, component_type, is_reference_kind, kind_of_elements, serves,
+};
+use exec::is_loaded;
+use frames::Frame;
+use jvms_file::insn::ArrayKind;
+use jvms_machine::action::{Effect, FrameAction};
+use jvms_machine::machine::BadCause;
+use jvms_machine::value::Value;
+use jvms_program::thrown::Thrown;
+use machine_parts::{
+    Decided, Parts, bad, has_depth, never_seen, reaches, stored_in_component, taking,
+};
+use machine_thread::Thread;
+
+/// An array's element by an int: none where it is negative or not below the length.
+fn element_at(parts: &Parts, reference: u32, n: i32) -> Option<Value>
+    ensures { result ≡ option_and_then (element_by n) (object_at parts.now.state.heap reference) }
+{
+    if n < 0 {
+        return None;
+    }
+    parts.heap.element(reference, n.unsigned_abs() as usize)
+}
+
+/// A load from the object of a reference. In this order: an array of this kind; the index.
+fn load_from<'p>(
+    parts: &Parts<'p>,
+    thread: &Thread,
+    kind: ArrayKind,
+    n: i32,
+    reference: u32,
+) -> Decided<'p>
+    ensures { seen result ≡ loads_from parts.now.limits parts.now.state thread.now kind n reference }
+{
+    let Some(class) = parts.heap.class_of(reference) else {
+        return never_seen();
+    };
+    if parts.heap.array_length(reference).is_none() {
+        return bad(BadCause::Kind);
+    }
+    if !serves(kind, component_type(class)) {
+        return bad(BadCause::Kind);
+    }
+    match element_at(parts, reference, n) {
+        None => parts.throws(thread, Thrown::ArrayIndexOutOfBoundsException),
+        Some(value) => {
+            let index = n.unsigned_abs();
+            reaches(
+                Effect::LoadElement { reference, index },
+                FrameAction::Push { takes: 2, value },
+            )
+        }
+    }
+}
+
+/// A load: the index is on top, and the array below it.
+pub(crate) fn load_decision<'p>(
+    parts: &Parts<'p>,
+    thread: &Thread,
+    frame: &Frame,
+    kind: ArrayKind,
+) -> Decided<'p>
+    ensures { seen result ≡ if_deep frame.now 2 1 (load_operands parts.now.limits parts.now.state thread.now kind frame.now.activation.operands) }
+{
+    if !has_depth(frame, 2, 1) {
+        return bad(BadCause::Depth);
+    }
+    let (array, Value::Int(n)) = frame.top_two() else {
+        return bad(BadCause::Kind);
+    };
+    match array {
+        Value::Reference(reference) => load_from(parts, thread, kind, n, reference),
+        Value::Null => parts.throws(thread, Thrown::NullPointerException),
+        Value::Int(_) | Value::ReturnAddress(_) | Value::Unset => bad(BadCause::Kind),
+    }
+}
+
+/// The store check of aastore: null fits, and an object whose class fits the component's.
+fn fits_component(parts: &Parts, class: &[u16], value: Value) -> bool
+    ensures { result ≡ fits_into parts.now.program parts.now.state class.now value }
+{
+    let Value::Reference(reference) = value else {
+        return true;
+    };
+    match parts.heap.class_of(reference) {
+        None => false,
+        Some(stored) => parts.program().fits(stored, component_class(class)),
+    }
+}
+
+/// A store in the object of a reference. In this order: an array of this kind; the index; the store check.
+fn store_to<'p>(
+    parts: &Parts<'p>,
+    thread: &Thread,
+    frame: &Frame,
+    kind: ArrayKind,
+    value: Value,
+    n: i32,
+    reference: u32,
+) -> Decided<'p>
+    requires { frame.now.activation.place + 1 < 2 ^ 64 }
+    ensures { seen result ≡ stores_to parts.now.limits parts.now.state thread.now parts.now.program frame.now.activation kind value n reference }
+{
+    let Some(class) = parts.heap.class_of(reference) else {
+        return never_seen();
+    };
+    if parts.heap.array_length(reference).is_none() {
+        return bad(BadCause::Kind);
+    }
+    let component = component_type(class);
+    if !serves(kind, component) {
+        return bad(BadCause::Kind);
+    }
+    if element_at(parts, reference, n).is_none() {
+        return parts.throws(thread, Thrown::ArrayIndexOutOfBoundsException);
+    }
+    if is_reference_kind(kind) && !fits_component(parts, class, value) {
+        return parts.throws(thread, Thrown::ArrayStoreException);
+    }
+    let stored = Effect::StoreElement {
+        reference,
+        index: n.unsigned_abs(),
+        value: stored_in_component(component, value),
+    };
+    reaches(stored, taking(3, frame))
+}
+
+/// A store: the value is on top, the index below it, and then the array.
+pub(crate) fn store_decision<'p>(
+    parts: &Parts<'p>,
+    thread: &Thread,
+    frame: &Frame,
+    kind: ArrayKind,
+) -> Decided<'p>
+    requires { frame.now.activation.place + 1 < 2 ^ 64 }
+    ensures { seen result ≡ if_deep frame.now 3 0 (store_operands parts.now.program parts.now.limits parts.now.state thread.now frame.now.activation kind frame.now.activation.operands) }
+{
+    if !has_depth(frame, 3, 0) {
+        return bad(BadCause::Depth);
+    }
+    let (array, Value::Int(n), value) = frame.top_three() else {
+        return bad(BadCause::Kind);
+    };
+    if !is_loaded(kind_of_elements(kind), value) {
+        return bad(BadCause::Kind);
+    }
+    match array {
+        Value::Reference(reference) => store_to(parts, thread, frame, kind, value, n, reference),
+        Value::Null => parts.throws(thread, Thrown::NullPointerException),
+        Value::Int(_) | Value::ReturnAddress(_) | Value::Unset => bad(BadCause::Kind),
+    }
+}

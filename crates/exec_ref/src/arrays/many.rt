@@ -1,0 +1,176 @@
+//! Arrays of arrays (JVMS 6.5 multianewarray).
+
+ghost use Rattle.std.specs.Prelude.{◌≡◌, ℕ, ◌+◌, ◌*◌, ◌<◌, ◌≤◌, ◌^◌, IsTrue, length, map};
+ghost use Rattle.std.specs.List.{list_all, list_any};
+ghost use Rattle.jvms_machine.specs.Heap.{arrays_made, elements_made, has_dimensions, has_room_for_elements as room_for_elements};
+ghost use Rattle.jvms_machine.specs.Arrays.{is_int as int, is_negative as negative, length_of_value as length_in, new_arrays_room as room, new_arrays_decision as makes_arrays};
+ghost use Rattle.exec_ref.specs.Counting.{capped, lengths_decision};
+ghost use Rattle.machine_parts.specs.Decided.{seen};
+
+use super::components::{behind_bracket, component_type};
+use crate::arrays::{has_room_for_elements, making};
+use frames::Frame;
+use held::shared::Text;
+use jvms_machine::action::NewObject;
+use jvms_machine::machine::BadCause;
+use jvms_machine::value::Value;
+use jvms_program::thrown::Thrown;
+use machine_parts::{ActionText, Decided, Parts, bad, has_depth, never_seen};
+use machine_thread::Thread;
+
+/// More than any limit allows.
+const MOST: usize = 1 << 32;
+
+fn is_int(value: Value) -> bool
+    ensures { result ≡ int value }
+{
+    matches!(value, Value::Int(_))
+}
+
+fn is_negative(value: Value) -> bool
+    ensures { result ≡ negative value }
+{
+    match value {
+        Value::Int(n) => n < 0,
+        Value::Null | Value::Reference(_) | Value::ReturnAddress(_) | Value::Unset => false,
+    }
+}
+
+pub(crate) fn length_of_value(value: Value) -> usize
+    ensures exact { result ≡ length_in value }
+    ensures few { result ≤ 0x80000000 }
+{
+    match value {
+        Value::Int(n) => n.unsigned_abs() as usize,
+        Value::Null | Value::Reference(_) | Value::ReturnAddress(_) | Value::Unset => 0,
+    }
+}
+
+/// Whether arrays of a class can lie so many deep in each other: the components of all but the innermost are arrays.
+fn has_dimensions(class: &[u16], dimensions: u8) -> bool
+    ensures { result ≡ has_dimensions class.now dimensions }
+{
+    match dimensions {
+        0 => false,
+        1 => true,
+        _ => {
+            component_type(class).dimensions != 0
+                && has_dimensions(behind_bracket(class), dimensions - 1)
+        }
+    }
+}
+
+/// So many, and so many times a part more.
+fn grown(base: usize, times: usize, part: usize) -> usize
+    requires base { base ≤ 0x80000000 }
+    requires times { times ≤ 0x80000000 }
+    requires part { part ≤ 0x100000000 }
+    ensures { result ≡ capped (base + times * part) }
+{
+    let whole = base + times * part;
+    if whole > MOST { MOST } else { whole }
+}
+
+/// How many arrays these lengths make, the outermost first, and how many elements those have together.
+#[tactic(auto, using(crate::proofs::CountLaws::arrays_grow, crate::proofs::CountLaws::elements_grow))]
+fn counted(lengths: &[Value]) -> (usize, usize)
+    ensures arrays { result.0 ≡ capped (arrays_made (map length_in lengths.now)) }
+    ensures elements { result.1 ≡ capped (elements_made (map length_in lengths.now)) }
+{
+    match lengths {
+        [] => (0, 0),
+        [first, parts @ ..] => {
+            let times = length_of_value(*first);
+            let (arrays, elements) = counted(parts);
+            (grown(1, times, arrays), grown(times, times, elements))
+        }
+    }
+}
+
+fn are_ints(lengths: &[Value]) -> bool
+    ensures { result ≡ list_all int lengths.now }
+{
+    lengths.iter().all(|length| is_int(*length))
+}
+
+fn any_is_negative(lengths: &[Value]) -> bool
+    ensures { result ≡ list_any negative lengths.now }
+{
+    lengths.iter().any(|length| is_negative(*length))
+}
+
+/// Whether there is room for so many objects and elements more, which were counted no further than any limit goes.
+#[tactic(auto, using(crate::proofs::CountLaws::room_counted))]
+fn has_room_for_counted(parts: &Parts, objects: usize, elements: usize) -> bool
+    ensures exact { (whole more : ℕ) → objects ≡ capped whole → elements ≡ capped more → result ≡ room_for_elements whole more parts.now.limits parts.now.state }
+    ensures number { IsTrue result → length parts.now.state.heap + objects < 2 ^ 32 }
+{
+    let _objects = parts.limits.objects;
+    let _elements = parts.limits.elements;
+    has_room_for_elements(parts, objects, elements)
+}
+
+/// The arrays of these lengths are made, if there is room for all of them and their elements.
+#[tactic(auto, using(crate::proofs::CountLaws::room_told, crate::proofs::CountLaws::one_at_least, crate::proofs::CountLaws::one_dimension))]
+fn new_arrays_room<'p>(
+    parts: &Parts<'p>,
+    thread: &Thread,
+    class: &'p Text,
+    dimensions: u8,
+    lengths: &[Value],
+) -> Decided<'p>
+    requires { length lengths.now ≡ dimensions }
+    ensures { seen result ≡ room parts.now.limits parts.now.state thread.now class.now dimensions (map length_in lengths.now) }
+{
+    if !has_dimensions(class.as_slice(), dimensions) {
+        return never_seen();
+    }
+    let (arrays, elements) = counted(lengths);
+    if !has_room_for_counted(parts, arrays, elements) {
+        return parts.throws(thread, Thrown::OutOfMemoryError);
+    }
+    let class = ActionText::Of(class);
+    making(parts, dimensions, NewObject::Arrays { class, dimensions })
+}
+
+/// The arrays of these lengths, as operands tell them. In this order: the kinds; the array's class; that no length is
+/// negative; room for all objects and all elements.
+fn lengths_decision<'p>(
+    parts: &Parts<'p>,
+    thread: &Thread,
+    class: &'p Text,
+    dimensions: u8,
+    lengths: &[Value],
+) -> Decided<'p>
+    requires { length lengths.now ≡ dimensions }
+    ensures { seen result ≡ lengths_decision parts.now.program parts.now.limits parts.now.state thread.now class.now dimensions lengths.now }
+{
+    if !are_ints(lengths) {
+        return bad(BadCause::Kind);
+    }
+    if !parts.program().has_class(class.as_slice()) {
+        return parts.throws(thread, Thrown::NoClassDefFoundError);
+    }
+    if any_is_negative(lengths) {
+        return parts.throws(thread, Thrown::NegativeArraySizeException);
+    }
+    new_arrays_room(parts, thread, class, dimensions, lengths)
+}
+
+/// JVMS 6.5 multianewarray. The depth is tested, and then the lengths.
+#[tactic(auto, unfolding(jvms_machine::specs::Arrays::new_arrays_decision))]
+pub fn new_arrays_decision<'p>(
+    parts: &Parts<'p>,
+    thread: &Thread,
+    frame: &Frame,
+    class: &'p Text,
+    dimensions: u8,
+) -> Decided<'p>
+    ensures { seen result ≡ makes_arrays parts.now.program parts.now.limits parts.now.state thread.now frame.now class.now dimensions }
+{
+    if !has_depth(frame, dimensions, 1) {
+        return bad(BadCause::Depth);
+    }
+    let lengths = frame.arguments(usize::from(dimensions));
+    lengths_decision(parts, thread, class, dimensions, lengths)
+}

@@ -1,0 +1,165 @@
+//! What an instruction makes of a machine beside its frame (JVMS 6.5).
+
+ghost use Rattle.std.specs.Prelude.{◌≡◌, ◌++◌, [], IsOk, OnOk, OnErr, option_copied, slice_get};
+ghost use Rattle.jvms_machine.specs.declared.action.Action.TheVariants as action;
+ghost use Rattle.jvms_machine.specs.declared.action.Effect.TheVariants as effects;
+ghost use Rattle.jvms_machine.specs.Actions.{affected, put_field as field_put, put_static as static_put, operands_of, items_of, effect_items};
+ghost use Rattle.jvms_machine.specs.Output.{line_bytes};
+ghost use Rattle.jvms_program.specs.Program.{field_key_at};
+ghost use Rattle.jvms_machine.specs.Turn.{CanBeMade, IsReady};
+ghost use Rattle.printing.specs.Strings.{IsTheString};
+ghost use Rattle.machine_parts.specs.Decided.{seen_effect};
+ghost use Rattle.exec_ref.specs.Affecting.{AffectsNone, PutsAtMost};
+ghost use Rattle.machine_parts.specs.Machine.{with_state, after};
+ghost use Rattle.machine_parts.specs.Ready.{HasCaller};
+
+use crate::events::effect_item;
+use crate::new_objects::make_object;
+use heap::Heap;
+use jvms_machine::action::{Effect, FrameAction, Printed};
+use jvms_machine::machine::ThreadId;
+use jvms_machine::trace::Item;
+use jvms_machine::value::Value;
+use jvms_program::number::FieldNumber;
+use machine_parts::{ActionText, Parts, push_listed};
+use machine_thread::Thread;
+use printing::put_line;
+use std::alloc::AllocError;
+use trace::Trace;
+
+/// The string that is printed, if one is.
+#[tactic(auto, using(crate::proofs::EffectLaws::the_string))]
+fn printed_text<'h>(heap: &'h Heap<'_>, what: Printed) -> Option<&'h [u16]>
+    ensures { IsTheString heap.now.objects what (option_copied result) }
+{
+    match what {
+        Printed::Text { reference } => {
+            let units = heap.units_of(reference)?;
+            Some(units.as_slice())
+        }
+        Printed::Nothing | Printed::Int(_) | Printed::Null => None,
+    }
+}
+
+/// A value is put into a field of an object.
+fn put_field(parts: &mut Parts, reference: u32, field: FieldNumber, value: Value)
+    ensures { parts.new ≡ with_state parts.old (field_put parts.old.state reference value (field_key_at parts.old.program field)) }
+{
+    parts.heap.put_field_numbered(reference, field, value);
+}
+
+/// A value is put into a static field.
+fn put_static(parts: &mut Parts, field: FieldNumber, value: Value)
+    ensures { parts.new ≡ with_state parts.old (static_put parts.old.state value (field_key_at parts.old.program field)) }
+{
+    if let Some(name) = parts.program().field_name(field) {
+        parts.statics.put(&name, value);
+    }
+}
+
+/// What an effect puts into a field or an element. Others put nothing.
+fn put<'p>(parts: &mut Parts<'p>, t: ThreadId, effect: Effect<ActionText<'p>>)
+    requires makeable { CanBeMade parts.old.state (operands_of (slice_get parts.old.state.threads t)) (seen_effect effect) }
+    requires puts { PutsAtMost (seen_effect effect) }
+    ensures { parts.new ≡ with_state parts.old (affected parts.old.program parts.old.state t (operands_of (slice_get parts.old.state.threads t)) (seen_effect effect.entry)) }
+{
+    match effect {
+        Effect::PutField {
+            reference,
+            field,
+            value,
+        } => put_field(parts, reference, field, value),
+        Effect::PutStatic { field, value } => put_static(parts, field, value),
+        Effect::StoreElement {
+            reference,
+            index,
+            value,
+        } => parts.heap.put_element(reference, index as usize, value),
+        _ => {}
+    }
+}
+
+/// A line, or what of one is printed.
+fn print(parts: &mut Parts, what: Printed, ends_line: bool) -> Result<(), AllocError>
+    ensures ok { OnOk result (parts.new ≡ with_state parts.old (affected parts.old.program parts.old.state 0 [] (effects.Prints what ends_line))) }
+    ensures err { OnErr result (parts.new ≡ parts.old) }
+    ensures none { line_bytes parts.old.state.heap what ends_line ≡ [] → IsOk result }
+{
+    let text = printed_text(&parts.heap, what);
+    put_line(&mut parts.output, what, text, ends_line)
+}
+
+/// A thread is started of a Thread object, with its event. Without memory nothing changes.
+fn start_thread(
+    parts: &mut Parts,
+    t: ThreadId,
+    reference: u32,
+    started: ThreadId,
+    trace: &mut Trace,
+) -> Result<(), AllocError>
+    ensures state { OnOk result (parts.new ≡ with_state parts.old (affected parts.old.program parts.old.state t [] (effects.Starts reference started))) }
+    ensures items { OnOk result (trace.new ≡ trace.old ++ effect_items parts.old.program t (effects.Starts reference started)) }
+    ensures kept { OnErr result (parts.new ≡ parts.old) }
+    ensures no_items { OnErr result (trace.new ≡ trace.old) }
+{
+    parts
+        .threads
+        .push(Thread::new(parts.alloc, Some(reference)))?;
+    let fork = Item::Fork { thread: t, started };
+    if let Err(error) = trace.push(fork) {
+        parts.threads.pop();
+        return Err(error);
+    }
+    Ok(())
+}
+
+/// What an effect makes of the machine, with its event.
+fn affect<'p>(
+    parts: &mut Parts<'p>,
+    t: ThreadId,
+    effect: Effect<ActionText<'p>>,
+    trace: &mut Trace,
+) -> Result<(), AllocError>
+    requires { CanBeMade parts.old.state (operands_of (slice_get parts.old.state.threads t)) (seen_effect effect) }
+    ensures state { OnOk result (parts.new ≡ with_state parts.old (affected parts.old.program parts.old.state t (operands_of (slice_get parts.old.state.threads t)) (seen_effect effect.entry))) }
+    ensures items { OnOk result (trace.new ≡ trace.old ++ effect_items parts.old.program t (seen_effect effect.entry)) }
+    ensures kept { OnErr result (parts.new ≡ parts.old) }
+    ensures no_items { OnErr result (trace.new ≡ trace.old) }
+    ensures none { AffectsNone parts.old.state (seen_effect effect.entry) → effect_items parts.old.program t (seen_effect effect.entry) ≡ [] → IsOk result }
+{
+    match effect {
+        Effect::Makes(what) => make_object(parts, t, what),
+        Effect::Prints { what, ends_line } => print(parts, what, ends_line),
+        Effect::Locks(monitor) => parts.enter_monitor(t, monitor, trace),
+        Effect::Unlocks(monitor) => parts.exit_monitor(t, monitor, trace),
+        Effect::Starts { reference, thread } => start_thread(parts, t, reference, thread, trace),
+        _ => {
+            let item = effect_item(parts, t, effect)?;
+            push_listed(trace, item)?;
+            put(parts, t, effect);
+            Ok(())
+        }
+    }
+}
+
+/// The call on top goes on by an instruction that touches more than its frame.
+#[tactic(auto, unfolding(jvms_machine::specs::Actions::applied_to, jvms_machine::specs::Actions::items_of), using(jvms_machine::proofs::EffectSoundness::affected_thread))]
+pub fn reach<'p>(
+    parts: &mut Parts<'p>,
+    t: ThreadId,
+    effect: Effect<ActionText<'p>>,
+    act: FrameAction,
+    trace: &mut Trace,
+) -> Result<(), AllocError>
+    requires ready { IsReady parts.old.start parts.old.state t (action.Reaches (seen_effect effect) act) }
+    requires stands { HasCaller parts.old.state t (action.Reaches (seen_effect effect) act) }
+    ensures state { OnOk result (parts.new ≡ after parts.old t (action.Reaches (seen_effect effect.entry) act)) }
+    ensures items { OnOk result (trace.new ≡ trace.old ++ items_of parts.old.program t (action.Reaches (seen_effect effect.entry) act)) }
+    ensures kept { OnErr result (parts.new ≡ parts.old) }
+    ensures no_items { OnErr result (trace.new ≡ trace.old) }
+    ensures none { AffectsNone parts.old.state (seen_effect effect.entry) → items_of parts.old.program t (action.Reaches (seen_effect effect.entry) act) ≡ [] → IsOk result }
+{
+    affect(parts, t, effect, trace)?;
+    parts.threads[t as usize].go_on(act);
+    Ok(())
+}

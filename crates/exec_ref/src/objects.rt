@@ -1,0 +1,277 @@
+//! Objects of classes, strings and class objects (JVMS 6.5 new, checkcast, instanceof, ldc).
+
+ghost use Rattle.std.specs.Prelude.{◌≡◌, ◌+◌, ◌<◌, ◌≤◌, ◌^◌, ◌∷◌, Bool, [], false, length};
+ghost use Rattle.jvms_program.specs.Program.{class_named, class_number};
+ghost use Rattle.jvms_machine.specs.Decisions.{TurnDecision};
+ghost use Rattle.jvms_machine.specs.Arrays.{if_deep};
+ghost use Rattle.jvms_machine.specs.Objects.{is_instantiable as instantiable, made_if_room as makes_if_room, instance_of_number as makes_instance, new_instance_decision as makes_new, with_class_of, cast as casts, told_instance as tells, held_or_made as holds_or_makes, class_decision as classes, loadable_decision as loads};
+ghost use Rattle.jvms_machine.specs.Fields.{reaches as reaching, taking as takes_on};
+ghost use Rattle.jvms_machine.specs.declared.value.Value.TheVariants as value;
+ghost use Rattle.jvms_machine.specs.declared.action.Effect.TheVariants as effect;
+ghost use Rattle.jvms_machine.specs.declared.action.NewObject.TheVariants as new_object;
+ghost use Rattle.jvms_program.specs.declared.program.Loadable.TheVariants as loadable;
+ghost use Rattle.jvms_machine.specs.State.{class_reference, text_reference};
+ghost use Rattle.machine_parts.specs.Decided.{seen, seen_object};
+ghost use Rattle.exec_ref.specs.Telling.{told_by};
+
+use crate::arrays::{making, new_class_array_decision};
+use frames::Frame;
+use held::shared::Text;
+use jvms_file::insn::ClassUse;
+use jvms_machine::action::{Effect, FrameAction, NewObject};
+use jvms_machine::machine::BadCause;
+use jvms_machine::value::Value;
+use jvms_program::program::{ClassKind, Loadable};
+use jvms_program::thrown::Thrown;
+use machine_parts::{ActionText, Decided, Parts, bad, has_depth, never_seen, reaches, taking};
+use machine_thread::Thread;
+
+/// What is told of the object on top and a class.
+#[derive(Clone, Copy)]
+pub(crate) enum Told<'p> {
+    /// There is no object: it is null.
+    Null,
+    /// Whether the object is an instance of the class.
+    IsInstance(bool),
+    /// The turn comes to this before.
+    Stops(Decided<'p>),
+}
+
+fn is_instantiable(kind: ClassKind) -> bool
+    ensures { result ≡ instantiable kind }
+{
+    match kind {
+        ClassKind::Neither => true,
+        ClassKind::Abstract | ClassKind::Interface => false,
+    }
+}
+
+/// Whether an object is an instance, as instanceof puts it on top.
+fn told_instance<'p>(is_instance: bool) -> Decided<'p>
+    ensures { seen result ≡ tells is_instance }
+{
+    let value = Value::Int(i32::from(is_instance));
+    reaches(Effect::Nothing, FrameAction::Push { takes: 1, value })
+}
+
+/// An object is made, if there is room for one.
+fn made_if_room<'p>(
+    parts: &Parts<'p>,
+    thread: &Thread,
+    takes: u8,
+    what: NewObject<ActionText<'p>>,
+) -> Decided<'p>
+    ensures { seen result ≡ makes_if_room parts.now.limits parts.now.state thread.now takes (seen_object what.entry) }
+{
+    if parts.has_room() {
+        making(parts, takes, what)
+    } else {
+        parts.throws(thread, Thrown::OutOfMemoryError)
+    }
+}
+
+/// An object of the class of a name is made, once the class is initialised.
+fn instance_of_name<'p>(parts: &Parts<'p>, t: usize, thread: &Thread, name: &[u16]) -> Decided<'p>
+    ensures { seen result ≡ makes_instance parts.now.program parts.now.limits parts.now.state t thread.now (class_number parts.now.program name.now) }
+{
+    let Some(class) = parts.program().class_number(name) else {
+        return never_seen();
+    };
+    match parts.asking(t, thread, class) {
+        Some(decision) => decision,
+        None => made_if_room(parts, thread, 0, NewObject::Instance { class }),
+    }
+}
+
+/// JVMS 6.5 new. In this order: the class is there; it is neither abstract nor an interface; it is initialised; there
+/// is room.
+fn new_instance_decision<'p>(
+    parts: &Parts<'p>,
+    t: usize,
+    thread: &Thread,
+    name: &[u16],
+) -> Decided<'p>
+    ensures { seen result ≡ makes_new parts.now.program parts.now.limits parts.now.state t thread.now name.now (class_named parts.now.program name.now) }
+{
+    match parts.program().class_named(name) {
+        None => parts.throws(thread, Thrown::NoClassDefFoundError),
+        Some(class) => {
+            if is_instantiable(class.kind) {
+                instance_of_name(parts, t, thread, name)
+            } else {
+                parts.throws(thread, Thrown::InstantiationError)
+            }
+        }
+    }
+}
+
+/// Whether the object of a reference is an instance of the class of a name, which is resolved.
+fn told_of<'p>(parts: &Parts<'p>, thread: &Thread, name: &[u16], reference: u32) -> Told<'p>
+    ensures { (null : TurnDecision) → (told : Bool → TurnDecision) → told_by null told result ≡ with_class_of parts.now.program parts.now.limits parts.now.state thread.now name.now (value.Reference reference ∷ []) null told }
+{
+    let Some(class) = parts.heap.class_of(reference) else {
+        return Told::Stops(never_seen());
+    };
+    if parts.program().has_class(name) {
+        Told::IsInstance(parts.program().fits(class, name))
+    } else {
+        Told::Stops(parts.throws(thread, Thrown::NoClassDefFoundError))
+    }
+}
+
+/// What is told of the object on top: null is told before the class is resolved.
+fn top_told<'p>(parts: &Parts<'p>, thread: &Thread, frame: &Frame, name: &[u16]) -> Told<'p>
+    requires { 1 ≤ length frame.now.activation.operands }
+    ensures { (null : TurnDecision) → (told : Bool → TurnDecision) → told_by null told result ≡ with_class_of parts.now.program parts.now.limits parts.now.state thread.now name.now frame.now.activation.operands null told }
+{
+    match frame.top() {
+        Value::Null => Told::Null,
+        Value::Reference(reference) => told_of(parts, thread, name, reference),
+        Value::Int(_) | Value::ReturnAddress(_) | Value::Unset => {
+            Told::Stops(bad(BadCause::Kind))
+        }
+    }
+}
+
+/// JVMS 6.5 checkcast: the object stays where it is.
+fn cast_decision<'p>(parts: &Parts<'p>, thread: &Thread, frame: &Frame, name: &[u16]) -> Decided<'p>
+    requires { frame.now.activation.place + 1 < 2 ^ 64 }
+    ensures { seen result ≡ if_deep frame.now 1 1 (with_class_of parts.now.program parts.now.limits parts.now.state thread.now name.now frame.now.activation.operands (reaching effect.Nothing (takes_on 0 frame.now.activation)) (casts parts.now.limits parts.now.state thread.now frame.now)) }
+{
+    if !has_depth(frame, 1, 1) {
+        return bad(BadCause::Depth);
+    }
+    match top_told(parts, thread, frame, name) {
+        Told::Stops(decision) => decision,
+        Told::Null | Told::IsInstance(true) => reaches(Effect::Nothing, taking(0, frame)),
+        Told::IsInstance(false) => parts.throws(thread, Thrown::ClassCastException),
+    }
+}
+
+/// JVMS 6.5 instanceof.
+fn instance_test_decision<'p>(
+    parts: &Parts<'p>,
+    thread: &Thread,
+    frame: &Frame,
+    name: &[u16],
+) -> Decided<'p>
+    ensures { seen result ≡ if_deep frame.now 1 1 (with_class_of parts.now.program parts.now.limits parts.now.state thread.now name.now frame.now.activation.operands (tells false) tells) }
+{
+    if !has_depth(frame, 1, 1) {
+        return bad(BadCause::Depth);
+    }
+    match top_told(parts, thread, frame, name) {
+        Told::Stops(decision) => decision,
+        Told::Null => told_instance(false),
+        Told::IsInstance(is_instance) => told_instance(is_instance),
+    }
+}
+
+/// The instructions that name a class.
+#[tactic(auto, unfolding(jvms_machine::specs::Objects::class_decision))]
+pub fn class_decision<'p>(
+    parts: &Parts<'p>,
+    t: usize,
+    thread: &Thread,
+    frame: &Frame,
+    how: ClassUse,
+    name: &'p Text,
+) -> Decided<'p>
+    requires { frame.now.activation.place + 1 < 2 ^ 64 }
+    ensures { seen result ≡ classes parts.now.program parts.now.limits parts.now.state t thread.now frame.now how name.now }
+{
+    match how {
+        ClassUse::New => {
+            if has_depth(frame, 0, 1) {
+                new_instance_decision(parts, t, thread, name.as_slice())
+            } else {
+                bad(BadCause::Depth)
+            }
+        }
+        ClassUse::NewArray => new_class_array_decision(parts, thread, frame, name),
+        ClassUse::CheckCast => cast_decision(parts, thread, frame, name.as_slice()),
+        ClassUse::InstanceOf => instance_test_decision(parts, thread, frame, name.as_slice()),
+    }
+}
+
+/// The object that is there, or a new one: equal texts have one, and so has a class.
+fn held_or_made<'p>(
+    parts: &Parts<'p>,
+    thread: &Thread,
+    held: Option<u32>,
+    what: NewObject<ActionText<'p>>,
+) -> Decided<'p>
+    ensures { seen result ≡ holds_or_makes parts.now.limits parts.now.state thread.now held (seen_object what.entry) }
+{
+    match held {
+        None => made_if_room(parts, thread, 0, what),
+        Some(reference) => {
+            let value = Value::Reference(reference);
+            reaches(Effect::Nothing, FrameAction::Push { takes: 0, value })
+        }
+    }
+}
+
+/// JVMS 6.5 ldc of a string.
+fn string_decision<'p>(
+    parts: &Parts<'p>,
+    thread: &Thread,
+    frame: &Frame,
+    units: &'p Text,
+) -> Decided<'p>
+    ensures { seen result ≡ if_deep frame.now 0 1 (holds_or_makes parts.now.limits parts.now.state thread.now (text_reference parts.now.state.heap units.now) (new_object.Text units.now)) }
+{
+    if !has_depth(frame, 0, 1) {
+        return bad(BadCause::Depth);
+    }
+    let held = parts.heap.text_reference(units.as_slice());
+    let units = ActionText::Of(units);
+    held_or_made(parts, thread, held, NewObject::Text { units })
+}
+
+/// The object of a class that is there.
+fn class_object_decision<'p>(parts: &Parts<'p>, thread: &Thread, name: &'p Text) -> Decided<'p>
+    ensures { seen result ≡ holds_or_makes parts.now.limits parts.now.state thread.now (class_reference parts.now.state.heap name.now) (new_object.ClassObject name.now) }
+{
+    let held = parts.heap.class_reference(name.as_slice());
+    let name = ActionText::Of(name);
+    held_or_made(parts, thread, held, NewObject::ClassObject { name })
+}
+
+/// JVMS 6.5 ldc of a class.
+#[tactic(auto, unfolding(jvms_machine::specs::Objects::loadable_decision))]
+fn named_class_decision<'p>(
+    parts: &Parts<'p>,
+    thread: &Thread,
+    frame: &Frame,
+    name: &'p Text,
+) -> Decided<'p>
+    ensures { seen result ≡ loads parts.now.program parts.now.limits parts.now.state thread.now frame.now (loadable.Class name.now) }
+{
+    if !has_depth(frame, 0, 1) {
+        return bad(BadCause::Depth);
+    }
+    if parts.program().has_class(name.as_slice()) {
+        class_object_decision(parts, thread, name)
+    } else {
+        parts.throws(thread, Thrown::NoClassDefFoundError)
+    }
+}
+
+/// JVMS 6.5 ldc of a string or a class.
+#[tactic(auto, unfolding(jvms_machine::specs::Objects::loadable_decision))]
+pub fn loadable_decision<'p>(
+    parts: &Parts<'p>,
+    thread: &Thread,
+    frame: &Frame,
+    what: &'p Loadable,
+) -> Decided<'p>
+    ensures { seen result ≡ loads parts.now.program parts.now.limits parts.now.state thread.now frame.now what.now }
+{
+    match what {
+        Loadable::String(units) => string_decision(parts, thread, frame, units),
+        Loadable::Class(name) => named_class_decision(parts, thread, frame, name),
+        Loadable::Integer(_) | Loadable::Float(_) | Loadable::Long(_) | Loadable::Double(_) =>
+            never_seen(),
+    }
+}

@@ -1,0 +1,3 @@
+pub mod Entering
+mod FailedClasses
+mod Printed

@@ -1,0 +1,147 @@
+//! Calls (JVMS 2.6.1, 2.6.4): how a method is entered, and the first call of a thread: of thread 0 the entry's, of another
+//! `run` of its Thread object.
+
+ghost use Rattle.std.specs.Prelude.{◌≡◌, Some};
+ghost use Rattle.jvms_program.specs.declared.program.Body.{Body as Code};
+ghost use Rattle.jvms_machine.specs.declared.action.Lock.{Lock as Locked};
+ghost use Rattle.jvms_machine.specs.Decisions.{TurnDecision};
+ghost use Rattle.jvms_machine.specs.Calls.{enter_decision as enters, called_decision as calls, entry_decision as enters_entry, first_call as calls_first, first_call_decision as calls_at_first};
+ghost use Rattle.machine_parts.specs.Decided.{seen};
+ghost use Rattle.invoke.specs.Calling.{made_of};
+
+pub(crate) mod invoke;
+mod operands;
+mod run_method;
+
+use crate::calls::run_method::run_decision;
+use exec::is_outside_method;
+use jvms_machine::action::{Action, Decision, Lock};
+use jvms_machine::machine::BadCause;
+use jvms_program::number::MethodNumber;
+use jvms_program::program::{Body, Method};
+use jvms_program::thrown::Thrown;
+use machine_parts::{Decided, Locking, Parts, bad, never_seen};
+use machine_thread::Thread;
+
+/// What the call of a method comes to.
+#[derive(Clone, Copy)]
+pub(crate) enum Called<'p> {
+    /// This code is entered, with what is locked.
+    Enters(&'p Body, Lock),
+    /// The method is native, and has none.
+    IsNative,
+    /// The turn comes to this before.
+    Stops(Decided<'p>),
+}
+
+/// Of what a method is called: the receiver, if it has one, and how many arguments there are, the receiver among them.
+#[derive(Clone, Copy)]
+pub(crate) struct Given {
+    pub(crate) receiver: Option<u32>,
+    pub(crate) arguments: usize,
+}
+
+/// A method's code is entered, if there is room for one frame more, the locals have room for the arguments, and, of a
+/// synchronized method, the monitor can be entered.
+fn enter_decision<'p>(
+    parts: &Parts<'p>,
+    t: usize,
+    thread: &Thread,
+    n: MethodNumber,
+    method: &Method,
+    given: Given,
+    code: &'p Body,
+) -> Called<'p>
+    ensures { (native : TurnDecision) → (make : Code → Locked → TurnDecision) → made_of native make result ≡ enters parts.now.program parts.now.limits parts.now.state t thread.now n method.now given.receiver given.arguments code.now (make code.now) }
+{
+    if parts.limits.frames as usize <= thread.height() {
+        return Called::Stops(parts.throws(thread, Thrown::StackOverflowError));
+    }
+    if usize::from(code.max_locals) < given.arguments {
+        return Called::Stops(bad(BadCause::Local));
+    }
+    match parts.locking(t, thread, n, method, given.receiver) {
+        Locking::Stops(decision) => Called::Stops(decision),
+        Locking::Locks(lock) => Called::Enters(code, lock),
+    }
+}
+
+/// A method, which was selected, is called.
+fn called_decision<'p>(
+    parts: &Parts<'p>,
+    t: usize,
+    thread: &Thread,
+    n: MethodNumber,
+    method: &'p Method,
+    given: Given,
+) -> Called<'p>
+    ensures { (native : TurnDecision) → (make : Code → Locked → TurnDecision) → made_of native make result ≡ calls parts.now.program parts.now.limits parts.now.state t thread.now n method.now given.receiver given.arguments native make }
+{
+    if method.flags.is_abstract {
+        return Called::Stops(parts.throws(thread, Thrown::AbstractMethodError));
+    }
+    if method.flags.is_native {
+        return Called::IsNative;
+    }
+    match &method.body {
+        None => Called::Stops(never_seen()),
+        Some(code) => enter_decision(parts, t, thread, n, method, given, code),
+    }
+}
+
+/// A method is the first that a thread calls.
+fn first_call<'p>(
+    parts: &Parts<'p>,
+    t: usize,
+    thread: &Thread,
+    n: MethodNumber,
+    method: &'p Method,
+    given: Given,
+) -> Decided<'p>
+    ensures { seen result ≡ calls_first parts.now.program parts.now.limits parts.now.state t thread.now given.receiver given.arguments n method.now }
+{
+    match called_decision(parts, t, thread, n, method, given) {
+        Called::Stops(decision) => decision,
+        Called::IsNative => parts.throws(thread, Thrown::UnsatisfiedLinkError),
+        Called::Enters(code, lock) => Decision::Makes(Action::Enters {
+            method: n,
+            code,
+            lock,
+        }),
+    }
+}
+
+/// The entry's method is called, once its class is initialised.
+fn entry_decision<'p>(
+    parts: &Parts<'p>,
+    t: usize,
+    thread: &Thread,
+    method: &'p Method,
+) -> Decided<'p>
+    ensures { seen result ≡ enters_entry parts.now.program parts.now.limits parts.now.start parts.now.state t thread.now (Some method.now) }
+{
+    if is_outside_method(method.method_type.get()) {
+        return bad(BadCause::OutOfProfile);
+    }
+    if let Some(decision) = parts.asking(t, thread, parts.method.class) {
+        return decision;
+    }
+    let given = Given {
+        receiver: None,
+        arguments: parts.arguments.len(),
+    };
+    first_call(parts, t, thread, parts.method, method, given)
+}
+
+/// The first call of a thread.
+pub fn first_call_decision<'p>(parts: &Parts<'p>, t: usize, thread: &Thread) -> Decided<'p>
+    ensures { seen result ≡ calls_at_first parts.now.program parts.now.limits parts.now.start parts.now.state t thread.now }
+{
+    if t != 0 {
+        return run_decision(parts, t, thread);
+    }
+    match parts.program().method(parts.method) {
+        None => never_seen(),
+        Some(method) => entry_decision(parts, t, thread, method),
+    }
+}

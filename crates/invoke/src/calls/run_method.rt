@@ -1,0 +1,68 @@
+//! The first call of a thread that was started: `run` of its Thread object (Java SE API, `Thread.run`).
+
+ghost use Rattle.std.specs.Prelude.{◌≡◌, Some};
+ghost use Rattle.program.specs.Places.{IsMethodAt, Locates};
+ghost use Rattle.jvms_program.specs.Resolution.{MethodFound};
+ghost use Rattle.jvms_machine.specs.Calls.{run_of_object as runs_object, run_decision as runs, selected_run as runs_selected};
+ghost use Rattle.jvms_machine.specs.State.{object_at};
+ghost use Rattle.std.specs.Prelude.{Option};
+ghost use Rattle.machine_parts.specs.Decided.{seen};
+
+use super::invoke::number_at;
+use super::{Given, first_call};
+use jvms_program::thrown::Thrown;
+use machine_parts::{Decided, Parts, never_seen};
+use machine_thread::Thread;
+
+/// `run`
+const RUN: [u16; 3] = [114, 117, 110];
+
+/// `()V`, the descriptor of a method that takes and gives nothing.
+const NOTHING: [u16; 3] = [40, 41, 86];
+
+/// The `run` that was selected is called for the Thread object.
+fn selected_run<'p>(
+    parts: &Parts<'p>,
+    t: usize,
+    thread: &Thread,
+    receiver: u32,
+    selected: Option<(usize, usize)>,
+) -> Decided<'p>
+    ensures { (what : Option MethodFound) → Locates (IsMethodAt parts.now.program) what selected → seen result ≡ runs_selected parts.now.program parts.now.limits parts.now.state t thread.now receiver what }
+{
+    let Some(place) = selected else {
+        return parts.throws(thread, Thrown::AbstractMethodError);
+    };
+    let n = number_at(place);
+    let given = Given {
+        receiver: Some(receiver),
+        arguments: 1,
+    };
+    match parts.program().method(n) {
+        None => never_seen(),
+        Some(method) => first_call(parts, t, thread, n, method, given),
+    }
+}
+
+/// `run` of the object of a reference is called.
+fn run_of_object<'p>(parts: &Parts<'p>, t: usize, thread: &Thread, reference: u32) -> Decided<'p>
+    ensures { seen result ≡ runs_object parts.now.program parts.now.limits parts.now.state t thread.now reference (object_at parts.now.state.heap reference) }
+{
+    match parts.heap.class_of(reference) {
+        None => never_seen(),
+        Some(class) => {
+            let selected = parts.program().select_named(class, &RUN, &NOTHING);
+            selected_run(parts, t, thread, reference, selected)
+        }
+    }
+}
+
+/// `run` of the thread's object is called.
+pub(crate) fn run_decision<'p>(parts: &Parts<'p>, t: usize, thread: &Thread) -> Decided<'p>
+    ensures { seen result ≡ runs parts.now.program parts.now.limits parts.now.state t thread.now thread.now.object }
+{
+    match thread.object() {
+        None => never_seen(),
+        Some(reference) => run_of_object(parts, t, thread, reference),
+    }
+}

@@ -1,0 +1,122 @@
+//! The initialisation of classes (JVMS 5.5).
+
+ghost use Rattle.std.specs.Prelude.{◌≡◌, Some, slice_get};
+ghost use Rattle.jvms_machine.specs.Decisions.{TurnDecision};
+ghost use Rattle.jvms_machine.specs.Initialisation.{initializer_of as initializer, asked_superclass as asked, initializer_decision as initialises_itself, superclass_decision as superclass_first, initialisation_decision as initialises};
+ghost use Rattle.machine_parts.specs.Before.{first_or};
+ghost use Rattle.machine_parts.specs.Decided.{seen};
+
+use jvms_machine::action::{Action, Decision};
+use jvms_program::number::MethodNumber;
+use jvms_program::program::{Class, ClassKind};
+use jvms_program::thrown::Thrown;
+use machine_parts::{Decided, Parts, never_seen};
+use machine_thread::Thread;
+use program::{Program, declared_number};
+
+/// The name of the method that initialises a class, `<clinit>`.
+const INITIALIZER: [u16; 8] = [60, 99, 108, 105, 110, 105, 116, 62];
+
+/// Its descriptor, `()V`.
+const INITIALIZER_DESCRIPTOR: [u16; 3] = [40, 41, 86];
+
+/// The number of a class's `<clinit>()V` among its methods.
+fn initializer_of(class: &Class) -> Option<usize>
+    ensures { result ≡ initializer class.now }
+{
+    declared_number(class, &INITIALIZER, &INITIALIZER_DESCRIPTOR)
+}
+
+/// The number of the superclass that initialisation asks for: an interface asks for none.
+fn asked_superclass(program: &Program, class: &Class) -> Option<usize>
+    ensures { result ≡ asked program.now class.now }
+{
+    if matches!(class.kind, ClassKind::Interface) {
+        return None;
+    }
+    let superclass = class.superclass.as_ref()?;
+    program.class_number(superclass.as_slice())
+}
+
+/// The `<clinit>` of a class, which is its method of a number, is called, where there is room for a frame. Its flags
+/// aren't asked.
+fn initializer_call<'p>(
+    parts: &Parts<'p>,
+    thread: &Thread,
+    c: &'p Class,
+    class: usize,
+    number: usize,
+) -> Decided<'p>
+    ensures { seen result ≡ initialises_itself parts.now.limits parts.now.state thread.now c.now class (Some number) }
+{
+    let Some(method) = c.methods.as_slice().get(number) else {
+        return never_seen();
+    };
+    let Some(code) = &method.body else {
+        return never_seen();
+    };
+    if parts.limits.frames as usize <= thread.height() {
+        return parts.throws(thread, Thrown::StackOverflowError);
+    }
+    Decision::Makes(Action::Initialises {
+        method: MethodNumber {
+            class,
+            method: number,
+        },
+        code,
+    })
+}
+
+/// Where no superclass is left to wait for: the `<clinit>` of the class is called, or, where there is none, the class
+/// is done.
+fn initializer_decision<'p>(
+    parts: &Parts<'p>,
+    thread: &Thread,
+    c: &'p Class,
+    class: usize,
+) -> Decided<'p>
+    ensures { seen result ≡ initialises_itself parts.now.limits parts.now.state thread.now c.now class (initializer c.now) }
+{
+    match initializer_of(c) {
+        None => Decision::Makes(Action::Finishes { class }),
+        Some(number) => initializer_call(parts, thread, c, class, number),
+    }
+}
+
+/// The superclass, if there is one, is asked for first.
+fn superclass_decision<'p>(
+    parts: &Parts<'p>,
+    t: usize,
+    thread: &Thread,
+    superclass: Option<usize>,
+) -> Option<Decided<'p>>
+    ensures { (go_on : TurnDecision) → first_or go_on result ≡ superclass_first parts.now.program parts.now.limits parts.now.state t thread.now superclass go_on }
+{
+    match superclass {
+        None => None,
+        Some(class) => parts.asking(t, thread, class),
+    }
+}
+
+/// A turn with an initialisation frame on top.
+pub fn initialisation_decision<'p>(
+    parts: &Parts<'p>,
+    t: usize,
+    thread: &Thread,
+    class: usize,
+    called: bool,
+) -> Decided<'p>
+    ensures { seen result ≡ initialises parts.now.program parts.now.limits parts.now.state t thread.now class called (slice_get parts.now.program class) }
+{
+    let Some(c) = parts.program().class(class) else {
+        return never_seen();
+    };
+    if called {
+        return Decision::Makes(Action::Finishes { class });
+    }
+    let superclass = asked_superclass(parts.program(), c);
+    match superclass_decision(parts, t, thread, superclass) {
+        Some(decision) => decision,
+        None => initializer_decision(parts, thread, c, class),
+    }
+}

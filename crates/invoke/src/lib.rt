@@ -1,0 +1,24 @@
+//! Calls and returns, natives, the first calls of threads, exceptions, initialisation and monitors (JVMS 2.6, 2.10, 2.11,
+//! 5.5): what the turn of each comes to, with nothing changed, and what its action makes of the parts of a machine.
+#![tactic(auto)]
+
+mod calls;
+mod initialisation;
+mod locking;
+mod making;
+mod natives;
+mod returns;
+mod threads;
+mod unwinding;
+
+pub use calls::first_call_decision;
+pub use calls::invoke::invoke_decision;
+pub use initialisation::initialisation_decision;
+pub use locking::{monitor_enter_decision, monitor_exit_decision};
+pub use making::calls::{call, end, enter, return_below};
+pub use making::initialisation::{begin, finish};
+pub use making::unwinding::{
+    catch, fail_initialisation, fail_to_unlock, initialise, throw_object, unwind,
+};
+pub use returns::method_return_decision;
+pub use unwinding::{throw_decision, unwinding_decision};

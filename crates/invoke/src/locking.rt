@@ -1,0 +1,97 @@
+//! monitorenter and monitorexit (JVMS 6.5).
+
+ghost use Rattle.std.specs.Prelude.{◌≡◌, ◌+◌, ◌<◌, ◌^◌};
+ghost use Rattle.jvms_machine.specs.declared.value.Value.TheVariants as value;
+ghost use Rattle.jvms_machine.specs.Arrays.{with_object_of};
+ghost use Rattle.jvms_machine.specs.Locking.{enter_object, exit_object, monitor_enter_decision as enters_monitor, monitor_exit_decision as exits_monitor};
+ghost use Rattle.machine_parts.specs.Decided.{seen};
+
+use frames::Frame;
+use jvms_machine::action::Effect;
+use jvms_machine::machine::BadCause;
+use jvms_machine::value::Value;
+use jvms_program::thrown::Thrown;
+use machine_parts::{Decided, Entering, Parts, bad, has_depth, never_seen, reaches, taking};
+use machine_thread::Thread;
+
+/// The monitor of the object of a reference is entered.
+fn enter_object<'p>(
+    parts: &Parts<'p>,
+    t: usize,
+    thread: &Thread,
+    frame: &Frame,
+    reference: u32,
+) -> Decided<'p>
+    requires { frame.now.activation.place + 1 < 2 ^ 64 }
+    ensures { seen result ≡ with_object_of parts.now.limits parts.now.state thread.now (value.Reference reference) (enter_object parts.now.limits parts.now.state t thread.now frame.now) }
+{
+    if parts.heap.class_of(reference).is_none() {
+        return never_seen();
+    }
+    match parts.entering(t, thread, reference) {
+        Entering::Enters(monitor) => reaches(Effect::Locks(monitor), taking(1, frame)),
+        Entering::Stops(decision) => decision,
+    }
+}
+
+/// The monitor of the object of a reference is left.
+fn exit_object<'p>(
+    parts: &Parts<'p>,
+    t: usize,
+    thread: &Thread,
+    frame: &Frame,
+    reference: u32,
+) -> Decided<'p>
+    requires { frame.now.activation.place + 1 < 2 ^ 64 }
+    ensures { seen result ≡ with_object_of parts.now.limits parts.now.state thread.now (value.Reference reference) (exit_object parts.now.limits parts.now.state t thread.now frame.now) }
+{
+    if parts.heap.class_of(reference).is_none() {
+        return never_seen();
+    }
+    match parts.leaving(t, reference) {
+        Some(monitor) => reaches(Effect::Unlocks(monitor), taking(1, frame)),
+        None => parts.throws(thread, Thrown::IllegalMonitorStateException),
+    }
+}
+
+/// JVMS 6.5 monitorenter. In this order: the depth; the kind; null; the monitor.
+#[tactic(auto, unfolding(jvms_machine::specs::Locking::monitor_enter_decision))]
+pub fn monitor_enter_decision<'p>(
+    parts: &Parts<'p>,
+    t: usize,
+    thread: &Thread,
+    frame: &Frame,
+) -> Decided<'p>
+    requires { frame.now.activation.place + 1 < 2 ^ 64 }
+    ensures { seen result ≡ enters_monitor parts.now.limits parts.now.state t thread.now frame.now }
+{
+    if !has_depth(frame, 1, 0) {
+        return bad(BadCause::Depth);
+    }
+    match frame.top() {
+        Value::Reference(reference) => enter_object(parts, t, thread, frame, reference),
+        Value::Null => parts.throws(thread, Thrown::NullPointerException),
+        Value::Int(_) | Value::ReturnAddress(_) | Value::Unset => bad(BadCause::Kind),
+    }
+}
+
+/// JVMS 6.5 monitorexit. In this order: the depth; the kind; null; the owner.
+#[tactic(auto, unfolding(jvms_machine::specs::Locking::monitor_exit_decision))]
+pub fn monitor_exit_decision<'p>(
+    parts: &Parts<'p>,
+    t: usize,
+    thread: &Thread,
+    frame: &Frame,
+) -> Decided<'p>
+    requires { frame.now.activation.place + 1 < 2 ^ 64 }
+    ensures { seen result ≡ exits_monitor parts.now.limits parts.now.state t thread.now frame.now }
+{
+    if !has_depth(frame, 1, 0) {
+        return bad(BadCause::Depth);
+    }
+    match frame.top() {
+        Value::Reference(reference) => exit_object(parts, t, thread, frame, reference),
+        Value::Null => parts.throws(thread, Thrown::NullPointerException),
+        Value::Int(_) | Value::ReturnAddress(_) | Value::Unset => bad(BadCause::Kind),
+    }
+}

@@ -1,0 +1,255 @@
+//! What calls and returns make of a machine (JVMS 2.6.1, 2.6.4).
+
+ghost use Rattle.std.specs.Prelude.{◌≡◌, ◌<◌, ◌≤◌, ◌++◌, [], drop, length, IsOk, IfOk, IfSome, OnOk, OnErr, slice_get};
+ghost use Rattle.jvms_machine.specs.declared.action.Action.TheVariants as action;
+ghost use Rattle.jvms_machine.specs.Calls.{entered};
+ghost use Rattle.jvms_machine.specs.Monitors.{locked_reference as reference_locked};
+ghost use Rattle.jvms_machine.specs.Actions.{arguments_of, enter_items, first_arguments, items_of, lock_items, popped, top_operands, with_changed, with_lock, with_result as resulting};
+ghost use Rattle.jvms_machine.specs.Turn.{CanBeLocked, IsReady};
+ghost use Rattle.machine_parts.specs.Machine.{with_state, after};
+ghost use Rattle.machine_parts.specs.Ready.{HasCaller};
+ghost use Rattle.machine_thread.specs.Tops.{gives, noted, pushed};
+
+use frames::Frame;
+use jvms_machine::action::{Lock, MonitorUse};
+use jvms_machine::machine::ThreadId;
+use jvms_machine::value::Value;
+use jvms_program::number::MethodNumber;
+use jvms_program::program::Body;
+use machine_parts::{Parts, lock_item, push_both, unlock_item};
+use std::alloc::AllocError;
+use trace::Trace;
+
+/// The monitor that a call holds with its frame.
+fn locked_reference(lock: Lock) -> Option<u32>
+    ensures { result ≡ reference_locked lock }
+{
+    match lock {
+        Lock::Nothing => None,
+        Lock::Monitor(monitor) => Some(monitor.reference),
+        Lock::NewClass { reference, .. } => Some(reference),
+    }
+}
+
+/// A call is put on top of a thread. Without memory nothing changes.
+fn push_call<'p>(parts: &mut Parts<'p>, t: ThreadId, frame: Frame<'p>) -> Result<(), AllocError>
+    requires { t < length parts.old.state.threads }
+    ensures ok { OnOk result (parts.new ≡ with_state parts.old (with_changed parts.old.state t (pushed frame.entry))) }
+    ensures err { OnErr result (parts.new ≡ parts.old) }
+{
+    parts.threads[t as usize].push_call(frame)
+}
+
+/// The frame on top of a thread is taken away.
+fn pop_call(parts: &mut Parts, t: ThreadId)
+    ensures { parts.new ≡ with_state parts.old (with_changed parts.old.state t popped) }
+{
+    if let Some(thread) = parts.threads.get_mut(t as usize) {
+        thread.pop();
+    }
+}
+
+/// Notes that a thread has made its first call.
+fn note_first_call(parts: &mut Parts, t: ThreadId)
+    ensures { parts.new ≡ with_state parts.old (with_changed parts.old.state t noted) }
+{
+    if let Some(thread) = parts.threads.get_mut(t as usize) {
+        thread.set_first_call_made();
+    }
+}
+
+/// The frame below the top of a thread gives so many operands to the call on top.
+fn give_operands(parts: &mut Parts, t: ThreadId, takes: u16)
+    requires { IfSome (slice_get parts.old.state.threads t) (λ x. takes ≤ length (top_operands (drop 1 x.frames))) }
+    ensures { parts.new ≡ with_state parts.old (with_changed parts.old.state t (gives takes)) }
+{
+    if let Some(thread) = parts.threads.get_mut(t as usize) {
+        thread.give(usize::from(takes));
+    }
+}
+
+/// What a call locks is entered, and its items, at most two, are put behind the others. Without memory nothing
+/// changes.
+fn lock_marked(
+    parts: &mut Parts,
+    t: ThreadId,
+    method: MethodNumber,
+    lock: Lock,
+    trace: &mut Trace,
+) -> Result<(), AllocError>
+    requires { CanBeLocked parts.old.state lock }
+    ensures state { OnOk result (parts.new ≡ with_state parts.old (with_lock parts.old.program parts.old.state t lock)) }
+    ensures items { OnOk result (trace.new ≡ trace.old ++ (enter_items parts.old.program t method ++ lock_items t lock)) }
+    ensures kept { OnErr result (parts.new ≡ parts.old) }
+    ensures no_items { OnErr result (trace.new ≡ trace.old) }
+{
+    let item = parts.enter_item(t, method)?;
+    let before = trace.len();
+    push_both(trace, item, lock_item(t, lock))?;
+    if let Err(error) = parts.lock(t, lock) {
+        trace.truncate(before);
+        return Err(error);
+    }
+    Ok(())
+}
+
+/// The frame of a thread's first call.
+fn first_frame<'p>(
+    parts: &Parts<'p>,
+    t: ThreadId,
+    method: MethodNumber,
+    code: &'p Body,
+    lock: Lock,
+) -> Result<Frame<'p>, AllocError>
+    requires { IsReady parts.now.start parts.now.state t (action.Enters method code.now lock) }
+    ensures { IfOk result (λ frame. IfSome (slice_get parts.now.state.threads t) (λ thread. frame ≡ entered method code.now (reference_locked lock) (first_arguments parts.now.start thread))) }
+{
+    let monitor = locked_reference(lock);
+    match parts.threads[t as usize].object() {
+        None => Frame::new(
+            parts.alloc,
+            method,
+            code,
+            monitor,
+            parts.arguments.as_slice(),
+        ),
+        Some(object) => {
+            Frame::new(
+                parts.alloc,
+                method,
+                code,
+                monitor,
+                &[Value::Reference(object)],
+            )
+        }
+    }
+}
+
+/// Makes the first call of a thread, of this method, which has this code.
+#[tactic(auto, using(crate::proofs::Entering::call_undone, crate::proofs::Entering::still_can_be_locked, crate::proofs::Entering::first_is_made), unfolding(jvms_machine::specs::Actions::applied_to, jvms_machine::specs::Actions::items_of))]
+pub fn enter<'p>(
+    parts: &mut Parts<'p>,
+    t: ThreadId,
+    method: MethodNumber,
+    code: &'p Body,
+    lock: Lock,
+    trace: &mut Trace,
+) -> Result<(), AllocError>
+    requires { IsReady parts.old.start parts.old.state t (action.Enters method code.now lock) }
+    ensures state { OnOk result (parts.new ≡ after parts.old t (action.Enters method code.now lock)) }
+    ensures items { OnOk result (trace.new ≡ trace.old ++ items_of parts.old.program t (action.Enters method code.now lock)) }
+    ensures kept { OnErr result (parts.new ≡ parts.old) }
+    ensures no_items { OnErr result (trace.new ≡ trace.old) }
+{
+    let frame = first_frame(parts, t, method, code, lock)?;
+    push_call(parts, t, frame)?;
+    if let Err(error) = lock_marked(parts, t, method, lock, trace) {
+        pop_call(parts, t);
+        return Err(error);
+    }
+    note_first_call(parts, t);
+    Ok(())
+}
+
+/// The frame of a call that takes so many operands of the call on top.
+fn called_frame<'p>(
+    parts: &Parts<'p>,
+    t: ThreadId,
+    method: MethodNumber,
+    code: &'p Body,
+    takes: u16,
+    lock: Lock,
+) -> Result<Frame<'p>, AllocError>
+    requires { IsReady parts.now.start parts.now.state t (action.Calls method code.now takes lock) }
+    ensures { IfOk result (λ frame. frame ≡ entered method code.now (reference_locked lock) (arguments_of takes (slice_get parts.now.state.threads t))) }
+{
+    let arguments = parts.threads[t as usize].arguments(usize::from(takes));
+    Frame::new(parts.alloc, method, code, locked_reference(lock), arguments)
+}
+
+/// Calls a method, which has this code, with so many operands of the call on top.
+#[tactic(auto, using(crate::proofs::Entering::call_undone, crate::proofs::Entering::still_can_be_locked, crate::proofs::Entering::can_give, crate::proofs::Entering::call_is_made), unfolding(jvms_machine::specs::Actions::applied_to, jvms_machine::specs::Actions::items_of))]
+pub fn call<'p>(
+    parts: &mut Parts<'p>,
+    t: ThreadId,
+    method: MethodNumber,
+    code: &'p Body,
+    takes: u16,
+    lock: Lock,
+    trace: &mut Trace,
+) -> Result<(), AllocError>
+    requires { IsReady parts.old.start parts.old.state t (action.Calls method code.now takes lock) }
+    ensures state { OnOk result (parts.new ≡ after parts.old t (action.Calls method code.now takes lock)) }
+    ensures items { OnOk result (trace.new ≡ trace.old ++ items_of parts.old.program t (action.Calls method code.now takes lock)) }
+    ensures kept { OnErr result (parts.new ≡ parts.old) }
+    ensures no_items { OnErr result (trace.new ≡ trace.old) }
+{
+    let frame = called_frame(parts, t, method, code, takes, lock)?;
+    push_call(parts, t, frame)?;
+    if let Err(error) = lock_marked(parts, t, method, lock, trace) {
+        pop_call(parts, t);
+        return Err(error);
+    }
+    give_operands(parts, t, takes);
+    Ok(())
+}
+
+/// Returns from the call on top, which is of this method, to the frame below.
+#[tactic(auto, unfolding(jvms_machine::specs::Actions::applied_to, jvms_machine::specs::Actions::items_of))]
+pub fn return_below(
+    parts: &mut Parts,
+    t: ThreadId,
+    method: MethodNumber,
+    value: Option<Value>,
+    unlock: Option<MonitorUse>,
+    trace: &mut Trace,
+) -> Result<(), AllocError>
+    requires ready { IsReady parts.old.start parts.old.state t (action.Returns method value unlock) }
+    requires caller { HasCaller parts.old.state t (action.Returns method value unlock) }
+    ensures state { OnOk result (parts.new ≡ after parts.old t (action.Returns method value unlock)) }
+    ensures items { OnOk result (trace.new ≡ trace.old ++ items_of parts.old.program t (action.Returns method value unlock)) }
+    ensures kept { OnErr result (parts.new ≡ parts.old) }
+    ensures no_items { OnErr result (trace.new ≡ trace.old) }
+    ensures none { items_of parts.old.program t (action.Returns method value unlock) ≡ [] → IsOk result }
+{
+    let item = parts.exit_item(t, method)?;
+    push_both(trace, unlock_item(t, unlock), item)?;
+    parts.unlock(unlock);
+    parts.threads[t as usize].return_below(value);
+    Ok(())
+}
+
+/// Notes what the entry's method returned.
+fn set_result(parts: &mut Parts, t: ThreadId, value: Option<Value>)
+    ensures { parts.new ≡ with_state parts.old (resulting parts.old.state t value) }
+{
+    if t == 0 {
+        parts.result = value;
+    }
+}
+
+/// Ends a thread, whose first call, of this method, returns.
+#[tactic(auto, unfolding(jvms_machine::specs::Actions::applied_to, jvms_machine::specs::Actions::items_of))]
+pub fn end(
+    parts: &mut Parts,
+    t: ThreadId,
+    method: MethodNumber,
+    value: Option<Value>,
+    unlock: Option<MonitorUse>,
+    trace: &mut Trace,
+) -> Result<(), AllocError>
+    ensures state { OnOk result (parts.new ≡ after parts.old t (action.Ends method value unlock)) }
+    ensures items { OnOk result (trace.new ≡ trace.old ++ items_of parts.old.program t (action.Ends method value unlock)) }
+    ensures kept { OnErr result (parts.new ≡ parts.old) }
+    ensures no_items { OnErr result (trace.new ≡ trace.old) }
+    ensures none { items_of parts.old.program t (action.Ends method value unlock) ≡ [] → IsOk result }
+{
+    let item = parts.exit_item(t, method)?;
+    push_both(trace, unlock_item(t, unlock), item)?;
+    parts.unlock(unlock);
+    if let Some(thread) = parts.threads.get_mut(t as usize) {
+        thread.end();
+    }
+    set_result(parts, t, value);
+    Ok(())
+}

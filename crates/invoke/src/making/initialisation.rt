@@ -1,0 +1,91 @@
+//! What the initialisation of a class makes of a machine (JVMS 5.5).
+
+ghost use Rattle.std.specs.Prelude.{◌≡◌, ◌+◌, ◌<◌, ◌^◌, OnOk, OnErr, length, map};
+ghost use Rattle.jvms_machine.specs.declared.action.Action.TheVariants as action;
+ghost use Rattle.jvms_machine.specs.Actions.{begun, with_changed, with_initialisation as marked, with_texts};
+ghost use Rattle.jvms_machine.specs.State.{text};
+ghost use Rattle.heap.specs.Objects.{with_new};
+ghost use Rattle.machine_parts.specs.Ready.{HasTextsToMake};
+ghost use Rattle.machine_parts.specs.Machine.{with_state, after};
+
+use heap::Heap;
+use held::shared::Text;
+use jvms_machine::machine::ThreadId;
+use jvms_machine::state::Initialisation;
+use machine_parts::Parts;
+use machine_thread::Thread;
+use std::alloc::AllocError;
+
+/// Puts the frame of an initialisation on a thread, and makes strings. Without memory for all of it nothing changes.
+fn begin_with_texts(
+    thread: &mut Thread<'_>,
+    class: usize,
+    heap: &mut Heap<'_>,
+    texts: &[Text],
+) -> Result<(), AllocError>
+    requires { length heap.old.objects + length texts.now < 2 ^ 32 }
+    ensures thread { OnOk result (thread.new ≡ begun class thread.old) }
+    ensures heap { OnOk result (heap.new ≡ with_new (map text texts.now) heap.old) }
+    ensures thread_kept { OnErr result (thread.new ≡ thread.old) }
+    ensures heap_kept { OnErr result (heap.new ≡ heap.old) }
+{
+    thread.begin(class)?;
+    if let Err(error) = heap.new_texts(texts) {
+        thread.pop();
+        return Err(error);
+    }
+    Ok(())
+}
+
+/// Marks how far the initialisation of a class has come.
+pub(crate) fn mark(parts: &mut Parts, class: usize, how: Initialisation)
+    ensures { parts.new ≡ with_state parts.old (marked parts.old.state class how) }
+{
+    if let Some(slot) = parts.initialisations.get_mut(class) {
+        *slot = how;
+    }
+}
+
+/// Makes the strings of the constants of a class that begins its initialisation, and puts its frame on the thread.
+fn begin_frame(
+    parts: &mut Parts,
+    t: ThreadId,
+    class: usize,
+    texts: &[Text],
+) -> Result<(), AllocError>
+    requires { length parts.old.state.heap + length texts.now < 2 ^ 32 }
+    ensures ok { OnOk result (parts.new ≡ with_state parts.old (with_changed (with_texts parts.old.state texts.now) t (begun class))) }
+    ensures err { OnErr result (parts.new ≡ parts.old) }
+{
+    match parts.threads.get_mut(t as usize) {
+        None => parts.heap.new_texts(texts),
+        Some(thread) => begin_with_texts(thread, class, &mut parts.heap, texts),
+    }
+}
+
+/// Begins the initialisation of a class: its constants are stored.
+#[tactic(auto, unfolding(jvms_machine::specs::Actions::applied_to))]
+pub fn begin(parts: &mut Parts, t: ThreadId, class: usize) -> Result<(), AllocError>
+    requires { HasTextsToMake parts.old class }
+    ensures ok { OnOk result (parts.new ≡ after parts.old t (action.Begins class)) }
+    ensures err { OnErr result (parts.new ≡ parts.old) }
+{
+    let texts = parts.texts_to_make(class)?;
+    begin_frame(parts, t, class, texts.as_slice())?;
+    if let Some(class) = parts.program().class(class) {
+        parts.store_constants(class);
+    }
+    mark(parts, class, Initialisation::InProgress { thread: t });
+    Ok(())
+}
+
+/// Ends the initialisation of a class.
+#[tactic(auto, unfolding(jvms_machine::specs::Actions::applied_to))]
+pub fn finish(parts: &mut Parts, t: ThreadId, class: usize)
+    ensures { parts.new ≡ after parts.old t (action.Finishes class) }
+{
+    if let Some(thread) = parts.threads.get_mut(t as usize) {
+        thread.pop();
+    }
+    mark(parts, class, Initialisation::Done);
+}

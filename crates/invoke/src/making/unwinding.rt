@@ -1,0 +1,169 @@
+//! What a pending exception makes of a machine (JVMS 2.10), and the `<clinit>` of a class (JVMS 5.5).
+
+ghost use Rattle.std.specs.Prelude.{◌≡◌, ◌++◌, [], IsOk, IsTrue, OnOk, OnErr};
+ghost use Rattle.jvms_machine.specs.declared.action.Action.TheVariants as action;
+ghost use Rattle.jvms_machine.specs.Actions.{initialising, items_of};
+ghost use Rattle.jvms_machine.specs.Turn.{IsReady};
+ghost use Rattle.machine_parts.specs.Decided.{is_held};
+ghost use Rattle.machine_parts.specs.Machine.{after};
+ghost use Rattle.machine_parts.specs.Marks.{listed};
+ghost use Rattle.machine_parts.specs.Ready.{HasReference};
+
+use crate::making::initialisation::mark;
+use frames::Frame;
+use jvms_machine::action::{Exception, MonitorUse};
+use jvms_machine::machine::ThreadId;
+use jvms_machine::state::Initialisation;
+use jvms_machine::trace::Item;
+use jvms_program::number::MethodNumber;
+use jvms_program::program::Body;
+use machine_parts::{Parts, push_both, push_listed, unlock_item};
+use machine_thread::Thread;
+use std::alloc::AllocError;
+use trace::Trace;
+
+/// Makes the call of a `<clinit>`, with its mark.
+fn call_initializer<'p>(
+    thread: &mut Thread<'p>,
+    frame: Frame<'p>,
+    item: Option<Item>,
+    trace: &mut Trace,
+) -> Result<(), AllocError>
+    ensures state { OnOk result (thread.new ≡ initialising frame.entry thread.old) }
+    ensures items { OnOk result (trace.new ≡ trace.old ++ listed item) }
+    ensures kept { OnErr result (thread.new ≡ thread.old) }
+    ensures no_items { OnErr result (trace.new ≡ trace.old) }
+{
+    thread.push_call(frame)?;
+    if let Err(error) = push_listed(trace, item) {
+        thread.pop();
+        return Err(error);
+    }
+    thread.set_initializer_called();
+    Ok(())
+}
+
+/// Calls the `<clinit>` of the class whose initialisation is on top.
+#[tactic(auto, unfolding(jvms_machine::specs::Actions::applied_to, jvms_machine::specs::Actions::items_of))]
+pub fn initialise<'p>(
+    parts: &mut Parts<'p>,
+    t: ThreadId,
+    method: MethodNumber,
+    code: &'p Body,
+    trace: &mut Trace,
+) -> Result<(), AllocError>
+    requires { IsReady parts.old.start parts.old.state t (action.Initialises method code.now) }
+    ensures state { OnOk result (parts.new ≡ after parts.old t (action.Initialises method code.now)) }
+    ensures items { OnOk result (trace.new ≡ trace.old ++ items_of parts.old.program t (action.Initialises method code.now)) }
+    ensures kept { OnErr result (parts.new ≡ parts.old) }
+    ensures no_items { OnErr result (trace.new ≡ trace.old) }
+{
+    let frame = Frame::new(parts.alloc, method, code, None, &[])?;
+    let item = parts.enter_item(t, method)?;
+    call_initializer(&mut parts.threads[t as usize], frame, item, trace)?;
+    Ok(())
+}
+
+/// The object on top of the operands is taken off, and is pending.
+#[tactic(auto, unfolding(jvms_machine::specs::Actions::applied_to))]
+pub fn throw_object(parts: &mut Parts, t: ThreadId, reference: u32)
+    requires { IsReady parts.old.start parts.old.state t (action.Throws reference) }
+    ensures { parts.new ≡ after parts.old t (action.Throws reference) }
+{
+    if let Some(thread) = parts.threads.get_mut(t as usize) {
+        thread.throw(reference);
+    }
+}
+
+/// A handler of the call on top takes the pending object.
+#[tactic(auto, unfolding(jvms_machine::specs::Actions::applied_to))]
+pub fn catch(parts: &mut Parts, t: ThreadId, reference: u32, target: usize)
+    requires { IsReady parts.old.start parts.old.state t (action.Catches reference target) }
+    ensures { parts.new ≡ after parts.old t (action.Catches reference target) }
+{
+    if let Some(thread) = parts.threads.get_mut(t as usize) {
+        thread.catch(reference, target);
+    }
+}
+
+/// The call on top, of this method, is popped.
+#[tactic(auto, unfolding(jvms_machine::specs::Actions::applied_to, jvms_machine::specs::Actions::items_of))]
+pub fn unwind(
+    parts: &mut Parts,
+    t: ThreadId,
+    method: MethodNumber,
+    last: bool,
+    unlock: Option<MonitorUse>,
+    trace: &mut Trace,
+) -> Result<(), AllocError>
+    ensures state { OnOk result (parts.new ≡ after parts.old t (action.Unwinds method last unlock)) }
+    ensures items { OnOk result (trace.new ≡ trace.old ++ items_of parts.old.program t (action.Unwinds method last unlock)) }
+    ensures kept { OnErr result (parts.new ≡ parts.old) }
+    ensures no_items { OnErr result (trace.new ≡ trace.old) }
+    ensures none { items_of parts.old.program t (action.Unwinds method last unlock) ≡ [] → IsOk result }
+{
+    let item = parts.exit_item(t, method)?;
+    push_both(trace, unlock_item(t, unlock), item)?;
+    parts.unlock(unlock);
+    if let Some(thread) = parts.threads.get_mut(t as usize) {
+        thread.unwind(last);
+    }
+    Ok(())
+}
+
+/// The call on top, of this method, is popped, and this exception is pending: its thread doesn't own the monitor.
+#[tactic(auto, unfolding(jvms_machine::specs::Actions::applied_to, jvms_machine::specs::Actions::items_of))]
+pub fn fail_to_unlock(
+    parts: &mut Parts,
+    t: ThreadId,
+    method: MethodNumber,
+    exception: Exception,
+    last: bool,
+    trace: &mut Trace,
+) -> Result<(), AllocError>
+    requires { HasReference parts.old.state }
+    ensures state { OnOk result (parts.new ≡ after parts.old t (action.FailsToUnlock method exception last)) }
+    ensures items { OnOk result (trace.new ≡ trace.old ++ items_of parts.old.program t (action.FailsToUnlock method exception last)) }
+    ensures kept { OnErr result (parts.new ≡ parts.old) }
+    ensures no_items { OnErr result (trace.new ≡ trace.old) }
+    ensures none { IsTrue (is_held exception) → items_of parts.old.program t (action.FailsToUnlock method exception last) ≡ [] → IsOk result }
+{
+    let item = parts.exit_item(t, method)?;
+    let before = trace.len();
+    push_listed(trace, item)?;
+    let reference = match parts.throw(exception) {
+        Ok(reference) => reference,
+        Err(error) => {
+            trace.truncate(before);
+            return Err(error);
+        }
+    };
+    if let Some(thread) = parts.threads.get_mut(t as usize) {
+        thread.raise(reference);
+        thread.unwind(last);
+    }
+    Ok(())
+}
+
+/// The initialisation of a class, which is on top, is popped: the class is erroneous.
+#[tactic(auto, unfolding(jvms_machine::specs::Actions::applied_to))]
+pub fn fail_initialisation(
+    parts: &mut Parts,
+    t: ThreadId,
+    class: usize,
+    exception: Exception,
+    last: bool,
+) -> Result<(), AllocError>
+    requires { HasReference parts.old.state }
+    ensures state { OnOk result (parts.new ≡ after parts.old t (action.FailsInitialisation class exception last)) }
+    ensures kept { OnErr result (parts.new ≡ parts.old) }
+    ensures none { IsTrue (is_held exception) → IsOk result }
+{
+    let reference = parts.throw(exception)?;
+    if let Some(thread) = parts.threads.get_mut(t as usize) {
+        thread.raise(reference);
+        thread.unwind(last);
+    }
+    mark(parts, class, Initialisation::Erroneous);
+    Ok(())
+}

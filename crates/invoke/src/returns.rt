@@ -1,0 +1,148 @@
+//! Returns (JVMS 2.6.4, 6.5 ireturn, areturn, return).
+
+ghost use Rattle.std.specs.Prelude.{◌≡◌, drop};
+ghost use Rattle.jvms_program.specs.Program.{method_at};
+ghost use Rattle.jvms_machine.specs.Returns.{gives_kind as gives, gives_nothing as nothing, returns_to, returned_decision as returned, return_top_decision as returns_top, return_decision as returns, method_return_decision as method_returns};
+ghost use Rattle.machine_parts.specs.Decided.{seen};
+
+use exec::is_loaded;
+use frames::Frame;
+use jvms_file::descriptor::ResultType;
+use jvms_file::insn::{Kind, ReturnInsn};
+use jvms_machine::action::{Action, Decision, MonitorUse};
+use jvms_machine::machine::BadCause;
+use jvms_machine::value::Value;
+use machine_parts::{Decided, Parts, Unlocking, bad, kind_of_type, never_seen};
+use machine_thread::Thread;
+
+/// Whether a method gives such a value.
+fn gives_kind(given: &ResultType, kind: Kind) -> bool
+    ensures { result ≡ gives given.now kind }
+{
+    match given {
+        ResultType::Void => false,
+        ResultType::Value(t) => kind_of_type(t) == kind,
+    }
+}
+
+/// Whether a method gives no value.
+fn gives_nothing(given: &ResultType) -> bool
+    ensures { result ≡ nothing given.now }
+{
+    matches!(given, ResultType::Void)
+}
+
+/// The call on top returns this: the first call ends the thread, another goes back to the frame below.
+fn returns_to<'p>(
+    thread: &Thread,
+    frame: &Frame,
+    value: Option<Value>,
+    unlock: Option<MonitorUse>,
+) -> Decided<'p>
+    ensures { seen result ≡ returns_to frame.now.method (drop 1 thread.now.frames) value unlock }
+{
+    let method = frame.method();
+    let action = if thread.height() <= 1 {
+        Action::Ends {
+            method,
+            result: value,
+            unlock,
+        }
+    } else {
+        Action::Returns {
+            method,
+            result: value,
+            unlock,
+        }
+    };
+    Decision::Makes(action)
+}
+
+/// The call of this frame, which is on top, returns this, and leaves its monitor.
+fn returned_decision<'p>(
+    parts: &Parts<'p>,
+    t: usize,
+    thread: &Thread,
+    frame: &Frame,
+    value: Option<Value>,
+) -> Decided<'p>
+    ensures { seen result ≡ returned parts.now.limits parts.now.state t frame.now (drop 1 thread.now.frames) value }
+{
+    match parts.unlocking(t, frame) {
+        Unlocking::Leaves(unlock) => returns_to(thread, frame, value, unlock),
+        Unlocking::Fails => parts.fails_to_unlock(thread, frame),
+    }
+}
+
+/// A return of a value of this kind, which is the top of the operands.
+fn return_top_decision<'p>(
+    parts: &Parts<'p>,
+    t: usize,
+    thread: &Thread,
+    frame: &Frame,
+    given: &ResultType,
+    kind: Kind,
+) -> Decided<'p>
+    ensures { seen result ≡ returns_top parts.now.limits parts.now.state t frame.now (drop 1 thread.now.frames) given.now kind frame.now.activation.operands }
+{
+    if frame.height() == 0 {
+        return bad(BadCause::Depth);
+    }
+    let value = frame.top();
+    if is_loaded(kind, value) && gives_kind(given, kind) {
+        returned_decision(parts, t, thread, frame, Some(value))
+    } else {
+        bad(BadCause::Kind)
+    }
+}
+
+/// A return of a method that gives this.
+fn return_decision<'p>(
+    parts: &Parts<'p>,
+    t: usize,
+    thread: &Thread,
+    frame: &Frame,
+    given: &ResultType,
+    how: ReturnInsn,
+) -> Decided<'p>
+    ensures { seen result ≡ returns parts.now.limits parts.now.state t frame.now (drop 1 thread.now.frames) given.now how }
+{
+    match how {
+        ReturnInsn::Void => {
+            if gives_nothing(given) {
+                returned_decision(parts, t, thread, frame, None)
+            } else {
+                bad(BadCause::Kind)
+            }
+        }
+        ReturnInsn::Value(kind @ (Kind::Int | Kind::Reference)) => {
+            return_top_decision(parts, t, thread, frame, given, kind)
+        }
+        ReturnInsn::Value(Kind::Long | Kind::Float | Kind::Double) => {
+            bad(BadCause::OutOfProfile)
+        }
+    }
+}
+
+/// The call of this frame, which is on top, returns.
+pub fn method_return_decision<'p>(
+    parts: &Parts<'p>,
+    t: usize,
+    thread: &Thread,
+    frame: &Frame,
+    how: ReturnInsn,
+) -> Decided<'p>
+    ensures { seen result ≡ method_returns parts.now.limits parts.now.state t frame.now (drop 1 thread.now.frames) how (method_at parts.now.program frame.now.method) }
+{
+    let Some(method) = parts.program().method(frame.method()) else {
+        return never_seen();
+    };
+    return_decision(
+        parts,
+        t,
+        thread,
+        frame,
+        &method.method_type.get().result,
+        how,
+    )
+}

@@ -1,0 +1,89 @@
+//! The threads that programs start (Java SE API, `Thread.start` and `Thread.join`).
+
+ghost use Rattle.std.specs.Prelude.{◌≡◌, ◌+◌, ◌<◌, ◌^◌};
+ghost use Rattle.jvms_machine.specs.Threads.{thread_of, start_decision as starts, join_decision as joins, thread_native_decision as threads_native};
+ghost use Rattle.std.specs.Prelude.{Some};
+ghost use Rattle.machine_parts.specs.Decided.{seen};
+ghost use Rattle.machine_parts.specs.Ready.{AreNumbered};
+
+use descriptor::same_text;
+use frames::Frame;
+use jvms_machine::action::{Decision, Effect};
+use jvms_machine::machine::{BlockedOn, Outcome};
+use jvms_machine::value::Value;
+use jvms_program::program::Method;
+use jvms_program::thrown::Thrown;
+use machine_parts::{Decided, Parts, never_seen, reaches, taking};
+use machine_thread::Thread;
+
+/// `start`
+const START: [u16; 5] = [115, 116, 97, 114, 116];
+
+/// A Thread object is started. In this order: it wasn't before; there is room for one thread more.
+fn start_decision<'p>(
+    parts: &Parts<'p>,
+    thread: &Thread,
+    frame: &Frame,
+    reference: u32,
+) -> Decided<'p>
+    requires { frame.now.activation.place + 1 < 2 ^ 64 }
+    ensures { seen result ≡ starts parts.now.limits parts.now.state thread.now frame.now.activation reference (thread_of parts.now.state.threads reference) }
+{
+    if parts.thread_of(reference).is_some() {
+        return parts.throws(thread, Thrown::IllegalThreadStateException);
+    }
+    let count = parts.threads.len();
+    if count >= parts.limits.threads as usize {
+        return parts.throws(thread, Thrown::OutOfMemoryError);
+    }
+    let effect = Effect::Starts {
+        reference,
+        thread: count as u32,
+    };
+    reaches(effect, taking(1, frame))
+}
+
+/// A thread's end is waited for. One that wasn't started isn't.
+fn join_decision<'p>(parts: &Parts<'p>, frame: &Frame, joined: Option<usize>) -> Decided<'p>
+    requires place { frame.now.activation.place + 1 < 2 ^ 64 }
+    requires numbered { AreNumbered parts.now.state }
+    ensures { seen result ≡ joins parts.now.state frame.now.activation joined }
+{
+    let Some(u) = joined else {
+        return reaches(Effect::Nothing, taking(1, frame));
+    };
+    let Some(other) = parts.threads.as_slice().get(u) else {
+        return never_seen();
+    };
+    let thread = u as u32;
+    if other.has_ended() {
+        reaches(Effect::Joins { thread }, taking(1, frame))
+    } else {
+        let on = BlockedOn::Join { thread };
+        Decision::Unmade(Outcome::Blocked { on })
+    }
+}
+
+/// `start` and `join` of the Thread object on top.
+pub(crate) fn thread_native_decision<'p>(
+    parts: &Parts<'p>,
+    thread: &Thread,
+    frame: &Frame,
+    method: &Method,
+) -> Decided<'p>
+    requires place { frame.now.activation.place + 1 < 2 ^ 64 }
+    requires numbered { AreNumbered parts.now.state }
+    ensures { seen result ≡ threads_native parts.now.limits parts.now.state thread.now frame.now.activation method.now frame.now.activation.operands }
+{
+    if frame.height() == 0 {
+        return never_seen();
+    }
+    let Value::Reference(reference) = frame.top() else {
+        return never_seen();
+    };
+    if same_text(method.name.as_slice(), &START) {
+        start_decision(parts, thread, frame, reference)
+    } else {
+        join_decision(parts, frame, parts.thread_of(reference))
+    }
+}

@@ -1,0 +1,207 @@
+//! A pending exception (JVMS 2.10): the handler that takes it, or the frame that it pops; and athrow (JVMS 6.5).
+
+ghost use Rattle.std.specs.Prelude.{◌≡◌, option_copied, drop};
+ghost use Rattle.jvms_machine.specs.declared.value.Value.TheVariants as value;
+ghost use Rattle.jvms_machine.specs.Arrays.{with_object_of};
+ghost use Rattle.jvms_machine.specs.State.{Object, class_of};
+ghost use Rattle.jvms_machine.specs.Unwinding.{covers, takes_class, handles, handler_of, popped_decision as pops, handler_decision as handled, failed_with, top_decision as unwinds_top, unwinding_decision as unwinds, throwable_decision as throwable, throw_decision as throws_it};
+ghost use Rattle.machine_parts.specs.Decided.{seen};
+ghost use Rattle.invoke.specs.Replacing.{is_replaced};
+
+use frames::Frame;
+use jvms_machine::action::{Action, Decision, Exception};
+use jvms_machine::machine::BadCause;
+use jvms_machine::state::StackFrame;
+use jvms_machine::value::Value;
+use jvms_program::program::{Catch, ExceptionHandler};
+use jvms_program::thrown::Thrown;
+use machine_parts::{Decided, Parts, Unlocking, bad, has_depth, never_seen};
+use machine_thread::Thread;
+use program::Program;
+
+/// `java/lang/Error`
+const ERROR: [u16; 15] = [
+    106, 97, 118, 97, 47, 108, 97, 110, 103, 47, 69, 114, 114, 111, 114,
+];
+
+/// `java/lang/Throwable`
+const THROWABLE: [u16; 19] = [
+    106, 97, 118, 97, 47, 108, 97, 110, 103, 47, 84, 104, 114, 111, 119, 97, 98, 108, 101,
+];
+
+/// Whether a handler's range holds a place.
+fn covers(place: usize, handler: &ExceptionHandler) -> bool
+    ensures { result ≡ covers place handler.now }
+{
+    handler.start as usize <= place && place < handler.end as usize
+}
+
+/// Whether a handler takes objects of a class. A class that isn't there takes none.
+fn takes_class(program: &Program, class: &[u16], catch: &Catch) -> bool
+    ensures { result ≡ takes_class program.now class.now catch.now }
+{
+    match catch {
+        Catch::All => true,
+        Catch::Class(name) => program.fits(class, name.as_slice()),
+    }
+}
+
+fn handles(program: &Program, class: &[u16], place: usize, handler: &ExceptionHandler) -> bool
+    ensures { result ≡ handles program.now class.now place handler.now }
+{
+    covers(place, handler) && takes_class(program, class, &handler.catch)
+}
+
+/// The first handler in the table's order that covers the place of a call and takes objects of a class.
+fn handler_of<'p>(
+    program: &Program,
+    class: &[u16],
+    frame: &Frame<'p>,
+) -> Option<&'p ExceptionHandler>
+    ensures { option_copied result ≡ handler_of program.now class.now frame.now }
+{
+    let place = frame.place();
+    frame
+        .body()
+        .handlers
+        .as_slice()
+        .iter()
+        .find(|handler| handles(program, class, place, handler))
+}
+
+/// The call of this frame is popped, and leaves its monitor.
+fn popped_decision<'p>(parts: &Parts<'p>, t: usize, thread: &Thread, frame: &Frame) -> Decided<'p>
+    ensures { seen result ≡ pops parts.now.limits parts.now.state t frame.now (drop 1 thread.now.frames) }
+{
+    match parts.unlocking(t, frame) {
+        Unlocking::Fails => parts.fails_to_unlock(thread, frame),
+        Unlocking::Leaves(unlock) => Decision::Makes(Action::Unwinds {
+            method: frame.method(),
+            last: thread.height() <= 1,
+            unlock,
+        }),
+    }
+}
+
+/// The call of this frame, with an object of a class pending: a handler takes it, for which there has to be room, or
+/// the call is popped.
+fn handler_decision<'p>(
+    parts: &Parts<'p>,
+    t: usize,
+    thread: &Thread,
+    frame: &Frame,
+    reference: u32,
+    class: &[u16],
+) -> Decided<'p>
+    ensures { seen result ≡ handled parts.now.limits parts.now.state t frame.now (drop 1 thread.now.frames) reference (handler_of parts.now.program class.now frame.now) }
+{
+    match handler_of(parts.program(), class, frame) {
+        None => popped_decision(parts, t, thread, frame),
+        Some(handler) => {
+            if frame.body().max_stack == 0 {
+                return bad(BadCause::Depth);
+            }
+            Decision::Makes(Action::Catches {
+                reference,
+                target: handler.target as usize,
+            })
+        }
+    }
+}
+
+/// Whether a pending object of a class is replaced where a class's initialisation fails: its `<clinit>` was running,
+/// and the object is no Error.
+fn is_replaced(parts: &Parts, called: bool, class: &[u16]) -> bool
+    ensures { result ≡ is_replaced parts.now.program called class.now }
+{
+    called && !parts.program().fits(class, &ERROR)
+}
+
+/// What a class's failed initialisation leaves pending.
+#[tactic(auto, using(crate::proofs::FailedClasses::failed_anew, crate::proofs::FailedClasses::failed_still))]
+fn failed_with(parts: &Parts, called: bool, reference: u32, class: &[u16]) -> Exception
+    ensures { (o : Object) → class.now ≡ class_of o → result ≡ failed_with parts.now.program parts.now.limits parts.now.state called reference o }
+{
+    if is_replaced(parts, called, class) {
+        parts.exception_of(Thrown::ExceptionInInitializerError)
+    } else {
+        Exception::Held { reference }
+    }
+}
+
+/// The turn of a thread with an object of a class pending.
+fn unwound_by_top<'p>(
+    parts: &Parts<'p>,
+    t: usize,
+    thread: &Thread,
+    reference: u32,
+    class: &[u16],
+) -> Decided<'p>
+    ensures { (o : Object) → class.now ≡ class_of o → seen result ≡ unwinds_top parts.now.program parts.now.limits parts.now.state t thread.now.frames reference o }
+{
+    match thread.frame(0) {
+        None => never_seen(),
+        Some(StackFrame::Call(frame)) => {
+            handler_decision(parts, t, thread, frame, reference, class)
+        }
+        Some(
+            StackFrame::Initialisation {
+                class: number,
+                called,
+            },
+        ) => {
+            Decision::Makes(Action::FailsInitialisation {
+                class: *number,
+                exception: failed_with(parts, *called, reference, class),
+                last: thread.height() <= 1,
+            })
+        }
+    }
+}
+
+/// The turn of a thread with a pending exception.
+#[tactic(auto, unfolding(jvms_machine::specs::Unwinding::unwinding_decision))]
+pub fn unwinding_decision<'p>(
+    parts: &Parts<'p>,
+    t: usize,
+    thread: &Thread,
+    reference: u32,
+) -> Decided<'p>
+    ensures { seen result ≡ unwinds parts.now.program parts.now.limits parts.now.state t thread.now reference }
+{
+    match parts.heap.class_of(reference) {
+        None => never_seen(),
+        Some(class) => unwound_by_top(parts, t, thread, reference, class),
+    }
+}
+
+/// The object of a reference is thrown, if it is a Throwable.
+fn throwable_decision<'p>(parts: &Parts<'p>, thread: &Thread, reference: u32) -> Decided<'p>
+    ensures { seen result ≡ with_object_of parts.now.limits parts.now.state thread.now (value.Reference reference) (throwable parts.now.program) }
+{
+    match parts.heap.class_of(reference) {
+        None => never_seen(),
+        Some(class) => {
+            if parts.program().fits(class, &THROWABLE) {
+                Decision::Makes(Action::Throws { reference })
+            } else {
+                bad(BadCause::Kind)
+            }
+        }
+    }
+}
+
+/// JVMS 6.5 athrow. In this order: the depth; null; that the object is a Throwable.
+#[tactic(auto, unfolding(jvms_machine::specs::Unwinding::throw_decision))]
+pub fn throw_decision<'p>(parts: &Parts<'p>, thread: &Thread, frame: &Frame) -> Decided<'p>
+    ensures { seen result ≡ throws_it parts.now.program parts.now.limits parts.now.state thread.now frame.now }
+{
+    if !has_depth(frame, 1, 0) {
+        return bad(BadCause::Depth);
+    }
+    match frame.top() {
+        Value::Reference(reference) => throwable_decision(parts, thread, reference),
+        Value::Null => parts.throws(thread, Thrown::NullPointerException),
+        Value::Int(_) | Value::ReturnAddress(_) | Value::Unset => bad(BadCause::Kind),
+    }
+}

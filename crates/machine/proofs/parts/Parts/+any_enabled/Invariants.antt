@@ -1,5 +1,0 @@
-use Rattle.std.proofs.Common.{◌-◌, length}
-use Rattle.machine.proofs.parts.Parts.+any_enabled.Given as goal
-
-abbrev pub decreases-any_enabled : goal.decreases-any_enabled
-decreases-any_enabled l = length l.self.now.state.threads - l.t

@@ -1,7 +1,0 @@
-use Rattle.std.proofs.Common.{◌≡◌, take}
-use Rattle.jvms_machine.specs.Initialisation.{constants_of, new_texts}
-use Rattle.machine.proofs.parts.Parts.texts_of.Given as goal
-
--- Those of the fields so far are listed.
-abbrev pub invariant-loop-i : goal.invariant-loop-i
-invariant-loop-i l = record { listed : l.texts.items ≡ new_texts l.self.state.heap (constants_of (take l.i l.fields)) }

@@ -1,0 +1,3 @@
+mod ConstantTexts
+mod HeapLaws
+mod MonitorLaws

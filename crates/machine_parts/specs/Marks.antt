@@ -1,0 +1,21 @@
+-- The marks of calls in a trace.
+use Rattle.std.specs.Prelude.{ℕ, Bool, false, if◌then◌else◌, List, [], ◌∷◌, Option, Some, None, slice_get, unwrap_or}
+use Rattle.std.specs.Option.{option_map}
+use Rattle.jvms_program.specs.declared.program.Class.{Class}
+use Rattle.jvms_program.specs.declared.number.MethodNumber.{MethodNumber}
+use Rattle.jvms_program.specs.declared.key.MethodKey.{MethodKey}
+use Rattle.jvms_machine.specs.declared.trace.Item.{Item}
+use Rattle.jvms_program.specs.BuiltIn.{is_built_in}
+use Rattle.jvms_program.specs.Program.{key_of}
+
+-- At most one item.
+abbrev pub listed : Option Item → List Item
+listed None = []
+listed (Some i) = i ∷ []
+
+abbrev pub is_built_in_number : List Class → ℕ → Bool
+is_built_in_number program class = unwrap_or (option_map (λ c. is_built_in c.name) (slice_get program class)) false
+
+-- The key of a method for its marks.
+abbrev pub marked_key : List Class → MethodNumber → Option MethodKey
+marked_key program n = if is_built_in_number program n.class then None else key_of program n

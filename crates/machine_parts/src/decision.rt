@@ -1,0 +1,97 @@
+//! Words of decisions: what a turn comes to, before it is made.
+
+ghost use Rattle.std.specs.Prelude.{◌≡◌, ◌+◌, ◌<◌, ◌^◌};
+ghost use Rattle.jvms_machine.specs.Activations.{has_depth as is_deep};
+ghost use Rattle.jvms_machine.specs.Decisions.{bad as bad_turn, never_seen as no_turn, outcome_of};
+ghost use Rattle.jvms_machine.specs.Fields.{reaches as reaching, taking as takes_on};
+ghost use Rattle.machine_parts.specs.Decided.{seen, seen_effect};
+
+use frames::Frame;
+use held::shared::Text;
+use jvms_file::insn::ArrayType;
+use jvms_machine::action::{Action, Decision, Effect, FrameAction};
+use jvms_machine::machine::{BadCause, Outcome};
+use jvms_program::program::Body;
+
+/// A text of an action: one that stands in the program, or the class of an array that is told by one, which no turn
+/// makes before it is needed.
+#[derive(Clone, Copy)]
+pub enum ActionText<'p> {
+    /// The text as it stands in the program.
+    Of(&'p Text),
+    /// The class of arrays whose components are of a primitive type.
+    ArrayOfType(ArrayType),
+    /// The class of arrays whose components are of the class of this name.
+    ArrayOfClass(&'p Text),
+}
+
+/// What a turn comes to, with the code and the texts where they stand in the program.
+pub type Decided<'p> = Decision<&'p Body, ActionText<'p>>;
+
+/// The turn can't be made.
+pub fn bad<'p>(cause: BadCause) -> Decided<'p>
+    ensures { seen result ≡ bad_turn cause }
+{
+    Decision::Unmade(Outcome::Bad { cause })
+}
+
+/// What stands for what never comes, as a class or a method that isn't there. In a sound state each is.
+pub fn never_seen<'p>() -> Decided<'p>
+    ensures { seen result ≡ no_turn }
+{
+    bad(BadCause::OutOfProfile)
+}
+
+/// Whether so many operands are there to take, and those after success fit `max_stack`.
+#[inline]
+pub fn has_depth(frame: &Frame, takes: u8, gives: u8) -> bool
+    ensures { result ≡ is_deep frame.now.body takes gives frame.now.activation }
+{
+    let height = usize::from(frame.height());
+    let takes = usize::from(takes);
+    takes <= height && height - takes + usize::from(gives) <= usize::from(frame.body().max_stack)
+}
+
+/// The call on top goes on, with this effect.
+#[inline]
+pub fn reaches<'p>(effect: Effect<ActionText<'p>>, action: FrameAction) -> Decided<'p>
+    ensures { seen result ≡ reaching (seen_effect effect.entry) action }
+{
+    Decision::Makes(Action::Reaches(effect, action))
+}
+
+/// On to the next instruction, with so many operands taken.
+#[inline]
+pub fn taking(takes: u8, frame: &Frame) -> FrameAction
+    requires { frame.now.activation.place + 1 < 2 ^ 64 }
+    ensures { result ≡ takes_on takes frame.now.activation }
+{
+    FrameAction::Jump {
+        takes,
+        target: frame.place() + 1,
+    }
+}
+
+/// The outcome of what was decided.
+pub fn outcome(decision: Decided<'_>) -> Outcome
+    ensures { result ≡ outcome_of (seen decision.entry) }
+{
+    match decision {
+        Decision::Unmade(outcome) => outcome,
+        Decision::Makes(
+            Action::Ends { .. }
+            | Action::Fails(_)
+            | Action::Unwinds { last: true, .. }
+            | Action::FailsToUnlock { last: true, .. }
+            | Action::FailsInitialisation { last: true, .. },
+        ) => Outcome::Ended { last: true },
+        Decision::Makes(
+            Action::Raises(_)
+            | Action::Throws { .. }
+            | Action::Unwinds { .. }
+            | Action::FailsToUnlock { .. }
+            | Action::FailsInitialisation { .. },
+        ) => Outcome::Raised,
+        Decision::Makes(_) => Outcome::Ran,
+    }
+}

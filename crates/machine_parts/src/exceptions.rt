@@ -1,0 +1,109 @@
+//! Exceptions that the machine throws (JVMS 2.10).
+
+ghost use Rattle.std.specs.Prelude.{◌≡◌, ◌+◌, ◌<◌, ◌^◌, IsTrue, Some, length, slice_get};
+ghost use Rattle.std.specs.Option.{option_map};
+ghost use Rattle.jvms_program.specs.BuiltIn.{built_in_classes};
+ghost use Rattle.jvms_machine.specs.Exceptions.{thrown_class, has_room_for, exception_of as thrown_as, throws as throwing};
+ghost use Rattle.machine_parts.specs.Decided.{seen};
+
+use crate::decision::Decided;
+use crate::parts::Parts;
+use jvms_machine::action::{Action, Decision, Exception};
+use jvms_program::thrown::Thrown;
+use machine_thread::Thread;
+use program::Program;
+
+/// The error of too many objects.
+const OUT_OF_MEMORY: Exception = Exception::Held { reference: 1 };
+
+/// The error of too many frames.
+const STACK_OVERFLOW: Exception = Exception::Held { reference: 2 };
+
+/// The place of an exception's class among the built-in classes.
+#[tactic(auto, unfolding(jvms_program::specs::BuiltIn::built_in_classes, jvms_machine::specs::Exceptions::thrown_class))]
+fn built_in_place(class: Thrown) -> usize
+    ensures { option_map (λ c. c.name) (slice_get built_in_classes result) ≡ Some (thrown_class class) }
+{
+    match class {
+        Thrown::ArithmeticException => 14,
+        Thrown::ArrayStoreException => 15,
+        Thrown::ClassCastException => 16,
+        Thrown::IllegalMonitorStateException => 17,
+        Thrown::NegativeArraySizeException => 21,
+        Thrown::NullPointerException => 22,
+        Thrown::ArrayIndexOutOfBoundsException => 23,
+        Thrown::IllegalThreadStateException => 24,
+        Thrown::NoClassDefFoundError => 27,
+        Thrown::IncompatibleClassChangeError => 28,
+        Thrown::UnsatisfiedLinkError => 29,
+        Thrown::ExceptionInInitializerError => 30,
+        Thrown::AbstractMethodError => 31,
+        Thrown::InstantiationError => 32,
+        Thrown::NoSuchFieldError => 33,
+        Thrown::NoSuchMethodError => 34,
+        Thrown::OutOfMemoryError => 35,
+        Thrown::StackOverflowError => 36,
+    }
+}
+
+/// The number of an exception's class, which every program has.
+#[tactic(auto, using(crate::proofs::HeapLaws::named_there))]
+pub fn thrown_number(program: &Program, class: Thrown) -> usize
+    ensures { option_map (λ c. c.name) (slice_get program.now result) ≡ Some (thrown_class class) }
+{
+    program.is_program();
+    built_in_place(class)
+}
+
+impl<'p> Parts<'p> {
+    /// Whether there is room for one object more.
+    pub fn has_room(&self) -> bool
+        ensures exact { result ≡ has_room_for 1 self.now.limits self.now.state }
+        // The reference of one more has a number.
+        ensures number { IsTrue result → length self.now.state.heap + 1 < 2 ^ 32 }
+    {
+        self.heap.count() < self.limits.objects as usize
+    }
+
+    /// Whether there is room for so many objects more.
+    pub fn has_room_for(&self, count: usize) -> bool
+        ensures exact { result ≡ has_room_for count self.now.limits self.now.state }
+        // Each of their references has a number.
+        ensures number { IsTrue result → length self.now.state.heap + count < 2 ^ 32 }
+    {
+        let most = self.limits.objects as usize;
+        let held = self.heap.count();
+        held <= most && count <= most - held
+    }
+
+    /// Which object is thrown.
+    pub fn exception_of(&self, class: Thrown) -> Exception
+        ensures { result ≡ thrown_as self.now.limits self.now.state class }
+    {
+        match class {
+            Thrown::OutOfMemoryError => OUT_OF_MEMORY,
+            Thrown::StackOverflowError => STACK_OVERFLOW,
+            _ => {
+                if self.has_room() {
+                    Exception::New(class)
+                } else {
+                    OUT_OF_MEMORY
+                }
+            }
+        }
+    }
+
+    /// The turn of this thread throws an exception of this class.
+    #[tactic(auto, unfolding(jvms_machine::specs::Exceptions::throws))]
+    pub fn throws(&self, thread: &Thread, class: Thrown) -> Decided<'p>
+        ensures { seen result ≡ throwing self.now.limits self.now.state thread.now class }
+    {
+        let exception = self.exception_of(class);
+        let action = if thread.height() == 0 {
+            Action::Fails(exception)
+        } else {
+            Action::Raises(exception)
+        };
+        Decision::Makes(action)
+    }
+}

@@ -1,0 +1,62 @@
+//! How far the initialisation of classes has come, and what a turn that asks for it comes to (JVMS 5.5).
+
+ghost use Rattle.std.specs.Prelude.{◌≡◌, slice_get};
+ghost use Rattle.jvms_machine.specs.Decisions.{TurnDecision};
+ghost use Rattle.jvms_machine.specs.Initialisation.{begin_decision as begins, asking as asks};
+ghost use Rattle.machine_parts.specs.Before.{first_or};
+ghost use Rattle.machine_parts.specs.Decided.{seen};
+
+use crate::decision::{Decided, never_seen};
+use crate::parts::Parts;
+use jvms_machine::action::{Action, Decision};
+use jvms_machine::machine::{BlockedOn, Outcome};
+use jvms_machine::state::Initialisation;
+use jvms_program::thrown::Thrown;
+use machine_thread::Thread;
+
+impl<'p> Parts<'p> {
+    /// How far the initialisation of the class of a number has come.
+    pub fn initialisation(&self, class: usize) -> Option<Initialisation>
+        ensures { result ≡ slice_get self.now.state.initialisations class }
+    {
+        self.initialisations.as_slice().get(class).copied()
+    }
+
+    /// The initialisation of a class begins, if there is room for the strings of its constants, and for its frame.
+    fn begin_decision(&self, thread: &Thread, class: usize) -> Decided<'p>
+        ensures { seen result ≡ begins self.now.limits self.now.state thread.now class (slice_get self.now.program class) }
+    {
+        let Some(c) = self.program().class(class) else {
+            return never_seen();
+        };
+        if !self.has_room_for(self.new_texts(c)) {
+            return self.throws(thread, Thrown::OutOfMemoryError);
+        }
+        if self.limits.frames as usize <= thread.height() {
+            return self.throws(thread, Thrown::StackOverflowError);
+        }
+        Decision::Makes(Action::Begins { class })
+    }
+
+    /// What a turn that asks for the initialisation of a class comes to before it goes on, if it doesn't go on at once.
+    pub fn asking(&self, t: usize, thread: &Thread, class: usize) -> Option<Decided<'p>>
+        ensures { (go_on : TurnDecision) → first_or go_on result ≡ asks self.now.program self.now.limits self.now.state t thread.now class go_on }
+    {
+        match self.initialisation(class) {
+            None => Some(never_seen()),
+            Some(Initialisation::Erroneous) => {
+                Some(self.throws(thread, Thrown::NoClassDefFoundError))
+            }
+            Some(Initialisation::NotBegun) => Some(self.begin_decision(thread, class)),
+            Some(Initialisation::Done) => None,
+            Some(Initialisation::InProgress { thread: owner }) => {
+                if owner as usize == t {
+                    return None;
+                }
+                Some(Decision::Unmade(Outcome::Blocked {
+                    on: BlockedOn::Initialisation { class, owner },
+                }))
+            }
+        }
+    }
+}

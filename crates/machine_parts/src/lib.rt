@@ -1,0 +1,23 @@
+//! The parts of a machine (JVMS 2.5): program, limits, heap, static fields, threads, monitors; the words of decisions, and
+//! what instructions of several families ask of the parts and make of them. No turn is decided or made here.
+#![tactic(auto)]
+
+mod constants;
+mod decision;
+mod exceptions;
+mod initialisation;
+mod kinds;
+mod locks;
+mod marks;
+mod monitor_use;
+mod parts;
+mod raising;
+mod stored;
+
+pub use decision::{ActionText, Decided, bad, has_depth, never_seen, outcome, reaches, taking};
+pub use kinds::kind_of_type;
+pub use locks::{acquire_item, lock_item, release_item, unlock_item};
+pub use marks::{push_both, push_listed};
+pub use monitor_use::{Entering, Locking, Unlocking};
+pub use parts::Parts;
+pub use stored::{stored_in_component, stored_in_field};

@@ -1,0 +1,78 @@
+//! The marks of calls in a trace.
+
+ghost use Rattle.std.specs.Prelude.{◌≡◌, ◌++◌, [], None, IsOk, IfOk, OnOk, OnErr};
+ghost use Rattle.jvms_machine.specs.Actions.{enter_items, exit_items};
+ghost use Rattle.machine_parts.specs.Marks.{listed, marked_key};
+
+use crate::parts::Parts;
+use jvms_machine::machine::ThreadId;
+use jvms_machine::trace::Item;
+use jvms_program::key::MethodKey;
+use jvms_program::number::MethodNumber;
+use std::alloc::AllocError;
+use trace::Trace;
+
+/// Puts at most one item behind the others.
+pub fn push_listed(trace: &mut Trace, item: Option<Item>) -> Result<(), AllocError>
+    ensures ok { OnOk result (trace.new ≡ trace.old ++ listed item) }
+    ensures err { OnErr result (trace.new ≡ trace.old) }
+    ensures none { listed item ≡ [] → IsOk result }
+{
+    match item {
+        None => Ok(()),
+        Some(item) => trace.push(item),
+    }
+}
+
+/// Puts at most two items behind the others, or none where there is no memory for both.
+pub fn push_both(
+    trace: &mut Trace,
+    first: Option<Item>,
+    second: Option<Item>,
+) -> Result<(), AllocError>
+    ensures ok { OnOk result (trace.new ≡ trace.old ++ (listed first ++ listed second)) }
+    ensures err { OnErr result (trace.new ≡ trace.old) }
+    ensures none { listed first ++ listed second ≡ [] → IsOk result }
+{
+    let before = trace.len();
+    push_listed(trace, first)?;
+    if let Err(error) = push_listed(trace, second) {
+        trace.truncate(before);
+        return Err(error);
+    }
+    Ok(())
+}
+
+impl Parts<'_> {
+    /// The key of a method for its marks: there is none of a method of a built-in class.
+    fn mark_key(&self, method: MethodNumber) -> Result<Option<MethodKey>, AllocError>
+        ensures key { IfOk result (λ key. key ≡ marked_key self.now.program method) }
+        ensures none { marked_key self.now.program method ≡ None → IsOk result }
+    {
+        if self.program().is_built_in(method.class) {
+            return Ok(None);
+        }
+        self.program().key(method)
+    }
+
+    /// The mark of a method's entry.
+    pub fn enter_item(&self, t: ThreadId, method: MethodNumber) -> Result<Option<Item>, AllocError>
+        ensures item { IfOk result (λ item. listed item ≡ enter_items self.now.program t method) }
+    {
+        let Some(method) = self.mark_key(method)? else {
+            return Ok(None);
+        };
+        Ok(Some(Item::Enter { thread: t, method }))
+    }
+
+    /// The mark of a method's exit.
+    pub fn exit_item(&self, t: ThreadId, method: MethodNumber) -> Result<Option<Item>, AllocError>
+        ensures item { IfOk result (λ item. listed item ≡ exit_items self.now.program t method) }
+        ensures none { exit_items self.now.program t method ≡ [] → IsOk result }
+    {
+        let Some(method) = self.mark_key(method)? else {
+            return Ok(None);
+        };
+        Ok(Some(Item::Exit { thread: t, method }))
+    }
+}

@@ -1,0 +1,186 @@
+//! Monitors (JVMS 2.11.10): how a turn enters and leaves them.
+
+ghost use Rattle.std.specs.Prelude.{◌≡◌, Option, Some, drop};
+ghost use Rattle.jvms_machine.specs.declared.action.Lock.{Lock as Locked};
+ghost use Rattle.jvms_machine.specs.declared.action.Lock.TheVariants as lock;
+ghost use Rattle.jvms_machine.specs.declared.action.MonitorUse.{MonitorUse as Used};
+ghost use Rattle.jvms_machine.specs.Decisions.{TurnDecision};
+ghost use Rattle.jvms_machine.specs.Heap.{class_name_at};
+ghost use Rattle.jvms_machine.specs.Monitors.{entering as enters, entering_held as enters_held, leaving as leaves, class_locking as locks_class, locking as locks, object_locking as locks_object, unlocking as unlocks, fails_to_unlock as fails};
+ghost use Rattle.jvms_machine.specs.State.{class_reference};
+ghost use Rattle.machine_parts.specs.Before.{made_by_entry, made_by_exit, made_by_lock};
+ghost use Rattle.machine_parts.specs.Decided.{seen};
+
+use crate::decision::{Decided, never_seen};
+use crate::parts::Parts;
+use frames::Frame;
+use jvms_machine::action::{Action, Decision, Lock, MonitorUse};
+use jvms_machine::machine::{BlockedOn, Outcome};
+use jvms_machine::state::Hold;
+use jvms_program::number::MethodNumber;
+use jvms_program::program::Method;
+use jvms_program::thrown::Thrown;
+use machine_thread::Thread;
+
+/// What entering a monitor comes to.
+#[derive(Clone, Copy)]
+pub enum Entering<'p> {
+    Enters(MonitorUse),
+    /// The turn comes to this before.
+    Stops(Decided<'p>),
+}
+
+/// What a call comes to by what it locks.
+#[derive(Clone, Copy)]
+pub enum Locking<'p> {
+    Locks(Lock),
+    /// The turn comes to this before.
+    Stops(Decided<'p>),
+}
+
+/// How a call leaves the monitor of its frame.
+#[derive(Clone, Copy)]
+pub enum Unlocking {
+    Leaves(Option<MonitorUse>),
+    /// Its thread isn't the owner.
+    Fails,
+}
+
+impl<'p> Parts<'p> {
+    /// A monitor that is held: its owner enters it once more, another thread waits.
+    fn entering_held(&self, t: usize, thread: &Thread, reference: u32, hold: Hold) -> Entering<'p>
+        ensures { (make : Used → TurnDecision) → made_by_entry make result ≡ enters_held self.now.limits self.now.state t thread.now reference (Some hold) make }
+    {
+        if hold.owner as usize != t {
+            let on = BlockedOn::Monitor {
+                reference,
+                owner: hold.owner,
+            };
+            return Entering::Stops(Decision::Unmade(Outcome::Blocked { on }));
+        }
+        if hold.count == u32::MAX {
+            return Entering::Stops(self.throws(thread, Thrown::OutOfMemoryError));
+        }
+        Entering::Enters(MonitorUse {
+            reference,
+            outermost: false,
+        })
+    }
+
+    /// The monitor of an object is entered.
+    pub fn entering(&self, t: usize, thread: &Thread, reference: u32) -> Entering<'p>
+        ensures { (make : Used → TurnDecision) → made_by_entry make result ≡ enters self.now.limits self.now.state t thread.now reference make }
+    {
+        match self.monitor(reference) {
+            None => Entering::Enters(MonitorUse {
+                reference,
+                outermost: true,
+            }),
+            Some(hold) => self.entering_held(t, thread, reference, hold),
+        }
+    }
+
+    /// How a thread leaves a monitor, if it is the owner.
+    pub fn leaving(&self, t: usize, reference: u32) -> Option<MonitorUse>
+        ensures { result ≡ leaves self.now.state t reference }
+    {
+        let hold = self.monitor(reference)?;
+        if hold.owner as usize != t {
+            return None;
+        }
+        Some(MonitorUse {
+            reference,
+            outermost: hold.count == 1,
+        })
+    }
+
+    /// A call locks an object that is there.
+    fn object_locking(&self, t: usize, thread: &Thread, reference: u32) -> Locking<'p>
+        ensures { (make : Locked → TurnDecision) → made_by_lock make result ≡ locks_object self.now.limits self.now.state t thread.now (Some reference) make }
+    {
+        match self.entering(t, thread, reference) {
+            Entering::Enters(monitor) => Locking::Locks(Lock::Monitor(monitor)),
+            Entering::Stops(decision) => Locking::Stops(decision),
+        }
+    }
+
+    /// A call locks the object of a class, which is made at its first use.
+    fn class_locking(
+        &self,
+        t: usize,
+        thread: &Thread,
+        class: usize,
+        held: Option<u32>,
+    ) -> Locking<'p>
+        ensures { (make : Locked → TurnDecision) → made_by_lock make result ≡ locks_class self.now.limits self.now.state t thread.now class held make }
+    {
+        match held {
+            Some(reference) => self.object_locking(t, thread, reference),
+            None => {
+                if self.has_room() {
+                    let reference = self.heap.count() as u32 + 1;
+                    Locking::Locks(Lock::NewClass { class, reference })
+                } else {
+                    Locking::Stops(self.throws(thread, Thrown::OutOfMemoryError))
+                }
+            }
+        }
+    }
+
+    /// The object of the class of a number, if it is there.
+    fn class_object(&self, class: usize) -> Option<u32>
+        ensures { result ≡ class_reference self.now.state.heap (class_name_at self.now.program class) }
+    {
+        match self.program().class(class) {
+            None => self.heap.class_reference(&[]),
+            Some(c) => self.heap.class_reference(c.name.as_slice()),
+        }
+    }
+
+    /// What a call of a method locks: of a synchronized method the receiver, or the object of its class.
+    pub fn locking(
+        &self,
+        t: usize,
+        thread: &Thread,
+        n: MethodNumber,
+        method: &Method,
+        receiver: Option<u32>,
+    ) -> Locking<'p>
+        ensures { (make : Locked → TurnDecision) → made_by_lock make result ≡ locks self.now.program self.now.limits self.now.state t thread.now n method.now receiver make }
+    {
+        if !method.flags.is_synchronized {
+            return Locking::Locks(Lock::Nothing);
+        }
+        if method.flags.is_static {
+            return self.class_locking(t, thread, n.class, self.class_object(n.class));
+        }
+        match receiver {
+            None => Locking::Stops(never_seen()),
+            Some(reference) => self.object_locking(t, thread, reference),
+        }
+    }
+
+    /// A call leaves the monitor of its frame, if it has one.
+    pub fn unlocking(&self, t: usize, frame: &Frame) -> Unlocking
+        ensures { (fails : TurnDecision) (make : Option Used → TurnDecision) → made_by_exit fails make result ≡ unlocks self.now.state t frame.now.monitor fails make }
+    {
+        match frame.monitor() {
+            None => Unlocking::Leaves(None),
+            Some(reference) => match self.leaving(t, reference) {
+                None => Unlocking::Fails,
+                Some(monitor) => Unlocking::Leaves(Some(monitor)),
+            },
+        }
+    }
+
+    /// The call of this frame, which is on top, can't leave its monitor.
+    pub fn fails_to_unlock(&self, thread: &Thread, frame: &Frame) -> Decided<'p>
+        ensures { seen result ≡ fails self.now.limits self.now.state frame.now.method (drop 1 thread.now.frames) }
+    {
+        Decision::Makes(Action::FailsToUnlock {
+            method: frame.method(),
+            exception: self.exception_of(Thrown::IllegalMonitorStateException),
+            last: thread.height() <= 1,
+        })
+    }
+}

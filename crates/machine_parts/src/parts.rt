@@ -1,0 +1,80 @@
+//! The parts of a machine.
+
+ghost use Rattle.std.specs.Prelude.{◌≡◌};
+ghost use Rattle.jvms_machine.specs.State.{monitor_at};
+ghost use Rattle.jvms_machine.specs.Threads.{thread_of};
+
+use heap::{Heap, Statics};
+use jvms_machine::machine::Limits;
+use jvms_machine::state::{Hold, Initialisation};
+use jvms_machine::value::Value;
+use jvms_program::number::MethodNumber;
+use machine_thread::Thread;
+use monitors::Monitors;
+use program::Program;
+use std::alloc::Global;
+use std::marker::Model;
+
+/// The parts of a machine, also in the middle of a turn. The program is that of the heap.
+#[derive(Drop)]
+pub struct Parts<'p> {
+    pub alloc: Global,
+    pub limits: Limits,
+    pub method: MethodNumber,
+    pub arguments: Vec<Value>,
+    pub heap: Heap<'p>,
+    pub statics: Statics<'p>,
+    pub initialisations: Vec<Initialisation>,
+    pub threads: Vec<Thread<'p>>,
+    pub monitors: Monitors,
+    pub output: Vec<u8>,
+    pub result: Option<Value>,
+}
+
+impl<'p> Model for Parts<'p> {
+    ghost use Rattle.machine_parts.specs.Machine.{Machine as Seen};
+
+    ghost Value = { Seen };
+
+    ghost view = { λ m. record {
+      program = m.heap.program;
+      limits = m.limits;
+      start = record { method = m.method; arguments = m.arguments.items };
+      state = record {
+        heap = m.heap.objects;
+        monitors = m.monitors;
+        statics = m.statics.fields;
+        initialisations = m.initialisations.items;
+        threads = m.threads.items;
+        elements = m.heap.elements;
+        output = m.output.items;
+        result = m.result;
+      };
+    } };
+}
+
+impl<'p> Parts<'p> {
+    /// The program.
+    pub fn program(&self) -> &'p Program
+        ensures { result.now ≡ self.now.program }
+    {
+        self.heap.program()
+    }
+
+    /// The thread that was started of a Thread object.
+    pub fn thread_of(&self, reference: u32) -> Option<usize>
+        ensures { result ≡ thread_of self.now.state.threads reference }
+    {
+        self.threads
+            .as_slice()
+            .iter()
+            .position(|thread| thread.is_of(reference))
+    }
+
+    /// How the monitor of an object is held, if it is.
+    pub fn monitor(&self, reference: u32) -> Option<Hold>
+        ensures { result ≡ monitor_at self.now.state.monitors reference }
+    {
+        self.monitors.hold(reference)
+    }
+}
