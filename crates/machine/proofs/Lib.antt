@@ -3,6 +3,7 @@ mod Callers
 mod Deciding
 mod EntryLaws
 mod Made
+mod OnLaws
 mod RunLaws
 mod Sites
 mod StatusLaws

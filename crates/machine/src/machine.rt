@@ -1,14 +1,15 @@
 //! The machine.
 
-ghost use Rattle.std.specs.Prelude.{◌≡◌, ◌++◌, length, IsOk, IfOk, OnOk, OnErr, is_ok};
+ghost use Rattle.std.specs.Prelude.{◌≡◌, ◌≤◌, ◌++◌, length, IsOk, IfOk, OnOk, OnErr, is_ok};
 ghost use Rattle.jvms_machine.specs.Opening.{made as made_by};
 ghost use Rattle.jvms_machine.specs.State.{Sound};
 ghost use Rattle.machine_parts.specs.Machine.{row_of, with_state, TakesNone};
+ghost use Rattle.machine.specs.Runs.{RanOn};
 ghost use Rattle.machine.specs.Started.{IsNew};
 
 use crate::fault::MachineFault;
 use crate::limits::are_limits;
-use crate::making::step;
+use crate::making::{step, step_on};
 use crate::opening::open;
 use crate::start::start_of;
 use crate::turn::peek;
@@ -80,6 +81,15 @@ impl<'p> Machine<'p> {
         ensures none { TakesNone self.old t → IsOk result }
     {
         step(&mut self.parts, t, trace)
+    }
+
+    /// Makes turns of a thread one after another while each touches the frame of its call alone, at most so many, and
+    /// tells how many. Each ran, gave no item and started no thread. They take no memory.
+    pub fn step_on(&mut self, t: ThreadId, most: u64) -> u64
+        ensures most { result ≤ most }
+        ensures ran { RanOn result t self.old self.new }
+    {
+        step_on(&mut self.parts, t, most)
     }
 
     /// What the turn of a thread would come to, with nothing changed. It takes no memory.

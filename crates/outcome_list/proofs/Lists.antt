@@ -1,7 +1,7 @@
 -- Outcomes by their kinds and names: one more, and one after another.
-use Rattle.std.proofs.Common.{◌≡◌, ℕ, suc, ◌+◌, ◌-◌, ◌≤◌, List, [], ◌∷◌, ◌++◌, length, refl, ap, sym, ◌∙◌, arith, true, false, length-append}
+use Rattle.std.proofs.Common.{◌≡◌, ℕ, zero, suc, ◌+◌, ◌-◌, ◌≤◌, List, [], ◌∷◌, ◌++◌, length, replicate, refl, ap, sym, ◌∙◌, subst, arith, true, false, length-append}
 use Rattle.std.specs.List.{sum_by}
-use Rattle.std.proofs.lemmas.List.{drop-append-le, length-drop, nil_from_length}
+use Rattle.std.proofs.lemmas.List.{append-nil, append_assoc, drop-append-le, length-drop, nil_from_length, replicate-append-replicate}
 use Rattle.std.proofs.lemmas.List.Sums.{sum_by-append, sum_by-cons}
 use Rattle.jvms_machine.specs.declared.machine.Outcome.{Outcome}
 use Rattle.jvms_machine.specs.declared.machine.Outcome.TheVariants as outcome
@@ -132,3 +132,32 @@ one_more (k ∷ kinds) names o fit =
 pub as_many : (kinds : List Kind) (names : Names) → length (outcomes_by kinds names) ≡ length kinds
 as_many [] names = refl
 as_many (k ∷ kinds) names = ap suc (as_many kinds (names_behind k names))
+
+-- ---- Turns that ran, which name nothing
+
+none_behind : (names : Names) → followed names no_names ≡ names
+none_behind names = rw (append-nil names.threads, append-nil names.references, append-nil names.classes) refl
+
+one_ran : (kinds : List Kind) (names : Names) → Fit kinds names → Fit (kinds ++ kind.Ran ∷ []) names
+one_ran kinds names fit = subst (Fit (kinds ++ kind.Ran ∷ [])) (none_behind names) (more_fit kinds names outcome.Ran fit)
+
+pub ran_fit : (times : ℕ) (kinds : List Kind) (names : Names) → Fit kinds names → Fit (kinds ++ replicate times kind.Ran) names
+ran_fit zero kinds names fit = subst (λ l. Fit l names) (sym (append-nil kinds)) fit
+ran_fit (suc times) kinds names fit =
+    subst (λ l. Fit l names) (append_assoc kinds (kind.Ran ∷ []) (replicate times kind.Ran))
+    (ran_fit times (kinds ++ kind.Ran ∷ []) names (one_ran kinds names fit))
+
+-- So many outcomes more.
+pub ran_more : (times : ℕ) (kinds : List Kind) (names : Names) → Fit kinds names
+    → outcomes_by (kinds ++ replicate times kind.Ran) names ≡ outcomes_by kinds names ++ replicate times outcome.Ran
+ran_more zero kinds names fit = ap (λ l. outcomes_by l names) (append-nil kinds) ∙ sym (append-nil (outcomes_by kinds names))
+ran_more (suc times) kinds names fit =
+    ap (λ l. outcomes_by l names) (sym (append_assoc kinds (kind.Ran ∷ []) (replicate times kind.Ran)))
+    ∙ ran_more times (kinds ++ kind.Ran ∷ []) names (one_ran kinds names fit)
+    ∙ ap (λ l. l ++ replicate times outcome.Ran) (ap (outcomes_by (kinds ++ kind.Ran ∷ [])) (sym (none_behind names)) ∙ one_more kinds names outcome.Ran fit)
+    ∙ append_assoc (outcomes_by kinds names) (outcome.Ran ∷ []) (replicate times outcome.Ran)
+
+-- One more of the same.
+pub once_more : (times : ℕ) (kinds : List Kind) → (kinds ++ replicate times kind.Ran) ++ kind.Ran ∷ [] ≡ kinds ++ replicate (times + 1) kind.Ran
+once_more times kinds =
+    append_assoc kinds (replicate times kind.Ran) (kind.Ran ∷ []) ∙ ap (λ l. kinds ++ l) (replicate-append-replicate times 1 kind.Ran)

@@ -1,6 +1,6 @@
 //! A list of outcomes.
 
-ghost use Rattle.std.specs.Prelude.{◌≡◌, ◌++◌, ◌∷◌, [], length, ◌==◌, OnOk, OnErr, IfOk};
+ghost use Rattle.std.specs.Prelude.{◌≡◌, ◌++◌, ◌∷◌, [], length, replicate, ◌==◌, OnOk, OnErr, IfOk};
 
 use crate::kind::Kind;
 use crate::names::Names;
@@ -28,6 +28,19 @@ impl Model for OutcomeList {
     ghost view = { λ l. outcomes_by l.kinds.items l.names };
 
     ghost invariant = { λ l. Fit l.kinds.items l.names };
+}
+
+/// Puts the kind of a turn that ran behind the others, so many times.
+#[tactic(auto, using(crate::proofs::Lists::once_more))]
+fn put_ran(kinds: &mut Vec<Kind>, times: usize) -> Result<(), AllocError>
+    ensures ok { OnOk result (kinds.new.items ≡ kinds.old.items ++ replicate times Kind.Ran) }
+    ensures err { OnErr result (kinds.new.items ≡ kinds.old.items) }
+{
+    kinds.reserve(times)?;
+    for _ in 0..times {
+        kinds.push_reserved(Kind::Ran);
+    }
+    Ok(())
 }
 
 impl OutcomeList {
@@ -65,6 +78,15 @@ impl OutcomeList {
         self.kinds.reserve(1)?;
         self.names.push(outcome)?;
         self.kinds.push_reserved(Kind::of(outcome));
+        Ok(())
+    }
+
+    /// Puts the outcomes of so many turns that ran behind the others. Without memory for them nothing changes.
+    pub fn push_ran(&mut self, times: usize) -> Result<(), AllocError>
+        ensures ok { OnOk result (self.new ≡ self.old ++ replicate times Outcome.Ran) }
+        ensures err { OnErr result (self.new ≡ self.old) }
+    {
+        put_ran(&mut self.kinds, times)?;
         Ok(())
     }
 

@@ -102,6 +102,11 @@ broken_here before first most items_before made choices outcomes m chooser items
       items = rw are taken.ran.2;
     }
 
+-- What was noted of them is their run.
+pub told : (before : Machine) (first : Chooser) (most : ℕ) (items_before : List Item) (made : ℕ) (choices more : List ℕ) (outcomes more_outcomes : List Outcome) (m : Machine) (chooser : Chooser) (items : List Item)
+    → AreTaken before first most items_before made choices outcomes m chooser items → more ≡ choices → more_outcomes ≡ outcomes → IsRun before more more_outcomes m items_before items
+told before first most items_before made choices more outcomes more_outcomes m chooser items taken choices_are outcomes_are = rw (choices_are, outcomes_are) taken.ran
+
 -- No choice is left: none is given.
 pub all_given : (before : Machine) (first : Chooser) (most : ℕ) (items_before : List Item) (made : ℕ) (choices : List ℕ) (outcomes : List Outcome) (m : Machine) (chooser : Chooser) (items : List Item)
     → AreTaken before first most items_before made choices outcomes m chooser items → choice_of chooser m ≡ None → choices ≡ choices_from most first before

@@ -2,3 +2,4 @@ pub mod ChosenTurns
 mod NextTurns
 mod OwnTurns
 mod Rows
+mod TurnsOn

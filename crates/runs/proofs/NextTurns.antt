@@ -1,14 +1,15 @@
 -- The turn of a candidate.
-use Rattle.std.proofs.Common.{◌≡◌, ℕ, true, false, List, ◌++◌, Some, ap, sym, ◌∙◌}
+use Rattle.std.proofs.Common.{◌≡◌, ℕ, ◌≤◌, true, false, List, ◌++◌, length, Some, ap, sym, ◌∙◌}
 use Rattle.std.proofs.lemmas.List.{append-nil}
 use Rattle.jvms_machine.specs.declared.machine.Outcome.{Outcome}
 use Rattle.jvms_machine.specs.declared.trace.Item.{Item}
 use Rattle.jvms_machine.specs.Status.{is_enabled}
 use Rattle.jvms_machine.proofs.UnmadeTurns.{unmade_turn_keeps}
 use Rattle.machine.specs.Machine.{Machine, row_of, with_state}
-use Rattle.schedule.specs.Choosers.{Chooser, counted, next}
-use Rattle.schedule.specs.Enabled.{can_go_on, enabled_threads}
+use Rattle.schedule.specs.Choosers.{Chooser, counted_times, IsNextFor}
+use Rattle.schedule.specs.Enabled.{can_go_on}
 use Rattle.runs.specs.Choices.{choice_of, chooser_after}
+use Rattle.runs.proofs.TurnsOn.{next_once}
 
 -- It wasn't enabled: nothing changed.
 pub unmade : (m after : Machine) (t : ℕ) (o : Outcome) (items more : List Item)
@@ -19,10 +20,9 @@ unmade m after t o items more outcome disabled state items_are =
     (state ∙ ap (with_state m) kept.0, items_are ∙ ap (λ l. items ++ l) kept.1 ∙ append-nil items)
 
 -- It was enabled: it is the choice.
-pub chosen : (m : Machine) (chooser : Chooser) (t : ℕ) (o : Outcome)
-    → (can_go_on m t ≡ true → next chooser (enabled_threads m) ≡ (Some t, counted t chooser))
-    → o ≡ (row_of m t).outcome → is_enabled o ≡ true
-    → (choice_of chooser m ≡ Some t) × (counted t chooser ≡ chooser_after chooser m)
-chosen m chooser t o next_is outcome enabled =
-    let is = next_is (sym (ap is_enabled outcome) ∙ enabled) in
+pub chosen : (m : Machine) (chooser : Chooser) (t times : ℕ) (o : Outcome)
+    → 1 ≤ times → IsNextFor times t (length m.state.threads) chooser → o ≡ (row_of m t).outcome → is_enabled o ≡ true
+    → (choice_of chooser m ≡ Some t) × (counted_times 1 t chooser ≡ chooser_after chooser m)
+chosen m chooser t times o some next_is outcome enabled =
+    let is = next_once times t (length m.state.threads) chooser (can_go_on m) some next_is (sym (ap is_enabled outcome) ∙ enabled) in
     (ap (λ n. n.0) is, sym (ap (λ n. n.1) is))

@@ -1,5 +1,5 @@
 -- Which choices a run makes: those that a chooser gives, or thread 0 alone (own).
-use Rattle.std.specs.Prelude.{◌≡◌, ℕ, zero, suc, if◌then◌else◌, List, [], ◌∷◌, ◌++◌, take, Option, Some, None}
+use Rattle.std.specs.Prelude.{◌≡◌, ℕ, zero, suc, if◌then◌else◌, List, [], ◌∷◌, ◌++◌, take, length, Option, Some, None}
 use Rattle.jvms_program.specs.declared.program.Class.{Class}
 use Rattle.jvms_machine.specs.declared.machine.Limits.{Limits}
 use Rattle.jvms_machine.specs.declared.machine.Outcome.{Outcome}
@@ -9,8 +9,8 @@ use Rattle.jvms_machine.specs.Start.{Start}
 use Rattle.jvms_machine.specs.Turn.{turn}
 use Rattle.jvms_machine.specs.Status.{is_enabled}
 use Rattle.machine.specs.Machine.{Machine, row_of, with_state}
-use Rattle.machine.specs.Runs.{run_of}
-use Rattle.schedule.specs.Choosers.{Chooser, next}
+use Rattle.machine.specs.Runs.{run_of, RanOn}
+use Rattle.schedule.specs.Choosers.{Chooser, counted_times, next, IsNextFor}
 use Rattle.schedule.specs.Enabled.{enabled_threads}
 
 -- A choice, if there is one, and then those that follow it.
@@ -46,6 +46,13 @@ abbrev pub IsNextTurn : Machine → Chooser → List Item → Option (ℕ × Out
 IsNextTurn m chooser items None after later more =
     (choice_of chooser m ≡ None) × (after ≡ m) × (later ≡ chooser_after chooser m) × (more ≡ items)
 IsNextTurn m chooser items (Some taken) after later more = IsTurnOf m chooser items taken after later more
+
+-- So many turns of a thread were taken on end, each by its call's frame alone: the chooser chose it each time. The machine
+-- and the chooser are those behind them.
+pub record AreTurnsOn (m : Machine) (chooser : Chooser) (thread : ℕ) (times : ℕ) (after : Machine) (later : Chooser) : Type 0 where
+  pub ran : RanOn times thread m after
+  pub chosen : IsNextFor times thread (length m.state.threads) chooser
+  pub counted : later ≡ counted_times times thread chooser
 
 -- The choices that a chooser gives, each of the machine behind those before, at most so many.
 unfoldable pub choices_from : ℕ → Chooser → Machine → List ℕ

@@ -1,19 +1,45 @@
-//! The next turn of a run.
+//! The next turns of a run.
 
-ghost use Rattle.std.specs.Prelude.{◌≡◌, IfOk, OnErr};
-ghost use Rattle.runs.specs.Choices.{IsNextTurn, IsTurn};
+ghost use Rattle.std.specs.Prelude.{◌≡◌, ◌≤◌, IfOk, OnErr};
+ghost use Rattle.runs.specs.Choices.{AreTurnsOn, IsNextTurn, IsTurn};
 
 use machine::{Machine, Outcome, ThreadId, is_enabled};
-use schedule::Chooser;
+use schedule::{Candidate, Chooser};
 use std::alloc::AllocError;
 use trace::Trace;
 
 /// A choice, and what its turn came to.
 pub(crate) type Taken = (ThreadId, Outcome);
 
+/// Turns of one thread on end.
+#[derive(Clone, Copy)]
+pub(crate) struct TurnsOn {
+    /// The thread.
+    pub thread: ThreadId,
+    /// How many there are.
+    pub times: u64,
+}
+
+/// Takes turns of the thread that the chooser tells as next, one after another, while each touches the frame of its call
+/// alone, at most so many; without such a thread none. They are by far the most frequent, and so many of them need no look
+/// at the chooser.
+pub(crate) fn take_turns_on(machine: &mut Machine<'_>, chooser: &mut Chooser, most: u64) -> TurnsOn
+    ensures most { result.times ≤ most }
+    ensures taken { AreTurnsOn machine.old chooser.old result.thread result.times machine.new chooser.new }
+{
+    let Some(Candidate { thread, turns }) = chooser.candidate(machine) else {
+        return TurnsOn {
+            thread: 0,
+            times: 0,
+        };
+    };
+    let times = machine.step_on(thread, most.min(turns));
+    chooser.count(thread, times);
+    TurnsOn { thread, times }
+}
+
 /// Takes the turn of the thread that the chooser tells as next where it is enabled. So that turn is decided once, and no
 /// other thread is looked at. Where the thread isn't enabled, or none is told, nothing has changed.
-#[tactic(auto, using(crate::proofs::NextTurns::unmade, crate::proofs::NextTurns::chosen))]
 fn take_candidate(
     machine: &mut Machine<'_>,
     chooser: &mut Chooser,
@@ -23,14 +49,14 @@ fn take_candidate(
     ensures kept { OnErr result (machine.new ≡ machine.old) }
     ensures no_items { OnErr result (trace.new ≡ trace.old) }
 {
-    let Some(thread) = chooser.candidate(machine) else {
+    let Some(Candidate { thread, .. }) = chooser.candidate(machine) else {
         return Ok(None);
     };
     let outcome = machine.step(thread, trace)?;
     if !is_enabled(outcome) {
         return Ok(None);
     }
-    chooser.count(thread);
+    chooser.count(thread, 1);
     Ok(Some((thread, outcome)))
 }
 

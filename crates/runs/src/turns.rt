@@ -1,11 +1,11 @@
 //! The turns that a chooser gives.
 
-ghost use Rattle.std.specs.Prelude.{◌≡◌, ◌++◌, IfOk, OnOk, OnErr};
+ghost use Rattle.std.specs.Prelude.{◌≡◌, ◌++◌, replicate, IfOk, OnOk, OnErr};
 ghost use Rattle.machine.specs.Machine.{with_state};
 ghost use Rattle.machine.specs.Runs.{run_of};
 ghost use Rattle.runs.specs.Choices.{choices_from, chooser_behind, BrokeOff};
 
-use crate::turn::take_turn;
+use crate::turn::{TurnsOn, take_turn, take_turns_on};
 use held::items::Items;
 use machine::{Machine, ThreadId};
 use outcome_list::OutcomeList;
@@ -20,6 +20,29 @@ pub struct Turns {
     pub choices: Items<ThreadId>,
     /// What each turn came to.
     pub outcomes: OutcomeList,
+}
+
+/// The turns of these choices and outcomes.
+fn turns_of(choices: Vec<ThreadId>, outcomes: OutcomeList) -> Turns
+    ensures choices { result.choices ≡ choices.items }
+    ensures outcomes { result.outcomes ≡ outcomes }
+{
+    Turns {
+        choices: Items::from_vec(choices),
+        outcomes,
+    }
+}
+
+/// Puts the choices of so many turns of a thread behind the others.
+#[tactic(auto, using(crate::proofs::TurnsOn::one_more))]
+fn put_choices(choices: &mut Vec<ThreadId>, on: TurnsOn) -> Result<(), AllocError>
+    ensures { OnOk result (choices.new.items ≡ choices.old.items ++ replicate on.times on.thread) }
+{
+    choices.reserve(on.times as usize)?;
+    for _ in 0..on.times {
+        choices.push_reserved(on.thread);
+    }
+    Ok(())
 }
 
 /// Makes the turns that a chooser gives, at most so many, and puts their items behind those of the trace. The chooser is
@@ -40,16 +63,23 @@ pub fn take_turns(
     // Without memory some of the turns were made, from the first one on.
     ensures broken { OnErr result (BrokeOff machine.old (choices_from most chooser.old machine.old) machine.new trace.old trace.new) }
 {
-    let mut choices = Items::new(alloc);
+    let mut choices = Vec::new(alloc);
     let mut outcomes = OutcomeList::new(alloc);
     let mut made = 0;
     while made < most {
+        let on = take_turns_on(machine, chooser, most - made);
+        put_choices(&mut choices, on)?;
+        outcomes.push_ran(on.times as usize)?;
+        made += on.times;
+        if made == most {
+            return Ok(turns_of(choices, outcomes));
+        }
         let Some((thread, outcome)) = take_turn(machine, chooser, trace)? else {
-            return Ok(Turns { choices, outcomes });
+            return Ok(turns_of(choices, outcomes));
         };
         choices.push(thread)?;
         outcomes.push(outcome)?;
         made += 1;
     }
-    Ok(Turns { choices, outcomes })
+    Ok(turns_of(choices, outcomes))
 }

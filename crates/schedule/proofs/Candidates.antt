@@ -1,8 +1,9 @@
 -- The one thread that is next where it is enabled.
-use Rattle.std.proofs.Common.{◌≡◌, ℕ, ◌+◌, ◌-◌, ◌<◌, ◌≤◌, Bool, true, false, nat_lt, Option, Some, None, refl, ◌∙◌, ap, arith, if◌then◌else◌}
+use Rattle.std.proofs.Common.{◌≡◌, ℕ, zero, suc, ◌+◌, ◌-◌, ◌<◌, ◌≤◌, Bool, true, false, nat_lt, min, ◌==◌, List, Option, Some, None, refl, sym, ◌∙◌, ap, arith, subst, if◌then◌else◌}
 use Rattle.std.specs.List.{find, range_with_len}
 use Rattle.std.proofs.lemmas.Bool.Decides.{nat_tests}
-use Rattle.schedule.specs.Choosers.{enabled_of, next_of, round_robin, stays}
+use Rattle.rand_pcg.specs.Lcg.{Lcg}
+use Rattle.schedule.specs.Choosers.{Chooser, Listed, RoundRobin, Seeded, after_choice, counted, counted_times, enabled_of, next, next_of, round_robin, stays, IsNextFor}
 use Rattle.schedule.proofs.Ranges.{next_of_within, range_more, range_none, stays_enabled}
 
 -- The thread of the last choice stays.
@@ -46,3 +47,91 @@ least p count quantum thread turns had there most enabled =
     moves p count quantum thread turns had
     ∙ next_of_within p thread count there
     ∙ rw (found_none p (thread + 1) count most, least_found p thread enabled) refl
+
+-- ---- So many times on end
+
+-- The next choice of round robin, and what is left.
+is_next : (p : ℕ → Bool) (count quantum thread turns chosen : ℕ) → round_robin quantum thread turns (enabled_of p count) ≡ Some chosen
+    → next (RoundRobin quantum thread turns) (enabled_of p count) ≡ (Some chosen, counted chosen (RoundRobin quantum thread turns))
+is_next p count quantum thread turns chosen is = ap (λ o. (o, after_choice quantum thread turns o)) is
+
+-- The choice after the turns of a thread is the one above it, or the least.
+pub above_for : (count quantum thread turns : ℕ) → quantum ≤ turns → thread + 1 < count → IsNextFor 1 (thread + 1) count (RoundRobin quantum thread turns)
+unfolding IsNextFor
+above_for count quantum thread turns had less = (λ p enabled. is_next p count quantum thread turns (thread + 1) (above p count quantum thread turns had less enabled), tt)
+
+pub least_for : (count quantum thread turns : ℕ) → quantum ≤ turns → thread < count → count ≤ thread + 1 → IsNextFor 1 0 count (RoundRobin quantum thread turns)
+unfolding IsNextFor
+least_for count quantum thread turns had there most = (λ p enabled. is_next p count quantum thread turns 0 (least p count quantum thread turns had there most enabled), tt)
+
+-- A thread stays for the turns that it has left.
+counted_same : (quantum thread turns : ℕ) → counted thread (RoundRobin quantum thread turns) ≡ RoundRobin quantum thread (min quantum (turns + 1))
+counted_same quantum thread turns =
+    let same : (thread == thread) ≡ true = grind (arith, nat_tests) in
+    rw same refl
+
+pub stays_for : (times count quantum thread turns : ℕ) → turns + times ≤ quantum → thread < count → IsNextFor times thread count (RoundRobin quantum thread turns)
+unfolding IsNextFor
+stays_for zero count quantum thread turns fits there = tt
+stays_for (suc times) count quantum thread turns fits there =
+    let fewer : turns < quantum = omega arith in
+    let one_more : min quantum (turns + 1) ≡ turns + 1 = omega arith in
+    let after : counted thread (RoundRobin quantum thread turns) ≡ RoundRobin quantum thread (turns + 1) =
+    counted_same quantum thread turns ∙ ap (RoundRobin quantum thread) one_more in (
+      λ p enabled. is_next p count quantum thread turns thread (same_stays p count quantum thread turns fewer there enabled),
+      rw after (stays_for times count quantum thread (turns + 1) (omega arith) there),
+    )
+
+-- The only thread is always next.
+only_next : (p : ℕ → Bool) (quantum turns : ℕ) (b : Bool) → nat_lt turns quantum ≡ b → p 0 ≡ true → round_robin quantum 0 turns (enabled_of p 1) ≡ Some 0
+only_next p quantum turns true is enabled = same_stays p 1 quantum 0 turns (grind (arith, nat_tests)) (omega arith) enabled
+only_next p quantum turns false is enabled = least p 1 quantum 0 turns (grind (arith, nat_tests)) (omega arith) (omega arith) enabled
+
+only_for : (times quantum turns : ℕ) → IsNextFor times 0 1 (RoundRobin quantum 0 turns)
+unfolding IsNextFor
+only_for zero quantum turns = tt
+only_for (suc times) quantum turns = (
+  λ p enabled. is_next p 1 quantum 0 turns 0 (only_next p quantum turns (nat_lt turns quantum) refl enabled),
+  rw (counted_same quantum 0 turns) (only_for times quantum (min quantum (turns + 1))),
+)
+
+pub alone_for : (times count quantum thread turns : ℕ) → thread < count → count ≡ 1 → IsNextFor times thread count (RoundRobin quantum thread turns)
+alone_for times count quantum thread turns there one =
+    let none : thread ≡ 0 = omega arith in
+    rw (none, one) (only_for times quantum turns)
+
+-- ---- What is left after so many
+
+-- The thread of the last choice is counted up to the quantum.
+pub counted_on : (times quantum thread turns : ℕ) → 1 ≤ times → counted_times times thread (RoundRobin quantum thread turns) ≡ RoundRobin quantum thread (min quantum (turns + times))
+unfolding counted_times
+counted_on zero quantum thread turns some = let never : ⊥ = omega arith in absurd never
+counted_on (suc zero) quantum thread turns some = counted_same quantum thread turns
+counted_on (suc (suc times)) quantum thread turns some =
+    let more : min quantum (min quantum (turns + 1) + suc times) ≡ min quantum (turns + suc (suc times)) = omega arith in
+    ap (counted_times (suc times) thread) (counted_same quantum thread turns)
+    ∙ counted_on (suc times) quantum thread (min quantum (turns + 1)) (omega arith)
+    ∙ ap (RoundRobin quantum thread) more
+
+pub counted_none : (chosen : ℕ) (chooser : Chooser) → counted_times 0 chosen chooser ≡ chooser
+unfolding counted_times
+counted_none chosen chooser = refl
+
+-- The first of so many, and then the rest.
+pub counted_first : (times chosen : ℕ) (chooser : Chooser) → 1 ≤ times → counted_times times chosen chooser ≡ counted_times (times - 1) chosen (counted chosen chooser)
+unfolding counted_times
+counted_first zero chosen chooser some = let never : ⊥ = omega arith in absurd never
+counted_first (suc times) chosen chooser some =
+    let rest : suc times - 1 ≡ times = omega arith in
+    ap (λ n. counted_times n chosen (counted chosen chooser)) (sym rest)
+
+-- A list and a generator have moved on by themselves.
+pub listed_stays : (times chosen : ℕ) (threads : List ℕ) → counted_times times chosen (Listed threads) ≡ Listed threads
+unfolding counted_times
+listed_stays zero chosen threads = refl
+listed_stays (suc times) chosen threads = listed_stays times chosen threads
+
+pub seeded_stays : (times chosen : ℕ) (generator : Lcg) → counted_times times chosen (Seeded generator) ≡ Seeded generator
+unfolding counted_times
+seeded_stays zero chosen generator = refl
+seeded_stays (suc times) chosen generator = seeded_stays times chosen generator

@@ -86,6 +86,18 @@ counted chosen (Listed threads) = Listed threads
 counted chosen (RoundRobin quantum thread turns) = after_choice quantum thread turns (Some chosen)
 counted chosen (Seeded generator) = Seeded generator
 
+-- The same, of a thread that it has chosen so many times on end.
+unfoldable pub counted_times : ℕ → ℕ → Chooser → Chooser
+counted_times zero chosen chooser = chooser
+counted_times (suc times) chosen chooser = counted_times times chosen (counted chosen chooser)
+
+-- Among so many threads one is the next choice so many times on end, as long as it is enabled, whichever others are.
+unfoldable pub IsNextFor : ℕ → ℕ → ℕ → Chooser → Type 0
+IsNextFor zero thread threads chooser = Unit {0}
+IsNextFor (suc times) thread threads chooser =
+    ((is_enabled : ℕ → Bool) → is_enabled thread ≡ true → next chooser (enabled_of is_enabled threads) ≡ (Some thread, counted thread chooser))
+    × IsNextFor times thread threads (counted thread chooser)
+
 -- Whether the chooser asks which threads are enabled.
 abbrev pub asks : Chooser → Bool
 asks (Listed threads) = false

@@ -1,15 +1,15 @@
 //! Choosers: each choice names the thread of the next turn.
 
-ghost use Rattle.std.specs.Prelude.{ℕ, List, ◌≡◌, ◌↔◌, IfOk, IfSome, IsErrOf, MatchOption, Some, true};
+ghost use Rattle.std.specs.Prelude.{ℕ, List, ◌≡◌, ◌≤◌, ◌↔◌, length, IfOk, IfSome, IsErrOf, MatchOption};
 ghost use Rattle.schedule.specs.Schedules.{Schedule, Listed, RoundRobin, Spells, WritesSeed};
-ghost use Rattle.schedule.specs.Enabled.{can_go_on, enabled_threads};
+ghost use Rattle.schedule.specs.Enabled.{enabled_threads};
 ghost use Rattle.schedule.specs.Rules.{shown};
-ghost use Rattle.schedule.specs.Choosers.{opened, enabled_of, by_word, counted, next, Seeded, IsSeeded};
+ghost use Rattle.schedule.specs.Choosers.{opened, enabled_of, by_word, counted_times, next, Seeded, IsNextFor, IsSeeded};
 
 use crate::fault::ScheduleFault;
 use crate::list::{ListLeft, listed};
 use crate::numbers::{long_number, quantum};
-use crate::round_robin::Turns;
+use crate::round_robin::{Candidate, Turns};
 use crate::threads::{Threads, enabled_at, enabled_count};
 use jvms_machine::machine::ThreadId;
 use machine::Machine;
@@ -166,10 +166,12 @@ impl Chooser {
         self.choose(machine)
     }
 
-    /// The thread that is the next choice where it is enabled, told without a look at any thread, where the schedule tells
-    /// one: by `rr:Q` the thread that was chosen last, while it had fewer than Q turns in a row, else the one behind it.
-    pub fn candidate(&self, machine: &Machine<'_>) -> Option<ThreadId>
-        ensures { IfSome result (λ t. can_go_on machine.now t ≡ true → next self.now (enabled_threads machine.now) ≡ (Some t, counted t self.now)) }
+    /// The thread that is the next choice where it is enabled, and for how many turns on end, told without a look at any
+    /// thread, where the schedule tells one: by `rr:Q` the only thread, or the thread that was chosen last for the turns
+    /// that it has left, else the one behind it.
+    pub fn candidate(&self, machine: &Machine<'_>) -> Option<Candidate>
+        ensures next { IfSome result (λ c. IsNextFor c.turns c.thread (length machine.now.state.threads) self.now) }
+        ensures some { IfSome result (λ c. 1 ≤ c.turns) }
     {
         match &self.rule {
             Rule::RoundRobin(turns) => turns.candidate(machine),
@@ -177,12 +179,13 @@ impl Chooser {
         }
     }
 
-    /// Counts the choice of a candidate, which was enabled.
-    pub fn count(&mut self, chosen: ThreadId)
-        ensures { self.new ≡ counted chosen self.old }
+    /// Counts so many choices of a candidate on end, which was enabled each time.
+    #[tactic(auto, using(crate::proofs::Candidates::listed_stays, crate::proofs::Candidates::seeded_stays))]
+    pub fn count(&mut self, chosen: ThreadId, times: u64)
+        ensures { self.new ≡ counted_times times chosen self.old }
     {
         if let Rule::RoundRobin(turns) = &mut self.rule {
-            turns.count(chosen);
+            turns.count_times(chosen, times);
         }
     }
 }

@@ -11,6 +11,7 @@ mod threads;
 
 pub use chooser::Chooser;
 pub use fault::ScheduleFault;
+pub use round_robin::Candidate;
 
 #[cfg(test)]
 mod tests;

@@ -1,10 +1,19 @@
 //! Round robin: each enabled thread in turn, for as many turns as the quantum says.
 
-ghost use Rattle.std.specs.Prelude.{◌≡◌, IfSome, Some, true};
-ghost use Rattle.schedule.specs.Choosers.{enabled_of, stays, round_robin, after_choice, turns_with, RoundRobin};
+ghost use Rattle.std.specs.Prelude.{◌≡◌, ◌≤◌, IfSome};
+ghost use Rattle.schedule.specs.Choosers.{enabled_of, stays, round_robin, after_choice, turns_with, counted_times, IsNextFor, RoundRobin};
 
 use crate::threads::{Threads, next_enabled};
 use jvms_machine::machine::ThreadId;
+
+/// The thread that is the next choice where it is enabled, and for how many turns on end.
+#[derive(Clone, Copy, Debug)]
+pub struct Candidate {
+    /// The thread.
+    pub thread: ThreadId,
+    /// How many turns on end it is chosen for, as long as it is enabled. One at least.
+    pub turns: u64,
+}
 
 /// The turns of a thread.
 #[derive(Clone, Copy)]
@@ -39,21 +48,33 @@ impl Turns {
         }
     }
 
-    /// Whose turn is next where that thread is enabled, without a look at it: the thread of the last choice, while it had
-    /// fewer turns in a row than the quantum, else the one behind it, round to the least.
-    #[tactic(auto, using(crate::proofs::Candidates::same_stays, crate::proofs::Candidates::above, crate::proofs::Candidates::least))]
-    pub(crate) fn candidate<T: Threads>(&self, threads: &T) -> Option<ThreadId>
-        ensures { IfSome result (λ t. T.passes threads.now t ≡ true → round_robin self.now.quantum self.now.thread self.now.turns (enabled_of (T.passes threads.now) (T.count threads.now)) ≡ Some t) }
+    /// Whose turn is next where that thread is enabled, and for how many turns on end, without a look at it: the only
+    /// thread for ever; the thread of the last choice for the turns that it has left; else the one behind it, round to the
+    /// least.
+    #[tactic(auto, using(crate::proofs::Candidates::alone_for, crate::proofs::Candidates::stays_for, crate::proofs::Candidates::above_for, crate::proofs::Candidates::least_for))]
+    pub(crate) fn candidate<T: Threads>(&self, threads: &T) -> Option<Candidate>
+        ensures next { IfSome result (λ c. IsNextFor c.turns c.thread (T.count threads.now) (RoundRobin self.now.quantum self.now.thread self.now.turns)) }
+        ensures some { IfSome result (λ c. 1 ≤ c.turns) }
     {
         let count = threads.count();
         if self.thread >= count {
             return None;
         }
+        if count == 1 {
+            return Some(Candidate {
+                thread: self.thread,
+                turns: u64::MAX,
+            });
+        }
         if self.turns < self.quantum {
-            return Some(self.thread);
+            return Some(Candidate {
+                thread: self.thread,
+                turns: u64::from(self.quantum - self.turns),
+            });
         }
         let above = self.thread + 1;
-        if above < count { Some(above) } else { Some(0) }
+        let thread = if above < count { above } else { 0 };
+        Some(Candidate { thread, turns: 1 })
     }
 
     /// Counts a turn of a thread.
@@ -65,6 +86,34 @@ impl Turns {
         } else {
             self.thread = chosen;
             self.turns = 1;
+        }
+    }
+
+    /// Counts so many turns more, one at least, of the thread of the last choice.
+    #[tactic(auto, using(crate::proofs::Candidates::counted_on))]
+    fn count_on(&mut self, times: u64)
+        requires { 1 ≤ times }
+        ensures { RoundRobin self.new.quantum self.new.thread self.new.turns ≡ counted_times times self.old.thread (RoundRobin self.old.quantum self.old.thread self.old.turns) }
+    {
+        let left = self.quantum.saturating_sub(self.turns);
+        if times < u64::from(left) {
+            self.turns += times as u32;
+        } else {
+            self.turns = self.quantum;
+        }
+    }
+
+    /// Counts so many turns of a thread on end.
+    #[tactic(auto, using(crate::proofs::Candidates::counted_none, crate::proofs::Candidates::counted_first))]
+    pub(crate) fn count_times(&mut self, chosen: ThreadId, times: u64)
+        ensures { RoundRobin self.new.quantum self.new.thread self.new.turns ≡ counted_times times chosen (RoundRobin self.old.quantum self.old.thread self.old.turns) }
+    {
+        if times == 0 {
+            return;
+        }
+        self.count(chosen);
+        if times > 1 {
+            self.count_on(times - 1);
         }
     }
 

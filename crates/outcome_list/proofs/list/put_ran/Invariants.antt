@@ -1,0 +1,12 @@
+-- So many kinds so far, and room for those to come.
+use Rattle.std.proofs.Common.{◌≡◌, ◌≤◌, ◌+◌, ◌-◌, ◌++◌, replicate}
+use Rattle.std.specs.Prelude.{vec_capacity, vec_len}
+use Rattle.outcome_list.specs.declared.kind.Kind.TheVariants as kind
+use Rattle.outcome_list.proofs.list.put_ran.Given as goal
+
+abbrev pub invariant-loop : goal.invariant-loop
+invariant-loop l =
+    record {
+      items : l.kinds.items ≡ l.initial.kinds.items ++ replicate l.counter kind.Ran;
+      room : vec_len l.kinds + (l.fn.times - l.counter) ≤ vec_capacity l.kinds;
+    }
