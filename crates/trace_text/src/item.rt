@@ -7,13 +7,14 @@ ghost use Rattle.escapes.specs.Readings.{IsReadAs};
 ghost use Rattle.trace_text.specs.Items.{IsItem, item_text, touched_text, thread_of as thread_of_item};
 ghost use Rattle.trace_text.specs.Parts.{IsItemOf, word_text, kind_of as kind_of_item};
 
+use crate::members::Keys;
 use crate::number::{number_of, put_number};
 use crate::variable::{put_variable, variable_of};
 use crate::word::Word;
-use escapes::{cut_twice, method_of, put_method};
+use escapes::{cut_twice, put_method};
 use jvms_machine::machine::ThreadId;
 use jvms_machine::trace::Item;
-use std::alloc::{AllocError, Global};
+use std::alloc::AllocError;
 
 const SPACE: u8 = b' ';
 
@@ -76,28 +77,34 @@ pub(crate) fn put_item(out: &mut String, item: &Item) -> Result<(), AllocError>
 }
 
 /// The item with this word and this thread whose touched part a text writes; `None` where it writes none.
-fn touching(
-    alloc: Global,
+fn touching<'t>(
+    keys: &mut Keys<'t>,
     word: Word,
     thread: ThreadId,
-    text: &[u8],
+    text: &'t [u8],
 ) -> Result<Option<Item>, AllocError>
     ensures { IfOk result (IsReadAs (IsItemOf word thread) touched_text text.now) }
 {
     Ok(match word {
-        Word::Read => variable_of(alloc, text)?.map(|variable| Item::Read { thread, variable }),
-        Word::Write => variable_of(alloc, text)?.map(|variable| Item::Write { thread, variable }),
+        Word::Read => variable_of(keys, text)?.map(|variable| Item::Read { thread, variable }),
+        Word::Write => variable_of(keys, text)?.map(|variable| Item::Write { thread, variable }),
         Word::Acquire => number_of(text).map(|reference| Item::Acquire { thread, reference }),
         Word::Release => number_of(text).map(|reference| Item::Release { thread, reference }),
         Word::Fork => number_of(text).map(|started| Item::Fork { thread, started }),
         Word::Join => number_of(text).map(|ended| Item::Join { thread, ended }),
-        Word::Enter => method_of(alloc, text)?.map(|method| Item::Enter { thread, method }),
-        Word::Exit => method_of(alloc, text)?.map(|method| Item::Exit { thread, method }),
+        Word::Enter => keys
+            .methods
+            .read(text)?
+            .map(|method| Item::Enter { thread, method }),
+        Word::Exit => keys
+            .methods
+            .read(text)?
+            .map(|method| Item::Exit { thread, method }),
     })
 }
 
 /// The item that a line writes; `None` where it writes none. An item has one spelling.
-pub(crate) fn item_of(alloc: Global, line: &[u8]) -> Result<Option<Item>, AllocError>
+pub(crate) fn item_of<'t>(keys: &mut Keys<'t>, line: &'t [u8]) -> Result<Option<Item>, AllocError>
     ensures { IfOk result (IsReadAs IsItem item_text line.now) }
 {
     let Some((word, thread, text)) = cut_twice(line, SPACE) else {
@@ -109,5 +116,5 @@ pub(crate) fn item_of(alloc: Global, line: &[u8]) -> Result<Option<Item>, AllocE
     let Some(thread) = number_of(thread) else {
         return Ok(None);
     };
-    touching(alloc, word, thread, text)
+    touching(keys, word, thread, text)
 }

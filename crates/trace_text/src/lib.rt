@@ -3,7 +3,9 @@
 
 mod fault;
 mod item;
+mod known;
 mod laws;
+mod members;
 mod number;
 mod reading;
 mod variable;

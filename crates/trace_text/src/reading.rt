@@ -4,6 +4,7 @@ ghost use Rattle.trace_text.specs.Traces.{IsRead};
 
 use crate::fault::TraceFault;
 use crate::item::item_of;
+use crate::members::Keys;
 use escapes::cut;
 use std::alloc::Global;
 use trace::Trace;
@@ -20,6 +21,7 @@ pub fn read(alloc: Global, text: &str) -> Result<Trace, TraceFault>
     ensures { IsRead text.now result }
 {
     let mut trace = Trace::new(alloc);
+    let mut keys = Keys::new(alloc)?;
     let mut line = 0;
     let mut rest = text.as_bytes();
     while !rest.is_empty() {
@@ -27,7 +29,7 @@ pub fn read(alloc: Global, text: &str) -> Result<Trace, TraceFault>
         let Some((first, behind)) = cut(rest, LINE_FEED) else {
             return Err(TraceFault::Syntax { line });
         };
-        let Some(item) = item_of(alloc, first)? else {
+        let Some(item) = item_of(&mut keys, first)? else {
             return Err(TraceFault::Syntax { line });
         };
         trace.push(item)?;

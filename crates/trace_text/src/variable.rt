@@ -6,10 +6,11 @@ ghost use Rattle.escapes.specs.Readings.{IsReadAs};
 ghost use Rattle.trace_text.specs.Items.{IsVariable, variable_text};
 ghost use Rattle.trace_text.specs.Parts.{IsVariableWith};
 
+use crate::members::Keys;
 use crate::number::{number_of, put_number};
-use escapes::{cut, dots_in, field_of, put_field};
+use escapes::{cut, dots_in, put_field};
 use jvms_machine::trace::Variable;
-use std::alloc::{AllocError, Global};
+use std::alloc::AllocError;
 
 const DOT: u8 = b'.';
 
@@ -57,17 +58,17 @@ fn element_of(text: &[u8]) -> Option<Variable>
 }
 
 /// The static field that a text with two dots writes: `C.x.D`.
-fn static_of(alloc: Global, text: &[u8]) -> Result<Option<Variable>, AllocError>
+fn static_of<'t>(keys: &mut Keys<'t>, text: &'t [u8]) -> Result<Option<Variable>, AllocError>
     ensures { IfOk result (IsReadAs (IsVariableWith 2) variable_text text.now) }
 {
-    match field_of(alloc, text)? {
+    match keys.fields.read(text)? {
         Some(field) => Ok(Some(Variable::Static { field })),
         None => Ok(None),
     }
 }
 
 /// The instance field that a text with three dots writes: `R.C.x.D`.
-fn instance_of(alloc: Global, text: &[u8]) -> Result<Option<Variable>, AllocError>
+fn instance_of<'t>(keys: &mut Keys<'t>, text: &'t [u8]) -> Result<Option<Variable>, AllocError>
     ensures { IfOk result (IsReadAs (IsVariableWith 3) variable_text text.now) }
 {
     let Some((reference, field)) = cut(text, DOT) else {
@@ -76,20 +77,23 @@ fn instance_of(alloc: Global, text: &[u8]) -> Result<Option<Variable>, AllocErro
     let Some(reference) = number_of(reference) else {
         return Ok(None);
     };
-    match field_of(alloc, field)? {
+    match keys.fields.read(field)? {
         Some(field) => Ok(Some(Variable::Instance { reference, field })),
         None => Ok(None),
     }
 }
 
 /// The variable that a text writes; `None` where it writes none.
-pub(crate) fn variable_of(alloc: Global, text: &[u8]) -> Result<Option<Variable>, AllocError>
+pub(crate) fn variable_of<'t>(
+    keys: &mut Keys<'t>,
+    text: &'t [u8],
+) -> Result<Option<Variable>, AllocError>
     ensures { IfOk result (IsReadAs IsVariable variable_text text.now) }
 {
     match dots_in(text) {
         0 => Ok(element_of(text)),
-        2 => static_of(alloc, text),
-        3 => instance_of(alloc, text),
+        2 => static_of(keys, text),
+        3 => instance_of(keys, text),
         _ => Ok(None),
     }
 }
