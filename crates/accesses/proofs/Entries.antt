@@ -62,7 +62,7 @@ values_at (d ∷ es) (suc i) e is = values_at es i e is
 abbrev IsFound : {X : Type 0} → List X → ℕ → (X → Type 0) → Type 0
 IsFound xs i P = MatchOption (slice_get xs i) ⊥ P
 
-found_in : {X : Type 0} (P : X → Type 0) (xs : List X) (i : ℕ) (x : X) → slice_get xs i ≡ Some x → P x → IsFound xs i P
+pub found_in : {X : Type 0} (P : X → Type 0) (xs : List X) (i : ℕ) (x : X) → slice_get xs i ≡ Some x → P x → IsFound xs i P
 found_in P xs i x is holds = subst (λ (o : Option _). MatchOption o ⊥ P) (sym is) holds
 
 -- One more entry changes none.

@@ -1,3 +1,4 @@
+pub mod ByIndex
 pub mod Conflicting
 pub mod Entries
 pub mod Found

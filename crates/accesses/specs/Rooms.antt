@@ -3,8 +3,10 @@ use Rattle.std.specs.Prelude.{◌≡◌, ℕ, false, List, [], ◌∷◌, Option
 use Rattle.jvms_machine.specs.declared.trace.Item.{Item}
 use Rattle.velodrome.specs.Conflicts.{thread_of}
 use Rattle.accesses.specs.Accesses.{Access, Last, OfThread, Place, main_at, accesses_beside}
-use Rattle.accesses.specs.Kept.{HasSpare, IsNotedIn, kept_in}
+use Rattle.accesses.specs.Kept.{HasSpare, IsNotedIn, kept_at, kept_in}
+use Rattle.accesses.specs.Links.{AreAt}
 use Rattle.accesses.specs.Places.{place_of}
+use Rattle.accesses.specs.Touches.{touched_at}
 use Rattle.accesses.specs.declared.place.Place.{Place as Key}
 use Rattle.indexmap.specs.IndexMap.{set_value_at}
 use Rattle.accesses.specs.declared.lasts.Lasts.{Lasts}
@@ -49,3 +51,10 @@ pub record IsNotedAt (s : Slot) (n : Noted) (old new : List (Key × Lasts)) : Ty
   pub at : slice_get old s.index ≡ Some entry
   pub noted : IsNotedIn s.is_main n entry.1 now
   pub others : new ≡ set_value_at old s.index now
+
+-- The entry is of what an item's thread touches, behind being one of its thread, and all that is kept there is this.
+pub record IsTouchedAt (es : List (Key × Lasts)) (n : ℕ) (i : Item) (here : Lasts) : Type 0 where
+  pub place : Place
+  pub touched : accesses_beside i ≡ touched_at i place ∷ []
+  pub entry : IsEntryOf es n place
+  pub kept : AreAt (kept_in es) place (kept_at place here)

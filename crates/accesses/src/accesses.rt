@@ -1,6 +1,6 @@
 //! The last accesses of a trace.
 
-ghost use Rattle.std.specs.Prelude.{◌≡◌, ℕ, [], ◌∷◌, false, None, Some, IfOk, OnOk, MatchOption, slice_get};
+ghost use Rattle.std.specs.Prelude.{◌≡◌, ℕ, [], ◌∷◌, false, None, Some, IfOk, IfSome, OnOk, MatchOption, slice_get};
 ghost use Rattle.indexmap.specs.IndexMap.{get};
 ghost use Rattle.velodrome.specs.Conflicts.{thread_of};
 ghost use Rattle.accesses.specs.Accesses.{AreLinks, IsNoted, OfThread, Place as Kind, accesses_beside, main_at};
@@ -8,13 +8,16 @@ ghost use Rattle.accesses.specs.Kept.{HasSpare, kept_at, kept_in};
 ghost use Rattle.accesses.specs.Links.{AreAdded, AreAt};
 ghost use Rattle.accesses.specs.OnePlace.{same_keys};
 ghost use Rattle.accesses.specs.Places.{place_of};
-ghost use Rattle.accesses.specs.Rooms.{AreReady, HasRoom, HasRoomAt, IsEntryOf, IsNotedAt, IsReady, kept_of};
+ghost use Rattle.accesses.specs.Rooms.{AreReady, HasRoom, HasRoomAt, IsEntryOf, IsNotedAt, IsReady, IsTouchedAt, kept_of};
 ghost use Rattle.accesses.specs.Touches.{access_of};
 
+use crate::guesses::Guesses;
+use crate::indexed::{of_thread, of_touched};
 use crate::lasts::{Lasts, Noted};
 use crate::place::Place;
 use crate::slot::Slot;
-use crate::touch::{Touch, own, thread_of, touched};
+use crate::sums::sum_of_touched;
+use crate::touch::{Touch, own, thread_of, touched, touches_mainly};
 use atom_order::Link;
 use indexmap::IndexMap;
 use jvms_machine::trace::Item;
@@ -30,6 +33,9 @@ pub struct Accesses {
     own: usize,
     /// The entry that was made ready for what the item's thread touches.
     touched: Option<Slot>,
+    /// Entries of threads, and of what threads touch.
+    threads: Guesses,
+    guesses: Guesses,
     alloc: Global,
 }
 
@@ -50,6 +56,8 @@ impl Accesses {
             lasts: IndexMap::new(alloc),
             own: 0,
             touched: None,
+            threads: Guesses::new(alloc),
+            guesses: Guesses::new(alloc),
             alloc,
         }
     }
@@ -68,12 +76,37 @@ impl Accesses {
     fn push_own(&self, number: u64, item: &Item, links: &mut Vec<Link>) -> Result<(), AllocError>
         ensures { OnOk result (AreAdded (kept_of self.now) number (main_at (OfThread (thread_of item.now)) ∷ []) links.old.items links.new.items) }
     {
-        let touch = own(item);
-        self.push_links(&touch, number, links)
+        match of_thread(&self.lasts, self.own, thread_of(item)) {
+            Some(lasts) => lasts.push_links(true, number, links),
+            None => self.push_links(&own(item), number, links),
+        }
     }
 
     /// Adds the links of a new event at what its thread touches.
     fn push_touched(
+        &self,
+        number: u64,
+        item: &Item,
+        links: &mut Vec<Link>,
+    ) -> Result<(), AllocError>
+        ensures { OnOk result (AreAdded (kept_of self.now) number (accesses_beside item.now) links.old.items links.new.items) }
+    {
+        match self.touched_lasts(item) {
+            Some(lasts) => lasts.push_links(touches_mainly(item), number, links),
+            None => self.push_looked_up(number, item, links),
+        }
+    }
+
+    /// What is kept at what an item's thread touches, if it is the entry that was made ready last.
+    fn touched_lasts(&self, item: &Item) -> Option<&Lasts>
+        ensures { IfSome result (λ l. (n : ℕ) × IsTouchedAt self.now.entries n item.now l.now) }
+    {
+        let slot = self.touched?;
+        of_touched(&self.lasts, slot.index, item)
+    }
+
+    /// Looks up what the thread of a new event touches, and adds the links there.
+    fn push_looked_up(
         &self,
         number: u64,
         item: &Item,
@@ -116,9 +149,24 @@ impl Accesses {
         ensures same { kept_of self.new ≡ kept_of self.old }
         ensures room { OnOk result (HasRoom self.new item.now) }
     {
-        let slot = self.ready(own(item))?;
-        self.own = slot.index;
+        let entry = self.ready_own(item)?;
+        self.own = entry;
         self.ready_touched(item)
+    }
+
+    /// Makes ready the entry of an item as one of its thread.
+    fn ready_own(&mut self, item: &Item) -> Result<usize, AllocError>
+        ensures same { kept_of self.new ≡ kept_of self.old }
+        ensures ready { IfOk result (λ n. IsEntryOf self.new.entries n (OfThread (thread_of item.now))) }
+    {
+        let thread = thread_of(item);
+        let guess = self.threads.at(thread);
+        if let Some(_) = of_thread(&self.lasts, guess, thread) {
+            return Ok(guess);
+        }
+        let index = enter(&mut self.lasts, Place::OfThread(thread), self.alloc)?;
+        self.threads.note(thread, index)?;
+        Ok(index)
     }
 
     /// Makes ready the entry of what the thread of an item touches.
@@ -128,10 +176,42 @@ impl Accesses {
         ensures ready { OnOk result (AreReady self.new.entries self.new.touched (accesses_beside item.now)) }
         ensures places { (n : ℕ) (p : Kind) → IsEntryOf self.old.entries n p → IsEntryOf self.new.entries n p }
     {
+        let sum = sum_of_touched(item);
+        let guess = self.guesses.at(sum);
+        match of_touched(&self.lasts, guess, item) {
+            Some(_) => self.ready_guessed(guess, item),
+            None => self.ready_looked_up(sum, item),
+        }
+    }
+
+    /// Makes ready an entry, which is of what the thread of an item touches.
+    fn ready_guessed(&mut self, index: usize, item: &Item) -> Result<(), AllocError>
+        requires { (here : Lasts) × IsTouchedAt self.old.entries index item.now here }
+        ensures same { kept_of self.new ≡ kept_of self.old }
+        ensures own { self.new.own ≡ self.old.own }
+        ensures ready { OnOk result (AreReady self.new.entries self.new.touched (accesses_beside item.now)) }
+        ensures places { (n : ℕ) (p : Kind) → IsEntryOf self.old.entries n p → IsEntryOf self.new.entries n p }
+    {
+        let is_main = touches_mainly(item);
+        if !is_main {
+            make_room(&mut self.lasts, index)?;
+        }
+        self.touched = Some(Slot { index, is_main });
+        Ok(())
+    }
+
+    /// Looks up what the thread of an item touches, and makes its entry ready.
+    fn ready_looked_up(&mut self, sum: u32, item: &Item) -> Result<(), AllocError>
+        ensures same { kept_of self.new ≡ kept_of self.old }
+        ensures own { self.new.own ≡ self.old.own }
+        ensures ready { OnOk result (AreReady self.new.entries self.new.touched (accesses_beside item.now)) }
+        ensures places { (n : ℕ) (p : Kind) → IsEntryOf self.old.entries n p → IsEntryOf self.new.entries n p }
+    {
         match touched(item)? {
             Some(touch) => {
-                let slot = self.ready(touch)?;
-                self.touched = Some(slot);
+                let found = self.ready(touch)?;
+                self.touched = Some(found);
+                self.guesses.note(sum, found.index)?;
             }
             None => self.touched = None,
         }

@@ -2,10 +2,14 @@
 #![tactic(auto)]
 
 mod accesses;
+mod guesses;
+mod indexed;
 mod lasts;
 pub mod laws;
 mod place;
 mod slot;
+mod sums;
 mod touch;
 
 pub use accesses::Accesses;
+pub use sums::{sum_of_item, sum_of_touched};

@@ -64,7 +64,7 @@ impl Hash for Place {
 }
 
 /// Whether a place is a thread.
-fn is_thread(place: &Place, thread: ThreadId) -> bool
+pub fn is_thread(place: &Place, thread: ThreadId) -> bool
     ensures { result ≡ same_place (OfThread thread) (place_of place.now) }
 {
     match place {
@@ -74,7 +74,7 @@ fn is_thread(place: &Place, thread: ThreadId) -> bool
 }
 
 /// Whether a place is an object's monitor.
-fn is_monitor(place: &Place, reference: u32) -> bool
+pub fn is_monitor(place: &Place, reference: u32) -> bool
     ensures { result ≡ same_place (OfMonitor reference) (place_of place.now) }
 {
     match place {
@@ -84,7 +84,7 @@ fn is_monitor(place: &Place, reference: u32) -> bool
 }
 
 /// Whether a place is a variable.
-fn is_variable(place: &Place, variable: &Variable) -> bool
+pub fn is_variable(place: &Place, variable: &Variable) -> bool
     ensures { result ≡ same_place (OfVariable variable.now) (place_of place.now) }
 {
     match place {

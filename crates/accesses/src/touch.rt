@@ -3,9 +3,10 @@
 ghost use Rattle.std.specs.Prelude.{◌≡◌, IfOk};
 ghost use Rattle.velodrome.specs.Conflicts.{thread_of};
 ghost use Rattle.accesses.specs.Accesses.{accesses_beside, OfMonitor, OfThread, beside_at, main_at};
-ghost use Rattle.accesses.specs.Touches.{access_of, touches};
+ghost use Rattle.accesses.specs.Places.{place_of};
+ghost use Rattle.accesses.specs.Touches.{access_of, touches, touches_at, touches_mainly as is_main_touch};
 
-use crate::place::{Place, share_variable};
+use crate::place::{Place, is_monitor, is_thread, is_variable, share_variable};
 use jvms_machine::machine::ThreadId;
 use jvms_machine::trace::Item;
 use std::alloc::AllocError;
@@ -63,6 +64,34 @@ pub fn touched(item: &Item) -> Result<Option<Touch>, AllocError>
         Item::Fork { started, .. } => Ok(Some(other_thread(*started))),
         Item::Join { ended, .. } => Ok(Some(other_thread(*ended))),
         _ => Ok(None),
+    }
+}
+
+/// Whether the thread touches a place besides.
+pub fn is_touched(item: &Item, place: &Place) -> bool
+    ensures { result ≡ touches_at item.now (place_of place.now) }
+{
+    match item {
+        Item::Read { variable, .. } => is_variable(place, variable),
+        Item::Write { variable, .. } => is_variable(place, variable),
+        Item::Acquire { reference, .. } => is_monitor(place, *reference),
+        Item::Release { reference, .. } => is_monitor(place, *reference),
+        Item::Fork { started, .. } => is_thread(place, *started),
+        Item::Join { ended, .. } => is_thread(place, *ended),
+        Item::Enter { .. } => false,
+        Item::Exit { .. } => false,
+    }
+}
+
+/// Whether what the thread touches besides is against each other access there.
+pub fn touches_mainly(item: &Item) -> bool
+    ensures { result ≡ is_main_touch item.now }
+{
+    match item {
+        Item::Write { .. } => true,
+        Item::Acquire { .. } => true,
+        Item::Release { .. } => true,
+        _ => false,
     }
 }
 

@@ -1,18 +1,16 @@
 use Rattle.std.proofs.Common.{ℕ, subst, sym}
 use Rattle.velodrome.specs.Conflicts.{thread_of}
-use Rattle.accesses.specs.Accesses.{Access, OfThread, main_at}
+use Rattle.accesses.specs.Accesses.{OfThread, main_at}
 use Rattle.accesses.specs.Rooms.{IsEntryOf, IsReady, Remembered}
-use Rattle.accesses.proofs.Entries.{entry_of_ready, on_ok, ready_main}
+use Rattle.accesses.proofs.Entries.{on_ok, ready_main}
 use Rattle.accesses.proofs.accesses.Accesses.reserve.Goals as goal
 
 pub returns-clause-room : goal.returns-clause-room
 returns-clause-room c =
     let place = OfThread (thread_of c.args.item.now) in
-    let index = c.in_ok-slot.slot.index in
+    let index = c.in_ok-entry.entry in
     let new = c.ready_touched.new.self in
-    let ready = subst (λ (x : Access). IsReady c.ready.new.self.entries index x) c.own.ensures c.in_ok-slot.ensures.ready.0 in
-    let there = entry_of_ready c.ready.new.self.entries index (main_at place) ready in
-    let before = subst (λ (r : Remembered). IsEntryOf r.entries index place) (sym c.self.view_is) there in
-    let moved = c.ready_touched.ensures.places index place before in
+    let there = subst (λ (r : Remembered). IsEntryOf r.entries index place) (sym c.self.view_is) c.in_ok-entry.ensures.ready in
+    let moved = c.ready_touched.ensures.places index place there in
     let own = subst (λ (n : ℕ). IsReady new.entries n (main_at place)) (sym c.ready_touched.ensures.own) (ready_main new.entries index place moved) in
     on_ok c.ready_touched.result (λ touched. record { own = own; touched = touched }) c.ready_touched.ensures.ready

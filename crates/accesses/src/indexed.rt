@@ -1,0 +1,49 @@
+//! Entries of the table of places, by their index.
+
+ghost use Rattle.std.specs.Prelude.{◌≡◌, IfSome};
+ghost use Rattle.accesses.specs.Accesses.{OfThread};
+ghost use Rattle.accesses.specs.Kept.{kept_at, kept_in};
+ghost use Rattle.accesses.specs.Links.{AreAt};
+ghost use Rattle.accesses.specs.Rooms.{IsEntryOf, IsTouchedAt};
+
+use crate::lasts::Lasts;
+use crate::place::{Place, is_thread};
+use crate::touch::is_touched;
+use indexmap::IndexMap;
+use jvms_machine::machine::ThreadId;
+use jvms_machine::trace::Item;
+
+/// What an entry keeps, if it is a thread's.
+pub fn of_thread<'m>(
+    lasts: &'m IndexMap<Place, Lasts>,
+    index: usize,
+    thread: ThreadId,
+) -> Option<&'m Lasts>
+    ensures entry { IfSome result (λ l. IsEntryOf lasts.now.entries index (OfThread thread)) }
+    ensures kept { IfSome result (λ l. AreAt (kept_in lasts.now.entries) (OfThread thread) (kept_at (OfThread thread) l.now)) }
+{
+    let _count = lasts.len();
+    let (place, found) = lasts.get_index(index)?;
+    if is_thread(place, thread) {
+        Some(found)
+    } else {
+        None
+    }
+}
+
+/// What an entry keeps, if it is of what an item's thread touches besides.
+pub fn of_touched<'m>(
+    lasts: &'m IndexMap<Place, Lasts>,
+    index: usize,
+    item: &Item,
+) -> Option<&'m Lasts>
+    ensures { IfSome result (λ l. IsTouchedAt lasts.now.entries index item.now l.now) }
+{
+    let _count = lasts.len();
+    let (place, found) = lasts.get_index(index)?;
+    if is_touched(item, place) {
+        Some(found)
+    } else {
+        None
+    }
+}

@@ -1,0 +1,72 @@
+//! Sums over what items name: like things have one sum, and others mostly another. Tables of what was met last go by
+//! them; nothing rests on them.
+
+use jvms_machine::trace::{Item, Variable};
+use jvms_program::key::{FieldKey, MethodKey};
+
+/// A sum with one number more.
+fn mixed(sum: u32, number: u32) -> u32 {
+    sum.wrapping_mul(31).wrapping_add(number)
+}
+
+/// A sum with a name more.
+fn mixed_name(sum: u32, name: &[u16]) -> u32 {
+    let mut all = sum;
+    for unit in name {
+        all = mixed(all, u32::from(*unit));
+    }
+    all
+}
+
+/// A sum over a field: its name, and how long its class's is.
+fn sum_of_field(field: &FieldKey) -> u32 {
+    mixed_name(
+        (field.class.as_slice().len() % 1024) as u32,
+        field.name.as_slice(),
+    )
+}
+
+/// A sum over a method: its name, and how long its class's name and its descriptor are.
+fn sum_of_method(method: &MethodKey) -> u32 {
+    let class = (method.class.as_slice().len() % 1024) as u32;
+    let descriptor = (method.descriptor.as_slice().len() % 1024) as u32;
+    mixed_name(mixed(class, descriptor), method.name.as_slice())
+}
+
+/// A sum over a variable.
+fn sum_of_variable(variable: &Variable) -> u32 {
+    match variable {
+        Variable::Instance { reference, field } => mixed(sum_of_field(field), *reference),
+        Variable::Static { field } => sum_of_field(field),
+        Variable::Element { reference, index } => mixed(*reference, *index),
+    }
+}
+
+/// A sum over what an item's thread touches besides, or enters or leaves.
+pub fn sum_of_touched(item: &Item) -> u32 {
+    match item {
+        Item::Read { variable, .. } => sum_of_variable(variable),
+        Item::Write { variable, .. } => sum_of_variable(variable),
+        Item::Acquire { reference, .. } => *reference,
+        Item::Release { reference, .. } => *reference,
+        Item::Fork { started, .. } => *started,
+        Item::Join { ended, .. } => *ended,
+        Item::Enter { method, .. } => sum_of_method(method),
+        Item::Exit { method, .. } => sum_of_method(method),
+    }
+}
+
+/// A sum over an item.
+pub fn sum_of_item(item: &Item) -> u32 {
+    let touched = sum_of_touched(item);
+    match item {
+        Item::Read { thread, .. } => mixed(mixed(touched, *thread), 1),
+        Item::Write { thread, .. } => mixed(mixed(touched, *thread), 2),
+        Item::Acquire { thread, .. } => mixed(mixed(touched, *thread), 3),
+        Item::Release { thread, .. } => mixed(mixed(touched, *thread), 4),
+        Item::Fork { thread, .. } => mixed(mixed(touched, *thread), 5),
+        Item::Join { thread, .. } => mixed(mixed(touched, *thread), 6),
+        Item::Enter { thread, .. } => mixed(mixed(touched, *thread), 7),
+        Item::Exit { thread, .. } => mixed(mixed(touched, *thread), 8),
+    }
+}
