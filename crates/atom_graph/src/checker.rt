@@ -114,11 +114,12 @@ impl Checker {
             return Err(FeedFault::TooMany);
         }
         let copy = self.walked.prepare(thread, item)?;
-        let transaction = self.walked.next(thread);
-        let stay = self.walked.stay(thread);
+        let current = self.walked.courses.transaction(thread);
+        let transaction = self.walked.next(current);
+        let stay = self.walked.stay(thread, current);
         self.watch
             .event(events as u64 + 1, transaction, stay, item)?;
-        self.walked.happened(thread, transaction, copy);
+        self.walked.happened(thread, current, transaction, copy);
         Ok(())
     }
 

@@ -8,6 +8,7 @@ mod counts;
 mod fault;
 mod found;
 mod reduced;
+mod repeats;
 mod stay;
 mod walked;
 mod watch;

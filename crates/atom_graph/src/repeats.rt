@@ -1,0 +1,82 @@
+//! Items that were taken before. A trace repeats the same few again and again: an item that is remembered gets one owner
+//! more, and takes no memory of its own.
+
+ghost use Rattle.std.specs.Prelude.{◌≡◌, IfOk, IfSome, IsTrue};
+
+use crate::copies::copied_item;
+use accesses::sum_of_item;
+use held::shared::Shared;
+use jvms_machine::trace::Item;
+use std::alloc::{AllocError, Global};
+
+/// How many items are remembered at most.
+const SLOTS: usize = 1024;
+
+/// A few of the items that were taken: for each remainder of a sum the last one with it.
+#[derive(Drop)]
+pub(crate) struct Repeats {
+    taken: Vec<Option<Shared<Item>>>,
+    alloc: Global,
+}
+
+impl Repeats {
+    /// None was taken. Takes no memory.
+    pub(crate) fn new(alloc: Global) -> Self {
+        Repeats {
+            taken: Vec::new(alloc),
+            alloc,
+        }
+    }
+
+    /// An item once more: with one owner more, if it is remembered, and else a copy.
+    pub(crate) fn once_more(&mut self, item: &Item) -> Result<Shared<Item>, AllocError>
+        ensures { IfOk result (λ i. i ≡ item.now) }
+    {
+        let slot = sum_of_item(item) as usize % SLOTS;
+        if let Some(taken) = self.taken_in(slot, item)? {
+            return Ok(taken);
+        }
+        let taken = Shared::new(self.alloc, copied_item(item)?)?;
+        self.keep(slot, &taken)?;
+        Ok(taken)
+    }
+
+    /// The item in a slot, if it is this one.
+    fn taken_in(&self, slot: usize, item: &Item) -> Result<Option<Shared<Item>>, AllocError>
+        ensures { IfOk result (λ o. IfSome o (λ i. i ≡ item.now)) }
+    {
+        match self.taken.get(slot) {
+            Some(Some(taken)) => same_one(taken, item),
+            _ => Ok(None),
+        }
+    }
+
+    /// Remembers an item in a slot.
+    fn keep(&mut self, slot: usize, item: &Shared<Item>) -> Result<(), AllocError> {
+        for _ in self.taken.len()..SLOTS {
+            self.taken.push(None)?;
+        }
+        if slot < self.taken.len() {
+            self.taken[slot] = Some(item.share()?);
+        }
+        Ok(())
+    }
+}
+
+/// One owner more of an item that was taken, if it is the same as another.
+fn same_one(taken: &Shared<Item>, item: &Item) -> Result<Option<Shared<Item>>, AllocError>
+    ensures { IfOk result (λ o. IfSome o (λ i. i ≡ item.now)) }
+{
+    if is_same(taken.get(), item) {
+        Ok(Some(taken.share()?))
+    } else {
+        Ok(None)
+    }
+}
+
+/// Whether two items are the same.
+fn is_same(item: &Item, other: &Item) -> bool
+    ensures { IsTrue result → item.now ≡ other.now }
+{
+    item == other
+}
