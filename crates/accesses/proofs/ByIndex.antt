@@ -1,5 +1,5 @@
 -- Entries that are tried by their index.
-use Rattle.std.proofs.Common.{◌≡◌, ℕ, Bool, true, false, List, [], ◌∷◌, Option, Some, None, IfSome, sym, ap, ◌∙◌, subst, true≢false}
+use Rattle.std.proofs.Common.{◌≡◌, ℕ, Bool, true, List, [], ◌∷◌, Option, Some, None, IfSome, sym, ap, ◌∙◌, subst, true≢false}
 use Rattle.jvms_machine.specs.declared.trace.Item.{Item}
 use Rattle.jvms_machine.specs.declared.trace.Item.TheVariants as item
 use Rattle.accesses.specs.Accesses.{Access, Last, OfMonitor, OfThread, OfVariable, Place, accesses_beside, beside_at, main_at}

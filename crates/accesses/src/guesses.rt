@@ -3,13 +3,18 @@
 
 use std::alloc::{AllocError, Global};
 
-/// How many guesses are remembered.
-const SLOTS: usize = 1024;
+/// How many guesses are remembered at first.
+const FEWEST: usize = 64;
+
+/// How many are remembered at most.
+const MOST: usize = 65_536;
 
 /// For each remainder of a sum the entry that was found last for one.
 #[derive(Drop)]
 pub struct Guesses {
     entries: Vec<usize>,
+    /// How often a guess was wrong since there were so many.
+    wrong: usize,
 }
 
 impl Guesses {
@@ -17,12 +22,18 @@ impl Guesses {
     pub fn new(alloc: Global) -> Self {
         Guesses {
             entries: Vec::new(alloc),
+            wrong: 0,
         }
+    }
+
+    /// Where the guess for a sum stands.
+    fn slot_of(&self, sum: u32) -> usize {
+        sum as usize & self.entries.len().wrapping_sub(1)
     }
 
     /// The entry that is guessed for a sum.
     pub fn at(&self, sum: u32) -> usize {
-        let slot = sum as usize % SLOTS;
+        let slot = self.slot_of(sum);
         if slot < self.entries.len() {
             self.entries[slot]
         } else {
@@ -30,14 +41,25 @@ impl Guesses {
         }
     }
 
-    /// An entry was found for a sum.
+    /// An entry was looked up for a sum. Where that was often so, twice as many are remembered.
     pub fn note(&mut self, sum: u32, entry: usize) -> Result<(), AllocError> {
-        if self.entries.is_empty() {
-            self.entries.resize(SLOTS, 0)?;
+        if self.wrong >= self.entries.len() {
+            self.grow()?;
         }
-        let slot = sum as usize % SLOTS;
+        self.wrong = self.wrong.saturating_add(1);
+        let slot = self.slot_of(sum);
         if slot < self.entries.len() {
             self.entries[slot] = entry;
+        }
+        Ok(())
+    }
+
+    /// Twice as many are remembered, unless these are the most.
+    fn grow(&mut self) -> Result<(), AllocError> {
+        let count = self.entries.len();
+        if count < MOST {
+            self.entries.resize((2 * count).max(FEWEST), 0)?;
+            self.wrong = 0;
         }
         Ok(())
     }

@@ -9,13 +9,18 @@ use held::shared::Shared;
 use jvms_machine::trace::Item;
 use std::alloc::{AllocError, Global};
 
-/// How many items are remembered at most.
-const SLOTS: usize = 1024;
+/// How many items are remembered at first.
+const FEWEST: usize = 64;
+
+/// How many are remembered at most.
+const MOST: usize = 65_536;
 
 /// A few of the items that were taken: for each remainder of a sum the last one with it.
 #[derive(Drop)]
 pub(crate) struct Repeats {
     taken: Vec<Option<Shared<Item>>>,
+    /// How many items weren't remembered since there is room for so many.
+    missed: usize,
     alloc: Global,
 }
 
@@ -24,6 +29,7 @@ impl Repeats {
     pub(crate) fn new(alloc: Global) -> Self {
         Repeats {
             taken: Vec::new(alloc),
+            missed: 0,
             alloc,
         }
     }
@@ -32,13 +38,18 @@ impl Repeats {
     pub(crate) fn once_more(&mut self, item: &Item) -> Result<Shared<Item>, AllocError>
         ensures { IfOk result (λ i. i ≡ item.now) }
     {
-        let slot = sum_of_item(item) as usize % SLOTS;
-        if let Some(taken) = self.taken_in(slot, item)? {
+        let sum = sum_of_item(item);
+        if let Some(taken) = self.taken_in(self.slot_of(sum), item)? {
             return Ok(taken);
         }
         let taken = Shared::new(self.alloc, copied_item(item)?)?;
-        self.keep(slot, &taken)?;
+        self.keep(sum, &taken)?;
         Ok(taken)
+    }
+
+    /// Where an item with a sum is remembered.
+    fn slot_of(&self, sum: u32) -> usize {
+        sum as usize & self.taken.len().wrapping_sub(1)
     }
 
     /// The item in a slot, if it is this one.
@@ -51,13 +62,27 @@ impl Repeats {
         }
     }
 
-    /// Remembers an item in a slot.
-    fn keep(&mut self, slot: usize, item: &Shared<Item>) -> Result<(), AllocError> {
-        for _ in self.taken.len()..SLOTS {
-            self.taken.push(None)?;
+    /// Remembers an item that wasn't. Where many weren't, there is room for twice as many.
+    fn keep(&mut self, sum: u32, item: &Shared<Item>) -> Result<(), AllocError> {
+        if self.missed >= self.taken.len() {
+            self.grow()?;
         }
+        self.missed = self.missed.saturating_add(1);
+        let slot = self.slot_of(sum);
         if slot < self.taken.len() {
             self.taken[slot] = Some(item.share()?);
+        }
+        Ok(())
+    }
+
+    /// Makes room for twice as many, unless there is room for the most.
+    fn grow(&mut self) -> Result<(), AllocError> {
+        let count = self.taken.len();
+        if count < MOST {
+            for _ in count..(2 * count).max(FEWEST) {
+                self.taken.push(None)?;
+            }
+            self.missed = 0;
         }
         Ok(())
     }

@@ -11,6 +11,9 @@ returns-in-Some c =
     let here = c.in-Some.lasts.now in
     let main = c.touches_mainly.result in
     on_ok c.push_links.result
-    (λ are. (links_of main c.args.number here, are,
-    touched_links (kept_of c.args.self.now) c.args.item.now at.place main c.args.number here (accesses_beside c.args.item.now) c.touches_mainly.ensures at.touched at.kept))
+    (λ are. (
+      links_of main c.args.number here,
+      are,
+      touched_links (kept_of c.args.self.now) c.args.item.now at.place main c.args.number here (accesses_beside c.args.item.now) c.touches_mainly.ensures at.touched at.kept,
+    ))
     c.push_links.ensures
