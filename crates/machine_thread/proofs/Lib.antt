@@ -1,1 +1,2 @@
 mod Stacks
+mod StepsOn
