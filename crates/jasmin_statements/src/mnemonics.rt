@@ -11,11 +11,19 @@ use jasmin_operands::same_word;
 /// The opcode of invokespecial, which `invokenonvirtual` is another name of.
 const INVOKESPECIAL: u8 = 183;
 
+/// Whether a word is a name. Lengths are compared first, since most names have another.
+#[tactic(auto, using(crate::proofs::Lengths::not_same))]
+fn is_name(name: &str, word: &[u16]) -> bool
+    ensures { result ≡ same_text name.now word.now }
+{
+    name.len() == word.len() && same_word(name, word)
+}
+
 /// The place of a word among names, if it is one of them.
 fn place_of(word: &[u16], names: &[&str]) -> Option<usize>
     ensures { result ≡ position (λ name. same_text name.now word.now) names.now }
 {
-    names.iter().position(|name| same_word(name, word))
+    names.iter().position(|name| is_name(name, word))
 }
 
 /// The code of a word, which is its place among the names.
