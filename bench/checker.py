@@ -2,9 +2,11 @@
 """Times `jvmx check` on traces of some lengths, shapes and numbers of threads: for each, the seconds of reading it, events a
 second of judging it, bytes a second of its text, and the memory that both take beside each other, in bytes an event.
 
-    bench/checker.py [--jvmx PROGRAM] [--most EVENTS] [SHAPE...]
+    bench/checker.py [--jvmx PROGRAM] [--events PROGRAM] [--most EVENTS] [SHAPE...]
 
-Reading alone is timed by the same text with a faulty line behind it, which is refused before an item is judged.
+Reading alone is timed by the same text with a faulty line behind it, which is refused before an item is judged. With the
+program of crates/events, which feeds a checker without a text and keeps no items, it times that instead: a text of
+10,000,000 events is past 64 MiB.
 """
 import argparse
 import subprocess
@@ -82,18 +84,34 @@ def line(words, folder, shape, threads, events):
     return f"{shape:13s} {threads:3d} {events:9d} {figures} {1024 * room / events:8.0f}"
 
 
+def feeding_line(words, shape, threads, events):
+    least, _ = measured(words.events, shape, threads, 0)
+    took, room = measured(words.events, shape, threads, events)
+    feeding = max(took - least, 0.0005)
+    return f"{shape:13s} {threads:3d} {events:9d} {feeding:8.3f} {events / feeding / 1e6:7.2f} {1024 * room / events:8.0f}"
+
+
+def lines(words, folder):
+    for shape in words.shapes or SHAPES:
+        for threads in (2, 8, 64):
+            for events in (n for n in LENGTHS if n <= words.most):
+                yield feeding_line(words, shape, threads, events) if words.events else line(
+                    words, folder, shape, threads, events
+                )
+
+
 def main():
     parser = argparse.ArgumentParser(description=__doc__.split("\n")[0])
     parser.add_argument("--jvmx", default=HERE.parent / "jvmx", help="the program; else the one of this folder")
+    parser.add_argument("--events", help="the program of crates/events, to time feeding alone")
     parser.add_argument("--most", default=1_000_000, type=int, help="the longest traces, in events")
     parser.add_argument("shapes", nargs="*", metavar="SHAPE", help="these shapes; else all")
     words = parser.parse_args()
-    print("shape     threads    events  read: s    MB/s  judge: s  M ev/s  bytes/ev")
+    head = "feed: s  M ev/s  bytes/ev" if words.events else "read: s    MB/s  judge: s  M ev/s  bytes/ev"
+    print(f"shape     threads    events  {head}")
     with tempfile.TemporaryDirectory() as folder:
-        for shape in words.shapes or SHAPES:
-            for threads in (2, 8, 64):
-                for events in (n for n in LENGTHS if n <= words.most):
-                    print(line(words, Path(folder), shape, threads, events), flush=True)
+        for told in lines(words, Path(folder)):
+            print(told, flush=True)
 
 
 if __name__ == "__main__":
