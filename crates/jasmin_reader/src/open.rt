@@ -1,7 +1,8 @@
 //! A source that is being read.
 
-ghost use Rattle.std.specs.Prelude.{◌≡◌, IfOk};
+ghost use Rattle.std.specs.Prelude.{◌≡◌, IfOk, OnOk};
 ghost use Rattle.jasmin.specs.Reading.{nothing_read, is_repeated as statement_repeated, with_statement as reading_with_statement};
+ghost use Rattle.jasmin_reader.specs.Members.{FollowsFields, FollowsMethods};
 
 use crate::added::with_statement;
 use crate::members::Members;
@@ -15,10 +16,16 @@ use std::marker::Model;
 
 /// What the lines so far have said, and the names of the members, so that none has to be sought among all.
 #[derive(Drop)]
-pub(crate) struct Open {
+struct Parts {
     reading: Reading,
     fields: Members,
     methods: Members,
+}
+
+/// The same, held apart, since it goes from line to line.
+#[derive(Drop)]
+pub(crate) struct Open {
+    parts: Box<Parts>,
 }
 
 impl Model for Open {
@@ -27,9 +34,9 @@ impl Model for Open {
 
     ghost Value = { ReadingValue };
 
-    ghost view = { λ o. o.reading };
+    ghost view = { λ o. o.parts.value.reading };
 
-    ghost invariant = { λ o. AreFields o.fields o.reading.fields × AreMethods o.methods o.reading.methods };
+    ghost invariant = { λ o. AreFields o.parts.value.fields o.parts.value.reading.fields × AreMethods o.parts.value.methods o.parts.value.reading.methods };
 }
 
 /// What no line has said.
@@ -50,30 +57,51 @@ fn nothing(alloc: Global) -> Reading
     }
 }
 
+impl Parts {
+    /// Adds what a statement says.
+    fn add(&mut self, alloc: Global, statement: Statement) -> Result<(), AllocError>
+        ensures reading { OnOk result (self.new.reading ≡ reading_with_statement self.old.reading statement) }
+        ensures fields { OnOk result (FollowsFields self.old.fields self.new.fields statement) }
+        ensures methods { OnOk result (FollowsMethods self.old.methods self.new.methods self.old.reading.method statement) }
+    {
+        note_field(&mut self.fields, &statement)?;
+        note_method(&mut self.methods, &self.reading.method, &statement)?;
+        with_statement(alloc, &mut self.reading, statement)
+    }
+}
+
 impl Open {
     /// Before the first line.
-    pub(crate) fn new(alloc: Global) -> Self
-        ensures { result ≡ nothing_read }
+    pub(crate) fn new(alloc: Global) -> Result<Self, AllocError>
+        ensures { IfOk result (λ o. o ≡ nothing_read) }
     {
-        Open {
+        let parts = Parts {
             reading: nothing(alloc),
             fields: Members::new(alloc),
             methods: Members::new(alloc),
-        }
+        };
+        Ok(Open {
+            parts: Box::new(alloc, parts)?,
+        })
     }
 
     /// What the lines so far have said.
     pub(crate) fn reading(&self) -> &Reading
         ensures { result.now ≡ self.now }
     {
-        &self.reading
+        &self.parts.reading
     }
 
     /// The same, where the names are no longer needed.
     pub(crate) fn into_reading(self) -> Reading
         ensures { result ≡ self }
     {
-        self.reading
+        let Parts {
+            reading,
+            fields: _,
+            methods: _,
+        } = Box::into_inner(self.parts);
+        reading
     }
 
     /// Whether a statement that may come once has come, or a member with this name and descriptor.
@@ -82,18 +110,18 @@ impl Open {
         ensures { IfOk result (λ repeated. repeated ≡ statement_repeated self.now statement.now) }
     {
         match statement {
-            Statement::Bytecode => Ok(self.reading.has_bytecode),
-            Statement::SourceFile => Ok(self.reading.has_source),
-            Statement::Class { access: _, name: _ } => Ok(self.reading.name.is_some()),
-            Statement::Superclass(_) => Ok(self.reading.superclass.is_some()),
-            Statement::Field(field) => self.fields.has(&field.name, &field.descriptor),
+            Statement::Bytecode => Ok(self.parts.reading.has_bytecode),
+            Statement::SourceFile => Ok(self.parts.reading.has_source),
+            Statement::Class { access: _, name: _ } => Ok(self.parts.reading.name.is_some()),
+            Statement::Superclass(_) => Ok(self.parts.reading.superclass.is_some()),
+            Statement::Field(field) => self.parts.fields.has(&field.name, &field.descriptor),
             Statement::Method {
                 access: _,
                 name,
                 descriptor,
-            } => self.methods.has(name, descriptor),
-            Statement::MaxStack(_) => Ok(has_stack(&self.reading.method)),
-            Statement::MaxLocals(_) => Ok(has_locals(&self.reading.method)),
+            } => self.parts.methods.has(name, descriptor),
+            Statement::MaxStack(_) => Ok(has_stack(&self.parts.reading.method)),
+            Statement::MaxLocals(_) => Ok(has_locals(&self.parts.reading.method)),
             Statement::Blank
             | Statement::Implements(_)
             | Statement::EndMethod
@@ -117,18 +145,8 @@ impl Open {
     ) -> Result<Self, AllocError>
         ensures { IfOk result (λ o. o ≡ reading_with_statement self statement) }
     {
-        let Open {
-            mut reading,
-            mut fields,
-            mut methods,
-        } = self;
-        note_field(&mut fields, &statement)?;
-        note_method(&mut methods, &reading.method, &statement)?;
-        with_statement(alloc, &mut reading, statement)?;
-        Ok(Open {
-            reading,
-            fields,
-            methods,
-        })
+        let Open { mut parts } = self;
+        parts.add(alloc, statement)?;
+        Ok(Open { parts })
     }
 }

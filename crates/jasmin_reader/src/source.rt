@@ -21,7 +21,7 @@ fn with_lines(alloc: Global, text: &str) -> Result<(Open, usize), SourceFault>
     ensures read { Reads (λ x. x.0) result (lines_read 0 nothing_read (lines text.now)) }
     ensures count { IfOk result (λ x. x.1 ≡ length (lines text.now)) }
 {
-    let mut read = Open::new(alloc);
+    let mut read = Open::new(alloc)?;
     let mut number = 0;
     for line in text.lines() {
         number += 1;
