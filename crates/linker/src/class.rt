@@ -8,6 +8,7 @@ use crate::method::methods_of;
 use crate::texts::Texts;
 use const_pool::Pool;
 use descriptor::Flags;
+use held::items::Items;
 use held::shared::Text;
 use jvms_file::class_file::ClassFile;
 use jvms_program::program::{Class, ClassKind};
@@ -38,19 +39,65 @@ fn superclass_of(texts: &Texts, number: u16) -> Result<Option<Text>, AllocError>
     }
 }
 
+/// The names of a class, and of what is right above it.
+#[derive(Drop)]
+struct ClassNames {
+    name: Text,
+    superclass: Option<Text>,
+    interfaces: Items<Text>,
+}
+
+/// The names in which the numbers of a class, of its superclass and of its superinterfaces result.
+fn names_of(
+    alloc: Global,
+    texts: &Texts,
+    this_class: u16,
+    super_class: u16,
+    interfaces: &[u16],
+) -> Result<ClassNames, AllocError>
+    ensures name { IfOk result (λ n. n.name ≡ class_text texts.now this_class) }
+    ensures superclass { IfOk result (λ n. n.superclass ≡ (if super_class == 0 then None else Some (class_text texts.now super_class))) }
+    ensures interfaces { IfOk result (λ n. n.interfaces ≡ map (class_text texts.now) interfaces.now) }
+{
+    Ok(ClassNames {
+        name: texts.class_name(this_class)?,
+        superclass: superclass_of(texts, super_class)?,
+        interfaces: texts.class_names(alloc, interfaces)?,
+    })
+}
+
 /// The class of a program that a class file means: itself, with texts in place of pool numbers.
 #[tactic(auto, unfolding(jvms_program::specs::Meaning::meaning))]
 pub fn meaning(alloc: Global, file: ClassFile) -> Result<Class, AllocError>
     ensures { IfOk result (λ c. c ≡ meaning file) }
 {
-    let flags = Flags::of_access(file.access);
-    let texts = Texts::of(alloc, Pool::of(file.pool))?;
+    let ClassFile {
+        pool,
+        access,
+        this_class,
+        super_class,
+        interfaces,
+        fields,
+        methods,
+        ..
+    } = file;
+    let texts = Texts::of(alloc, Pool::of(pool))?;
+    let names = names_of(
+        alloc,
+        &texts,
+        this_class,
+        super_class,
+        interfaces.as_slice(),
+    )?;
+    let is_interface = Flags::of_access(access).is_interface();
+    let fields = fields_of(alloc, &texts, is_interface, fields.as_slice())?;
+    let methods = methods_of(alloc, &texts, methods.as_slice())?;
     Ok(Class {
-        name: texts.class_name(file.this_class)?,
-        kind: kind_of(file.access),
-        superclass: superclass_of(&texts, file.super_class)?,
-        interfaces: texts.class_names(alloc, file.interfaces.as_slice())?,
-        fields: fields_of(alloc, &texts, flags.is_interface(), file.fields.as_slice())?,
-        methods: methods_of(alloc, &texts, file.methods.as_slice())?,
+        name: names.name,
+        kind: kind_of(access),
+        superclass: names.superclass,
+        interfaces: names.interfaces,
+        fields,
+        methods,
     })
 }
