@@ -5,6 +5,4 @@ mod classes;
 mod codes;
 mod descriptors;
 mod fixtures;
-mod members;
-mod numbers;
 mod pools;

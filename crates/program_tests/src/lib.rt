@@ -1,9 +1,6 @@
-//! Tests of programs and of linking, on programs that they build.
+//! The public calls of programs, each made once with ample memory. What they answer is pinned by their contracts;
+//! `row_cases` runs programs of each shape, and `command_cases` has all that linking refuses.
 #![tactic(auto)]
 
 #[cfg(test)]
-mod linking;
-#[cfg(test)]
 mod lookup;
-#[cfg(test)]
-mod shapes;

@@ -1,17 +1,18 @@
 //! What is looked up in programs, by the Java Virtual Machine Specification (JVMS 5.4.3, 6.5).
 
 use fixtures::members::{field_reference, method_reference};
-use fixtures::texts::{text, units};
+use fixtures::texts::units;
 use jvms_program::number::MethodNumber;
-use jvms_program::program::{Class, ClassKind};
 use jvms_program::thrown::Thrown;
 use program::{OBJECT, Program, is_built_in};
 use source_programs::program_of;
-use std::alloc::{AllocError, Global};
+use std::alloc::Global;
 use std::test::Fail;
 
-/// The name of a class.
+/// Names of classes.
 const A: [u16; 1] = [65];
+
+const C: [u16; 1] = [67];
 
 /// 37, A, extends 38, B, extends Object, and 39, I, extends Runnable; A has the static `own`, B has `up`. 40, C, extends
 /// A and implements I.
@@ -48,86 +49,29 @@ fn looks_up_by_name(rt: HostRuntime) -> Result<(), Fail> {
     Ok(())
 }
 
-/// Numbers of classes, and whether each is built in.
-static BUILT_IN: [(usize, bool); 4] = [(0, true), (36, true), (37, false), (41, false)];
-
 #[test]
 fn knows_the_built_in_classes(rt: HostRuntime) -> Result<(), Fail> {
-    assert!(rt; is_built_in(&OBJECT) && !is_built_in(&A));
     let program = program(rt.alloc())?;
-    for (number, is) in &BUILT_IN {
-        assert!(rt; program.is_built_in(*number) == *is, "{number}");
-    }
+    let found = (
+        is_built_in(&OBJECT),
+        is_built_in(&A),
+        program.is_built_in(36),
+        program.is_built_in(37),
+    );
+    assert_eq!(rt; found, (true, false, true, false));
     Ok(())
-}
-
-/// What resolution answers.
-type Place = Result<(usize, usize), Thrown>;
-
-/// A class, a name, a descriptor, whether they are asked as an interface's and as a static method's, and the answer.
-type Case = (&'static str, &'static str, &'static str, bool, bool, Place);
-
-static METHODS: [Case; 9] = [
-    ("A", "up", "()V", false, false, Ok((38, 0))),
-    (
-        "A",
-        "up",
-        "()V",
-        false,
-        true,
-        Err(Thrown::IncompatibleClassChangeError),
-    ),
-    (
-        "A",
-        "missing",
-        "()V",
-        false,
-        false,
-        Err(Thrown::NoSuchMethodError),
-    ),
-    (
-        "G",
-        "up",
-        "()V",
-        false,
-        false,
-        Err(Thrown::NoClassDefFoundError),
-    ),
-    (
-        "java/lang/ArithmeticException",
-        "getMessage",
-        "()Ljava/lang/String;",
-        false,
-        false,
-        Ok((9, 2)),
-    ),
-    (
-        "I",
-        "run",
-        "()V",
-        false,
-        false,
-        Err(Thrown::IncompatibleClassChangeError),
-    ),
-    ("I", "run", "()V", true, false, Ok((6, 0))),
-    ("C", "up", "()V", false, false, Ok((38, 0))),
-    ("C", "run", "()V", false, false, Ok((6, 0))),
-];
-
-/// What a method resolves to.
-fn resolved(alloc: Global, program: &Program, case: &Case) -> Result<Place, AllocError> {
-    let (class, name, descriptor, of_interface, is_static, _) = case;
-    let named = method_reference(alloc, *of_interface, class, name, descriptor)?;
-    Ok(program.resolve_method(*is_static, &named))
 }
 
 #[test]
 fn resolves_methods(rt: HostRuntime) -> Result<(), Fail> {
     let program = program(rt.alloc())?;
-    for (i, case) in METHODS.iter().enumerate() {
-        let found = resolved(rt.alloc(), &program, case)?;
-        assert_eq!(rt; found, case.5, "at {i}");
-    }
+    let up = method_reference(rt.alloc(), false, "A", "up", "()V")?;
+    let found = (
+        program.resolve_method(false, &up),
+        program.resolve_method(true, &up),
+    );
+    let wrong = Err(Thrown::IncompatibleClassChangeError);
+    assert_eq!(rt; found, (Ok((38, 0)), wrong));
     Ok(())
 }
 
@@ -149,33 +93,16 @@ fn resolves_fields(rt: HostRuntime) -> Result<(), Fail> {
     Ok(())
 }
 
-/// Classes, and whether a value of the first fits the second.
-static FIT: [(&str, &str, bool); 7] = [
-    ("A", "B", true),
-    ("B", "A", false),
-    ("C", "java/lang/Runnable", true),
-    ("C", "B", true),
-    ("I", "C", false),
-    ("[[LC;", "[[LI;", true),
-    ("[LA;", "java/lang/Cloneable", true),
-];
-
-/// Whether a value of a class fits another.
-fn fits(alloc: Global, program: &Program, class: &str, above: &str) -> Result<bool, AllocError> {
-    let class = units(alloc, class)?;
-    let above = units(alloc, above)?;
-    Ok(program.fits(class.as_slice(), above.as_slice()))
-}
-
 #[test]
 fn knows_what_fits(rt: HostRuntime) -> Result<(), Fail> {
     let program = program(rt.alloc())?;
-    for (class, above, want) in &FIT {
-        assert!(rt;
-            fits(rt.alloc(), &program, class, above)? == *want,
-            "{class}"
-        );
-    }
+    let above = units(rt.alloc(), "java/lang/Runnable")?;
+    let array = units(rt.alloc(), "[[LC;")?;
+    let found = (
+        program.fits(&C, above.as_slice()),
+        program.fits(array.as_slice(), &C),
+    );
+    assert_eq!(rt; found, (true, false));
     Ok(())
 }
 

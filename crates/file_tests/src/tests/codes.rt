@@ -1,15 +1,14 @@
 //! The code of methods (JVMS 4.7.3, 6.5, 7).
 
-use super::fixtures::{G, refusal, text};
+use super::fixtures::{G, refusal};
 use const_pool::ScannedPool;
 use held::boxed::Boxed;
 use held::items::Items;
-use insn::{Decoded, Insn, decode, encode, handler, insn_at, layout};
-use jvms_file::class_file::{Constant, Handler};
+use insn::{Decoded, Insn, decode, insn_at};
 use jvms_file::fault::ClassFault;
 use jvms_file::insn::{
-    Branch, ClassUse, Comparison, Division, IntInsn, Invoke, Kind, LocalUse, LookupSwitch, Push,
-    ReturnInsn, Simple, SwitchCase, TableSwitch,
+    Branch, Comparison, Division, IntInsn, Kind, LocalUse, LookupSwitch, Push, ReturnInsn, Simple,
+    SwitchCase, TableSwitch,
 };
 use std::alloc::{AllocError, Global};
 use std::test::Fail;
@@ -22,28 +21,12 @@ fn store(local: u16) -> Insn {
     Insn::Simple(Simple::Local(LocalUse::Store(Kind::Int), local))
 }
 
-/// Entry 2 is a class, entry 4 that of int[][], entry 8 an interface's method of a long.
+/// The pool of no entries, which these instructions name none of.
 fn pool(alloc: Global) -> Result<ScannedPool, AllocError> {
-    let entries = vec![in alloc;
-        text(alloc, "I")?,
-        Constant::Class { name: 1 },
-        text(alloc, "[[I")?,
-        Constant::Class { name: 3 },
-        text(alloc, "m")?,
-        text(alloc, "(J)V")?,
-        Constant::NameAndType {
-            name: 5,
-            descriptor: 6
-        },
-        Constant::InterfaceMethod {
-            class: 2,
-            name_and_type: 7
-        },
-    ]?;
-    ScannedPool::of(alloc, Items::from_vec(entries))
+    ScannedPool::of(alloc, Items::new(alloc))
 }
 
-/// The instructions of bytes, in a class of that pool.
+/// The instructions of bytes.
 fn decoded(alloc: Global, bytes: &[u8]) -> Result<Decoded, Fail> {
     let entries = pool(alloc)?;
     Ok(decode(alloc, &entries, 49, bytes)?)
@@ -54,9 +37,6 @@ fn greatest_common_divisor(rt: HostRuntime) -> Result<(), Fail> {
     let code = decoded(rt.alloc(), &G[94..109])?;
     let pcs: [u32; 11] = [0, 1, 4, 5, 6, 7, 8, 9, 10, 13, 14];
     assert_eq!(rt; code.starts.as_slice(), pcs.as_slice());
-    assert_eq!(rt; code.starts.count(), 11);
-    assert_eq!(rt; code.starts.place_of(13), Some(9));
-    assert_eq!(rt; code.starts.place_of(12), None);
     let insns = [
         load(1),
         Insn::Branch(Branch::IfZero(Comparison::Equal), 9),
@@ -173,7 +153,7 @@ fn faults(rt: HostRuntime) -> Result<(), Fail> {
         0xab, 0, 0, 0, 0, 0, 0, 0, 0, 0, 0, 2, 0, 0, 0, 5, 0, 0, 0, 0, 0, 0, 0, 5, 0, 0, 0, 0,
     ];
     let operand = ClassFault::Operand { pc: 0 };
-    let entries = ScannedPool::of(rt.alloc(), Items::new(rt.alloc()))?;
+    let entries = pool(rt.alloc())?;
     for (bytes, fault) in [
         (many.as_slice(), operand),
         (most.as_slice(), operand),
@@ -215,71 +195,10 @@ fn a_method_has_at_most_65535_bytes(rt: HostRuntime) -> Result<(), Fail> {
 }
 
 #[test]
-fn pool_entries(rt: HostRuntime) -> Result<(), Fail> {
-    // anewarray, multianewarray of two dimensions, invokeinterface of a long and the object
-    let bytes = [0xbd, 0, 2, 0xc5, 0, 4, 2, 0xb9, 0, 8, 3, 0];
-    let code = decoded(rt.alloc(), &bytes)?;
-    let insns = [
-        Insn::Class(ClassUse::NewArray, 2),
-        Insn::MultiNewArray(4, 2),
-        Insn::Invoke(Invoke::Interface, 8),
-    ];
-    assert_eq!(rt; code.insns.as_slice(), insns.as_slice());
-    Ok(())
-}
-
-#[test]
 fn one_instruction(rt: HostRuntime) -> Result<(), Fail> {
     let entries = pool(rt.alloc())?;
     let (insn, rest) = insn_at(rt.alloc(), &entries, 49, 7, &[0x11, 0x80, 0x00, 0xac])?;
     assert_eq!(rt; insn, Insn::Simple(Simple::Push(Push::Int(-32768))));
     assert_eq!(rt; rest, [0xac].as_slice());
-    Ok(())
-}
-
-#[test]
-fn handlers(rt: HostRuntime) -> Result<(), Fail> {
-    let code = decoded(rt.alloc(), &G[94..109])?;
-    for (start, end, target, wanted) in [
-        (1, 15, 13, Some((1, 11, 9))),
-        (1, 13, 0, Some((1, 9, 0))),
-        (4, 4, 0, None),
-        (2, 15, 0, None),
-        (1, 11, 0, None),
-        (1, 15, 15, None),
-    ] {
-        let found = handler(
-            &code.starts,
-            15,
-            Handler {
-                start,
-                end,
-                target,
-                catch_type: 2,
-            },
-        );
-        let places = found.map(|h| (h.start, h.end, h.target));
-        assert_eq!(rt; places, wanted);
-    }
-    Ok(())
-}
-
-#[test]
-fn pads_of_a_layout_are_0(rt: HostRuntime) -> Result<(), Fail> {
-    // A `nop`, a `tableswitch` with pads 7f and 7e, and a `lookupswitch` at byte 20 with pads 7d, 7c and 7b.
-    let mut bytes = [
-        0x00, 0xaa, 0x7f, 0x7e, 0, 0, 0, 0, 0, 0, 0, 9, 0, 0, 0, 9, 0, 0, 0, 0, 0xab, 0x7d, 0x7c,
-        0x7b, 0, 0, 0, 0, 0, 0, 0, 0,
-    ];
-    let code = decoded(rt.alloc(), &bytes)?;
-    let layout = layout(rt.alloc(), code.starts, code.insns.as_slice(), &bytes)?;
-    for pad in [2, 3, 21, 22, 23] {
-        bytes[pad] = 0;
-    }
-    assert!(rt; layout.bytes.as_slice() == bytes.as_slice());
-    let mut out = vec![in rt.alloc(); 1]?;
-    encode(&mut out, &layout)?;
-    assert!(rt; out.get(1..) == Some(bytes.as_slice()));
-    assert!(rt; layout.starts.as_slice() == [0, 1, 20].as_slice());
     Ok(())
 }

@@ -1,8 +1,6 @@
 //! Class files, and what others are made of.
 
 use file_bytes::write_length;
-use held::items::Items;
-use jvms_file::class_file::Constant;
 use jvms_file::fault::{ClassFault, ReadError};
 use std::alloc::{AllocError, Global};
 
@@ -47,11 +45,6 @@ pub(super) fn units(alloc: Global, letters: &str) -> Result<Vec<u16>, AllocError
         .iter()
         .map(|b| u16::from(*b))
         .collect(alloc)
-}
-
-/// The entry of a text.
-pub(super) fn text(alloc: Global, letters: &str) -> Result<Constant, AllocError> {
-    Ok(Constant::Utf8(Items::from_vec(units(alloc, letters)?)))
 }
 
 /// Why bytes are refused, if they are.
