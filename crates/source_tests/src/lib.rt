@@ -1,12 +1,6 @@
-//! Tests of whole sources: what is one, and the first fault of what isn't. They stand above the crates that read
-//! sources, so that each of those is proved once.
+//! Two sources, cut at each character. What a source is read as otherwise is tested by files of cases, in
+//! `command_cases`.
 #![tactic(auto)]
 
 #[cfg(test)]
-mod examples;
-#[cfg(test)]
-mod faults;
-#[cfg(test)]
-mod operands;
-#[cfg(test)]
-mod statements;
+mod cuts;
