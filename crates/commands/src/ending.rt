@@ -13,7 +13,7 @@ use jvms_machine::value::Value;
 use machine::Machine;
 use program::Program;
 use runs::take_own_turns;
-use std::alloc::{AllocError, Global};
+use std::alloc::Global;
 
 /// What a run may use.
 pub(crate) const DEFAULT_LIMITS: Limits = Limits {
@@ -39,8 +39,9 @@ pub struct Ending {
 
 /// Runs a machine by choices of thread 0 while it is enabled, at most so many, and tells how that ended.
 #[tactic(auto, unfolding(crate::specs::Ending::ending_of))]
-fn end_of(alloc: Global, machine: &mut Machine<'_>, most: u64) -> Result<Ending, AllocError>
-    ensures { IfOk result (λ e. e ≡ ending_of most machine.old.program machine.old.limits machine.old.start machine.old.state) }
+fn end_of(alloc: Global, machine: &mut Machine<'_>, most: u64) -> Result<Ending, JudgeFault>
+    ensures ok { IfOk result (λ e. e ≡ ending_of most machine.old.program machine.old.limits machine.old.start machine.old.state) }
+    ensures memory { IfErr result (λ fault. fault ≡ JudgeFault.Memory) }
 {
     let turns = take_own_turns(alloc, machine, most)?;
     let output = machine.output().to_vec(alloc)?;
@@ -66,8 +67,7 @@ fn run_entry(
     ensures named { IfErr result (λ fault. NamesFile 0 fault) }
 {
     let mut machine = Machine::new(alloc, program, DEFAULT_LIMITS, entry)?;
-    let ending = end_of(alloc, &mut machine, most)?;
-    Ok(ending)
+    end_of(alloc, &mut machine, most)
 }
 
 /// Runs the program that class files and sources make, from its entry on, by choices of thread 0 while it is enabled,

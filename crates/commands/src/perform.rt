@@ -1,5 +1,6 @@
 //! All of the program, over named files, a reader and two writers.
 
+use crate::ending::Ending;
 use crate::eval::eval;
 use crate::files::Files;
 use crate::lines::ending_lines;
@@ -25,25 +26,33 @@ fn is_whole(status: Status, uncaught: &[Uncaught]) -> bool {
     status == Status::Finished && uncaught.is_empty()
 }
 
-/// `eval`: prints the result, or tells how the run ended where there is none.
-fn perform_eval<'w, F: Files, W: ByteOut, E: ByteOut>(
+/// Tells how a run of `eval` ended where there is no result.
+fn tell_ending<'w, E: ByteOut>(
     alloc: Global,
-    words: ProgramWords<'w>,
-    files: &mut F,
-    output: &mut W,
+    ending: &Ending,
     errors: &mut E,
 ) -> Result<u8, Refusal<'w>> {
-    let inputs = read_inputs(alloc, files, words.files.as_slice())?;
-    let ending = match eval(alloc, inputs.as_slice(), &words.entry, output) {
-        Ok(ending) => ending,
-        Err(fault) => return Err(Refusal::of_run(&words, fault)),
-    };
     let uncaught = ending.uncaught.as_slice();
     if ending.result.is_none() {
         let lines = ending_lines(alloc, uncaught, ending.status, ending.turns)?;
         errors.write_all(lines.as_slice())?;
     }
     Ok(u8::from(!is_whole(ending.status, uncaught)))
+}
+
+/// `eval`: prints the result, or tells how the run ended where there is none.
+fn perform_eval<'w, F: Files, W: ByteOut, E: ByteOut>(
+    alloc: Global,
+    words: &ProgramWords<'w>,
+    files: &mut F,
+    output: &mut W,
+    errors: &mut E,
+) -> Result<u8, Refusal<'w>> {
+    let inputs = read_inputs(alloc, files, words.files.as_slice())?;
+    match eval(alloc, inputs.as_slice(), &words.entry, output) {
+        Ok(ending) => tell_ending(alloc, &ending, errors),
+        Err(fault) => Err(Refusal::of_run(words, fault)),
+    }
 }
 
 /// The chooser of the schedule that a word spells.
@@ -61,6 +70,27 @@ fn spec_of<'w, F: Files>(
         Some(name) => Ok(Some(read_spec(alloc, files, name)?)),
         None => Ok(None),
     }
+}
+
+/// What a run takes besides its words.
+#[derive(Drop)]
+struct RunParts {
+    chooser: Chooser,
+    spec: Option<Spec>,
+    inputs: Vec<Input>,
+}
+
+/// What the words of a run name: the schedule comes first, then the specification, then the FILEs.
+fn read_parts<'w, F: Files>(
+    alloc: Global,
+    words: &RunWords<'w>,
+    files: &mut F,
+) -> Result<RunParts, Refusal<'w>> {
+    Ok(RunParts {
+        chooser: chooser_of(alloc, words.schedule)?,
+        spec: spec_of(alloc, files, words.spec)?,
+        inputs: read_inputs(alloc, files, words.program.files.as_slice())?,
+    })
 }
 
 /// Whether no cycle was found, also where none was looked for.
@@ -86,83 +116,107 @@ fn run_lines(alloc: Global, judged: &Judged) -> Result<Vec<u8>, AllocError> {
     Ok(lines)
 }
 
-/// `run`: prints what the program writes, and tells how the run ended and, with a specification, whether it is atomic.
-fn perform_run<'w, F: Files, W: ByteOut, E: ByteOut>(
+/// Runs a program, and prints what it writes.
+fn run_parts<'w, W: ByteOut>(
     alloc: Global,
-    words: RunWords<'w>,
-    files: &mut F,
+    words: &RunWords<'w>,
+    parts: RunParts,
     output: &mut W,
+) -> Result<Judged, Refusal<'w>> {
+    let RunParts {
+        mut chooser,
+        spec,
+        inputs,
+    } = parts;
+    let entry = &words.program.entry;
+    let inputs = inputs.as_slice();
+    match run(alloc, inputs, entry, &mut chooser, words.most, spec, output) {
+        Ok(judged) => Ok(judged),
+        Err(fault) => Err(Refusal::of_run(&words.program, fault)),
+    }
+}
+
+/// Tells how a run ended and, with a specification, whether it is atomic.
+fn tell_run<'w, E: ByteOut>(
+    alloc: Global,
+    judged: &Judged,
     errors: &mut E,
 ) -> Result<u8, Refusal<'w>> {
-    let RunWords {
-        program: words,
-        schedule,
-        most,
-        spec,
-    } = words;
-    let mut chooser = chooser_of(alloc, schedule)?;
-    let spec = spec_of(alloc, files, spec)?;
-    let inputs = read_inputs(alloc, files, words.files.as_slice())?;
-    let judged = match run(
-        alloc,
-        inputs.as_slice(),
-        &words.entry,
-        &mut chooser,
-        most,
-        spec,
-        output,
-    ) {
-        Ok(judged) => judged,
-        Err(fault) => return Err(Refusal::of_run(&words, fault)),
-    };
-    errors.write_all(run_lines(alloc, &judged)?.as_slice())?;
+    errors.write_all(run_lines(alloc, judged)?.as_slice())?;
     let whole = is_whole(judged.status, judged.uncaught.as_slice());
     Ok(u8::from(!(whole && is_without_cycle(&judged.judgement))))
 }
 
-/// `trace`: prints what the threads did.
+/// `run`: prints what the program writes, and tells how the run ended and, with a specification, whether it is atomic.
+fn perform_run<'w, F: Files, W: ByteOut, E: ByteOut>(
+    alloc: Global,
+    words: &RunWords<'w>,
+    files: &mut F,
+    output: &mut W,
+    errors: &mut E,
+) -> Result<u8, Refusal<'w>> {
+    let parts = read_parts(alloc, words, files)?;
+    let judged = run_parts(alloc, words, parts, output)?;
+    tell_run(alloc, &judged, errors)
+}
+
+/// Runs a program, and prints what its threads did.
+fn trace_parts<'w, W: ByteOut>(
+    alloc: Global,
+    words: &RunWords<'w>,
+    parts: RunParts,
+    output: &mut W,
+) -> Result<Judged, Refusal<'w>> {
+    let RunParts {
+        mut chooser,
+        spec: _,
+        inputs,
+    } = parts;
+    let entry = &words.program.entry;
+    let inputs = inputs.as_slice();
+    match write_trace(alloc, inputs, entry, &mut chooser, words.most, output) {
+        Ok(judged) => Ok(judged),
+        Err(fault) => Err(Refusal::of_run(&words.program, fault)),
+    }
+}
+
+/// `trace`: prints what the threads did. Its words name no specification.
 fn perform_trace<'w, F: Files, W: ByteOut>(
     alloc: Global,
-    words: RunWords<'w>,
+    words: &RunWords<'w>,
     files: &mut F,
     output: &mut W,
 ) -> Result<u8, Refusal<'w>> {
-    let RunWords {
-        program: words,
-        schedule,
-        most,
-        spec: _,
-    } = words;
-    let mut chooser = chooser_of(alloc, schedule)?;
-    let inputs = read_inputs(alloc, files, words.files.as_slice())?;
-    let judged = match write_trace(
-        alloc,
-        inputs.as_slice(),
-        &words.entry,
-        &mut chooser,
-        most,
-        output,
-    ) {
-        Ok(judged) => judged,
-        Err(fault) => return Err(Refusal::of_run(&words, fault)),
-    };
+    let parts = read_parts(alloc, words, files)?;
+    let judged = trace_parts(alloc, words, parts, output)?;
     let whole = is_whole(judged.status, judged.uncaught.as_slice());
     Ok(u8::from(!whole))
+}
+
+/// Prints whether the trace of a text is atomic.
+fn check_text<'w, W: ByteOut>(
+    alloc: Global,
+    words: &CheckWords<'w>,
+    spec: Spec,
+    text: &str,
+    output: &mut W,
+) -> Result<u8, Refusal<'w>> {
+    match check(alloc, spec, text, words.serial, output) {
+        Ok(verdict) => Ok(u8::from(is_cycle(&verdict))),
+        Err(fault) => Err(Refusal::of_check(words.trace, fault)),
+    }
 }
 
 /// `check`: prints whether a trace is atomic.
 fn perform_check<'w, F: Files, W: ByteOut>(
     alloc: Global,
-    words: CheckWords<'w>,
+    words: &CheckWords<'w>,
     files: &mut F,
     output: &mut W,
 ) -> Result<u8, Refusal<'w>> {
     let spec = read_spec(alloc, files, words.spec)?;
     let text = read_text(files, words.trace)?;
-    match check(alloc, spec, text.as_str(), words.serial, output) {
-        Ok(verdict) => Ok(u8::from(is_cycle(&verdict))),
-        Err(fault) => Err(Refusal::of_check(words.trace, fault)),
-    }
+    check_text(alloc, words, spec, text.as_str(), output)
 }
 
 /// The class that a FILE holds.
@@ -218,10 +272,10 @@ fn command<'w, F: Files, W: ByteOut, E: ByteOut>(
     errors: &mut E,
 ) -> Result<u8, Refusal<'w>> {
     match command_of(alloc, words)? {
-        Command::Eval(words) => perform_eval(alloc, words, files, output, errors),
-        Command::Run(words) => perform_run(alloc, words, files, output, errors),
-        Command::Trace(words) => perform_trace(alloc, words, files, output),
-        Command::Check(words) => perform_check(alloc, words, files, output),
+        Command::Eval(words) => perform_eval(alloc, &words, files, output, errors),
+        Command::Run(words) => perform_run(alloc, &words, files, output, errors),
+        Command::Trace(words) => perform_trace(alloc, &words, files, output),
+        Command::Check(words) => perform_check(alloc, &words, files, output),
         Command::Asm(words) => perform_asm(alloc, words, files),
         Command::List(file) => perform_list(alloc, file, files, output),
         Command::Help(text) => print(output, text),

@@ -1,6 +1,6 @@
 //! The heap at a machine's opening.
 
-ghost use Rattle.std.specs.Prelude.{◌≡◌, [], IfOk, codes};
+ghost use Rattle.std.specs.Prelude.{◌≡◌, [], IfOk, OnOk, codes};
 ghost use Rattle.jvms_machine.specs.Opening.{opening_heap};
 
 use crate::heap::Heap;
@@ -49,17 +49,26 @@ impl<'p> Heap<'p> {
         })
     }
 
+    /// Puts the two errors of the limits, System.out, and main's argument.
+    fn put_first_objects(&mut self) -> Result<(), AllocError>
+        requires { self.old ≡ record { program = self.old.program; objects = []; elements = 0 } }
+        ensures { OnOk result (self.new ≡ record { program = self.old.program; objects = opening_heap self.old.program; elements = 0 }) }
+    {
+        self.program().is_program();
+        self.new_instance(OUT_OF_MEMORY)?;
+        self.new_instance(STACK_OVERFLOW)?;
+        self.new_instance(PRINT_STREAM)?;
+        let strings = strings(self.alloc)?;
+        self.new_array(&strings, 0)?;
+        Ok(())
+    }
+
     /// The heap at the opening: the two errors of the limits, System.out, and main's argument.
     pub fn opening(alloc: Global, program: &'p Program) -> Result<Heap<'p>, AllocError>
         ensures { IfOk result (λ h. h ≡ record { program = program.now; objects = opening_heap program.now; elements = 0 }) }
     {
-        program.is_program();
         let mut heap = Heap::empty(alloc, program)?;
-        heap.new_instance(OUT_OF_MEMORY)?;
-        heap.new_instance(STACK_OVERFLOW)?;
-        heap.new_instance(PRINT_STREAM)?;
-        let strings = strings(alloc)?;
-        heap.new_array(&strings, 0)?;
+        heap.put_first_objects()?;
         Ok(heap)
     }
 }

@@ -19,7 +19,7 @@ use outcome_list::OutcomeList;
 use program::Program;
 use runs::take_turns;
 use schedule::Chooser;
-use std::alloc::{AllocError, Global};
+use std::alloc::Global;
 use trace::Trace;
 use turn_limit::TurnLimit;
 
@@ -49,9 +49,10 @@ fn run_machine(
     machine: &mut Machine<'_>,
     chooser: &mut Chooser,
     most: u64,
-) -> Result<Judged, AllocError>
+) -> Result<Judged, JudgeFault>
     ensures shown { IfOk result (λ j. run_shown j ≡ shown_of most chooser.old machine.old) }
     ensures chooser { OnOk result (chooser.new ≡ chooser_behind most chooser.old machine.old) }
+    ensures memory { IfErr result (λ fault. fault ≡ JudgeFault.Memory) }
 {
     let mut trace = Trace::new(alloc);
     let turns = take_turns(alloc, machine, chooser, most, &mut trace)?;
@@ -84,8 +85,7 @@ fn run_program(
     ensures named { IfErr result (λ fault. NamesFile 0 fault) }
 {
     let mut machine = Machine::new(alloc, program, limits, entry)?;
-    let judged = run_machine(alloc, &mut machine, chooser, most)?;
-    Ok(judged)
+    run_machine(alloc, &mut machine, chooser, most)
 }
 
 /// Runs the program that class files and sources make, by a chooser that may be moved also where nothing is answered.

@@ -44,16 +44,23 @@ fn fed(alloc: Global, spec: Spec, items: &[Item]) -> Result<Checker, AllocError>
     Ok(checker)
 }
 
+/// What a checker says of the trace that it was fed.
+fn judgement_of(checker: &Checker) -> Result<Judgement, AllocError>
+    ensures { IfOk result (IsJudgementBy checker.now.lines checker.now.items) }
+{
+    Ok(Judgement {
+        verdict: checker.verdict()?,
+        counts: checker.counts(),
+    })
+}
+
 /// What a specification says of a trace.
 fn judge_items(alloc: Global, spec: Spec, items: &[Item]) -> Result<Judgement, AllocError>
     requires { MayBeFed spec items.now }
     ensures { IfOk result (IsJudgementBy spec items.now) }
 {
     let checker = fed(alloc, spec, items)?;
-    Ok(Judgement {
-        verdict: checker.verdict()?,
-        counts: checker.counts(),
-    })
+    judgement_of(&checker)
 }
 
 /// What is said of a trace, if there is a specification.

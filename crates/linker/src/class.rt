@@ -13,6 +13,7 @@ use held::shared::Text;
 use jvms_file::class_file::ClassFile;
 use jvms_program::program::{Class, ClassKind};
 use std::alloc::{AllocError, Global};
+use std::mem;
 
 /// Which sort of class these access flags say (JVMS table 4.1-A).
 fn kind_of(access: u16) -> ClassKind
@@ -47,22 +48,35 @@ struct ClassNames {
     interfaces: Items<Text>,
 }
 
-/// The names in which the numbers of a class, of its superclass and of its superinterfaces result.
-fn names_of(
-    alloc: Global,
-    texts: &Texts,
-    this_class: u16,
-    super_class: u16,
-    interfaces: &[u16],
-) -> Result<ClassNames, AllocError>
-    ensures name { IfOk result (λ n. n.name ≡ class_text texts.now this_class) }
-    ensures superclass { IfOk result (λ n. n.superclass ≡ (if super_class == 0 then None else Some (class_text texts.now super_class))) }
-    ensures interfaces { IfOk result (λ n. n.interfaces ≡ map (class_text texts.now) interfaces.now) }
+/// The names of the class that a class file means, whose pool has these texts.
+fn names_of(alloc: Global, texts: &Texts, file: &ClassFile) -> Result<ClassNames, AllocError>
+    ensures name { IfOk result (λ n. n.name ≡ class_text texts.now file.now.this_class) }
+    ensures superclass { IfOk result (λ n. n.superclass ≡ (if file.now.super_class == 0 then None else Some (class_text texts.now file.now.super_class))) }
+    ensures interfaces { IfOk result (λ n. n.interfaces ≡ map (class_text texts.now) file.now.interfaces) }
 {
     Ok(ClassNames {
-        name: texts.class_name(this_class)?,
-        superclass: superclass_of(texts, super_class)?,
-        interfaces: texts.class_names(alloc, interfaces)?,
+        name: texts.class_name(file.this_class)?,
+        superclass: superclass_of(texts, file.super_class)?,
+        interfaces: texts.class_names(alloc, file.interfaces.as_slice())?,
+    })
+}
+
+/// The class that a class file means, whose pool has these texts.
+#[tactic(auto, unfolding(jvms_program::specs::Meaning::meaning))]
+fn class_of(alloc: Global, texts: &Texts, file: &ClassFile) -> Result<Class, AllocError>
+    ensures { IfOk result (λ c. c ≡ meaning (record file.now { pool = texts.now })) }
+{
+    let is_interface = Flags::of_access(file.access).is_interface();
+    let names = names_of(alloc, texts, file)?;
+    let fields = fields_of(alloc, texts, is_interface, file.fields.as_slice())?;
+    let methods = methods_of(alloc, texts, file.methods.as_slice())?;
+    Ok(Class {
+        name: names.name,
+        kind: kind_of(file.access),
+        superclass: names.superclass,
+        interfaces: names.interfaces,
+        fields,
+        methods,
     })
 }
 
@@ -71,33 +85,8 @@ fn names_of(
 pub fn meaning(alloc: Global, file: ClassFile) -> Result<Class, AllocError>
     ensures { IfOk result (λ c. c ≡ meaning file) }
 {
-    let ClassFile {
-        pool,
-        access,
-        this_class,
-        super_class,
-        interfaces,
-        fields,
-        methods,
-        ..
-    } = file;
+    let mut file = file;
+    let pool = mem::replace(&mut file.pool, Items::new(alloc));
     let texts = Texts::of(alloc, Pool::of(pool))?;
-    let names = names_of(
-        alloc,
-        &texts,
-        this_class,
-        super_class,
-        interfaces.as_slice(),
-    )?;
-    let is_interface = Flags::of_access(access).is_interface();
-    let fields = fields_of(alloc, &texts, is_interface, fields.as_slice())?;
-    let methods = methods_of(alloc, &texts, methods.as_slice())?;
-    Ok(Class {
-        name: names.name,
-        kind: kind_of(access),
-        superclass: names.superclass,
-        interfaces: names.interfaces,
-        fields,
-        methods,
-    })
+    class_of(alloc, &texts, &file)
 }

@@ -1,9 +1,10 @@
 //! The opening of a machine.
 
-ghost use Rattle.std.specs.Prelude.{◌≡◌, ◌++◌, ◌∷◌, [], map, IfOk};
+ghost use Rattle.std.specs.Prelude.{◌≡◌, ◌++◌, ◌∷◌, [], map, IfOk, None};
 ghost use Rattle.jvms_machine.specs.declared.value.Value.TheVariants as value;
 ghost use Rattle.jvms_machine.specs.Start.{entry_arguments};
-ghost use Rattle.jvms_machine.specs.Opening.{opening_initialisation};
+ghost use Rattle.jvms_machine.specs.Opening.{opening_heap, opening_initialisation, opening_static};
+ghost use Rattle.jvms_machine.specs.State.{new_thread, static_fields};
 ghost use Rattle.machine.specs.Started.{with_arguments, opened};
 
 use heap::{Heap, Statics};
@@ -64,7 +65,41 @@ fn initialisations(alloc: Global, classes: &[Class]) -> Result<Vec<Initialisatio
     Ok(marks)
 }
 
-/// The parts of a machine at its opening: thread 0 has no frame yet.
+/// The lists of a machine.
+#[derive(Drop)]
+struct OpeningLists<'p> {
+    arguments: Vec<Value>,
+    initialisations: Vec<Initialisation>,
+    threads: Vec<Thread<'p>>,
+}
+
+/// The lists of a machine at its opening: thread 0 has no frame yet.
+fn opening_lists<'p>(
+    alloc: Global,
+    program: &'p Program,
+    entry: &Entry,
+) -> Result<OpeningLists<'p>, AllocError>
+    ensures arguments { IfOk result (λ l. l.arguments.items ≡ entry_arguments entry.now) }
+    ensures initialisations { IfOk result (λ l. l.initialisations.items ≡ map opening_initialisation program.now) }
+    ensures threads { IfOk result (λ l. l.threads.items ≡ new_thread None ∷ []) }
+{
+    Ok(OpeningLists {
+        arguments: arguments(alloc, entry)?,
+        initialisations: initialisations(alloc, program.classes())?,
+        threads: vec![in alloc; Thread::new(alloc, None)]?,
+    })
+}
+
+/// The heap and the static fields at the opening.
+fn memory<'p>(alloc: Global, program: &'p Program) -> Result<(Heap<'p>, Statics<'p>), AllocError>
+    ensures heap { IfOk result (λ m. m.0 ≡ record { program = program.now; objects = opening_heap program.now; elements = 0 }) }
+    ensures statics { IfOk result (λ m. m.1 ≡ record { program = program.now; fields = map opening_static (static_fields program.now) }) }
+{
+    let heap = Heap::opening(alloc, program)?;
+    Ok((heap, Statics::opening(alloc, program)?))
+}
+
+/// The parts of a machine at its opening.
 #[tactic(auto, unfolding(jvms_machine::specs::Opening::opening))]
 pub(crate) fn open<'p>(
     alloc: Global,
@@ -75,20 +110,17 @@ pub(crate) fn open<'p>(
 ) -> Result<Parts<'p>, AllocError>
     ensures { IfOk result (λ m. m ≡ opened program.now limits (with_arguments entry.now method)) }
 {
-    let arguments = arguments(alloc, entry)?;
-    let heap = Heap::opening(alloc, program)?;
-    let statics = Statics::opening(alloc, program)?;
-    let initialisations = initialisations(alloc, program.classes())?;
-    let threads = vec![in alloc; Thread::new(alloc, None)]?;
+    let (heap, statics) = memory(alloc, program)?;
+    let lists = opening_lists(alloc, program, entry)?;
     Ok(Parts {
         alloc,
         limits,
         method,
-        arguments,
+        arguments: lists.arguments,
         heap,
         statics,
-        initialisations,
-        threads,
+        initialisations: lists.initialisations,
+        threads: lists.threads,
         monitors: Monitors::new(alloc),
         output: Vec::new(alloc),
         result: None,

@@ -128,8 +128,7 @@ fn put_course(
     out: &mut String,
 ) -> Result<Course, Stop> {
     let mut machine = opened(alloc, case, program)?;
-    let course = take_course(alloc, case, &mut machine, out)?;
-    Ok(course)
+    take_course(alloc, case, &mut machine, out)
 }
 
 /// Whether the choices of a course, in one run, give the same.
