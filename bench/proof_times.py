@@ -1,14 +1,15 @@
 #!/usr/bin/env python3
 """Watches the checks that run on this machine, and tells what they took: for each crate the seconds of a processor and the
-most memory of its proof, its tests and its must-fail edits; and which functions were the slowest of a crate.
+most memory of its proof, its tests and its must-fail edits, and of `rt check`; and which functions were the slowest of a
+crate.
 
     bench/proof_times.py watch FILE          until it is interrupted, keeps what it sees in FILE
     bench/proof_times.py table FILE          the crates, those that took most first
     bench/proof_times.py functions FILE CRATE [HOW_MANY]
 
 A check writes a file for each module that it has checked, into a folder of its own, so the time between two such files is
-that of the second one's module. Of the edits it is the check that they begin with. `NAME.Lts` is the borrow checker's part of a function: it grows with what the
-function owns at each of its exits, `?` among them.
+that of the second one's module. Of the edits it is the check that they begin with. `NAME.Lts` is the borrow checker's
+part of a function: it grows with what the function owns at each of its exits, `?` among them.
 """
 import collections
 import json
@@ -41,7 +42,7 @@ def process(pid):
     pages = int(Path(f"/proc/{pid}/statm").read_text().split()[1])
     kind = "tests" if "--test" in words else "proof"
     if "--incremental" in words:
-        kind = "edits"
+        kind = "edits" if "/rt-edits-" in words[words.index("--incremental") + 1] else "alone"
     return {
         "crate": words[words.index("--crate-name") + 1],
         "kind": kind,
@@ -90,7 +91,7 @@ def table(file):
             entry = sums[name][check["kind"]]
             entry[0] += check["seconds"]
             entry[1] = max(entry[1], check["gb"])
-    kinds = ("proof", "tests", "edits")
+    kinds = ("proof", "tests", "edits", "alone")
     print(f"{'crate':20}" + "".join(f"{kind + ': s, GB':>16}" for kind in kinds))
     for name, row in sorted(sums.items(), key=lambda item: -sum(entry[0] for entry in item[1].values())):
         print(f"{name:20}" + "".join(f"{row[kind][0]:10.0f}{row[kind][1]:6.1f}" for kind in kinds))

@@ -113,7 +113,7 @@ fn take_course(
     case: &Case<'_>,
     machine: &mut Machine<'_>,
     out: &mut String,
-) -> Result<Course, AllocError> {
+) -> Result<Course, Stop> {
     let course = course_of(alloc, case, machine)?;
     compare_course(case, &course, out)?;
     compare_machine(alloc, case, machine, &course, out)?;
