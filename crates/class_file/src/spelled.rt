@@ -15,7 +15,7 @@ use std::alloc::{AllocError, Global};
 use std::marker::Model;
 
 /// A class file that bytes spell (JVMS 4.1). Contracts see it as the class.
-#[derive(Debug, PartialEq, Eq, Drop)]
+#[derive(Drop)]
 pub struct ClassFile {
     class: jvms_file::class_file::ClassFile,
 }

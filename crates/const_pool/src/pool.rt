@@ -12,7 +12,7 @@ use std::alloc::{AllocError, Global};
 use std::marker::Model;
 
 /// The constant pool. Contracts see the list of its entries, in which entry number n stands at place n - 1.
-#[derive(Debug, Drop)]
+#[derive(Drop)]
 pub struct Pool {
     entries: Items<Constant>,
 }

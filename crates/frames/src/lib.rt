@@ -3,7 +3,5 @@
 #![tactic(auto)]
 
 mod frame;
-#[cfg(test)]
-mod tests;
 
 pub use frame::Frame;

@@ -20,7 +20,7 @@ use jvms_file::insn::Insn;
 use std::alloc::{AllocError, Global};
 
 /// The code of a method.
-#[derive(Debug, Drop)]
+#[derive(Drop)]
 pub struct Decoded {
     /// The byte at which each instruction starts.
     pub starts: Starts,

@@ -25,7 +25,7 @@ pub enum SwitchLines {
 }
 
 /// A method whose end hasn't come.
-#[derive(Debug, Drop)]
+#[derive(Drop)]
 pub struct OpenMethod {
     pub access: u16,
     pub name: Text,
@@ -41,7 +41,7 @@ pub struct OpenMethod {
 }
 
 /// What the lines so far have said.
-#[derive(Debug, Drop)]
+#[derive(Drop)]
 pub struct Reading {
     /// The latest part of which a statement has come.
     pub part: Part,

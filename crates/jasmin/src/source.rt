@@ -71,7 +71,7 @@ pub struct LookupLines {
 }
 
 /// An instruction as it is spelled, by the operands of its opcode.
-#[derive(Debug, Drop)]
+#[derive(Drop)]
 pub enum Operation {
     /// An instruction without operands, by its opcode.
     Alone(u8),
@@ -100,7 +100,7 @@ pub enum Operation {
 }
 
 /// What stands in a method's code.
-#[derive(Debug, Drop)]
+#[derive(Drop)]
 pub enum CodeItem {
     /// Names the place of the operation that follows, or of the code's end.
     Label(Text),
@@ -144,7 +144,7 @@ pub struct FieldLine {
 }
 
 /// A `.method` up to its `.end method`.
-#[derive(Debug, Drop)]
+#[derive(Drop)]
 pub struct MethodLines {
     pub access: u16,
     pub name: Text,
@@ -157,7 +157,7 @@ pub struct MethodLines {
 }
 
 /// A source: one class or interface.
-#[derive(Debug, Drop)]
+#[derive(Drop)]
 pub struct Source {
     pub access: u16,
     pub name: Text,

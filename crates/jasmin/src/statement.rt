@@ -98,7 +98,7 @@ pub enum ClassSort {
 }
 
 /// What an instruction's line says: a switch goes on in the lines that follow.
-#[derive(Debug, Drop)]
+#[derive(Drop)]
 pub enum Instruction {
     Whole(Operation),
     /// `tableswitch`, with its lowest value.
@@ -107,7 +107,7 @@ pub enum Instruction {
 }
 
 /// What a line says.
-#[derive(Debug, Drop)]
+#[derive(Drop)]
 pub enum Statement {
     Blank,
     /// `.bytecode`: dropped.

@@ -12,7 +12,7 @@ use std::alloc::Global;
 use std::marker::Model;
 
 /// A source that a text spells. Contracts see it as its tree.
-#[derive(Debug, Drop)]
+#[derive(Drop)]
 pub struct Source {
     tree: Tree,
 }

@@ -61,7 +61,7 @@ fn by_kind(rt: HostRuntime) {
         (insn::Binary::ExclusiveOr, 6, 4, 2),
     ];
     for (op, a, b, want) in cases {
-        assert_eq!(rt; binary(op, a, b), want, "{op:?}");
+        assert_eq!(rt; binary(op, a, b), want);
     }
     assert_eq!(rt; divide(insn::Division::Quotient, 7, -2), Some(-3));
     assert_eq!(rt; divide(insn::Division::Remainder, 7, -2), Some(1));

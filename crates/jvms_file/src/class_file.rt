@@ -4,7 +4,7 @@ use crate::insn::Insn;
 use held::items::Items;
 
 /// An entry of the constant pool (JVMS 4.4). Numbers of other entries count from 1.
-#[derive(Debug, PartialEq, Eq, Drop)]
+#[derive(Drop)]
 pub enum Constant {
     /// A text, as its 16-bit units.
     Utf8(Items<u16>),
@@ -25,14 +25,14 @@ pub enum Constant {
 }
 
 /// An attribute that is kept as bytes (JVMS 4.7).
-#[derive(Debug, PartialEq, Eq, Drop)]
+#[derive(Drop)]
 pub struct KeptAttribute {
     pub name: u16,
     pub bytes: Items<u8>,
 }
 
 /// An attribute of a field.
-#[derive(Debug, PartialEq, Eq, Drop)]
+#[derive(Drop)]
 pub enum FieldAttribute {
     /// JVMS 4.7.2.
     ConstantValue { name: u16, value: u16 },
@@ -41,7 +41,7 @@ pub enum FieldAttribute {
 
 /// An entry of an exception table (JVMS 4.7.3). Its bounds and its target are places in the list of
 /// instructions; the end may be the number of instructions.
-#[derive(Clone, Copy, Debug, PartialEq, Eq)]
+#[derive(Clone, Copy)]
 pub struct Handler {
     pub start: u32,
     pub end: u32,
@@ -52,14 +52,14 @@ pub struct Handler {
 
 /// How a method's code is spelled: its bytes, in which pads are 0, and the byte at which each instruction
 /// starts.
-#[derive(Debug, PartialEq, Eq, Drop)]
+#[derive(Drop)]
 pub struct Layout {
     pub bytes: Items<u8>,
     pub starts: Items<u32>,
 }
 
 /// The code of a method (JVMS 4.7.3).
-#[derive(Debug, PartialEq, Eq, Drop)]
+#[derive(Drop)]
 pub struct Code {
     pub max_stack: u16,
     pub max_locals: u16,
@@ -70,7 +70,7 @@ pub struct Code {
 }
 
 /// An attribute of a method.
-#[derive(Debug, PartialEq, Eq, Drop)]
+#[derive(Drop)]
 pub enum MethodAttribute {
     Code { name: u16, code: Code },
     /// JVMS 4.7.5.
@@ -79,7 +79,7 @@ pub enum MethodAttribute {
 }
 
 /// A field (JVMS 4.5).
-#[derive(Debug, PartialEq, Eq, Drop)]
+#[derive(Drop)]
 pub struct FieldInfo {
     pub access: u16,
     pub name: u16,
@@ -88,7 +88,7 @@ pub struct FieldInfo {
 }
 
 /// A method (JVMS 4.6).
-#[derive(Debug, PartialEq, Eq, Drop)]
+#[derive(Drop)]
 pub struct MethodInfo {
     pub access: u16,
     pub name: u16,
@@ -97,7 +97,7 @@ pub struct MethodInfo {
 }
 
 /// A class file (JVMS 4.1).
-#[derive(Debug, PartialEq, Eq, Drop)]
+#[derive(Drop)]
 pub struct ClassFile {
     pub minor: u16,
     pub major: u16,

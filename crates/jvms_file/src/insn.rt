@@ -5,7 +5,7 @@ use held::boxed::Boxed;
 use held::items::Items;
 
 /// The kinds of values that loads, stores and returns tell apart.
-#[derive(Clone, Copy, Debug, PartialEq, Eq)]
+#[derive(Clone, Copy, PartialEq, Eq)]
 pub enum Kind {
     Int,
     Long,
@@ -15,7 +15,7 @@ pub enum Kind {
 }
 
 /// The kinds of arrays that array loads and stores tell apart. `Byte` serves arrays of byte and boolean.
-#[derive(Clone, Copy, Debug, PartialEq, Eq)]
+#[derive(Clone, Copy, PartialEq, Eq)]
 pub enum ArrayKind {
     Int,
     Long,
@@ -29,7 +29,7 @@ pub enum ArrayKind {
 
 /// What an instruction pushes that needs nothing else (JVMS 6.5 aconst_null, bipush, dconst, fconst,
 /// iconst, lconst, sipush).
-#[derive(Clone, Copy, Debug, PartialEq, Eq)]
+#[derive(Clone, Copy, PartialEq, Eq)]
 pub enum Push {
     Null,
     /// `iconst`, `bipush` and `sipush`.
@@ -40,7 +40,7 @@ pub enum Push {
 }
 
 /// What is done with one local variable.
-#[derive(Clone, Copy, Debug, PartialEq, Eq)]
+#[derive(Clone, Copy, PartialEq, Eq)]
 pub enum LocalUse {
     Load(Kind),
     Store(Kind),
@@ -49,7 +49,7 @@ pub enum LocalUse {
 }
 
 /// The instructions that move operands of any kind (JVMS 6.5 pop to swap).
-#[derive(Clone, Copy, Debug, PartialEq, Eq)]
+#[derive(Clone, Copy, PartialEq, Eq)]
 pub enum StackForm {
     Pop,
     Pop2,
@@ -63,7 +63,7 @@ pub enum StackForm {
 }
 
 /// What takes two ints and gives one, always.
-#[derive(Clone, Copy, Debug, PartialEq, Eq)]
+#[derive(Clone, Copy, PartialEq, Eq)]
 pub enum Binary {
     Add,
     Subtract,
@@ -78,14 +78,14 @@ pub enum Binary {
 }
 
 /// What takes two ints and gives one, but for a divisor of 0.
-#[derive(Clone, Copy, Debug, PartialEq, Eq)]
+#[derive(Clone, Copy, PartialEq, Eq)]
 pub enum Division {
     Quotient,
     Remainder,
 }
 
 /// The types that an int is narrowed to (JVMS 2.11.4; 6.5 i2b, i2c, i2s; `Boolean` keeps the lowest bit).
-#[derive(Clone, Copy, Debug, PartialEq, Eq)]
+#[derive(Clone, Copy, PartialEq, Eq)]
 pub enum Narrow {
     Byte,
     Char,
@@ -94,7 +94,7 @@ pub enum Narrow {
 }
 
 /// The conversions of an int to a smaller type.
-#[derive(Clone, Copy, Debug, PartialEq, Eq)]
+#[derive(Clone, Copy, PartialEq, Eq)]
 pub enum Conversion {
     /// JVMS 6.5 i2b.
     ToByte,
@@ -105,7 +105,7 @@ pub enum Conversion {
 }
 
 /// The arithmetic of ints.
-#[derive(Clone, Copy, Debug, PartialEq, Eq)]
+#[derive(Clone, Copy, PartialEq, Eq)]
 pub enum IntInsn {
     Binary(Binary),
     Division(Division),
@@ -115,7 +115,7 @@ pub enum IntInsn {
 }
 
 /// The arithmetic of longs, with their conversions from and to int.
-#[derive(Clone, Copy, Debug, PartialEq, Eq)]
+#[derive(Clone, Copy, PartialEq, Eq)]
 pub enum LongInsn {
     Add,
     Subtract,
@@ -135,7 +135,7 @@ pub enum LongInsn {
 }
 
 /// The arithmetic of floats and doubles, with their conversions: read and written, never run.
-#[derive(Clone, Copy, Debug, PartialEq, Eq)]
+#[derive(Clone, Copy, PartialEq, Eq)]
 pub enum FloatingInsn {
     AddFloat,
     AddDouble,
@@ -170,7 +170,7 @@ pub enum FloatingInsn {
 }
 
 /// The component types of `newarray` (JVMS 6.5 newarray).
-#[derive(Clone, Copy, Debug, PartialEq, Eq)]
+#[derive(Clone, Copy, PartialEq, Eq)]
 pub enum ArrayType {
     Boolean,
     Char,
@@ -183,7 +183,7 @@ pub enum ArrayType {
 }
 
 /// What is done with an array and names no class.
-#[derive(Clone, Copy, Debug, PartialEq, Eq)]
+#[derive(Clone, Copy, PartialEq, Eq)]
 pub enum ArrayInsn {
     Load(ArrayKind),
     Store(ArrayKind),
@@ -194,14 +194,14 @@ pub enum ArrayInsn {
 }
 
 /// What ends a method's frame (JVMS 6.5 return, ireturn to areturn).
-#[derive(Clone, Copy, Debug, PartialEq, Eq)]
+#[derive(Clone, Copy, PartialEq, Eq)]
 pub enum ReturnInsn {
     Void,
     Value(Kind),
 }
 
 /// What takes an object and names no class.
-#[derive(Clone, Copy, Debug, PartialEq, Eq)]
+#[derive(Clone, Copy, PartialEq, Eq)]
 pub enum ObjectInsn {
     /// JVMS 6.5 athrow.
     Throw,
@@ -210,7 +210,7 @@ pub enum ObjectInsn {
 }
 
 /// An instruction that names neither a pool entry nor a target.
-#[derive(Clone, Copy, Debug, PartialEq, Eq)]
+#[derive(Clone, Copy, PartialEq, Eq)]
 pub enum Simple {
     Nop,
     Push(Push),
@@ -227,7 +227,7 @@ pub enum Simple {
 }
 
 /// How two ints, or an int and 0, are compared (JVMS 6.5 if<cond>).
-#[derive(Clone, Copy, Debug, PartialEq, Eq)]
+#[derive(Clone, Copy, PartialEq, Eq)]
 pub enum Comparison {
     Equal,
     NotEqual,
@@ -238,7 +238,7 @@ pub enum Comparison {
 }
 
 /// What a branch with one target does.
-#[derive(Clone, Copy, Debug, PartialEq, Eq)]
+#[derive(Clone, Copy, PartialEq, Eq)]
 pub enum Branch {
     /// JVMS 6.5 if<cond>: an int against 0.
     IfZero(Comparison),
@@ -256,7 +256,7 @@ pub enum Branch {
 }
 
 /// The cases of a `tableswitch`: the value `low + k` leads to the target number k.
-#[derive(Debug, PartialEq, Eq, Drop)]
+#[derive(PartialEq, Eq, Drop)]
 pub struct TableSwitch {
     pub default: u32,
     pub low: i32,
@@ -264,21 +264,21 @@ pub struct TableSwitch {
 }
 
 /// One case of a `lookupswitch`.
-#[derive(Clone, Copy, Debug, PartialEq, Eq)]
+#[derive(Clone, Copy, PartialEq, Eq)]
 pub struct SwitchCase {
     pub value: i32,
     pub target: u32,
 }
 
 /// The cases of a `lookupswitch`, by rising value.
-#[derive(Debug, PartialEq, Eq, Drop)]
+#[derive(PartialEq, Eq, Drop)]
 pub struct LookupSwitch {
     pub default: u32,
     pub cases: Items<SwitchCase>,
 }
 
 /// What is done with a field.
-#[derive(Clone, Copy, Debug, PartialEq, Eq)]
+#[derive(Clone, Copy, PartialEq, Eq)]
 pub enum FieldUse {
     GetStatic,
     PutStatic,
@@ -287,7 +287,7 @@ pub enum FieldUse {
 }
 
 /// How a method is called.
-#[derive(Clone, Copy, Debug, PartialEq, Eq)]
+#[derive(Clone, Copy, PartialEq, Eq)]
 pub enum Invoke {
     Virtual,
     Special,
@@ -296,7 +296,7 @@ pub enum Invoke {
 }
 
 /// What is done with a class.
-#[derive(Clone, Copy, Debug, PartialEq, Eq)]
+#[derive(Clone, Copy, PartialEq, Eq)]
 pub enum ClassUse {
     New,
     /// JVMS 6.5 anewarray.
@@ -306,7 +306,7 @@ pub enum ClassUse {
 }
 
 /// What an opcode's operands are (JVMS 6.5).
-#[derive(Clone, Copy, Debug, PartialEq, Eq)]
+#[derive(Clone, Copy, PartialEq, Eq)]
 pub enum Opcode {
     /// The opcode alone is the instruction.
     Alone(Simple),
@@ -347,7 +347,7 @@ pub enum Opcode {
 
 /// An instruction of a class file. A `u16` behind the first is the number of a pool entry; the count of
 /// an `invokeinterface` follows from its entry.
-#[derive(Debug, PartialEq, Eq, Drop)]
+#[derive(PartialEq, Eq, Drop)]
 pub enum Insn {
     Simple(Simple),
     Branch(Branch, u32),

@@ -8,7 +8,7 @@ use jvms_program::thrown::Thrown;
 
 /// What an instruction does that touches its frame alone (JVMS 6.5). What it takes it takes off the top of the
 /// operands.
-#[derive(Clone, Copy, Debug, PartialEq, Eq)]
+#[derive(Clone, Copy, PartialEq, Eq)]
 pub enum FrameAction {
     /// Takes so many operands, puts a value on top, and goes on to the next instruction.
     Push { takes: u8, value: Value },
@@ -23,7 +23,7 @@ pub enum FrameAction {
 }
 
 /// What an instruction comes to, as far as its frame tells.
-#[derive(Clone, Copy, Debug, PartialEq, Eq)]
+#[derive(Clone, Copy, PartialEq, Eq)]
 pub enum FrameDecision {
     Does(FrameAction),
     /// An exception of this class is thrown, and the frame stays as it is.

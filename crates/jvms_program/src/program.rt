@@ -40,7 +40,7 @@ pub enum Loadable {
 }
 
 /// An instruction with what it names in place of pool entries.
-#[derive(Debug, Drop)]
+#[derive(Drop)]
 pub enum Instruction {
     Simple(Simple),
     Branch(Branch, u32),
@@ -70,7 +70,7 @@ pub struct ExceptionHandler {
 }
 
 /// The code of a method.
-#[derive(Debug, Drop)]
+#[derive(Drop)]
 pub struct Body {
     pub max_stack: u16,
     pub max_locals: u16,
@@ -103,7 +103,7 @@ pub struct MethodFlags {
 }
 
 /// What a class keeps of a method.
-#[derive(Debug, Drop)]
+#[derive(Drop)]
 pub struct Method {
     pub name: Text,
     pub descriptor: Text,
@@ -124,7 +124,7 @@ pub enum ClassKind {
 }
 
 /// A class or an interface.
-#[derive(Debug, Drop)]
+#[derive(Drop)]
 pub struct Class {
     pub name: Text,
     pub kind: ClassKind,

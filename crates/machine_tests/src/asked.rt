@@ -40,46 +40,85 @@ fn entry(alloc: Global, class: &str, arguments: &[i32]) -> Result<Entry, AllocEr
     })
 }
 
+/// Whether a method with arguments is admitted where there may be so many threads.
+fn admitted(
+    alloc: Global,
+    program: &Program,
+    threads: u32,
+    class: &str,
+    arguments: &[i32],
+) -> Result<bool, AllocError> {
+    let entry = entry(alloc, class, arguments)?;
+    Ok(admits(program, Limits { threads, ..LIMITS }, &entry))
+}
+
+/// Whether what can be run is admitted, and what has no thread, no class, or too few arguments.
+fn all_admitted(alloc: Global, program: &Program) -> Result<[bool; 4], AllocError> {
+    Ok([
+        admitted(alloc, program, 1, "R", &[20, 22])?,
+        admitted(alloc, program, 0, "R", &[20, 22])?,
+        admitted(alloc, program, 1, "H", &[20, 22])?,
+        admitted(alloc, program, 1, "R", &[20])?,
+    ])
+}
+
+#[test]
+fn an_entry_is_admitted(rt: HostRuntime) -> Result<(), Fail> {
+    let program = program_of(rt.alloc(), &[ADDS])?;
+    assert_eq!(rt;
+        all_admitted(rt.alloc(), &program)?,
+        [true, false, false, false]
+    );
+    Ok(())
+}
+
 /// A machine that adds two numbers.
 fn opened(alloc: Global, program: &Program) -> Result<Machine<'_>, Fail> {
     let entry = entry(alloc, "R", &[20, 22])?;
     Ok(Machine::new(alloc, program, LIMITS, &entry)?)
 }
 
-#[test]
-fn an_entry_is_admitted(rt: HostRuntime) -> Result<(), Fail> {
-    let program = program_of(rt.alloc(), &[ADDS])?;
-    let added = entry(rt.alloc(), "R", &[20, 22])?;
-    let none = Limits {
-        threads: 0,
-        ..LIMITS
-    };
-    assert!(rt; admits(&program, LIMITS, &added));
-    assert!(rt; !admits(&program, none, &added));
-    assert!(rt; !admits(&program, LIMITS, &entry(rt.alloc(), "H", &[20, 22])?));
-    assert!(rt; !admits(&program, LIMITS, &entry(rt.alloc(), "R", &[20])?));
-    Ok(())
+/// How many turns are made on end behind the first three of the thread that adds: of a thread that isn't there, of three
+/// and of nine; and what comes then.
+fn made_on_end(machine: &mut Machine<'_>) -> ([u64; 3], Outcome) {
+    let made = [
+        machine.step_on(7, 9),
+        machine.step_on(0, 3),
+        machine.step_on(0, 9),
+    ];
+    (made, machine.peek(0))
+}
+
+/// What is made on end behind the turns that initialise the class and call.
+fn made_behind_the_call(alloc: Global, program: &Program) -> Result<([u64; 3], Outcome), Fail> {
+    let mut machine = opened(alloc, program)?;
+    machine.run(&[0, 0, 0], &mut Trace::new(alloc))?;
+    Ok(made_on_end(&mut machine))
 }
 
 /// Two turns initialise the class, and the third is the call. Four instructions go on, and the fifth ends the thread.
 #[test]
 fn turns_on_end_touch_their_frame_alone(rt: HostRuntime) -> Result<(), Fail> {
     let program = program_of(rt.alloc(), &[ADDS])?;
-    let mut machine = opened(rt.alloc(), &program)?;
-    machine.run(&[0, 0, 0], &mut Trace::new(rt.alloc()))?;
-    assert_eq!(rt; machine.step_on(7, 9), 0);
-    assert_eq!(rt; machine.step_on(0, 3), 3);
-    assert_eq!(rt; machine.step_on(0, 9), 1);
-    assert_eq!(rt; machine.peek(0), Outcome::Ended { last: true });
+    let (made, next) = made_behind_the_call(rt.alloc(), &program)?;
+    assert_eq!(rt; made, [0, 3, 1]);
+    assert_eq!(rt; next, Outcome::Ended { last: true });
     Ok(())
+}
+
+/// Whether the opening has no such text, no such class object, and a first thread that hasn't ended.
+fn opening_is_bare(alloc: Global, program: &Program) -> Result<bool, Fail> {
+    let machine = opened(alloc, program)?;
+    Ok(
+        machine.text_reference(&[97]).is_none()
+            && machine.class_reference(&[82]).is_none()
+            && machine.has_ended(0) == Some(false),
+    )
 }
 
 #[test]
 fn an_opening_has_no_text_and_no_class_object(rt: HostRuntime) -> Result<(), Fail> {
     let program = program_of(rt.alloc(), &[ADDS])?;
-    let machine = opened(rt.alloc(), &program)?;
-    assert!(rt; machine.text_reference(&[97]).is_none());
-    assert!(rt; machine.class_reference(&[82]).is_none());
-    assert_eq!(rt; machine.has_ended(0), Some(false));
+    assert!(rt; opening_is_bare(rt.alloc(), &program)?);
     Ok(())
 }

@@ -1,6 +1,6 @@
 //! All built-in classes.
 
-ghost use Rattle.std.specs.Prelude.{◌≡◌, IfOk};
+ghost use Rattle.std.specs.Prelude.{◌≡◌, [], IfOk, OnOk};
 ghost use Rattle.std.specs.List.{list_any};
 ghost use Rattle.jvms_file.specs.Names.{same_text};
 ghost use Rattle.jvms_program.specs.BuiltIn.{built_in_classes, is_built_in};
@@ -29,29 +29,30 @@ const ORDINARY: [&str; 10] = [
     "java/lang/Throwable",
 ];
 
-/// The built-in classes but for those below Throwable.
-fn ordinary_classes(alloc: Global) -> Result<Vec<Class>, AllocError>
-    ensures { IfOk result (λ classes. classes.items ≡ ordinary_classes) }
+/// Puts the built-in classes but for those below Throwable.
+fn put_ordinary(alloc: Global, classes: &mut Vec<Class>) -> Result<(), AllocError>
+    requires { classes.old.items ≡ [] }
+    ensures { OnOk result (classes.new.items ≡ ordinary_classes) }
 {
-    let object = object_class(alloc)?;
-    let string = serializable_class(alloc, "java/lang/String")?;
-    let class = serializable_class(alloc, "java/lang/Class")?;
-    let system = system_class(alloc)?;
-    let stream = print_stream_class(alloc)?;
-    let mut classes = vec![in alloc; object, string, class, system, stream]?;
+    classes.push(object_class(alloc)?)?;
+    classes.push(serializable_class(alloc, "java/lang/String")?)?;
+    classes.push(serializable_class(alloc, "java/lang/Class")?)?;
+    classes.push(system_class(alloc)?)?;
+    classes.push(print_stream_class(alloc)?)?;
     classes.push(thread_class(alloc)?)?;
     classes.push(runnable_class(alloc)?)?;
     classes.push(interface_with(alloc, Vec::new(alloc), "java/lang/Cloneable")?)?;
     classes.push(interface_with(alloc, Vec::new(alloc), "java/io/Serializable")?)?;
     classes.push(throwable_class(alloc)?)?;
-    Ok(classes)
+    Ok(())
 }
 
 /// The built-in classes.
 pub(crate) fn built_in_classes(alloc: Global) -> Result<Vec<Class>, AllocError>
     ensures { IfOk result (λ classes. classes.items ≡ built_in_classes) }
 {
-    let mut classes = ordinary_classes(alloc)?;
+    let mut classes = Vec::new(alloc);
+    put_ordinary(alloc, &mut classes)?;
     push_below(alloc, &mut classes, &BELOW)?;
     Ok(classes)
 }

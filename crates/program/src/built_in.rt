@@ -1,6 +1,6 @@
 //! The classes that every program has.
 
-ghost use Rattle.std.specs.Prelude.{◌≡◌, ◌∷◌, [], codes, true, IfOk};
+ghost use Rattle.std.specs.Prelude.{◌≡◌, ◌∷◌, [], codes, true, IfOk, OnOk};
 ghost use Rattle.jvms_program.specs.BuiltIn.{object, class_with, interface_with, object_class, runnable_class, thread_class, print_stream_class, coded, field, load, return_void, target_field, call_run};
 
 use crate::code::{call_run, load, return_void, target_field};
@@ -112,16 +112,17 @@ pub(crate) fn plain_constructor(alloc: Global) -> Result<Method, AllocError>
     coded(alloc, "<init>", "()V", code)
 }
 
-/// The methods of a thread.
-fn thread_methods(alloc: Global) -> Result<Vec<Method>, AllocError>
-    ensures { IfOk result (λ methods. methods.items ≡ thread_class.methods) }
+/// Puts the methods of a thread.
+fn put_thread_methods(alloc: Global, methods: &mut Vec<Method>) -> Result<(), AllocError>
+    requires { methods.old.items ≡ [] }
+    ensures { OnOk result (methods.new.items ≡ thread_class.methods) }
 {
-    let plain = plain_constructor(alloc)?;
-    let constructor = thread_constructor(alloc)?;
-    let run = thread_run(alloc)?;
-    let start = native(alloc, "start", "()V")?;
-    let join = native(alloc, "join", "()V")?;
-    Ok(vec![in alloc; plain, constructor, run, start, join]?)
+    methods.push(plain_constructor(alloc)?)?;
+    methods.push(thread_constructor(alloc)?)?;
+    methods.push(thread_run(alloc)?)?;
+    methods.push(native(alloc, "start", "()V")?)?;
+    methods.push(native(alloc, "join", "()V")?)?;
+    Ok(())
 }
 
 /// A thread, which has a target to run.
@@ -130,7 +131,8 @@ pub(crate) fn thread_class(alloc: Global) -> Result<Class, AllocError>
 {
     let interfaces = vec![in alloc; text(alloc, "java/lang/Runnable")?]?;
     let fields = vec![in alloc; field(alloc, false, "target", "Ljava/lang/Runnable;")?]?;
-    let methods = thread_methods(alloc)?;
+    let mut methods = Vec::new(alloc);
+    put_thread_methods(alloc, &mut methods)?;
     class_with(
         alloc,
         OBJECT,
@@ -141,23 +143,25 @@ pub(crate) fn thread_class(alloc: Global) -> Result<Class, AllocError>
     )
 }
 
-/// The methods of a stream that prints.
-fn print_methods(alloc: Global) -> Result<Vec<Method>, AllocError>
-    ensures { IfOk result (λ methods. methods.items ≡ print_stream_class.methods) }
+/// Puts the methods of a stream that prints.
+fn put_print_methods(alloc: Global, methods: &mut Vec<Method>) -> Result<(), AllocError>
+    requires { methods.old.items ≡ [] }
+    ensures { OnOk result (methods.new.items ≡ print_stream_class.methods) }
 {
-    let int = native(alloc, "print", "(I)V")?;
-    let string = native(alloc, "print", "(Ljava/lang/String;)V")?;
-    let int_line = native(alloc, "println", "(I)V")?;
-    let string_line = native(alloc, "println", "(Ljava/lang/String;)V")?;
-    let line = native(alloc, "println", "()V")?;
-    Ok(vec![in alloc; int, string, int_line, string_line, line]?)
+    methods.push(native(alloc, "print", "(I)V")?)?;
+    methods.push(native(alloc, "print", "(Ljava/lang/String;)V")?)?;
+    methods.push(native(alloc, "println", "(I)V")?)?;
+    methods.push(native(alloc, "println", "(Ljava/lang/String;)V")?)?;
+    methods.push(native(alloc, "println", "()V")?)?;
+    Ok(())
 }
 
 /// A stream that prints.
 pub(crate) fn print_stream_class(alloc: Global) -> Result<Class, AllocError>
     ensures { IfOk result (λ c. c ≡ print_stream_class) }
 {
-    let methods = print_methods(alloc)?;
+    let mut methods = Vec::new(alloc);
+    put_print_methods(alloc, &mut methods)?;
     let interfaces = Vec::new(alloc);
     let fields = Vec::new(alloc);
     class_with(

@@ -20,7 +20,7 @@ use std::collections::BTreeMap;
 use std::marker::Model;
 
 /// A program: the built-in classes, then others. Contracts see the list of its classes.
-#[derive(Debug, Drop)]
+#[derive(Drop)]
 pub struct Program {
     pub(crate) classes: Vec<Class>,
     /// Whether each class is built in.

@@ -29,10 +29,10 @@ const SWITCH: [u8; 22] = [
 fn writes_pads_as_0(rt: HostRuntime) -> Result<(), Fail> {
     let bytes = with_code(rt.alloc(), &SWITCH)?;
     let written = rewritten(rt.alloc(), &bytes)?;
-    assert!(rt; read(rt.alloc(), &written)? == read(rt.alloc(), &bytes)?);
     let mut padded = SWITCH;
     padded[2] = 0;
     padded[3] = 0;
     assert!(rt; written.as_slice() == with_code(rt.alloc(), &padded)?.as_slice());
+    assert!(rt; rewritten(rt.alloc(), &written)?.as_slice() == written.as_slice());
     Ok(())
 }

@@ -50,7 +50,7 @@ fn greatest_common_divisor(rt: HostRuntime) -> Result<(), Fail> {
         load(0),
         Insn::Simple(Simple::Return(ReturnInsn::Value(Kind::Int))),
     ];
-    assert_eq!(rt; code.insns.as_slice(), insns.as_slice());
+    assert!(rt; code.insns.as_slice() == insns.as_slice());
     Ok(())
 }
 
@@ -68,7 +68,7 @@ fn wide_locals(rt: HostRuntime) -> Result<(), Fail> {
         load(299),
         Insn::Simple(Simple::Return(ReturnInsn::Value(Kind::Int))),
     ];
-    assert_eq!(rt; code.insns.as_slice(), insns.as_slice());
+    assert!(rt; code.insns.as_slice() == insns.as_slice());
     Ok(())
 }
 
@@ -198,7 +198,7 @@ fn a_method_has_at_most_65535_bytes(rt: HostRuntime) -> Result<(), Fail> {
 fn one_instruction(rt: HostRuntime) -> Result<(), Fail> {
     let entries = pool(rt.alloc())?;
     let (insn, rest) = insn_at(rt.alloc(), &entries, 49, 7, &[0x11, 0x80, 0x00, 0xac])?;
-    assert_eq!(rt; insn, Insn::Simple(Simple::Push(Push::Int(-32768))));
+    assert!(rt; insn == Insn::Simple(Simple::Push(Push::Int(-32768))));
     assert_eq!(rt; rest, [0xac].as_slice());
     Ok(())
 }

@@ -4,4 +4,4 @@ use Rattle.program.proofs.all.built_in_classes.Goals as goal
 
 pub returns : goal.returns
 unfolding built_in_classes
-returns c = rw c.in_ok-push_below.ensures (rw c.in_ok-classes.ensures refl)
+returns c = rw c.in_ok-push_below.ensures (rw c.in_ok-put_ordinary.ensures refl)
