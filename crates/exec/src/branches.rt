@@ -98,6 +98,7 @@ fn if_ints(how: Comparison, target: u32, frame: &Frame) -> FrameDecision
     }
 }
 
+#[inline(always)]
 fn if_same(target: u32, frame: &Frame) -> FrameDecision
     requires { frame.now.activation.place + 1 < 2 ^ 64 }
     ensures decision { result ≡ branch_decision frame.now.body branches.IfSame target frame.now.activation }
@@ -113,6 +114,7 @@ fn if_same(target: u32, frame: &Frame) -> FrameDecision
     }
 }
 
+#[inline(always)]
 fn if_different(target: u32, frame: &Frame) -> FrameDecision
     requires { frame.now.activation.place + 1 < 2 ^ 64 }
     ensures decision { result ≡ branch_decision frame.now.body branches.IfDifferent target frame.now.activation }
@@ -159,6 +161,7 @@ fn if_non_null(target: u32, frame: &Frame) -> FrameDecision
 }
 
 // JVMS 6.5 jsr.
+#[inline(always)]
 fn subroutine(target: u32, frame: &Frame) -> FrameDecision
     ensures decision { result ≡ branch_decision frame.now.body branches.Subroutine target frame.now.activation }
     ensures room { IfDoes result (HasRoom frame.now.body frame.now.activation) }

@@ -13,6 +13,7 @@ use jvms_machine::action::{FrameAction, FrameDecision};
 use jvms_machine::machine::BadCause;
 use jvms_machine::value::Value;
 
+#[inline(always)]
 #[inline]
 fn takes(form: StackForm) -> u8
     ensures value { result ≡ form_takes form }
@@ -27,6 +28,7 @@ fn takes(form: StackForm) -> u8
     }
 }
 
+#[inline(always)]
 #[inline]
 fn gives(form: StackForm) -> u8
     ensures { result ≡ form_gives form }
@@ -76,6 +78,7 @@ fn are_set(frame: &Frame, count: u8) -> bool
     }
 }
 
+#[inline(always)]
 #[inline]
 pub(crate) fn stack(form: StackForm, frame: &Frame) -> FrameDecision
     ensures decision { result ≡ stack_decision frame.now.body form frame.now.activation }

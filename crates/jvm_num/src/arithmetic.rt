@@ -32,6 +32,7 @@ pub fn mul(a: i32, b: i32) -> i32
 }
 
 /// JVMS 6.5 ineg.
+#[inline(always)]
 pub fn neg(a: i32) -> i32
     ensures { result ≡ negation a }
 {

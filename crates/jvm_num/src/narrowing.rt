@@ -6,6 +6,7 @@ ghost use Rattle.jvms_file.specs.Numbers.{narrowed};
 use jvms_file::insn;
 
 /// JVMS 2.11.4 and 6.5 i2b, i2c, i2s; a boolean keeps the lowest bit.
+#[inline(always)]
 pub fn narrow(to: insn::Narrow, n: i32) -> i32
     ensures { result ≡ narrowed to n }
 {

@@ -9,6 +9,7 @@ use crate::shift::{shl, shr, ushr};
 use jvms_file::insn;
 
 /// What two ints give, always (JVMS 6.5 iadd, isub, imul, ishl, ishr, iushr, iand, ior, ixor).
+#[inline(always)]
 pub fn binary(op: insn::Binary, a: i32, b: i32) -> i32
     ensures { result ≡ binary_result op a b }
 {
@@ -26,6 +27,7 @@ pub fn binary(op: insn::Binary, a: i32, b: i32) -> i32
 }
 
 /// What two ints give, but for a divisor of 0, which gives `None` (JVMS 6.5 idiv, irem).
+#[inline(always)]
 pub fn divide(op: insn::Division, a: i32, b: i32) -> Option<i32>
     ensures { result ≡ division_result op a b }
 {

@@ -83,13 +83,14 @@ impl<'p> Machine<'p> {
         step(&mut self.parts, t, trace)
     }
 
-    /// Makes turns of a thread one after another while each touches the frame of its call alone, at most so many, and
-    /// tells how many. Each ran, gave no item and started no thread. They take no memory.
-    pub fn step_on(&mut self, t: ThreadId, most: u64) -> u64
+    /// Makes turns of a thread one after another, at most so many, and tells how many. Each ran, and behind one that
+    /// started a thread there is none; their items are put behind those of the trace. It stops before a turn that comes
+    /// to anything else, and before one for which there is no memory.
+    pub fn step_on(&mut self, t: ThreadId, most: u64, trace: &mut Trace) -> u64
         ensures most { result ≤ most }
-        ensures ran { RanOn result t self.old self.new }
+        ensures ran { RanOn result t (length self.old.state.threads) self.old trace.old self.new trace.new }
     {
-        step_on(&mut self.parts, t, most)
+        step_on(&mut self.parts, t, most, trace)
     }
 
     /// What the turn of a thread would come to, with nothing changed. It takes no memory.

@@ -78,30 +78,29 @@ fn opened(alloc: Global, program: &Program) -> Result<Machine<'_>, Fail> {
     Ok(Machine::new(alloc, program, LIMITS, &entry)?)
 }
 
-/// How many turns are made on end behind the first three of the thread that adds: of a thread that isn't there, of three
-/// and of nine; and what comes then.
-fn made_on_end(machine: &mut Machine<'_>) -> ([u64; 3], Outcome) {
+/// How many turns are made on end: of a thread that isn't there, at most three and at most nine of the thread that adds;
+/// and what comes then.
+fn made_on_end(machine: &mut Machine<'_>, trace: &mut Trace) -> ([u64; 3], Outcome) {
     let made = [
-        machine.step_on(7, 9),
-        machine.step_on(0, 3),
-        machine.step_on(0, 9),
+        machine.step_on(7, 9, trace),
+        machine.step_on(0, 3, trace),
+        machine.step_on(0, 9, trace),
     ];
     (made, machine.peek(0))
 }
 
-/// What is made on end behind the turns that initialise the class and call.
-fn made_behind_the_call(alloc: Global, program: &Program) -> Result<([u64; 3], Outcome), Fail> {
+/// What is made on end from the opening on.
+fn made_of_the_opened(alloc: Global, program: &Program) -> Result<([u64; 3], Outcome), Fail> {
     let mut machine = opened(alloc, program)?;
-    machine.run(&[0, 0, 0], &mut Trace::new(alloc))?;
-    Ok(made_on_end(&mut machine))
+    Ok(made_on_end(&mut machine, &mut Trace::new(alloc)))
 }
 
 /// Two turns initialise the class, and the third is the call. Four instructions go on, and the fifth ends the thread.
 #[test]
-fn turns_on_end_touch_their_frame_alone(rt: HostRuntime) -> Result<(), Fail> {
+fn turns_on_end_run(rt: HostRuntime) -> Result<(), Fail> {
     let program = program_of(rt.alloc(), &[ADDS])?;
-    let (made, next) = made_behind_the_call(rt.alloc(), &program)?;
-    assert_eq!(rt; made, [0, 3, 1]);
+    let (made, next) = made_of_the_opened(rt.alloc(), &program)?;
+    assert_eq!(rt; made, [0, 3, 4]);
     assert_eq!(rt; next, Outcome::Ended { last: true });
     Ok(())
 }

@@ -47,10 +47,10 @@ IsNextTurn m chooser items None after later more =
     (choice_of chooser m ≡ None) × (after ≡ m) × (later ≡ chooser_after chooser m) × (more ≡ items)
 IsNextTurn m chooser items (Some taken) after later more = IsTurnOf m chooser items taken after later more
 
--- So many turns of a thread were taken on end, each by its call's frame alone: the chooser chose it each time. The machine
--- and the chooser are those behind them.
-pub record AreTurnsOn (m : Machine) (chooser : Chooser) (thread : ℕ) (times : ℕ) (after : Machine) (later : Chooser) : Type 0 where
-  pub ran : RanOn times thread m after
+-- So many turns of a thread were taken on end, each of which ran: the chooser chose it each time. The machine, the chooser
+-- and the items are those behind them.
+pub record AreTurnsOn (m : Machine) (chooser : Chooser) (items : List Item) (thread : ℕ) (times : ℕ) (after : Machine) (later : Chooser) (more : List Item) : Type 0 where
+  pub ran : RanOn times thread (length m.state.threads) m items after more
   pub chosen : IsNextFor times thread (length m.state.threads) chooser
   pub counted : later ≡ counted_times times thread chooser
 

@@ -20,12 +20,16 @@ pub(crate) struct TurnsOn {
     pub times: u64,
 }
 
-/// Takes turns of the thread that the chooser tells as next, one after another, while each touches the frame of its call
-/// alone, at most so many; without such a thread none. They are by far the most frequent, and so many of them need no look
-/// at the chooser.
-pub(crate) fn take_turns_on(machine: &mut Machine<'_>, chooser: &mut Chooser, most: u64) -> TurnsOn
+/// Takes turns of the thread that the chooser tells as next, one after another, while each runs, at most so many; without
+/// such a thread none. They are by far the most frequent, and so many of them need no look at the chooser.
+pub(crate) fn take_turns_on(
+    machine: &mut Machine<'_>,
+    chooser: &mut Chooser,
+    most: u64,
+    trace: &mut Trace,
+) -> TurnsOn
     ensures most { result.times ≤ most }
-    ensures taken { AreTurnsOn machine.old chooser.old result.thread result.times machine.new chooser.new }
+    ensures taken { AreTurnsOn machine.old chooser.old trace.old result.thread result.times machine.new chooser.new trace.new }
 {
     let Some(Candidate { thread, turns }) = chooser.candidate(machine) else {
         return TurnsOn {
@@ -33,7 +37,7 @@ pub(crate) fn take_turns_on(machine: &mut Machine<'_>, chooser: &mut Chooser, mo
             times: 0,
         };
     };
-    let times = machine.step_on(thread, most.min(turns));
+    let times = machine.step_on(thread, most.min(turns), trace);
     chooser.count(thread, times);
     TurnsOn { thread, times }
 }

@@ -67,7 +67,7 @@ pub fn take_turns(
     let mut outcomes = OutcomeList::new(alloc);
     let mut made = 0;
     while made < most {
-        let on = take_turns_on(machine, chooser, most - made);
+        let on = take_turns_on(machine, chooser, most - made, trace);
         put_choices(&mut choices, on)?;
         outcomes.push_ran(on.times as usize)?;
         made += on.times;

@@ -4,11 +4,11 @@ use Rattle.runs.proofs.TurnsOn.{none_on, fewer_on}
 use Rattle.runs.proofs.turn.take_turns_on.Goals as goal
 
 pub returns-in_default-clause-taken : goal.returns-in_default-clause-taken
-returns-in_default-clause-taken c = none_on c.args.machine.now c.args.chooser.now 0
+returns-in_default-clause-taken c = none_on c.args.machine.now c.args.chooser.now c.args.trace.now 0
 
 pub returns-clause-taken : goal.returns-clause-taken
 returns-clause-taken c =
     let most = c.step_on-times.ensures.most in
     let least = c.min.ensures in
     let few : c.step_on-times.result ≤ c.in-Some.field-0.turns = omega (arith, most, least) in
-    fewer_on _ _ _ _ _ _ _ c.step_on-times.ensures.ran few c.in-Some.ensures.next c.count.ensures
+    fewer_on _ _ _ _ _ _ _ _ _ c.step_on-times.ensures.ran few c.in-Some.ensures.next c.count.ensures
