@@ -14,7 +14,7 @@ use jvms_machine::value::Value;
 use jvms_program::thrown::Thrown;
 
 #[inline(always)]
-fn binary(op: insn::Binary, frame: &Frame) -> FrameDecision
+pub(crate) fn binary(op: insn::Binary, frame: &Frame) -> FrameDecision
     ensures decision { result ≡ int_decision frame.now.body (int_insn.Binary op) frame.now.activation }
     ensures room { IfDoes result (HasRoom frame.now.body frame.now.activation) }
 {
@@ -83,7 +83,7 @@ fn conversion(to: insn::Conversion, frame: &Frame) -> FrameDecision
     }
 }
 
-#[inline(always)]
+#[inline(never)]
 pub(crate) fn int(what: insn::IntInsn, frame: &Frame) -> FrameDecision
     ensures decision { result ≡ int_decision frame.now.body what frame.now.activation }
     ensures room { IfDoes result (HasRoom frame.now.body frame.now.activation) }

@@ -69,7 +69,7 @@ fn jump_if(holds: bool, takes: u8, frame: &Frame, target: u32) -> FrameDecision
 }
 
 #[inline(always)]
-fn if_zero(how: Comparison, target: u32, frame: &Frame) -> FrameDecision
+pub(crate) fn if_zero(how: Comparison, target: u32, frame: &Frame) -> FrameDecision
     requires { frame.now.activation.place + 1 < 2 ^ 64 }
     ensures decision { result ≡ branch_decision frame.now.body (branches.IfZero how) target frame.now.activation }
     ensures room { IfDoes result (HasRoom frame.now.body frame.now.activation) }
@@ -84,7 +84,7 @@ fn if_zero(how: Comparison, target: u32, frame: &Frame) -> FrameDecision
 }
 
 #[inline(always)]
-fn if_ints(how: Comparison, target: u32, frame: &Frame) -> FrameDecision
+pub(crate) fn if_ints(how: Comparison, target: u32, frame: &Frame) -> FrameDecision
     requires { frame.now.activation.place + 1 < 2 ^ 64 }
     ensures decision { result ≡ branch_decision frame.now.body (branches.IfInts how) target frame.now.activation }
     ensures room { IfDoes result (HasRoom frame.now.body frame.now.activation) }
@@ -174,7 +174,7 @@ fn subroutine(target: u32, frame: &Frame) -> FrameDecision
     })
 }
 
-#[inline(always)]
+#[inline(never)]
 pub(crate) fn branch(how: Branch, target: u32, frame: &Frame) -> FrameDecision
     requires { frame.now.activation.place + 1 < 2 ^ 64 }
     ensures decision { result ≡ branch_decision frame.now.body how target frame.now.activation }

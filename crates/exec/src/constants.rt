@@ -38,7 +38,7 @@ pub(crate) fn push(what: insn::Push, frame: &Frame) -> FrameDecision
     }
 }
 
-#[inline(always)]
+#[inline(never)]
 pub(crate) fn constant(what: &Loadable, frame: &Frame) -> FrameDecision
     ensures decision { result ≡ constant_decision frame.now.body what.now frame.now.activation }
     ensures room { IfDoes result (HasRoom frame.now.body frame.now.activation) }

@@ -10,10 +10,10 @@ mod decisions;
 mod locals;
 mod profile;
 mod stack;
-mod step;
 mod switches;
+mod turn;
 
 pub use actions::apply;
 pub use locals::is_loaded;
 pub use profile::is_outside_method;
-pub use step::{decide, run};
+pub use turn::{decide, is_beyond, step, step_on};

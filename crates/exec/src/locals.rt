@@ -46,7 +46,7 @@ fn is_stored(kind: Kind, value: Value) -> bool
 }
 
 #[inline(always)]
-fn load(kind: Kind, n: u16, frame: &Frame) -> FrameDecision
+pub(crate) fn load(kind: Kind, n: u16, frame: &Frame) -> FrameDecision
     ensures decision { result ≡ load_decision frame.now.body kind n frame.now.activation }
     ensures room { IfDoes result (HasRoom frame.now.body frame.now.activation) }
 {
@@ -67,7 +67,7 @@ fn load(kind: Kind, n: u16, frame: &Frame) -> FrameDecision
 }
 
 #[inline(always)]
-fn store(kind: Kind, n: u16, frame: &Frame) -> FrameDecision
+pub(crate) fn store(kind: Kind, n: u16, frame: &Frame) -> FrameDecision
     ensures decision { result ≡ store_decision frame.now.body kind n frame.now.activation }
     ensures room { IfDoes result (HasRoom frame.now.body frame.now.activation) }
 {
@@ -106,7 +106,7 @@ fn return_to(n: u16, frame: &Frame) -> FrameDecision
     }
 }
 
-#[inline(always)]
+#[inline(never)]
 pub(crate) fn local(how: LocalUse, n: u16, frame: &Frame) -> FrameDecision
     ensures decision { result ≡ local_decision frame.now.body how n frame.now.activation }
     ensures room { IfDoes result (HasRoom frame.now.body frame.now.activation) }

@@ -30,6 +30,7 @@ const PRINT_STREAM: [u16; 19] = [
     106, 97, 118, 97, 47, 105, 111, 47, 80, 114, 105, 110, 116, 83, 116, 114, 101, 97, 109,
 ];
 
+#[inline(always)]
 fn is_outside_primitive(primitive: Primitive) -> bool
     ensures { result ≡ outside_element (element.Primitive primitive) }
 {
@@ -40,6 +41,7 @@ fn is_outside_primitive(primitive: Primitive) -> bool
 }
 
 /// Whether a type is a float, a double or a long, or an array of them.
+#[inline(always)]
 pub(crate) fn is_outside_type(t: &FieldType) -> bool
     ensures { result ≡ outside_element t.now.element }
 {
@@ -95,6 +97,7 @@ pub(crate) fn is_outside_class(name: &[u16]) -> bool
     }
 }
 
+#[inline(always)]
 fn is_outside_kind(kind: ArrayKind) -> bool
     ensures { result ≡ outside_kind kind }
 {
@@ -111,6 +114,7 @@ fn is_outside_component(component: ArrayType) -> bool
 }
 
 /// Whether it is a load, a store or newarray of float, double or long.
+#[inline(always)]
 pub(crate) fn is_outside_array(what: ArrayInsn) -> bool
     ensures { result ≡ outside_array what }
 {

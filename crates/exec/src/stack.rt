@@ -78,8 +78,7 @@ fn are_set(frame: &Frame, count: u8) -> bool
     }
 }
 
-#[inline(always)]
-#[inline]
+#[inline(never)]
 pub(crate) fn stack(form: StackForm, frame: &Frame) -> FrameDecision
     ensures decision { result ≡ stack_decision frame.now.body form frame.now.activation }
     ensures room { IfDoes result (HasRoom frame.now.body frame.now.activation) }

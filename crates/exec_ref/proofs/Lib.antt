@@ -2,3 +2,4 @@ mod Asked
 pub mod CountLaws
 mod EffectLaws
 mod FieldPlaces
+mod Told

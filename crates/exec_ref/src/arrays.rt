@@ -7,7 +7,7 @@ ghost use Rattle.exec_ref.specs.Asked.{told_length};
 ghost use Rattle.machine_parts.specs.Decided.{seen, seen_object, text_of};
 
 mod components;
-mod elements;
+pub(crate) mod elements;
 pub(crate) mod many;
 
 use crate::arrays::elements::{load_decision, store_decision};
@@ -105,6 +105,7 @@ pub(crate) fn new_class_array_decision<'p>(
 }
 
 /// The array of this reference has its length in place of it.
+#[inline(always)]
 fn measured<'p>(parts: &Parts<'p>, thread: &Thread, reference: u32) -> Decided<'p>
     ensures { seen result ≡ told_length parts.now.limits parts.now.state thread.now reference }
 {
@@ -121,6 +122,7 @@ fn measured<'p>(parts: &Parts<'p>, thread: &Thread, reference: u32) -> Decided<'
 }
 
 /// JVMS 6.5 arraylength.
+#[inline(always)]
 fn array_length_decision<'p>(parts: &Parts<'p>, thread: &Thread, frame: &Frame) -> Decided<'p>
     ensures { seen result ≡ if_deep frame.now 1 1 (measures parts.now.limits parts.now.state thread.now frame.now.activation.operands) }
 {
@@ -135,6 +137,7 @@ fn array_length_decision<'p>(parts: &Parts<'p>, thread: &Thread, frame: &Frame) 
 }
 
 /// The instructions of arrays that name no class.
+#[inline(always)]
 #[tactic(auto, unfolding(jvms_machine::specs::Arrays::array_decision))]
 pub fn array_decision<'p>(
     parts: &Parts<'p>,

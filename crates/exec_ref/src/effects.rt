@@ -42,6 +42,7 @@ fn printed_text<'h>(heap: &'h Heap<'_>, what: Printed) -> Option<&'h [u16]>
 }
 
 /// A value is put into a field of an object.
+#[inline(always)]
 fn put_field(parts: &mut Parts, reference: u32, field: FieldNumber, value: Value)
     ensures { parts.new ≡ with_state parts.old (field_put parts.old.state reference value (field_key_at parts.old.program field)) }
 {
@@ -52,12 +53,11 @@ fn put_field(parts: &mut Parts, reference: u32, field: FieldNumber, value: Value
 fn put_static(parts: &mut Parts, field: FieldNumber, value: Value)
     ensures { parts.new ≡ with_state parts.old (static_put parts.old.state value (field_key_at parts.old.program field)) }
 {
-    if let Some(name) = parts.program().field_name(field) {
-        parts.statics.put(&name, value);
-    }
+    parts.statics.put_numbered(field, value);
 }
 
 /// What an effect puts into a field or an element. Others put nothing.
+#[inline(always)]
 fn put<'p>(parts: &mut Parts<'p>, t: ThreadId, effect: Effect<ActionText<'p>>)
     requires makeable { CanBeMade parts.old.state (operands_of (slice_get parts.old.state.threads t)) (seen_effect effect) }
     requires puts { PutsAtMost (seen_effect effect) }
@@ -114,6 +114,7 @@ fn start_thread(
 }
 
 /// What an effect makes of the machine, with its event.
+#[inline(always)]
 fn affect<'p>(
     parts: &mut Parts<'p>,
     t: ThreadId,
@@ -143,6 +144,7 @@ fn affect<'p>(
 }
 
 /// The call on top goes on by an instruction that touches more than its frame.
+#[inline(always)]
 #[tactic(auto, unfolding(jvms_machine::specs::Actions::applied_to, jvms_machine::specs::Actions::items_of), using(jvms_machine::proofs::EffectSoundness::affected_thread))]
 pub fn reach<'p>(
     parts: &mut Parts<'p>,

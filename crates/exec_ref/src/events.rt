@@ -36,6 +36,7 @@ fn field_key(program: &Program, n: FieldNumber) -> Result<Option<FieldKey>, Allo
 }
 
 /// The event of a read.
+#[inline(always)]
 fn read_of(thread: ThreadId, variable: Option<Variable>) -> Option<Item>
     ensures { listed result ≡ event (λ v. item.Read thread v) variable }
 {
@@ -44,6 +45,7 @@ fn read_of(thread: ThreadId, variable: Option<Variable>) -> Option<Item>
 }
 
 /// The event of a write.
+#[inline(always)]
 fn write_of(thread: ThreadId, variable: Option<Variable>) -> Option<Item>
     ensures { listed result ≡ event (λ v. item.Write thread v) variable }
 {
@@ -89,6 +91,7 @@ fn static_variable(parts: &Parts, n: FieldNumber) -> Result<Option<Variable>, Al
 }
 
 /// The event of an instruction, if it has one.
+#[inline(always)]
 pub(crate) fn effect_item<'p>(
     parts: &Parts<'p>,
     t: ThreadId,

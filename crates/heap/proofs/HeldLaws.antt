@@ -14,7 +14,7 @@ use Rattle.heap.specs.declared.held_object.HeldObject.{HeldObject}
 use Rattle.heap.specs.declared.held_object.HeldObject.TheVariants as held
 use Rattle.heap.specs.Held.{name_at, shown, IsKept, Becomes, AreHeld, SuitsHeld, found}
 use Rattle.heap.specs.Kinds.{IsOfKind}
-use Rattle.heap.specs.Objects.{Suits, instance_class}
+use Rattle.heap.specs.Objects.{IfThere, Suits, instance_class}
 use Rattle.jvms_machine.specs.declared.value.Value.{Value}
 use Rattle.heap.proofs.Lists.{get_map, set_map}
 use Rattle.heap.proofs.SlotLaws.{keys_kept}
@@ -127,3 +127,8 @@ pub have_their_fields : (program : List Class) (objects : List HeldObject) (r : 
 have_their_fields program objects zero class fields is = absurd (none-some (instance class fields) is)
 have_their_fields program objects (suc r) class fields is =
     option_map_some (shown program) (slice_get objects r) (instance class fields) (sym (get_map (shown program) objects r) ∙ is) (λ o at shows. has_fields program o class fields shows)
+
+-- What is told of an object is told of the one that a reference leads to.
+pub told_there : (objects : List Object) (r : ℕ) (Told : Value → Object → Type 0) (o : Object) (result : Option Value) → Some o ≡ object_at objects r → IfSome result (λ v. Told v o)
+    → IfSome result (λ v. IfThere (Told v) (object_at objects r))
+told_there objects r Told o result there holds = subst (λ x. IfSome result (λ v. IfThere (Told v) x)) there holds

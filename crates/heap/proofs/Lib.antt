@@ -6,6 +6,7 @@ pub mod Ends
 pub mod HeldLaws
 pub mod IndexLaws
 pub mod KeyLaws
+pub mod KindLaws
 pub mod Lists
 pub mod MakingLaws
 pub mod NamedLaws

@@ -1,12 +1,14 @@
 -- What is asked of objects, and what is put into them by a slot.
-use Rattle.std.specs.Prelude.{◌≡◌, ℕ, drop, zero, suc, List, [], ◌∷◌, ◌++◌, ◌+◌, length, Option, Some, None, slice_get}
+use Rattle.std.specs.Prelude.{◌≡◌, ℕ, true, drop, zero, suc, List, [], ◌∷◌, ◌++◌, ◌+◌, length, Option, Some, None, IsSome, slice_get}
 use Rattle.std.specs.Option.{option_and_then, option_map}
+use Rattle.jvms_file.specs.declared.insn.ArrayKind.{ArrayKind}
 use Rattle.jvms_program.specs.declared.program.Class.{Class}
 use Rattle.jvms_program.specs.declared.key.FieldKey.{FieldKey}
 use Rattle.jvms_machine.specs.declared.value.Value.{Value}
 use Rattle.jvms_program.specs.Slots.{slot_of}
 use Rattle.jvms_machine.specs.State.{Object, instance, array, text, class_object, class_of, object_at}
-use Rattle.jvms_machine.specs.Heap.{component_type, value_of}
+use Rattle.jvms_machine.specs.Arrays.{serves}
+use Rattle.jvms_machine.specs.Heap.{component_type, stored_as, value_of}
 use Rattle.heap.specs.declared.kind.Kind.TheVariants as kind
 use Rattle.heap.specs.Kinds.{kind_of, IsOfKind}
 
@@ -17,6 +19,11 @@ class_at heap r = option_map class_of (object_at heap r)
 -- What is asked of the object that a reference leads to.
 abbrev pub asked : {A : Type 0} → (Object → Option A) → List Object → ℕ → Option A
 asked {A} part heap r = option_and_then part (object_at heap r)
+
+-- The reference leads to an object, of which this holds.
+abbrev pub IfThere : (Object → Type 0) → Option Object → Type 0
+IfThere P None = ⊥
+IfThere P (Some o) = P o
 
 -- The class of an instance.
 abbrev pub instance_class : Object → Option (List ℕ)
@@ -52,6 +59,18 @@ named_by _ = None
 abbrev pub Suits : Value → Object → Type 0
 Suits v (array class elements) = IsOfKind (kind_of (component_type class)) v
 Suits v _ = Unit {0}
+
+-- It is an array that an instruction of a kind serves, with this element.
+abbrev pub Loads : ArrayKind → ℕ → Value → Object → Type 0
+Loads k index v (array class elements) = (serves k (component_type class) ≡ true) × (slice_get elements index ≡ Some v)
+Loads k index v _ = ⊥
+
+-- It is an array that an instruction of a kind serves, with an element there, and of a value that is stored in one another
+-- is kept.
+abbrev pub Stores : ArrayKind → ℕ → Value → Value → Object → Type 0
+Stores k index v kept (array class elements) =
+    (serves k (component_type class) ≡ true) × (IsSome (slice_get elements index) × (stored_as (component_type class) v ≡ kept))
+Stores k index v kept _ = ⊥
 
 -- Arrays of so many dimensions: the components of all but the innermost are arrays.
 abbrev pub HasDimensions : List ℕ → List ℕ → Type 0

@@ -1,14 +1,18 @@
 //! The elements of arrays.
 
-ghost use Rattle.std.specs.Prelude.{◌≡◌, IfOk, length, map, pos, replicate, slice_get, slice_set};
+ghost use Rattle.std.specs.Prelude.{◌≡◌, true, IfOk, IfSome, IsSome, IsTrue, Some, length, map, pos, replicate, slice_get, slice_set};
 ghost use Rattle.jvms_file.specs.Numbers.{narrowed};
 ghost use Rattle.jvms_file.specs.declared.insn.Narrow.TheVariants as narrow;
+ghost use Rattle.jvms_file.specs.declared.descriptor.FieldType.{FieldType};
+ghost use Rattle.jvms_machine.specs.Arrays.{serves};
+ghost use Rattle.jvms_machine.specs.Heap.{stored_as};
 ghost use Rattle.jvms_machine.specs.declared.value.Value.TheVariants as value;
 ghost use Rattle.heap.specs.declared.kind.Kind.TheVariants as kind;
-ghost use Rattle.heap.specs.Kinds.{IsOfKind, first_of};
+ghost use Rattle.heap.specs.Kinds.{IsOfKind, first_of, kind_of};
 ghost use Rattle.heap.specs.Elements.{values_of, kind_held, reference_value};
 
 use crate::kind::Kind;
+use jvms_file::insn::ArrayKind;
 use jvms_machine::value::Value;
 use std::alloc::{AllocError, Global};
 
@@ -26,6 +30,7 @@ pub enum Elements {
 }
 
 /// A byte's low eight bits.
+#[inline(always)]
 fn byte(n: i32) -> i8
     ensures { result ≡ narrowed narrow.Byte n }
 {
@@ -34,6 +39,7 @@ fn byte(n: i32) -> i8
 }
 
 /// A short's low sixteen bits.
+#[inline(always)]
 fn short(n: i32) -> i16
     ensures { result ≡ narrowed narrow.Short n }
 {
@@ -42,6 +48,7 @@ fn short(n: i32) -> i16
 }
 
 /// A char's low sixteen bits.
+#[inline(always)]
 fn unsigned_short(n: i32) -> u16
     ensures { pos result ≡ narrowed narrow.Char n }
 {
@@ -49,6 +56,7 @@ fn unsigned_short(n: i32) -> u16
 }
 
 /// A boolean's lowest bit.
+#[inline(always)]
 fn bit(n: i32) -> u8
     ensures { pos result ≡ narrowed narrow.Boolean n }
 {
@@ -56,6 +64,7 @@ fn bit(n: i32) -> u8
 }
 
 /// The value of a reference that is held as its number.
+#[inline(always)]
 fn reference_value(number: u32) -> Value
     ensures { result ≡ reference_value number }
 {
@@ -67,6 +76,7 @@ fn reference_value(number: u32) -> Value
 }
 
 /// Puts an item at a place, if there is such a place.
+#[inline(always)]
 pub(crate) fn put<T: Copy>(items: &mut Vec<T>, index: usize, item: T)
     ensures { items.new.items ≡ slice_set items.old.items index item }
 {
@@ -76,6 +86,7 @@ pub(crate) fn put<T: Copy>(items: &mut Vec<T>, index: usize, item: T)
 }
 
 /// Puts an int at an index, if there is an element.
+#[inline(always)]
 #[tactic(auto, using(crate::proofs::ElementLaws::int_put))]
 fn put_int(items: &mut Vec<i32>, index: usize, new: Value)
     requires { IsOfKind kind.Int new }
@@ -87,6 +98,7 @@ fn put_int(items: &mut Vec<i32>, index: usize, new: Value)
 }
 
 /// Puts a byte at an index, if there is an element.
+#[inline(always)]
 #[tactic(auto, using(crate::proofs::ElementLaws::narrowed_put))]
 fn put_byte(items: &mut Vec<i8>, index: usize, new: Value)
     requires { IsOfKind kind.Byte new }
@@ -98,6 +110,7 @@ fn put_byte(items: &mut Vec<i8>, index: usize, new: Value)
 }
 
 /// Puts a boolean at an index, if there is an element.
+#[inline(always)]
 #[tactic(auto, using(crate::proofs::ElementLaws::natural_put))]
 fn put_boolean(items: &mut Vec<u8>, index: usize, new: Value)
     requires { IsOfKind kind.Boolean new }
@@ -109,6 +122,7 @@ fn put_boolean(items: &mut Vec<u8>, index: usize, new: Value)
 }
 
 /// Puts a char at an index, if there is an element.
+#[inline(always)]
 #[tactic(auto, using(crate::proofs::ElementLaws::natural_put))]
 fn put_char(items: &mut Vec<u16>, index: usize, new: Value)
     requires { IsOfKind kind.Char new }
@@ -120,6 +134,7 @@ fn put_char(items: &mut Vec<u16>, index: usize, new: Value)
 }
 
 /// Puts a short at an index, if there is an element.
+#[inline(always)]
 #[tactic(auto, using(crate::proofs::ElementLaws::narrowed_put))]
 fn put_short(items: &mut Vec<i16>, index: usize, new: Value)
     requires { IsOfKind kind.Short new }
@@ -131,6 +146,7 @@ fn put_short(items: &mut Vec<i16>, index: usize, new: Value)
 }
 
 /// Puts a reference or null at an index, if there is an element.
+#[inline(always)]
 #[tactic(auto, using(crate::proofs::ElementLaws::null_put, crate::proofs::ElementLaws::reference_put))]
 fn put_reference(items: &mut Vec<u32>, index: usize, new: Value)
     requires { IsOfKind kind.Reference new }
@@ -163,6 +179,7 @@ impl Elements {
     }
 
     /// How many there are.
+    #[inline(always)]
     pub(crate) fn len(&self) -> usize
         ensures { result ≡ length (values_of self.now) }
     {
@@ -178,6 +195,7 @@ impl Elements {
     }
 
     /// The element at an index.
+    #[inline(always)]
     pub(crate) fn get(&self, index: usize) -> Option<Value>
         ensures { result ≡ slice_get (values_of self.now) index }
     {
@@ -213,5 +231,61 @@ impl Elements {
             Elements::References(items) => put_reference(items, index, value),
             Elements::Nothing(_) => {}
         }
+    }
+
+    /// Whether an instruction of a kind loads and stores them: that of bytes does booleans too.
+    #[inline(always)]
+    #[tactic(auto, using(crate::proofs::KindLaws::ints_are_served, crate::proofs::KindLaws::bytes_are_served, crate::proofs::KindLaws::booleans_are_served, crate::proofs::KindLaws::chars_are_served, crate::proofs::KindLaws::shorts_are_served, crate::proofs::KindLaws::references_are_served))]
+    fn are_served(&self, kind: ArrayKind) -> bool
+        ensures { (t : FieldType) → kind_held self.now ≡ kind_of t → IsTrue result → serves kind t ≡ true }
+    {
+        match (self, kind) {
+            (Elements::Ints(_), ArrayKind::Int)
+            | (Elements::Bytes(_) | Elements::Booleans(_), ArrayKind::Byte)
+            | (Elements::Chars(_), ArrayKind::Char)
+            | (Elements::Shorts(_), ArrayKind::Short)
+            | (Elements::References(_), ArrayKind::Reference) => true,
+            _ => false,
+        }
+    }
+
+    /// What is kept of an int that is stored, where ints are held.
+    #[inline(always)]
+    #[tactic(auto, using(crate::proofs::KindLaws::int_is_kept, crate::proofs::KindLaws::byte_is_kept, crate::proofs::KindLaws::boolean_is_kept, crate::proofs::KindLaws::char_is_kept, crate::proofs::KindLaws::short_is_kept))]
+    fn kept(&self, value: Value) -> Option<Value>
+        ensures { (t : FieldType) → kind_held self.now ≡ kind_of t → IfSome result (λ kept. stored_as t value ≡ kept) }
+    {
+        match (self, value) {
+            (Elements::Ints(_), Value::Int(n)) => Some(Value::Int(n)),
+            (Elements::Bytes(_), Value::Int(n)) => Some(Value::Int(i32::from(byte(n)))),
+            (Elements::Booleans(_), Value::Int(n)) => Some(Value::Int(i32::from(bit(n)))),
+            (Elements::Chars(_), Value::Int(n)) => Some(Value::Int(i32::from(unsigned_short(n)))),
+            (Elements::Shorts(_), Value::Int(n)) => Some(Value::Int(i32::from(short(n)))),
+            _ => None,
+        }
+    }
+
+    /// The element at an index, where an instruction of a kind loads them.
+    #[inline(always)]
+    #[tactic(auto, using(crate::proofs::KindLaws::loads))]
+    pub(crate) fn loaded(&self, kind: ArrayKind, index: usize) -> Option<Value>
+        ensures { (t : FieldType) → kind_held self.now ≡ kind_of t → IfSome result (λ v. (serves kind t ≡ true) × (slice_get (values_of self.now) index ≡ Some v)) }
+    {
+        if !self.are_served(kind) {
+            return None;
+        }
+        self.get(index)
+    }
+
+    /// What is kept of an int that is stored at an index, where an instruction of a kind stores ints.
+    #[inline(always)]
+    #[tactic(auto, using(crate::proofs::KindLaws::stores))]
+    pub(crate) fn stored(&self, kind: ArrayKind, index: usize, value: Value) -> Option<Value>
+        ensures { (t : FieldType) → kind_held self.now ≡ kind_of t → IfSome result (λ kept. (serves kind t ≡ true) × (IsSome (slice_get (values_of self.now) index) × (stored_as t value ≡ kept))) }
+    {
+        if !self.are_served(kind) || self.get(index).is_none() {
+            return None;
+        }
+        self.kept(value)
     }
 }

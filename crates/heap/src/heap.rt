@@ -6,14 +6,14 @@ ghost use Rattle.jvms_program.specs.declared.key.FieldKey.{FieldKey};
 ghost use Rattle.jvms_machine.specs.declared.value.Value.{Value as Held};
 ghost use Rattle.jvms_machine.specs.State.{instance, instance_fields, keys, object_at, text_reference, class_reference};
 ghost use Rattle.jvms_machine.specs.Heap.{array_of_type, with_element, with_object};
-ghost use Rattle.heap.specs.Objects.{Suits, class_at, asked, instance_class, array_class, length_of, element_of, units_of, named_by, value_in, with_slot};
+ghost use Rattle.heap.specs.Objects.{IfThere, Loads, Stores, Suits, class_at, asked, instance_class, array_class, length_of, element_of, units_of, named_by, value_in, with_slot};
 ghost use Rattle.heap.specs.Held.{name_at, shown, IsKept};
 
 use crate::held_object::HeldObject;
 use crate::index::Index;
 use crate::primitive_arrays::PrimitiveArrays;
 use held::shared::Text;
-use jvms_file::insn::ArrayType;
+use jvms_file::insn::{ArrayKind, ArrayType};
 use jvms_machine::value::Value;
 use program::Program;
 use std::alloc::Global;
@@ -84,6 +84,7 @@ impl<'p> Heap<'p> {
     }
 
     /// The object that a reference leads to.
+    #[inline(always)]
     #[tactic(auto, using(crate::proofs::HeldLaws::shown_of, crate::proofs::HeldLaws::kept_of))]
     pub(crate) fn object(&self, reference: u32) -> Option<&HeldObject>
         ensures shown { option_map (λ o. shown self.now.program o.now) result ≡ object_at self.now.objects reference }
@@ -96,6 +97,7 @@ impl<'p> Heap<'p> {
     }
 
     /// The class of the object of a reference.
+    #[inline(always)]
     pub fn class_of(&self, reference: u32) -> Option<&[u16]>
         ensures { option_map (λ c. c.now) result ≡ class_at self.now.objects reference }
     {
@@ -118,6 +120,7 @@ impl<'p> Heap<'p> {
     }
 
     /// How many elements an array has.
+    #[inline(always)]
     pub fn array_length(&self, reference: u32) -> Option<usize>
         ensures count { result ≡ asked length_of self.now.objects reference }
         // A length is an int.
@@ -127,10 +130,39 @@ impl<'p> Heap<'p> {
     }
 
     /// An element of an array.
+    #[inline(always)]
     pub fn element(&self, reference: u32, index: usize) -> Option<Value>
         ensures { result ≡ asked (element_of index) self.now.objects reference }
     {
         self.object(reference)?.element(index)
+    }
+
+    /// An element of an array that an instruction of a kind serves.
+    #[inline(always)]
+    pub fn loaded(&self, reference: u32, kind: ArrayKind, index: usize) -> Option<Value>
+        ensures { IfSome result (λ v. IfThere (Loads kind index v) (object_at self.now.objects reference)) }
+    {
+        match self.object(reference) {
+            None => None,
+            Some(object) => object.loaded(kind, index),
+        }
+    }
+
+    /// What is kept of an int that is stored in an array that an instruction of a kind serves.
+    #[inline(always)]
+    pub fn stored(
+        &self,
+        reference: u32,
+        kind: ArrayKind,
+        index: usize,
+        value: Value,
+    ) -> Option<Value>
+        ensures { IfSome result (λ kept. IfThere (Stores kind index value kept) (object_at self.now.objects reference)) }
+    {
+        match self.object(reference) {
+            None => None,
+            Some(object) => object.stored(kind, index, value),
+        }
     }
 
     /// The value of the field of a slot, of an instance.
@@ -191,6 +223,7 @@ impl<'p> Heap<'p> {
     }
 
     /// Puts a value at an index of an array that has an element there.
+    #[inline(always)]
     pub fn put_element(&mut self, reference: u32, index: usize, value: Value)
         requires { IfSome (object_at self.old.objects reference) (Suits value) }
         ensures { self.new ≡ record self.old { objects = with_object self.old.objects reference (with_element index value) (object_at self.old.objects reference) } }

@@ -5,11 +5,12 @@ ghost use Rattle.std.specs.Option.{option_map};
 ghost use Rattle.jvms_program.specs.declared.program.Class.{Class};
 ghost use Rattle.jvms_machine.specs.State.{class_of};
 ghost use Rattle.jvms_machine.specs.Heap.{with_element};
-ghost use Rattle.heap.specs.Objects.{array_class, instance_class, length_of, element_of, units_of, named_by, value_in, with_slot};
+ghost use Rattle.heap.specs.Objects.{Loads, Stores, array_class, instance_class, length_of, element_of, units_of, named_by, value_in, with_slot};
 ghost use Rattle.heap.specs.Held.{name_at, shown, IsKept, SuitsHeld, Becomes};
 
 use crate::elements::Elements;
 use held::shared::Text;
+use jvms_file::insn::ArrayKind;
 use jvms_machine::value::Value;
 use program::Program;
 
@@ -45,6 +46,7 @@ pub(crate) fn value_at(values: &[Value], place: usize) -> Option<Value>
 
 impl HeldObject {
     /// The name of its class.
+    #[inline(always)]
     pub(crate) fn class_name<'a>(&'a self, program: &'a Program) -> &'a [u16]
         ensures { result.now ≡ class_of (shown program.now self.now) }
     {
@@ -70,6 +72,7 @@ impl HeldObject {
     }
 
     /// How many elements an array has.
+    #[inline(always)]
     pub(crate) fn length(&self) -> Option<usize>
         ensures count { (program : List Class) → result ≡ length_of (shown program self.now) }
         ensures few { (program : List Class) → IsKept program self.now → IfSome result (λ length. length < 2 ^ 31) }
@@ -81,11 +84,34 @@ impl HeldObject {
     }
 
     /// An element of an array.
+    #[inline(always)]
     pub(crate) fn element(&self, index: usize) -> Option<Value>
         ensures { (program : List Class) → result ≡ element_of index (shown program self.now) }
     {
         match self {
             HeldObject::Array { elements, .. } => elements.get(index),
+            _ => None,
+        }
+    }
+
+    /// An element of an array that an instruction of a kind serves.
+    #[inline(always)]
+    pub(crate) fn loaded(&self, kind: ArrayKind, index: usize) -> Option<Value>
+        ensures { (program : List Class) → IsKept program self.now → IfSome result (λ v. Loads kind index v (shown program self.now)) }
+    {
+        match self {
+            HeldObject::Array { elements, .. } => elements.loaded(kind, index),
+            _ => None,
+        }
+    }
+
+    /// What is kept of an int that is stored in an array that an instruction of a kind serves.
+    #[inline(always)]
+    pub(crate) fn stored(&self, kind: ArrayKind, index: usize, value: Value) -> Option<Value>
+        ensures { (program : List Class) → IsKept program self.now → IfSome result (λ kept. Stores kind index value kept (shown program self.now)) }
+    {
+        match self {
+            HeldObject::Array { elements, .. } => elements.stored(kind, index, value),
             _ => None,
         }
     }
@@ -143,6 +169,7 @@ impl HeldObject {
     }
 
     /// Puts a value at an index of an array, if it is one and has an element there.
+    #[inline(always)]
     pub(crate) fn put_element(&mut self, index: usize, value: Value)
         requires { SuitsHeld value self.old }
         ensures { (program : List Class) → IsKept program self.old → Becomes (with_element index value) program self.old self.new }

@@ -7,3 +7,4 @@ mod OnLaws
 mod RunLaws
 mod Sites
 mod StatusLaws
+mod Told

@@ -4,7 +4,7 @@ ghost use Rattle.std.specs.Prelude.{◌≡◌, ◌+◌, ◌<◌, ◌^◌};
 ghost use Rattle.jvms_machine.specs.Activations.{has_depth as is_deep};
 ghost use Rattle.jvms_machine.specs.Decisions.{bad as bad_turn, never_seen as no_turn, outcome_of};
 ghost use Rattle.jvms_machine.specs.Fields.{reaches as reaching, taking as takes_on};
-ghost use Rattle.machine_parts.specs.Decided.{seen, seen_effect};
+ghost use Rattle.machine_parts.specs.Decided.{seen, seen_effect, IsReached};
 
 use frames::Frame;
 use held::shared::Text;
@@ -25,10 +25,18 @@ pub enum ActionText<'p> {
     ArrayOfClass(&'p Text),
 }
 
+/// What an instruction comes to that reaches beyond its frame and runs: its effect, and what it makes of the frame.
+#[derive(Clone, Copy)]
+pub struct Reached<'p> {
+    pub effect: Effect<ActionText<'p>>,
+    pub action: FrameAction,
+}
+
 /// What a turn comes to, with the code and the texts where they stand in the program.
 pub type Decided<'p> = Decision<&'p Body, ActionText<'p>>;
 
 /// The turn can't be made.
+#[inline(always)]
 pub fn bad<'p>(cause: BadCause) -> Decided<'p>
     ensures { seen result ≡ bad_turn cause }
 {
@@ -36,6 +44,7 @@ pub fn bad<'p>(cause: BadCause) -> Decided<'p>
 }
 
 /// What stands for what never comes, as a class or a method that isn't there. In a sound state each is.
+#[inline(always)]
 pub fn never_seen<'p>() -> Decided<'p>
     ensures { seen result ≡ no_turn }
 {
@@ -43,7 +52,7 @@ pub fn never_seen<'p>() -> Decided<'p>
 }
 
 /// Whether so many operands are there to take, and those after success fit `max_stack`.
-#[inline]
+#[inline(always)]
 pub fn has_depth(frame: &Frame, takes: u8, gives: u8) -> bool
     ensures { result ≡ is_deep frame.now.body takes gives frame.now.activation }
 {
@@ -53,15 +62,26 @@ pub fn has_depth(frame: &Frame, takes: u8, gives: u8) -> bool
 }
 
 /// The call on top goes on, with this effect.
-#[inline]
+#[inline(always)]
 pub fn reaches<'p>(effect: Effect<ActionText<'p>>, action: FrameAction) -> Decided<'p>
     ensures { seen result ≡ reaching (seen_effect effect.entry) action }
 {
     Decision::Makes(Action::Reaches(effect, action))
 }
 
+/// What was decided, where it reaches beyond its frame and runs.
+#[inline(always)]
+pub fn as_reached(decision: Decided<'_>) -> Option<Reached<'_>>
+    ensures { IsReached result (seen decision.entry) }
+{
+    match decision {
+        Decision::Makes(Action::Reaches(effect, action)) => Some(Reached { effect, action }),
+        _ => None,
+    }
+}
+
 /// On to the next instruction, with so many operands taken.
-#[inline]
+#[inline(always)]
 pub fn taking(takes: u8, frame: &Frame) -> FrameAction
     requires { frame.now.activation.place + 1 < 2 ^ 64 }
     ensures { result ≡ takes_on takes frame.now.activation }
@@ -73,6 +93,7 @@ pub fn taking(takes: u8, frame: &Frame) -> FrameAction
 }
 
 /// The outcome of what was decided.
+#[inline(always)]
 pub fn outcome(decision: Decided<'_>) -> Outcome
     ensures { result ≡ outcome_of (seen decision.entry) }
 {

@@ -13,6 +13,7 @@ use std::alloc::AllocError;
 use trace::Trace;
 
 /// Puts at most one item behind the others.
+#[inline(always)]
 pub fn push_listed(trace: &mut Trace, item: Option<Item>) -> Result<(), AllocError>
     ensures ok { OnOk result (trace.new ≡ trace.old ++ listed item) }
     ensures err { OnErr result (trace.new ≡ trace.old) }

@@ -32,6 +32,7 @@ pub struct Parts<'p> {
 }
 
 impl<'p> Model for Parts<'p> {
+    ghost use Rattle.std.specs.Prelude.{◌≡◌};
     ghost use Rattle.machine_parts.specs.Machine.{Machine as Seen};
 
     ghost Value = { Seen };
@@ -51,6 +52,9 @@ impl<'p> Model for Parts<'p> {
         result = m.result;
       };
     } };
+
+    // The static fields are those of the heap's program.
+    ghost invariant = { λ m. m.statics.program ≡ m.heap.program };
 }
 
 impl<'p> Parts<'p> {

@@ -12,6 +12,7 @@ use jvms_file::insn::Narrow;
 use jvms_machine::value::Value;
 
 /// What is kept of an int in a variable of a primitive type.
+#[inline(always)]
 fn narrowed_to(primitive: Primitive, n: i32) -> i32
     ensures { result ≡ narrowed_to (element.Primitive primitive) n }
 {
@@ -25,6 +26,7 @@ fn narrowed_to(primitive: Primitive, n: i32) -> i32
 }
 
 /// What is kept of a value in a field of a type.
+#[inline(always)]
 pub fn stored_in_field(t: &FieldType, value: Value) -> Value
     ensures { result ≡ stored_as t.now value }
 {
@@ -37,6 +39,7 @@ pub fn stored_in_field(t: &FieldType, value: Value) -> Value
 }
 
 /// What is kept of a value in an element of an array whose components are of a type.
+#[inline(always)]
 pub fn stored_in_component(t: Spelled<'_>, value: Value) -> Value
     ensures { result ≡ stored_as (type_of t.entry) value }
 {

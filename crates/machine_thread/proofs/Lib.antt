@@ -1,1 +1,2 @@
+mod OnLaws
 mod Stacks

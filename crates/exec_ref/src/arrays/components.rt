@@ -13,6 +13,7 @@ use jvms_file::descriptor::Primitive;
 use jvms_file::insn::{ArrayKind, Kind};
 
 /// What stands behind the bracket of an array's class.
+#[inline(always)]
 pub(crate) fn behind_bracket(class: &[u16]) -> &[u16]
     ensures { result.now ≡ drop 1 class.now }
 {
@@ -23,6 +24,7 @@ pub(crate) fn behind_bracket(class: &[u16]) -> &[u16]
 }
 
 /// The type of the components of an array's class.
+#[inline(always)]
 pub(crate) fn component_type(class: &[u16]) -> Spelled<'_>
     ensures { type_of result ≡ type_of_components class.now }
 {
@@ -49,6 +51,7 @@ pub(crate) fn component_class(class: &[u16]) -> &[u16]
 }
 
 /// Whether an instruction of a kind serves arrays of primitive values.
+#[inline(always)]
 fn serves_primitive(kind: ArrayKind, primitive: Primitive) -> bool
     ensures { result ≡ serving kind (of_element (element.Primitive primitive)) }
 {
@@ -62,6 +65,7 @@ fn serves_primitive(kind: ArrayKind, primitive: Primitive) -> bool
 }
 
 /// Whether an instruction of a kind serves arrays with components of a type: that of bytes serves booleans too.
+#[inline(always)]
 pub(crate) fn serves(kind: ArrayKind, t: Spelled<'_>) -> bool
     ensures { result ≡ serving kind (type_of t.entry) }
 {
@@ -72,6 +76,7 @@ pub(crate) fn serves(kind: ArrayKind, t: Spelled<'_>) -> bool
 }
 
 /// The kind of value that an instruction of a kind loads or stores.
+#[inline(always)]
 pub(crate) fn kind_of_elements(kind: ArrayKind) -> Kind
     ensures { result ≡ element_kind kind }
 {
@@ -85,6 +90,7 @@ pub(crate) fn kind_of_elements(kind: ArrayKind) -> Kind
 }
 
 /// Whether an instruction of a kind loads or stores references.
+#[inline(always)]
 pub(crate) fn is_reference_kind(kind: ArrayKind) -> bool
     ensures { result ≡ is_references kind }
 {
