@@ -5,8 +5,8 @@
 
 FILE is the program: what `rt try` hands to clang, without the checks that `rt try` adds, by -O3 and with the hints on
 inlining of the sources. Rattle's own build drops `inline(always)` from a function that would grow very large, and this
-one doesn't: so it shows what inlining would give, and the proved program may be slower. `valgrind --tool=callgrind` on
-two lengths of a run tells the instructions a turn, whatever else runs on the machine.
+one doesn't: so it shows what inlining would give, and the proved program may be slower. bench/instructions.py tells the
+instructions a turn, whatever else runs on the machine.
 """
 import os
 import re
