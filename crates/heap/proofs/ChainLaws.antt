@@ -11,6 +11,7 @@ use Rattle.jvms_program.specs.Resolution.{chain, chain_within}
 use Rattle.jvms_machine.specs.declared.value.Value.{Value}
 use Rattle.jvms_machine.specs.State.{default_value, fields_where, instance_fields}
 use Rattle.heap.specs.FirstValues.{own_values, values_down}
+use Rattle.heap.specs.Held.{name_at}
 
 -- ---- Up the superclasses
 
@@ -57,6 +58,12 @@ module _ (program : List Class) (all values : List Value) (most : ℕ) (name : L
   left_more less super c new put h e is some =
       let rest = flat_map values_down (chain_within less program super) in
       record { all_are = ap (λ l. l ++ rest) put ∙ append_assoc values (values_down c) rest ∙ rest_is (c ∷ chain_within less program super) (one_up most less program name super c h e is some) }
+
+-- ---- Up by numbers
+
+-- Those of what is left of the chain of the class of a number come behind those that are there.
+pub record LeavesAt (program : List Class) (all values : List Value) (class : ℕ) : Type 0 where
+  pub all_are : values ++ flat_map values_down (chain program (name_at program class)) ≡ all
 
 -- ---- In one class
 
@@ -126,5 +133,6 @@ turns (c ∷ cs) =
     ∙ sym (map-append second (flat_map own_fields (reverse cs)) (flat_map own_fields (c ∷ [])))
     ∙ ap (map second) (sym (flat_map-append own_fields (reverse cs) (c ∷ []))) ∙ ap (λ l. map second (flat_map own_fields l)) (sym (reverse-append (c ∷ []) cs))
 
-pub turned : (program : List Class) (name : List ℕ) (up values : List Value) → up ≡ flat_map values_down (chain program name) → values ≡ reverse up → values ≡ map (λ f. f.1) (instance_fields program name)
-turned program name up values are is = is ∙ ap reverse are ∙ turns (chain program name)
+pub turned : (program : List Class) (name : List ℕ) (none up values : List Value) → none ≡ [] → up ≡ none ++ flat_map values_down (chain program name) → values ≡ reverse up → values ≡ map (λ f. f.1) (instance_fields program name)
+turned program name none up values empty are is =
+    is ∙ ap reverse (are ∙ ap (λ l. l ++ flat_map values_down (chain program name)) empty) ∙ turns (chain program name)

@@ -5,12 +5,16 @@ ghost use Rattle.std.specs.List.{flat_map};
 ghost use Rattle.jvms_program.specs.Resolution.{chain};
 ghost use Rattle.jvms_machine.specs.State.{default_of_element, default_value, instance_fields};
 ghost use Rattle.heap.specs.FirstValues.{own_values, values_down};
+ghost use Rattle.heap.specs.Held.{name_at};
 
 use jvms_file::descriptor::{Element, FieldType, Primitive};
 use jvms_machine::value::Value;
 use jvms_program::program::{Class, Field};
 use program::Program;
 use std::alloc::{AllocError, Global};
+
+/// How many classes up are followed by their numbers at most.
+const MOST_UP: usize = 64;
 
 /// The first value of a type that is no array's (JVMS 2.3, 2.4).
 fn default_of_element(element: &Element) -> Value
@@ -61,37 +65,56 @@ fn superclass_name(class: &Class) -> Option<&[u16]>
     }
 }
 
-/// The first values of the fields of an instance of the class of a name, the last one's first.
-fn values_up(alloc: Global, program: &Program, name: &[u16]) -> Result<Vec<Value>, AllocError>
-    ensures { IfOk result (λ v. v.items ≡ flat_map values_down (chain program.now name.now)) }
+/// Puts the first values of the fields of an instance of the class of a name, the last one's first. Without memory some
+/// may have been put.
+fn put_by_name(program: &Program, name: &[u16], values: &mut Vec<Value>) -> Result<(), AllocError>
+    ensures { OnOk result (values.new.items ≡ values.old.items ++ flat_map values_down (chain program.now name.now)) }
 {
-    let mut values = Vec::new(alloc);
     let mut most = program.classes().len();
     let mut name = name;
     while most > 0 {
         most -= 1;
         let Some(class) = program.class_named(name) else {
-            return Ok(values);
+            return Ok(());
         };
-        push_values(class.fields.as_slice(), &mut values)?;
+        push_values(class.fields.as_slice(), values)?;
         let Some(superclass) = superclass_name(class) else {
-            return Ok(values);
+            return Ok(());
         };
         name = superclass;
     }
-    Ok(values)
+    Ok(())
 }
 
-/// The first values of the fields of an instance of the class of a name.
+/// The same of the class of a number: up the classes by their numbers, as far as the program tells them.
+fn put_by_number(program: &Program, class: usize, values: &mut Vec<Value>) -> Result<(), AllocError>
+    ensures { OnOk result (values.new.items ≡ values.old.items ++ flat_map values_down (chain program.now (name_at program.now class))) }
+{
+    let mut at = class;
+    for _ in 0..MOST_UP {
+        let Some((own, above)) = program.step_up(at) else {
+            break;
+        };
+        push_values(own.fields.as_slice(), values)?;
+        let Some(next) = above else {
+            return Ok(());
+        };
+        at = next;
+    }
+    put_by_name(program, program.name_at(at), values)
+}
+
+/// The first values of the fields of an instance of the class of a number.
 #[tactic(auto, using(crate::proofs::ChainLaws::turned))]
 pub(crate) fn first_values(
     alloc: Global,
     program: &Program,
-    name: &[u16],
+    class: usize,
 ) -> Result<Vec<Value>, AllocError>
-    ensures { IfOk result (λ v. v.items ≡ map (λ f. f.1) (instance_fields program.now name.now)) }
+    ensures { IfOk result (λ v. v.items ≡ map (λ f. f.1) (instance_fields program.now (name_at program.now class))) }
 {
-    let mut values = values_up(alloc, program, name)?;
+    let mut values = Vec::new(alloc);
+    put_by_number(program, class, &mut values)?;
     values.reverse();
     Ok(values)
 }

@@ -43,7 +43,7 @@ impl Heap<'_> {
         ensures err { OnErr result (self.new ≡ self.old) }
     {
         let program = self.program();
-        let values = first_values(self.alloc, program, name_at(program, class))?;
+        let values = first_values(self.alloc, program, class)?;
         self.push_plain(HeldObject::Instance { class, values })
     }
 

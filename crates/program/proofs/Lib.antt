@@ -10,5 +10,6 @@ pub mod SearchLaws
 pub mod SlotLaws
 pub mod TableLaws
 pub mod LinkLaws
+pub mod InterfaceLaws
 pub mod SignatureLaws
 pub mod SelectLaws

@@ -1,7 +1,7 @@
 use Rattle.heap.proofs.ChainLaws.{left_at_end, left_missing, left_topmost, left_more}
 use Rattle.std.proofs.Common.{◌++◌, reverse, refl, ap, ◌∙◌, arith}
 use Rattle.heap.specs.FirstValues.{own_values}
-use Rattle.heap.proofs.first_values.values_up.Goals as goal
+use Rattle.heap.proofs.first_values.put_by_name.Goals as goal
 
 pub returns-in_default : goal.returns-in_default
 returns-in_default c = left_missing c.args.program.now _ c.loop-most.values.items c.loop-most.most c.loop-most.name.now c.loop-most.invariant c.in_default.ensures
