@@ -131,7 +131,7 @@ fn if_different(target: u32, frame: &Frame) -> FrameDecision
 }
 
 #[inline(always)]
-fn if_null(target: u32, frame: &Frame) -> FrameDecision
+pub(crate) fn if_null(target: u32, frame: &Frame) -> FrameDecision
     requires { frame.now.activation.place + 1 < 2 ^ 64 }
     ensures decision { result ≡ branch_decision frame.now.body branches.IfNull target frame.now.activation }
     ensures room { IfDoes result (HasRoom frame.now.body frame.now.activation) }
@@ -146,7 +146,7 @@ fn if_null(target: u32, frame: &Frame) -> FrameDecision
 }
 
 #[inline(always)]
-fn if_non_null(target: u32, frame: &Frame) -> FrameDecision
+pub(crate) fn if_non_null(target: u32, frame: &Frame) -> FrameDecision
     requires { frame.now.activation.place + 1 < 2 ^ 64 }
     ensures decision { result ≡ branch_decision frame.now.body branches.IfNonNull target frame.now.activation }
     ensures room { IfDoes result (HasRoom frame.now.body frame.now.activation) }

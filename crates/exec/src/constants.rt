@@ -38,8 +38,9 @@ pub(crate) fn push(what: insn::Push, frame: &Frame) -> FrameDecision
     }
 }
 
-#[inline(never)]
-pub(crate) fn constant(what: &Loadable, frame: &Frame) -> FrameDecision
+/// A constant of the pool is put on top, where its frame tells it.
+#[inline(always)]
+pub(crate) fn loaded(what: &Loadable, frame: &Frame) -> FrameDecision
     ensures decision { result ≡ constant_decision frame.now.body what.now frame.now.activation }
     ensures room { IfDoes result (HasRoom frame.now.body frame.now.activation) }
 {
@@ -50,4 +51,13 @@ pub(crate) fn constant(what: &Loadable, frame: &Frame) -> FrameDecision
         }
         Loadable::String(_) | Loadable::Class(_) => FrameDecision::Beyond,
     }
+}
+
+/// The same, out of the way.
+#[inline(never)]
+pub(crate) fn constant(what: &Loadable, frame: &Frame) -> FrameDecision
+    ensures decision { result ≡ constant_decision frame.now.body what.now frame.now.activation }
+    ensures room { IfDoes result (HasRoom frame.now.body frame.now.activation) }
+{
+    loaded(what, frame)
 }

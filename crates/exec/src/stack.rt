@@ -78,8 +78,9 @@ fn are_set(frame: &Frame, count: u8) -> bool
     }
 }
 
-#[inline(never)]
-pub(crate) fn stack(form: StackForm, frame: &Frame) -> FrameDecision
+/// Operands are moved as the form does. In this order: the depth; that each is set.
+#[inline(always)]
+pub(crate) fn moved(form: StackForm, frame: &Frame) -> FrameDecision
     ensures decision { result ≡ stack_decision frame.now.body form frame.now.activation }
     ensures room { IfDoes result (HasRoom frame.now.body frame.now.activation) }
 {
@@ -90,6 +91,15 @@ pub(crate) fn stack(form: StackForm, frame: &Frame) -> FrameDecision
         return FrameDecision::Stops(BadCause::Kind);
     }
     FrameDecision::Does(FrameAction::Rearrange(form))
+}
+
+/// The same, out of the way.
+#[inline(never)]
+pub(crate) fn stack(form: StackForm, frame: &Frame) -> FrameDecision
+    ensures decision { result ≡ stack_decision frame.now.body form frame.now.activation }
+    ensures room { IfDoes result (HasRoom frame.now.body frame.now.activation) }
+{
+    moved(form, frame)
 }
 
 /// Leaves the operands as the form does.

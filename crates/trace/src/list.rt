@@ -32,6 +32,7 @@ impl Trace {
     }
 
     /// Puts an item behind the others. Without memory for it nothing changes.
+    #[inline(always)]
     pub fn push(&mut self, item: Item) -> Result<(), AllocError>
         ensures ok { OnOk result (self.new ≡ self.old ++ item ∷ []) }
         ensures err { OnErr result (self.new ≡ self.old) }
@@ -41,6 +42,7 @@ impl Trace {
     }
 
     /// Takes away the items behind so many.
+    #[inline(always)]
     pub fn truncate(&mut self, count: usize)
         ensures { self.new ≡ take count self.old }
     {
@@ -55,6 +57,7 @@ impl Trace {
     }
 
     /// How many items there are.
+    #[inline(always)]
     pub fn len(&self) -> usize
         ensures { result ≡ length self.now }
     {
