@@ -54,6 +54,7 @@ fn write_of(thread: ThreadId, variable: Option<Variable>) -> Option<Item>
 }
 
 /// The key of a field for its events: there is none of a field of a built-in class.
+#[inline(always)]
 fn event_key(parts: &Parts, n: FieldNumber) -> Result<Option<FieldKey>, AllocError>
     ensures key { IfOk result (λ key. key ≡ event_key parts.now.program n) }
     ensures none { event_key parts.now.program n ≡ None → IsOk result }
@@ -65,6 +66,7 @@ fn event_key(parts: &Parts, n: FieldNumber) -> Result<Option<FieldKey>, AllocErr
 }
 
 /// An object's field, where its reads and writes are events.
+#[inline(always)]
 fn instance_variable(
     parts: &Parts,
     reference: u32,
@@ -80,6 +82,7 @@ fn instance_variable(
 }
 
 /// A static field, where its reads and writes are events.
+#[inline(always)]
 fn static_variable(parts: &Parts, n: FieldNumber) -> Result<Option<Variable>, AllocError>
     ensures variable { IfOk result (λ v. v ≡ static_variable parts.now.program n) }
     ensures none { static_variable parts.now.program n ≡ None → IsOk result }

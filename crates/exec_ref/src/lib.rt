@@ -14,4 +14,5 @@ pub use arrays::elements::{length_told, load_told, store_told};
 pub use arrays::many::new_arrays_decision;
 pub use effects::reach;
 pub use fields::field_decision;
+pub use fields::told::field_told;
 pub use objects::{class_decision, loadable_decision};

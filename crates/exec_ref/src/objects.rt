@@ -1,6 +1,9 @@
 //! Objects of classes, strings and class objects (JVMS 6.5 new, checkcast, instanceof, ldc).
 
-ghost use Rattle.std.specs.Prelude.{◌≡◌, ◌+◌, ◌<◌, ◌≤◌, ◌^◌, ◌∷◌, Bool, [], false, length};
+ghost use Rattle.std.specs.Prelude.{◌≡◌, ◌+◌, ◌<◌, ◌≤◌, ◌^◌, ◌∷◌, Bool, [], Some, false, length};
+ghost use Rattle.std.specs.Option.{option_map};
+ghost use Rattle.jvms_file.specs.declared.insn.ClassUse.TheVariants as class_use;
+ghost use Rattle.jvms_program.specs.declared.program.Instruction.TheVariants as instruction;
 ghost use Rattle.jvms_program.specs.Program.{class_named, class_number};
 ghost use Rattle.jvms_machine.specs.Decisions.{TurnDecision};
 ghost use Rattle.jvms_machine.specs.Arrays.{if_deep};
@@ -12,6 +15,7 @@ ghost use Rattle.jvms_machine.specs.declared.action.NewObject.TheVariants as new
 ghost use Rattle.jvms_program.specs.declared.program.Loadable.TheVariants as loadable;
 ghost use Rattle.jvms_machine.specs.State.{class_reference, text_reference};
 ghost use Rattle.machine_parts.specs.Decided.{seen, seen_object};
+ghost use Rattle.machine_parts.specs.Sites.{IsSite};
 ghost use Rattle.exec_ref.specs.Telling.{told_by};
 
 use crate::arrays::{making, new_class_array_decision};
@@ -21,7 +25,7 @@ use jvms_file::insn::ClassUse;
 use jvms_machine::action::{Effect, FrameAction, NewObject};
 use jvms_machine::machine::BadCause;
 use jvms_machine::value::Value;
-use jvms_program::program::{ClassKind, Loadable};
+use jvms_program::program::{Class, ClassKind, Loadable};
 use jvms_program::thrown::Thrown;
 use machine_parts::{ActionText, Decided, Parts, bad, has_depth, never_seen, reaches, taking};
 use machine_thread::Thread;
@@ -70,17 +74,30 @@ fn made_if_room<'p>(
     }
 }
 
-/// An object of the class of a name is made, once the class is initialised.
-fn instance_of_name<'p>(parts: &Parts<'p>, t: usize, thread: &Thread, name: &[u16]) -> Decided<'p>
-    ensures { seen result ≡ makes_instance parts.now.program parts.now.limits parts.now.state t thread.now (class_number parts.now.program name.now) }
+/// An object of the class of a number is made, once the class is initialised.
+fn instance_of_number<'p>(parts: &Parts<'p>, t: usize, thread: &Thread, class: usize) -> Decided<'p>
+    ensures { seen result ≡ makes_instance parts.now.program parts.now.limits parts.now.state t thread.now (Some class) }
 {
-    let Some(class) = parts.program().class_number(name) else {
-        return never_seen();
-    };
     match parts.asking(t, thread, class) {
         Some(decision) => decision,
         None => made_if_room(parts, thread, 0, NewObject::Instance { class }),
     }
+}
+
+/// The class that the instruction of a call names, with its number, if it is there.
+fn class_of_site<'p>(
+    parts: &Parts<'p>,
+    frame: &Frame,
+    how: ClassUse,
+    name: &[u16],
+) -> Option<(usize, &'p Class)>
+    requires { IsSite parts.now.program frame.now (instruction.Class how name.now) }
+    ensures number { option_map (λ found. found.0) result ≡ class_number parts.now.program name.now }
+    ensures class { option_map (λ found. found.1.now) result ≡ class_named parts.now.program name.now }
+{
+    parts
+        .program()
+        .class_at(frame.method(), frame.place(), how, name)
 }
 
 /// JVMS 6.5 new. In this order: the class is there; it is neither abstract nor an interface; it is initialised; there
@@ -89,15 +106,17 @@ fn new_instance_decision<'p>(
     parts: &Parts<'p>,
     t: usize,
     thread: &Thread,
+    frame: &Frame,
     name: &[u16],
 ) -> Decided<'p>
+    requires { IsSite parts.now.program frame.now (instruction.Class class_use.New name.now) }
     ensures { seen result ≡ makes_new parts.now.program parts.now.limits parts.now.state t thread.now name.now (class_named parts.now.program name.now) }
 {
-    match parts.program().class_named(name) {
+    match class_of_site(parts, frame, ClassUse::New, name) {
         None => parts.throws(thread, Thrown::NoClassDefFoundError),
-        Some(class) => {
+        Some((number, class)) => {
             if is_instantiable(class.kind) {
-                instance_of_name(parts, t, thread, name)
+                instance_of_number(parts, t, thread, number)
             } else {
                 parts.throws(thread, Thrown::InstantiationError)
             }
@@ -177,13 +196,14 @@ pub fn class_decision<'p>(
     how: ClassUse,
     name: &'p Text,
 ) -> Decided<'p>
-    requires { frame.now.activation.place + 1 < 2 ^ 64 }
+    requires place { frame.now.activation.place + 1 < 2 ^ 64 }
+    requires site { IsSite parts.now.program frame.now (instruction.Class how name.now) }
     ensures { seen result ≡ classes parts.now.program parts.now.limits parts.now.state t thread.now frame.now how name.now }
 {
     match how {
         ClassUse::New => {
             if has_depth(frame, 0, 1) {
-                new_instance_decision(parts, t, thread, name.as_slice())
+                new_instance_decision(parts, t, thread, frame, name.as_slice())
             } else {
                 bad(BadCause::Depth)
             }

@@ -12,6 +12,7 @@ ghost use Rattle.invoke.specs.Calling.{made_of};
 pub(crate) mod invoke;
 mod operands;
 mod run_method;
+pub(crate) mod told;
 
 use crate::calls::run_method::run_decision;
 use exec::is_outside_method;

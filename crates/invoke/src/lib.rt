@@ -13,7 +13,9 @@ mod unwinding;
 
 pub use calls::first_call_decision;
 pub use calls::invoke::invoke_decision;
+pub use calls::told::{PlainCall, call_told};
 pub use initialisation::initialisation_decision;
+pub use locking::told::{monitor_enter_told, monitor_exit_told};
 pub use locking::{monitor_enter_decision, monitor_exit_decision};
 pub use making::calls::{call, end, enter, return_below};
 pub use making::initialisation::{begin, finish};
@@ -21,4 +23,5 @@ pub use making::unwinding::{
     catch, fail_initialisation, fail_to_unlock, initialise, throw_object, unwind,
 };
 pub use returns::method_return_decision;
+pub use returns::told::{PlainReturn, return_told};
 pub use unwinding::{throw_decision, unwinding_decision};

@@ -5,6 +5,8 @@ ghost use Rattle.jvms_program.specs.Program.{method_at};
 ghost use Rattle.jvms_machine.specs.Returns.{gives_kind as gives, gives_nothing as nothing, returns_to, returned_decision as returned, return_top_decision as returns_top, return_decision as returns, method_return_decision as method_returns};
 ghost use Rattle.machine_parts.specs.Decided.{seen};
 
+pub(crate) mod told;
+
 use exec::is_loaded;
 use frames::Frame;
 use jvms_file::descriptor::ResultType;
@@ -16,7 +18,8 @@ use machine_parts::{Decided, Parts, Unlocking, bad, kind_of_type, never_seen};
 use machine_thread::Thread;
 
 /// Whether a method gives such a value.
-fn gives_kind(given: &ResultType, kind: Kind) -> bool
+#[inline(always)]
+pub(super) fn gives_kind(given: &ResultType, kind: Kind) -> bool
     ensures { result ≡ gives given.now kind }
 {
     match given {
@@ -26,7 +29,8 @@ fn gives_kind(given: &ResultType, kind: Kind) -> bool
 }
 
 /// Whether a method gives no value.
-fn gives_nothing(given: &ResultType) -> bool
+#[inline(always)]
+pub(super) fn gives_nothing(given: &ResultType) -> bool
     ensures { result ≡ nothing given.now }
 {
     matches!(given, ResultType::Void)

@@ -8,6 +8,7 @@ mod machine;
 mod making;
 mod opening;
 mod run;
+mod running;
 mod start;
 mod state;
 mod status;

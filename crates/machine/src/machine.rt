@@ -9,8 +9,9 @@ ghost use Rattle.machine.specs.Started.{IsNew};
 
 use crate::fault::MachineFault;
 use crate::limits::are_limits;
-use crate::making::{step, step_on};
+use crate::making::step;
 use crate::opening::open;
+use crate::running::step_on;
 use crate::start::start_of;
 use crate::turn::peek;
 use jvms_machine::machine::{Entry, Limits, Outcome, ThreadId};

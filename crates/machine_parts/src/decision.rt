@@ -4,7 +4,7 @@ ghost use Rattle.std.specs.Prelude.{◌≡◌, ◌+◌, ◌<◌, ◌^◌};
 ghost use Rattle.jvms_machine.specs.Activations.{has_depth as is_deep};
 ghost use Rattle.jvms_machine.specs.Decisions.{bad as bad_turn, never_seen as no_turn, outcome_of};
 ghost use Rattle.jvms_machine.specs.Fields.{reaches as reaching, taking as takes_on};
-ghost use Rattle.machine_parts.specs.Decided.{seen, seen_effect, IsReached};
+ghost use Rattle.machine_parts.specs.Decided.{seen, seen_effect};
 
 use frames::Frame;
 use held::shared::Text;
@@ -67,17 +67,6 @@ pub fn reaches<'p>(effect: Effect<ActionText<'p>>, action: FrameAction) -> Decid
     ensures { seen result ≡ reaching (seen_effect effect.entry) action }
 {
     Decision::Makes(Action::Reaches(effect, action))
-}
-
-/// What was decided, where it reaches beyond its frame and runs.
-#[inline(always)]
-pub fn as_reached(decision: Decided<'_>) -> Option<Reached<'_>>
-    ensures { IsReached result (seen decision.entry) }
-{
-    match decision {
-        Decision::Makes(Action::Reaches(effect, action)) => Some(Reached { effect, action }),
-        _ => None,
-    }
 }
 
 /// On to the next instruction, with so many operands taken.

@@ -1,8 +1,9 @@
 //! How far the initialisation of classes has come, and what a turn that asks for it comes to (JVMS 5.5).
 
-ghost use Rattle.std.specs.Prelude.{◌≡◌, slice_get};
+ghost use Rattle.std.specs.Prelude.{◌≡◌, IsTrue, slice_get};
 ghost use Rattle.jvms_machine.specs.Decisions.{TurnDecision};
 ghost use Rattle.jvms_machine.specs.Initialisation.{begin_decision as begins, asking as asks};
+ghost use Rattle.jvms_machine.specs.State.{Thread as SeenThread};
 ghost use Rattle.machine_parts.specs.Before.{first_or};
 ghost use Rattle.machine_parts.specs.Decided.{seen};
 
@@ -20,6 +21,18 @@ impl<'p> Parts<'p> {
         ensures { result ≡ slice_get self.now.state.initialisations class }
     {
         self.initialisations.as_slice().get(class).copied()
+    }
+
+    /// Whether a turn that asks for the initialisation of a class is known to go on at once.
+    #[inline(always)]
+    pub fn goes_on(&self, t: usize, class: usize) -> bool
+        ensures { (thread : SeenThread) (go_on : TurnDecision) → IsTrue result → asks self.now.program self.now.limits self.now.state t thread class go_on ≡ go_on }
+    {
+        match self.initialisation(class) {
+            Some(Initialisation::Done) => true,
+            Some(Initialisation::InProgress { thread }) => thread as usize == t,
+            Some(Initialisation::NotBegun | Initialisation::Erroneous) | None => false,
+        }
     }
 
     /// The initialisation of a class begins, if there is room for the strings of its constants, and for its frame.

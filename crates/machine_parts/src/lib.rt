@@ -15,7 +15,7 @@ mod raising;
 mod stored;
 
 pub use decision::{
-    ActionText, Decided, Reached, as_reached, bad, has_depth, never_seen, outcome, reaches, taking,
+    ActionText, Decided, Reached, bad, has_depth, never_seen, outcome, reaches, taking,
 };
 pub use kinds::kind_of_type;
 pub use locks::{acquire_item, lock_item, release_item, unlock_item};

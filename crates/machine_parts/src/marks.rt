@@ -26,6 +26,7 @@ pub fn push_listed(trace: &mut Trace, item: Option<Item>) -> Result<(), AllocErr
 }
 
 /// Puts at most two items behind the others, or none where there is no memory for both.
+#[inline(always)]
 pub fn push_both(
     trace: &mut Trace,
     first: Option<Item>,
@@ -57,6 +58,7 @@ impl Parts<'_> {
     }
 
     /// The mark of a method's entry.
+    #[inline(always)]
     pub fn enter_item(&self, t: ThreadId, method: MethodNumber) -> Result<Option<Item>, AllocError>
         ensures item { IfOk result (λ item. listed item ≡ enter_items self.now.program t method) }
     {
@@ -67,6 +69,7 @@ impl Parts<'_> {
     }
 
     /// The mark of a method's exit.
+    #[inline(always)]
     pub fn exit_item(&self, t: ThreadId, method: MethodNumber) -> Result<Option<Item>, AllocError>
         ensures item { IfOk result (λ item. listed item ≡ exit_items self.now.program t method) }
         ensures none { exit_items self.now.program t method ≡ [] → IsOk result }

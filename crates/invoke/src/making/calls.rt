@@ -21,6 +21,7 @@ use std::alloc::AllocError;
 use trace::Trace;
 
 /// The monitor that a call holds with its frame.
+#[inline(always)]
 fn locked_reference(lock: Lock) -> Option<u32>
     ensures { result ≡ reference_locked lock }
 {
@@ -32,6 +33,7 @@ fn locked_reference(lock: Lock) -> Option<u32>
 }
 
 /// A call is put on top of a thread. Without memory nothing changes.
+#[inline(always)]
 fn push_call<'p>(parts: &mut Parts<'p>, t: ThreadId, frame: Frame<'p>) -> Result<(), AllocError>
     requires { t < length parts.old.state.threads }
     ensures ok { OnOk result (parts.new ≡ with_state parts.old (with_changed parts.old.state t (pushed frame.entry))) }
@@ -59,6 +61,7 @@ fn note_first_call(parts: &mut Parts, t: ThreadId)
 }
 
 /// The frame below the top of a thread gives so many operands to the call on top.
+#[inline(always)]
 fn give_operands(parts: &mut Parts, t: ThreadId, takes: u16)
     requires { IfSome (slice_get parts.old.state.threads t) (λ x. takes ≤ length (top_operands (drop 1 x.frames))) }
     ensures { parts.new ≡ with_state parts.old (with_changed parts.old.state t (gives takes)) }
@@ -70,6 +73,7 @@ fn give_operands(parts: &mut Parts, t: ThreadId, takes: u16)
 
 /// What a call locks is entered, and its items, at most two, are put behind the others. Without memory nothing
 /// changes.
+#[inline(always)]
 fn lock_marked(
     parts: &mut Parts,
     t: ThreadId,
@@ -152,6 +156,7 @@ pub fn enter<'p>(
 }
 
 /// The frame of a call that takes so many operands of the call on top.
+#[inline(always)]
 fn called_frame<'p>(
     parts: &Parts<'p>,
     t: ThreadId,
@@ -169,6 +174,7 @@ fn called_frame<'p>(
 
 /// Calls a method, which has this code, with so many operands of the call on top.
 #[tactic(auto, using(crate::proofs::Entering::call_undone, crate::proofs::Entering::still_can_be_locked, crate::proofs::Entering::can_give, crate::proofs::Entering::call_is_made), unfolding(jvms_machine::specs::Actions::applied_to, jvms_machine::specs::Actions::items_of))]
+#[inline(always)]
 pub fn call<'p>(
     parts: &mut Parts<'p>,
     t: ThreadId,
@@ -196,6 +202,7 @@ pub fn call<'p>(
 
 /// Returns from the call on top, which is of this method, to the frame below.
 #[tactic(auto, unfolding(jvms_machine::specs::Actions::applied_to, jvms_machine::specs::Actions::items_of))]
+#[inline(always)]
 pub fn return_below(
     parts: &mut Parts,
     t: ThreadId,
