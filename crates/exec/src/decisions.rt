@@ -9,13 +9,18 @@ use jvms_machine::value::Value;
 
 /// Whether so many operands are there to take, and those after success fit `max_stack`.
 #[inline(always)]
-pub(crate) fn has_depth(frame: &Frame, takes: u8, gives: u8) -> bool
+pub fn has_depth(frame: &Frame, takes: u8, gives: u8) -> bool
     ensures { result ≡ (nat_le takes (length frame.now.activation.operands)
         && nat_le (length frame.now.activation.operands - takes + gives) frame.now.body.max_stack) }
 {
     let height = usize::from(frame.height());
     let takes = usize::from(takes);
-    takes <= height && height - takes + usize::from(gives) <= usize::from(frame.body().max_stack)
+    let gives = usize::from(gives);
+    // Those that are there fit.
+    if gives <= takes {
+        return takes <= height;
+    }
+    takes <= height && height - takes + gives <= usize::from(frame.body().max_stack)
 }
 
 /// A value in place of the operands that are taken.

@@ -14,6 +14,7 @@ mod switches;
 mod turn;
 
 pub use actions::apply;
+pub use decisions::has_depth;
 pub use locals::is_loaded;
 pub use profile::is_outside_method;
 pub use turn::{decide, is_beyond, step, step_on};

@@ -1,9 +1,12 @@
 //! Local variables (JVMS 6.5 iload, aload, istore, astore, ret, iinc).
 
 ghost use Rattle.std.specs.Prelude.{◌≡◌};
+ghost use Rattle.jvms_file.specs.declared.insn.Kind.TheVariants as kinds;
 ghost use Rattle.jvms_file.specs.declared.insn.LocalUse.TheVariants as local_use;
+ghost use Rattle.jvms_machine.specs.declared.action.FrameAction.TheVariants as action;
+ghost use Rattle.jvms_machine.specs.declared.action.FrameDecision.TheVariants as decided;
 ghost use Rattle.jvms_machine.specs.Activations.{HasRoom, IfDoes};
-ghost use Rattle.jvms_machine.specs.Locals.{is_loaded as loads, is_stored as stores, is_profile_kind as in_profile, load_decision, store_decision, local_decision, increment_decision};
+ghost use Rattle.jvms_machine.specs.Locals.{is_loaded as loads, is_stored as stores, load_decision, store_decision, local_decision, increment_decision};
 
 use crate::decisions::{has_depth, jumps, pushes};
 use frames::Frame;
@@ -11,16 +14,6 @@ use jvms_file::insn::{Kind, LocalUse};
 use jvms_machine::action::{FrameAction, FrameDecision};
 use jvms_machine::machine::BadCause;
 use jvms_machine::value::Value;
-
-#[inline(always)]
-fn is_profile_kind(kind: Kind) -> bool
-    ensures { result ≡ in_profile kind }
-{
-    match kind {
-        Kind::Int | Kind::Reference => true,
-        Kind::Long | Kind::Float | Kind::Double => false,
-    }
-}
 
 /// Whether a value is of the kind that a load or a return takes.
 #[inline(always)]
@@ -34,14 +27,52 @@ pub fn is_loaded(kind: Kind, value: Value) -> bool
     }
 }
 
+/// Whether astore takes a value: a reference, null or a return address.
 #[inline(always)]
-fn is_stored(kind: Kind, value: Value) -> bool
-    ensures { result ≡ stores kind value }
+fn is_stored(value: Value) -> bool
+    ensures { result ≡ stores kinds.Reference value }
 {
     match value {
-        Value::Int(_) => kind == Kind::Int,
-        Value::Null | Value::Reference(_) | Value::ReturnAddress(_) => kind == Kind::Reference,
-        Value::Unset => false,
+        Value::Null | Value::Reference(_) | Value::ReturnAddress(_) => true,
+        Value::Int(_) | Value::Unset => false,
+    }
+}
+
+/// JVMS 6.5 iload.
+#[inline(always)]
+fn load_int(n: u16, frame: &Frame) -> FrameDecision
+    ensures decision { result ≡ load_decision frame.now.body kinds.Int n frame.now.activation }
+    ensures room { IfDoes result (HasRoom frame.now.body frame.now.activation) }
+{
+    if usize::from(n) >= frame.local_count() {
+        return FrameDecision::Stops(BadCause::Local);
+    }
+    if !has_depth(frame, 0, 1) {
+        return FrameDecision::Stops(BadCause::Depth);
+    }
+    match frame.local(n) {
+        Value::Int(m) => pushes(0, Value::Int(m)),
+        _ => FrameDecision::Stops(BadCause::Kind),
+    }
+}
+
+/// JVMS 6.5 aload.
+#[inline(always)]
+fn load_reference(n: u16, frame: &Frame) -> FrameDecision
+    ensures decision { result ≡ load_decision frame.now.body kinds.Reference n frame.now.activation }
+    ensures room { IfDoes result (HasRoom frame.now.body frame.now.activation) }
+{
+    if usize::from(n) >= frame.local_count() {
+        return FrameDecision::Stops(BadCause::Local);
+    }
+    if !has_depth(frame, 0, 1) {
+        return FrameDecision::Stops(BadCause::Depth);
+    }
+    let value = frame.local(n);
+    if is_loaded(Kind::Reference, value) {
+        pushes(0, value)
+    } else {
+        FrameDecision::Stops(BadCause::Kind)
     }
 }
 
@@ -50,20 +81,61 @@ pub(crate) fn load(kind: Kind, n: u16, frame: &Frame) -> FrameDecision
     ensures decision { result ≡ load_decision frame.now.body kind n frame.now.activation }
     ensures room { IfDoes result (HasRoom frame.now.body frame.now.activation) }
 {
-    if !is_profile_kind(kind) {
-        return FrameDecision::Stops(BadCause::OutOfProfile);
+    match kind {
+        Kind::Int => load_int(n, frame),
+        Kind::Reference => load_reference(n, frame),
+        Kind::Long | Kind::Float | Kind::Double => FrameDecision::Stops(BadCause::OutOfProfile),
     }
-    if n >= frame.body().max_locals {
+}
+
+/// A value is stored in a local variable, in place of the operand on top.
+#[inline(always)]
+fn stores_in(local: u16, value: Value) -> FrameDecision
+    ensures { result ≡ decided.Does (action.Store 1 local value) }
+{
+    FrameDecision::Does(FrameAction::Store {
+        takes: 1,
+        local,
+        value,
+    })
+}
+
+/// JVMS 6.5 istore.
+#[inline(always)]
+fn store_int(n: u16, frame: &Frame) -> FrameDecision
+    ensures decision { result ≡ store_decision frame.now.body kinds.Int n frame.now.activation }
+    ensures room { IfDoes result (HasRoom frame.now.body frame.now.activation) }
+{
+    if usize::from(n) >= frame.local_count() {
         return FrameDecision::Stops(BadCause::Local);
     }
-    if !has_depth(frame, 0, 1) {
+    if !has_depth(frame, 1, 0) {
         return FrameDecision::Stops(BadCause::Depth);
     }
-    let value = frame.local(n);
-    if !is_loaded(kind, value) {
-        return FrameDecision::Stops(BadCause::Kind);
+    match frame.top() {
+        Value::Int(m) => stores_in(n, Value::Int(m)),
+        _ => FrameDecision::Stops(BadCause::Kind),
     }
-    pushes(0, value)
+}
+
+/// JVMS 6.5 astore.
+#[inline(always)]
+fn store_reference(n: u16, frame: &Frame) -> FrameDecision
+    ensures decision { result ≡ store_decision frame.now.body kinds.Reference n frame.now.activation }
+    ensures room { IfDoes result (HasRoom frame.now.body frame.now.activation) }
+{
+    if usize::from(n) >= frame.local_count() {
+        return FrameDecision::Stops(BadCause::Local);
+    }
+    if !has_depth(frame, 1, 0) {
+        return FrameDecision::Stops(BadCause::Depth);
+    }
+    let value = frame.top();
+    if is_stored(value) {
+        stores_in(n, value)
+    } else {
+        FrameDecision::Stops(BadCause::Kind)
+    }
 }
 
 #[inline(always)]
@@ -71,24 +143,11 @@ pub(crate) fn store(kind: Kind, n: u16, frame: &Frame) -> FrameDecision
     ensures decision { result ≡ store_decision frame.now.body kind n frame.now.activation }
     ensures room { IfDoes result (HasRoom frame.now.body frame.now.activation) }
 {
-    if !is_profile_kind(kind) {
-        return FrameDecision::Stops(BadCause::OutOfProfile);
+    match kind {
+        Kind::Int => store_int(n, frame),
+        Kind::Reference => store_reference(n, frame),
+        Kind::Long | Kind::Float | Kind::Double => FrameDecision::Stops(BadCause::OutOfProfile),
     }
-    if n >= frame.body().max_locals {
-        return FrameDecision::Stops(BadCause::Local);
-    }
-    if !has_depth(frame, 1, 0) {
-        return FrameDecision::Stops(BadCause::Depth);
-    }
-    let value = frame.top();
-    if !is_stored(kind, value) {
-        return FrameDecision::Stops(BadCause::Kind);
-    }
-    FrameDecision::Does(FrameAction::Store {
-        takes: 1,
-        local: n,
-        value,
-    })
 }
 
 // JVMS 6.5 ret.
@@ -124,7 +183,7 @@ pub(crate) fn increment(n: u16, by: i16, frame: &Frame) -> FrameDecision
     ensures decision { result ≡ increment_decision frame.now.body n by frame.now.activation }
     ensures room { IfDoes result (HasRoom frame.now.body frame.now.activation) }
 {
-    if n >= frame.body().max_locals {
+    if usize::from(n) >= frame.local_count() {
         return FrameDecision::Stops(BadCause::Local);
     }
     let Value::Int(m) = frame.local(n) else {
