@@ -56,9 +56,7 @@ pub fn never_seen<'p>() -> Decided<'p>
 pub fn has_depth(frame: &Frame, takes: u8, gives: u8) -> bool
     ensures { result ≡ is_deep frame.now.body takes gives frame.now.activation }
 {
-    let height = usize::from(frame.height());
-    let takes = usize::from(takes);
-    takes <= height && height - takes + usize::from(gives) <= usize::from(frame.body().max_stack)
+    exec::has_depth(frame, takes, gives)
 }
 
 /// The call on top goes on, with this effect.
