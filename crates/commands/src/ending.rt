@@ -43,7 +43,7 @@ fn end_of(alloc: Global, machine: &mut Machine<'_>, most: u64) -> Result<Ending,
     ensures ok { IfOk result (λ e. e ≡ ending_of most machine.old.program machine.old.limits machine.old.start machine.old.state) }
     ensures memory { IfErr result (λ fault. fault ≡ JudgeFault.Memory) }
 {
-    let turns = take_own_turns(alloc, machine, most)?;
+    let turns = take_own_turns(machine, most)?;
     let output = machine.output().to_vec(alloc)?;
     Ok(Ending {
         result: machine.result(),

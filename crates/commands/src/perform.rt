@@ -11,7 +11,7 @@ use crate::tracing::write_trace;
 use atom_spec::Spec;
 use command_line::{AsmWords, CheckWords, Command, ProgramWords, RunWords, VERSION, command_of};
 use inputs::{Input, class_of};
-use judge::{Judged, Judgement, Uncaught};
+use judge::{Judged, Judgement, Told, Uncaught};
 use jvms_machine::machine::Status;
 use listing::{ClassFile, list};
 use report::verdict_line;
@@ -106,10 +106,10 @@ fn is_cycle(verdict: &Verdict) -> bool {
 }
 
 /// What is told of a run: how it ended, and its verdict.
-fn run_lines(alloc: Global, judged: &Judged) -> Result<Vec<u8>, AllocError> {
-    let turns = judged.choices.as_slice().len() as u64;
-    let mut lines = ending_lines(alloc, judged.uncaught.as_slice(), judged.status, turns)?;
-    if let Some(judgement) = &judged.judgement {
+fn run_lines(alloc: Global, told: &Told) -> Result<Vec<u8>, AllocError> {
+    let ran = &told.ran;
+    let mut lines = ending_lines(alloc, ran.uncaught.as_slice(), ran.status, ran.turns)?;
+    if let Some(judgement) = &told.judgement {
         let line = verdict_line(alloc, &judgement.verdict, judgement.counts)?;
         lines.extend_from_slice(line.as_bytes())?;
     }
@@ -122,7 +122,7 @@ fn run_parts<'w, W: ByteOut>(
     words: &RunWords<'w>,
     parts: RunParts,
     output: &mut W,
-) -> Result<Judged, Refusal<'w>> {
+) -> Result<Told, Refusal<'w>> {
     let RunParts {
         mut chooser,
         spec,
@@ -131,20 +131,16 @@ fn run_parts<'w, W: ByteOut>(
     let entry = &words.program.entry;
     let inputs = inputs.as_slice();
     match run(alloc, inputs, entry, &mut chooser, words.most, spec, output) {
-        Ok(judged) => Ok(judged),
+        Ok(told) => Ok(told),
         Err(fault) => Err(Refusal::of_run(&words.program, fault)),
     }
 }
 
 /// Tells how a run ended and, with a specification, whether it is atomic.
-fn tell_run<'w, E: ByteOut>(
-    alloc: Global,
-    judged: &Judged,
-    errors: &mut E,
-) -> Result<u8, Refusal<'w>> {
-    errors.write_all(run_lines(alloc, judged)?.as_slice())?;
-    let whole = is_whole(judged.status, judged.uncaught.as_slice());
-    Ok(u8::from(!(whole && is_without_cycle(&judged.judgement))))
+fn tell_run<'w, E: ByteOut>(alloc: Global, told: &Told, errors: &mut E) -> Result<u8, Refusal<'w>> {
+    errors.write_all(run_lines(alloc, told)?.as_slice())?;
+    let whole = is_whole(told.ran.status, told.ran.uncaught.as_slice());
+    Ok(u8::from(!(whole && is_without_cycle(&told.judgement))))
 }
 
 /// `run`: prints what the program writes, and tells how the run ended and, with a specification, whether it is atomic.
@@ -156,8 +152,8 @@ fn perform_run<'w, F: Files, W: ByteOut, E: ByteOut>(
     errors: &mut E,
 ) -> Result<u8, Refusal<'w>> {
     let parts = read_parts(alloc, words, files)?;
-    let judged = run_parts(alloc, words, parts, output)?;
-    tell_run(alloc, &judged, errors)
+    let told = run_parts(alloc, words, parts, output)?;
+    tell_run(alloc, &told, errors)
 }
 
 /// Runs a program, and prints what its threads did.

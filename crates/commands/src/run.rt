@@ -2,8 +2,8 @@
 
 ghost use Rattle.std.specs.Prelude.{◌≡◌, ◌≢◌, ◌+◌, IfOk, IfErr, OnOk, IsErrOf, length};
 ghost use Rattle.std.specs.Io.KnownBytes.{Appends};
-ghost use Rattle.judge.specs.Judgement.{IsJudgement};
-ghost use Rattle.judge.specs.Shown.{run_judged, run_shown};
+ghost use Rattle.judge.specs.Judgement.{IsJudgementOn};
+ghost use Rattle.judge.specs.Shown.{CameTo, run_judged};
 ghost use Rattle.commands.specs.Ending.{default_limits};
 ghost use Rattle.commands.specs.Faults.{IsFault, NamesFile, WroteBeginning};
 
@@ -11,7 +11,7 @@ use crate::ending::DEFAULT_LIMITS;
 use crate::fault::RunFault;
 use atom_spec::Spec;
 use inputs::Input;
-use judge::{Judged, judge};
+use judge::Told;
 use jvms_machine::machine::Entry;
 use schedule::Chooser;
 use std::alloc::Global;
@@ -28,13 +28,14 @@ pub fn run<W: ByteOut>(
     most: TurnLimit,
     spec: Option<Spec>,
     output: &mut W,
-) -> Result<Judged, RunFault>
-    // The turns, the status, the uncaught exceptions and the output are those of the run by the instruction table.
-    ensures exact { IfOk result (λ j. run_judged most chooser.old default_limits inputs.now entry.now ≡ Ok (run_shown j)) }
+) -> Result<Told, RunFault>
+    // The number of turns, the status, the uncaught exceptions and the output are those of the run by the instruction
+    // table.
+    ensures came { IfOk result (λ t. CameTo (run_judged most chooser.old default_limits inputs.now entry.now) t.ran) }
     // The verdict is that on the run's items.
-    ensures judged { IfOk result (λ j. IsJudgement spec j.trace j.judgement) }
+    ensures judged { IfOk result (λ t. IsJudgementOn spec (run_judged most chooser.old default_limits inputs.now entry.now) t.judgement) }
     // Exactly the output's bytes were written.
-    ensures written { IfOk result (λ j. Appends (W.written output.old) (W.written output.new) j.output) }
+    ensures written { IfOk result (λ t. Appends (W.written output.old) (W.written output.new) t.ran.output) }
     ensures count { OnOk result (W.failures output.new ≡ W.failures output.old) }
     // A fault comes only where its condition stands, and that of a file names one of these.
     ensures fault { IfErr result (λ fault. IsFault fault (run_judged most chooser.old default_limits inputs.now entry.now)) }
@@ -44,7 +45,7 @@ pub fn run<W: ByteOut>(
     ensures failed { IsErrOf result RunFault.Output → W.failures output.new ≡ W.failures output.old + 1 }
     ensures beginning { IsErrOf result RunFault.Output → WroteBeginning (run_judged most chooser.old default_limits inputs.now entry.now) (λ shown. shown.output) (W.written output.old) (W.written output.new) }
 {
-    let judged = judge(alloc, inputs, DEFAULT_LIMITS, entry, chooser, most, spec)?;
-    output.write_all(judged.output.as_slice())?;
-    Ok(judged)
+    let told = judge::run(alloc, inputs, DEFAULT_LIMITS, entry, chooser, most, spec)?;
+    output.write_all(told.ran.output.as_slice())?;
+    Ok(told)
 }

@@ -1,6 +1,6 @@
 //! What an instruction makes of a machine beside its frame (JVMS 6.5).
 
-ghost use Rattle.std.specs.Prelude.{◌≡◌, ◌++◌, [], IsOk, OnOk, OnErr, option_copied, slice_get};
+ghost use Rattle.std.specs.Prelude.{◌≡◌, [], IsOk, OnOk, OnErr, option_copied, slice_get};
 ghost use Rattle.jvms_machine.specs.declared.action.Action.TheVariants as action;
 ghost use Rattle.jvms_machine.specs.declared.action.Effect.TheVariants as effects;
 ghost use Rattle.jvms_machine.specs.Actions.{affected, put_field as field_put, put_static as static_put, operands_of, items_of, effect_items};
@@ -12,6 +12,7 @@ ghost use Rattle.machine_parts.specs.Decided.{seen_effect};
 ghost use Rattle.exec_ref.specs.Affecting.{AffectsNone, PutsAtMost};
 ghost use Rattle.machine_parts.specs.Machine.{with_state, after};
 ghost use Rattle.machine_parts.specs.Ready.{HasCaller};
+ghost use Rattle.trace.specs.Recording.{recorded};
 
 use crate::events::effect_item;
 use crate::new_objects::make_object;
@@ -25,7 +26,7 @@ use machine_parts::{ActionText, Parts, push_listed};
 use machine_thread::Thread;
 use printing::put_line;
 use std::alloc::AllocError;
-use trace::Trace;
+use trace::Recording;
 
 /// The string that is printed, if one is.
 #[tactic(auto, using(crate::proofs::EffectLaws::the_string))]
@@ -95,10 +96,10 @@ fn start_thread(
     t: ThreadId,
     reference: u32,
     started: ThreadId,
-    trace: &mut Trace,
+    trace: &mut Recording,
 ) -> Result<(), AllocError>
     ensures state { OnOk result (parts.new ≡ with_state parts.old (affected parts.old.program parts.old.state t [] (effects.Starts reference started))) }
-    ensures items { OnOk result (trace.new ≡ trace.old ++ effect_items parts.old.program t (effects.Starts reference started)) }
+    ensures items { OnOk result (trace.new ≡ recorded trace.old (effect_items parts.old.program t (effects.Starts reference started))) }
     ensures kept { OnErr result (parts.new ≡ parts.old) }
     ensures no_items { OnErr result (trace.new ≡ trace.old) }
 {
@@ -113,17 +114,37 @@ fn start_thread(
     Ok(())
 }
 
+/// Puts the event of an instruction behind the other items, if any are kept.
+#[inline(always)]
+fn record<'p>(
+    parts: &Parts<'p>,
+    t: ThreadId,
+    effect: Effect<ActionText<'p>>,
+    trace: &mut Recording,
+) -> Result<(), AllocError>
+    ensures ok { OnOk result (trace.new ≡ recorded trace.old (effect_items parts.now.program t (seen_effect effect.entry))) }
+    ensures err { OnErr result (trace.new ≡ trace.old) }
+    ensures none { effect_items parts.now.program t (seen_effect effect.entry) ≡ [] → IsOk result }
+{
+    if !trace.keeps() {
+        return Ok(());
+    }
+    let item = effect_item(parts, t, effect)?;
+    push_listed(trace, item)
+}
+
 /// What an effect makes of the machine, with its event.
 #[inline(always)]
+#[tactic(auto, using(trace::proofs::Recorded::recorded_none))]
 fn affect<'p>(
     parts: &mut Parts<'p>,
     t: ThreadId,
     effect: Effect<ActionText<'p>>,
-    trace: &mut Trace,
+    trace: &mut Recording,
 ) -> Result<(), AllocError>
     requires { CanBeMade parts.old.state (operands_of (slice_get parts.old.state.threads t)) (seen_effect effect) }
     ensures state { OnOk result (parts.new ≡ with_state parts.old (affected parts.old.program parts.old.state t (operands_of (slice_get parts.old.state.threads t)) (seen_effect effect.entry))) }
-    ensures items { OnOk result (trace.new ≡ trace.old ++ effect_items parts.old.program t (seen_effect effect.entry)) }
+    ensures items { OnOk result (trace.new ≡ recorded trace.old (effect_items parts.old.program t (seen_effect effect.entry))) }
     ensures kept { OnErr result (parts.new ≡ parts.old) }
     ensures no_items { OnErr result (trace.new ≡ trace.old) }
     ensures none { AffectsNone parts.old.state (seen_effect effect.entry) → effect_items parts.old.program t (seen_effect effect.entry) ≡ [] → IsOk result }
@@ -135,8 +156,7 @@ fn affect<'p>(
         Effect::Unlocks(monitor) => parts.exit_monitor(t, monitor, trace),
         Effect::Starts { reference, thread } => start_thread(parts, t, reference, thread, trace),
         _ => {
-            let item = effect_item(parts, t, effect)?;
-            push_listed(trace, item)?;
+            record(parts, t, effect, trace)?;
             put(parts, t, effect);
             Ok(())
         }
@@ -151,12 +171,12 @@ pub fn reach<'p>(
     t: ThreadId,
     effect: Effect<ActionText<'p>>,
     act: FrameAction,
-    trace: &mut Trace,
+    trace: &mut Recording,
 ) -> Result<(), AllocError>
     requires ready { IsReady parts.old.start parts.old.state t (action.Reaches (seen_effect effect) act) }
     requires stands { HasCaller parts.old.state t (action.Reaches (seen_effect effect) act) }
     ensures state { OnOk result (parts.new ≡ after parts.old t (action.Reaches (seen_effect effect.entry) act)) }
-    ensures items { OnOk result (trace.new ≡ trace.old ++ items_of parts.old.program t (action.Reaches (seen_effect effect.entry) act)) }
+    ensures items { OnOk result (trace.new ≡ recorded trace.old (items_of parts.old.program t (action.Reaches (seen_effect effect.entry) act))) }
     ensures kept { OnErr result (parts.new ≡ parts.old) }
     ensures no_items { OnErr result (trace.new ≡ trace.old) }
     ensures none { AffectsNone parts.old.state (seen_effect effect.entry) → items_of parts.old.program t (action.Reaches (seen_effect effect.entry) act) ≡ [] → IsOk result }

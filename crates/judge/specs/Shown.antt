@@ -1,5 +1,5 @@
 -- What the run of a program shows, by the choices of a chooser.
-use Rattle.std.specs.Prelude.{◌≡◌, ℕ, List, Option, Result, Ok}
+use Rattle.std.specs.Prelude.{◌≡◌, ℕ, List, length, Option, Result, Ok, Err}
 use Rattle.jvms_file.specs.Results.{◌>>=◌}
 use Rattle.jvms_program.specs.declared.program.Class.{Class}
 use Rattle.jvms_machine.specs.declared.machine.Entry.{Entry}
@@ -17,6 +17,7 @@ use Rattle.schedule.specs.Choosers.{Chooser}
 use Rattle.runs.specs.Choices.{choices_from, chooser_behind}
 use Rattle.inputs.specs.declared.input.Input.{Input}
 use Rattle.judge.specs.declared.judging.Judged.{Judged}
+use Rattle.judge.specs.declared.running.Ran.{Ran}
 use Rattle.judge.specs.Programs.{NotRun, not_made, program_in, refused}
 use Rattle.judge.specs.Uncaught.{uncaught_threads}
 
@@ -84,3 +85,19 @@ run_shown j =
       status = j.status;
       uncaught = j.uncaught;
     }
+
+-- What is told of a run but for its choices, outcomes and items.
+abbrev pub ran_of : Shown → Ran
+ran_of shown =
+    record {
+      turns = length shown.choices;
+      result = shown.result;
+      output = shown.output;
+      status = shown.status;
+      uncaught = shown.uncaught;
+    }
+
+-- A run came to this.
+abbrev pub CameTo : Result Shown NotRun → Ran → Type 0
+CameTo (Ok shown) r = r ≡ ran_of shown
+CameTo (Err why) r = ⊥

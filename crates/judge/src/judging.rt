@@ -20,7 +20,7 @@ use program::Program;
 use runs::take_turns;
 use schedule::Chooser;
 use std::alloc::Global;
-use trace::Trace;
+use trace::{Recording, Trace};
 use turn_limit::TurnLimit;
 
 /// A run, and what is said of it.
@@ -54,9 +54,12 @@ fn run_machine(
     ensures chooser { OnOk result (chooser.new ≡ chooser_behind most chooser.old machine.old) }
     ensures memory { IfErr result (λ fault. fault ≡ JudgeFault.Memory) }
 {
-    let mut trace = Trace::new(alloc);
-    let turns = take_turns(alloc, machine, chooser, most, &mut trace)?;
+    let mut recording = Recording::of(Trace::new(alloc));
+    let turns = take_turns(alloc, machine, chooser, most, &mut recording)?;
     let output = machine.output().to_vec(alloc)?;
+    let Some(trace) = recording.into_trace() else {
+        unreachable!()
+    };
     Ok(Judged {
         choices: turns.choices,
         outcomes: turns.outcomes,
@@ -90,7 +93,7 @@ fn run_program(
 
 /// Runs the program that class files and sources make, by a chooser that may be moved also where nothing is answered.
 #[tactic(auto, unfolding(crate::specs::Shown::run_judged, crate::specs::Shown::chooser_left))]
-fn run_and_judge(
+pub(crate) fn run_and_judge(
     alloc: Global,
     inputs: &[Input],
     limits: Limits,

@@ -1,11 +1,12 @@
 //! The machine.
 
-ghost use Rattle.std.specs.Prelude.{◌≡◌, ◌≤◌, ◌++◌, length, IsOk, IfOk, OnOk, OnErr, is_ok};
+ghost use Rattle.std.specs.Prelude.{◌≡◌, ◌≤◌, ◌++◌, length, IsOk, IsSome, IfOk, OnOk, OnErr, Some, is_ok};
 ghost use Rattle.jvms_machine.specs.Opening.{made as made_by};
 ghost use Rattle.jvms_machine.specs.State.{Sound};
 ghost use Rattle.machine_parts.specs.Machine.{row_of, with_state, TakesNone};
 ghost use Rattle.machine.specs.Runs.{RanOn};
 ghost use Rattle.machine.specs.Started.{IsNew};
+ghost use Rattle.trace.specs.Recording.{recorded};
 
 use crate::fault::MachineFault;
 use crate::limits::are_limits;
@@ -20,7 +21,8 @@ use machine_parts::Parts;
 use program::Program;
 use std::alloc::{AllocError, Global};
 use std::marker::Model;
-use trace::Trace;
+use std::mem;
+use trace::{Recording, Trace};
 
 /// Whether a machine of this program can be made with these limits and this entry: the entry's method is
 /// there, is static and isn't `<clinit>`, and takes the arguments, and each limit is in its range. It takes
@@ -29,6 +31,17 @@ pub fn admits(program: &Program, limits: Limits, entry: &Entry) -> bool
     ensures { result ≡ is_ok (made_by program.now limits entry.now) }
 {
     start_of(program, entry).is_some() && are_limits(limits)
+}
+
+/// Gives a trace its items back, with those behind them.
+pub(crate) fn give_back(recording: Recording, trace: &mut Trace)
+    requires { IsSome recording }
+    ensures { recording ≡ Some trace.new }
+{
+    match recording.into_trace() {
+        Some(kept) => *trace = kept,
+        None => unreachable!(),
+    }
 }
 
 /// A machine: a program, the limits of its run, where it starts, and its state (JVMS 2.5). Contracts see
@@ -81,17 +94,43 @@ impl<'p> Machine<'p> {
         // A turn that pushes no frame, makes no object and gives no item takes no memory.
         ensures none { TakesNone self.old t → IsOk result }
     {
-        step(&mut self.parts, t, trace)
+        let mut recording = self.recording_of(trace);
+        let outcome = self.step_recorded(t, &mut recording);
+        give_back(recording, trace);
+        outcome
+    }
+
+    /// The same. The items are put behind those that are kept, if any are.
+    pub fn step_recorded(
+        &mut self,
+        t: ThreadId,
+        recording: &mut Recording,
+    ) -> Result<Outcome, AllocError>
+        ensures outcome { IfOk result (λ o. o ≡ (row_of self.old t).outcome) }
+        ensures state { OnOk result (self.new ≡ with_state self.old (row_of self.old t).state) }
+        ensures items { OnOk result (recording.new ≡ recorded recording.old (row_of self.old t).items) }
+        ensures kept { OnErr result (self.new ≡ self.old) }
+        ensures no_items { OnErr result (recording.new ≡ recording.old) }
+        ensures none { TakesNone self.old t → IsOk result }
+    {
+        step(&mut self.parts, t, recording)
     }
 
     /// Makes turns of a thread one after another, at most so many, and tells how many. Each ran, and behind one that
-    /// started a thread there is none; their items are put behind those of the trace. It stops before a turn that comes
-    /// to anything else, and before one for which there is no memory.
-    pub fn step_on(&mut self, t: ThreadId, most: u64, trace: &mut Trace) -> u64
+    /// started a thread there is none; their items are put behind those that are kept, if any are. It stops before a turn
+    /// that comes to anything else, and before one for which there is no memory.
+    pub fn step_on(&mut self, t: ThreadId, most: u64, recording: &mut Recording) -> u64
         ensures most { result ≤ most }
-        ensures ran { RanOn result t (length self.old.state.threads) self.old trace.old self.new trace.new }
+        ensures ran { RanOn result t (length self.old.state.threads) self.old recording.old self.new recording.new }
     {
-        step_on(&mut self.parts, t, most, trace)
+        step_on(&mut self.parts, t, most, recording)
+    }
+
+    /// The items of a trace, to put others behind them. None is left in the trace until they are given back.
+    pub(crate) fn recording_of(&self, trace: &mut Trace) -> Recording
+        ensures { result ≡ Some trace.old }
+    {
+        Recording::of(mem::replace(trace, Trace::new(self.parts.alloc)))
     }
 
     /// What the turn of a thread would come to, with nothing changed. It takes no memory.

@@ -1,11 +1,11 @@
 //! Runs: the turns of a list of choices, one after another.
 
-ghost use Rattle.std.specs.Prelude.{◌≡◌, ◌<◌, take, length, IfOk, IfErr};
+ghost use Rattle.std.specs.Prelude.{◌≡◌, ◌<◌, take, length, IfOk, IfErr, Some};
 ghost use Rattle.machine.specs.Runs.{IsRun};
 
-use crate::machine::Machine;
+use crate::machine::{Machine, give_back};
 use jvms_machine::machine::{Outcome, ThreadId};
-use trace::Trace;
+use trace::{Recording, Trace};
 
 /// Memory ran out in a run: as many turns were made as there are outcomes, and no more.
 #[derive(Debug, Drop)]
@@ -19,16 +19,32 @@ impl Machine<'_> {
     /// items are put behind those of the trace. Where memory runs out, machine and trace are those after as
     /// many choices as the `RunStop` has outcomes.
     pub fn run(&mut self, choices: &[ThreadId], trace: &mut Trace) -> Result<Vec<Outcome>, RunStop>
-        ensures run { IfOk result (λ v. IsRun self.old choices.now v.items self.new trace.old trace.new) }
+        ensures run { IfOk result (λ v. IsRun self.old choices.now v.items self.new (Some trace.old) (Some trace.new)) }
         ensures fewer { IfErr result (λ s. length s.outcomes.items < length choices.now) }
-        ensures stop { IfErr result (λ s. IsRun self.old (take (length s.outcomes.items) choices.now) s.outcomes.items self.new trace.old trace.new) }
+        ensures stop { IfErr result (λ s. IsRun self.old (take (length s.outcomes.items) choices.now) s.outcomes.items self.new (Some trace.old) (Some trace.new)) }
+    {
+        let mut recording = self.recording_of(trace);
+        let outcomes = self.run_recorded(choices, &mut recording);
+        give_back(recording, trace);
+        outcomes
+    }
+
+    /// The same. The items are put behind those that are kept, if any are.
+    fn run_recorded(
+        &mut self,
+        choices: &[ThreadId],
+        recording: &mut Recording,
+    ) -> Result<Vec<Outcome>, RunStop>
+        ensures run { IfOk result (λ v. IsRun self.old choices.now v.items self.new recording.old recording.new) }
+        ensures fewer { IfErr result (λ s. length s.outcomes.items < length choices.now) }
+        ensures stop { IfErr result (λ s. IsRun self.old (take (length s.outcomes.items) choices.now) s.outcomes.items self.new recording.old recording.new) }
     {
         let mut outcomes = Vec::new(self.parts.alloc);
         for choice in choices {
             if outcomes.push(Outcome::NoThread).is_err() {
                 return Err(RunStop { outcomes });
             }
-            match self.step(*choice, trace) {
+            match self.step_recorded(*choice, recording) {
                 Ok(outcome) => {
                     let last = outcomes.len() - 1;
                     outcomes[last] = outcome;

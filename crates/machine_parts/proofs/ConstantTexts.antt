@@ -1,8 +1,8 @@
 -- The strings of constants that have no object yet are listed, and counted, field by field.
-use Rattle.std.proofs.Common.{◌≡◌, ℕ, suc, ◌+◌, ◌<◌, ◌≤◌, Bool, true, false, cond, not, ◌&&◌, ◌||◌, List, [], ◌∷◌, ◌++◌, length, take, drop, Option, Some, None, if◌then◌else◌, refl, sym, ap, ◌∙◌, subst, get_or, add-one, add-zero, arith}
+use Rattle.std.proofs.Common.{◌≡◌, ℕ, ◌+◌, ◌<◌, Bool, true, false, cond, not, ◌&&◌, ◌||◌, List, [], ◌∷◌, ◌++◌, length, take, Option, Some, None, if◌then◌else◌, refl, sym, ap, ◌∙◌, get_or, add-one, add-zero}
 use Rattle.std.proofs.Math.Seq.{take-suc}
 use Rattle.std.proofs.lemmas.List.{append-nil, length-append}
-use Rattle.std.specs.Prelude.{is_some, map}
+use Rattle.std.specs.Prelude.{is_some}
 use Rattle.std.specs.List.{list_any, position_from}
 use Rattle.std.specs.Cmp.Lexicographic.{same_text as texts_are_same}
 use Rattle.jvms_file.specs.Names.{same_text}
@@ -16,7 +16,7 @@ use Rattle.jvms_program.specs.declared.program.Class.{Class}
 use Rattle.jvms_machine.specs.declared.value.Value.{Value}
 use Rattle.jvms_file.specs.declared.descriptor.FieldType.{FieldType}
 use Rattle.jvms_machine.specs.Actions.{constant_value, with_constants}
-use Rattle.machine_parts.specs.Constants.{text_constant, constant_text, is_same, has_constant_text, is_new, is_new_text, behind, text_where, text_to_make, text_value}
+use Rattle.machine_parts.specs.Constants.{text_constant, constant_text, has_constant_text, is_new, is_new_text, behind, text_where, text_to_make, text_value}
 
 -- ---- One string more
 

@@ -18,8 +18,8 @@ pub use decision::{
     ActionText, Decided, Reached, bad, has_depth, never_seen, outcome, reaches, taking,
 };
 pub use kinds::kind_of_type;
-pub use locks::{acquire_item, lock_item, release_item, unlock_item};
-pub use marks::{push_both, push_listed};
+pub use locks::{acquire_item, release_item};
+pub use marks::push_listed;
 pub use monitor_use::{Entering, Locking, Unlocking};
 pub use parts::Parts;
 pub use stored::{stored_in_component, stored_in_field};

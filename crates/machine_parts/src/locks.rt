@@ -1,6 +1,6 @@
 //! What entering and leaving monitors makes of a machine (JVMS 2.11.10).
 
-ghost use Rattle.std.specs.Prelude.{◌≡◌, ◌++◌, [], IsOk, IfOk, OnOk, OnErr};
+ghost use Rattle.std.specs.Prelude.{◌≡◌, [], IsOk, IfOk, OnOk, OnErr};
 ghost use Rattle.jvms_machine.specs.declared.action.Effect.TheVariants as effects;
 ghost use Rattle.jvms_machine.specs.declared.action.Lock.TheVariants as locks;
 ghost use Rattle.jvms_machine.specs.Actions.{acquire_items, affected, effect_items, lock_items, release_items, unlock_items, with_lock, with_unlock};
@@ -8,6 +8,7 @@ ghost use Rattle.jvms_machine.specs.Turn.{CanBeEntered, CanBeLocked};
 ghost use Rattle.jvms_machine.specs.Heap.{class_name_at};
 ghost use Rattle.machine_parts.specs.Machine.{with_state};
 ghost use Rattle.machine_parts.specs.Marks.{listed};
+ghost use Rattle.trace.specs.Recording.{recorded};
 
 use crate::marks::push_listed;
 use crate::parts::Parts;
@@ -17,7 +18,7 @@ use jvms_machine::action::{Lock, MonitorUse};
 use jvms_machine::machine::ThreadId;
 use jvms_machine::trace::Item;
 use std::alloc::AllocError;
-use trace::Trace;
+use trace::Recording;
 
 /// The event of entering a monitor: only the outermost entry is one.
 pub fn acquire_item(thread: ThreadId, monitor: MonitorUse) -> Option<Item>
@@ -42,7 +43,7 @@ pub fn release_item(thread: ThreadId, monitor: MonitorUse) -> Option<Item>
 }
 
 /// The event of what a call locks.
-pub fn lock_item(thread: ThreadId, lock: Lock) -> Option<Item>
+pub(crate) fn lock_item(thread: ThreadId, lock: Lock) -> Option<Item>
     ensures { listed result ≡ lock_items thread lock }
 {
     match lock {
@@ -53,7 +54,7 @@ pub fn lock_item(thread: ThreadId, lock: Lock) -> Option<Item>
 }
 
 /// The event of what a call unlocks.
-pub fn unlock_item(thread: ThreadId, unlock: Option<MonitorUse>) -> Option<Item>
+pub(crate) fn unlock_item(thread: ThreadId, unlock: Option<MonitorUse>) -> Option<Item>
     ensures { listed result ≡ unlock_items thread unlock }
 {
     release_item(thread, unlock?)
@@ -114,15 +115,16 @@ impl Parts<'_> {
     }
 
     /// JVMS 6.5 monitorenter, with its event. Without memory nothing changes.
+    #[tactic(auto, using(trace::proofs::Recorded::cut_recorded))]
     pub fn enter_monitor(
         &mut self,
         t: ThreadId,
         monitor: MonitorUse,
-        trace: &mut Trace,
+        trace: &mut Recording,
     ) -> Result<(), AllocError>
         requires { CanBeEntered self.old.state monitor }
         ensures state { OnOk result (self.new ≡ with_state self.old (affected self.old.program self.old.state t [] (effects.Locks monitor))) }
-        ensures items { OnOk result (trace.new ≡ trace.old ++ effect_items self.old.program t (effects.Locks monitor)) }
+        ensures items { OnOk result (trace.new ≡ recorded trace.old (effect_items self.old.program t (effects.Locks monitor))) }
         ensures kept { OnErr result (self.new ≡ self.old) }
         ensures no_items { OnErr result (trace.new ≡ trace.old) }
         ensures none { effect_items self.old.program t (effects.Locks monitor) ≡ [] → IsOk result }
@@ -141,10 +143,10 @@ impl Parts<'_> {
         &mut self,
         t: ThreadId,
         monitor: MonitorUse,
-        trace: &mut Trace,
+        trace: &mut Recording,
     ) -> Result<(), AllocError>
         ensures state { OnOk result (self.new ≡ with_state self.old (affected self.old.program self.old.state t [] (effects.Unlocks monitor))) }
-        ensures items { OnOk result (trace.new ≡ trace.old ++ effect_items self.old.program t (effects.Unlocks monitor)) }
+        ensures items { OnOk result (trace.new ≡ recorded trace.old (effect_items self.old.program t (effects.Unlocks monitor))) }
         ensures kept { OnErr result (self.new ≡ self.old) }
         ensures no_items { OnErr result (trace.new ≡ trace.old) }
         ensures none { effect_items self.old.program t (effects.Unlocks monitor) ≡ [] → IsOk result }

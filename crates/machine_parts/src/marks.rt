@@ -1,21 +1,25 @@
 //! The marks of calls in a trace.
 
 ghost use Rattle.std.specs.Prelude.{◌≡◌, ◌++◌, [], None, IsOk, IfOk, OnOk, OnErr};
-ghost use Rattle.jvms_machine.specs.Actions.{enter_items, exit_items};
+ghost use Rattle.jvms_machine.specs.Actions.{enter_items, exit_items, lock_items, unlock_items};
 ghost use Rattle.machine_parts.specs.Marks.{listed, marked_key};
+ghost use Rattle.trace.specs.Recording.{recorded};
 
+use crate::locks::{lock_item, unlock_item};
 use crate::parts::Parts;
+use jvms_machine::action::{Lock, MonitorUse};
 use jvms_machine::machine::ThreadId;
 use jvms_machine::trace::Item;
 use jvms_program::key::MethodKey;
 use jvms_program::number::MethodNumber;
 use std::alloc::AllocError;
-use trace::Trace;
+use trace::Recording;
 
 /// Puts at most one item behind the others.
 #[inline(always)]
-pub fn push_listed(trace: &mut Trace, item: Option<Item>) -> Result<(), AllocError>
-    ensures ok { OnOk result (trace.new ≡ trace.old ++ listed item) }
+#[tactic(auto, using(trace::proofs::Recorded::recorded_none))]
+pub fn push_listed(trace: &mut Recording, item: Option<Item>) -> Result<(), AllocError>
+    ensures ok { OnOk result (trace.new ≡ recorded trace.old (listed item)) }
     ensures err { OnErr result (trace.new ≡ trace.old) }
     ensures none { listed item ≡ [] → IsOk result }
 {
@@ -27,12 +31,13 @@ pub fn push_listed(trace: &mut Trace, item: Option<Item>) -> Result<(), AllocErr
 
 /// Puts at most two items behind the others, or none where there is no memory for both.
 #[inline(always)]
-pub fn push_both(
-    trace: &mut Trace,
+#[tactic(auto, using(trace::proofs::Recorded::recorded_both, trace::proofs::Recorded::cut_recorded))]
+fn push_both(
+    trace: &mut Recording,
     first: Option<Item>,
     second: Option<Item>,
 ) -> Result<(), AllocError>
-    ensures ok { OnOk result (trace.new ≡ trace.old ++ (listed first ++ listed second)) }
+    ensures ok { OnOk result (trace.new ≡ recorded trace.old (listed first ++ listed second)) }
     ensures err { OnErr result (trace.new ≡ trace.old) }
     ensures none { listed first ++ listed second ≡ [] → IsOk result }
 {
@@ -78,5 +83,44 @@ impl Parts<'_> {
             return Ok(None);
         };
         Ok(Some(Item::Exit { thread: t, method }))
+    }
+
+    /// Puts the mark of a method's entry and the event of what its call locks behind the other items, if any are kept.
+    #[inline(always)]
+    pub fn record_entry(
+        &self,
+        t: ThreadId,
+        method: MethodNumber,
+        lock: Lock,
+        trace: &mut Recording,
+    ) -> Result<(), AllocError>
+        ensures ok { OnOk result (trace.new ≡ recorded trace.old (enter_items self.now.program t method ++ lock_items t lock)) }
+        ensures err { OnErr result (trace.new ≡ trace.old) }
+    {
+        if !trace.keeps() {
+            return Ok(());
+        }
+        let item = self.enter_item(t, method)?;
+        push_both(trace, item, lock_item(t, lock))
+    }
+
+    /// Puts the event of what a call unlocks and the mark of its method's exit behind the other items, if any are kept.
+    #[inline(always)]
+    pub fn record_exit(
+        &self,
+        t: ThreadId,
+        method: MethodNumber,
+        unlock: Option<MonitorUse>,
+        trace: &mut Recording,
+    ) -> Result<(), AllocError>
+        ensures ok { OnOk result (trace.new ≡ recorded trace.old (unlock_items t unlock ++ exit_items self.now.program t method)) }
+        ensures err { OnErr result (trace.new ≡ trace.old) }
+        ensures none { unlock_items t unlock ++ exit_items self.now.program t method ≡ [] → IsOk result }
+    {
+        if !trace.keeps() {
+            return Ok(());
+        }
+        let item = self.exit_item(t, method)?;
+        push_both(trace, unlock_item(t, unlock), item)
     }
 }

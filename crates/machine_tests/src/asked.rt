@@ -7,7 +7,7 @@ use program::Program;
 use source_programs::program_of;
 use std::alloc::{AllocError, Global};
 use std::test::Fail;
-use trace::Trace;
+use trace::Recording;
 
 /// A class whose method is five instructions, the first four of which touch their frame alone.
 const ADDS: &str = "
@@ -80,11 +80,11 @@ fn opened(alloc: Global, program: &Program) -> Result<Machine<'_>, Fail> {
 
 /// How many turns are made on end: of a thread that isn't there, at most three and at most nine of the thread that adds;
 /// and what comes then.
-fn made_on_end(machine: &mut Machine<'_>, trace: &mut Trace) -> ([u64; 3], Outcome) {
+fn made_on_end(machine: &mut Machine<'_>, recording: &mut Recording) -> ([u64; 3], Outcome) {
     let made = [
-        machine.step_on(7, 9, trace),
-        machine.step_on(0, 3, trace),
-        machine.step_on(0, 9, trace),
+        machine.step_on(7, 9, recording),
+        machine.step_on(0, 3, recording),
+        machine.step_on(0, 9, recording),
     ];
     (made, machine.peek(0))
 }
@@ -92,7 +92,7 @@ fn made_on_end(machine: &mut Machine<'_>, trace: &mut Trace) -> ([u64; 3], Outco
 /// What is made on end from the opening on.
 fn made_of_the_opened(alloc: Global, program: &Program) -> Result<([u64; 3], Outcome), Fail> {
     let mut machine = opened(alloc, program)?;
-    Ok(made_on_end(&mut machine, &mut Trace::new(alloc)))
+    Ok(made_on_end(&mut machine, &mut Recording::of_nothing()))
 }
 
 /// Two turns initialise the class, and the third is the call. Four instructions go on, and the fifth ends the thread.

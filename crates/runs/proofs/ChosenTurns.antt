@@ -4,6 +4,7 @@ use Rattle.std.proofs.lemmas.List.{append-nil, append_assoc}
 use Rattle.std.proofs.Math.Seq.{take-append_seam}
 use Rattle.jvms_machine.specs.declared.machine.Outcome.{Outcome}
 use Rattle.jvms_machine.specs.declared.trace.Item.{Item}
+use Rattle.trace.specs.Recording.{recorded}
 use Rattle.machine.specs.Machine.{Machine, row_of, with_state}
 use Rattle.machine.specs.Runs.{IsRun}
 use Rattle.runs.proofs.Rows.{run_none, run_more}
@@ -11,7 +12,7 @@ use Rattle.schedule.specs.Choosers.{Chooser}
 use Rattle.runs.specs.Choices.{after_turn, choice_of, chooser_after, choices_from, chooser_behind, first_then, BrokeOff, IsTurnOf}
 
 -- So many turns were made of those that a chooser gives, and these are behind them.
-pub record AreTaken (before : Machine) (first : Chooser) (most : ℕ) (items_before : List Item) (made : ℕ) (choices : List ℕ) (outcomes : List Outcome) (m : Machine) (chooser : Chooser) (items : List Item) : Type 0 where
+pub record AreTaken (before : Machine) (first : Chooser) (most : ℕ) (items_before : Option (List Item)) (made : ℕ) (choices : List ℕ) (outcomes : List Outcome) (m : Machine) (chooser : Chooser) (items : Option (List Item)) : Type 0 where
   pub within : made ≤ most
   pub left : choices ++ choices_from (most - made) chooser m ≡ choices_from most first before
   pub left_behind : chooser_behind (most - made) chooser m ≡ chooser_behind most first before
@@ -43,7 +44,7 @@ unfolding choices_from
 nothing_left chooser m = refl
 
 -- No turn was made yet.
-pub taken_none : (m : Machine) (chooser : Chooser) (most : ℕ) (items : List Item) (choices : List ℕ) (outcomes : List Outcome) → choices ≡ [] → outcomes ≡ [] → AreTaken m chooser most items 0 choices outcomes m chooser items
+pub taken_none : (m : Machine) (chooser : Chooser) (most : ℕ) (items : Option (List Item)) (choices : List ℕ) (outcomes : List Outcome) → choices ≡ [] → outcomes ≡ [] → AreTaken m chooser most items 0 choices outcomes m chooser items
 taken_none m chooser most items choices outcomes no_choice no_outcome =
     rw (no_choice, no_outcome) record {
       within = omega arith;
@@ -57,11 +58,11 @@ more_left : (most made : ℕ) → made < most → most - made ≡ suc (most - (m
 more_left most made below = omega arith
 
 -- One more turn is made.
-pub taken_more : (before : Machine) (first : Chooser) (most : ℕ) (items_before : List Item) (made : ℕ) (choices : List ℕ) (outcomes : List Outcome) (m : Machine) (chooser : Chooser) (items : List Item)
-    (t : ℕ) (o : Outcome) (after : Machine) (later : Chooser) (items_after : List Item)
+pub taken_more : (before : Machine) (first : Chooser) (most : ℕ) (items_before : Option (List Item)) (made : ℕ) (choices : List ℕ) (outcomes : List Outcome) (m : Machine) (chooser : Chooser) (items : Option (List Item))
+    (t : ℕ) (o : Outcome) (after : Machine) (later : Chooser) (items_after : Option (List Item))
     → AreTaken before first most items_before made choices outcomes m chooser items → made < most
     → choice_of chooser m ≡ Some t → later ≡ chooser_after chooser m
-    → o ≡ (row_of m t).outcome → after ≡ with_state m (row_of m t).state → items_after ≡ items ++ (row_of m t).items
+    → o ≡ (row_of m t).outcome → after ≡ with_state m (row_of m t).state → items_after ≡ recorded items (row_of m t).items
     → AreTaken before first most items_before (made + 1) (choices ++ t ∷ []) (outcomes ++ o ∷ []) after later items_after
 taken_more before first most items_before made choices outcomes m chooser items t o after later items_after taken below chosen later_is outcome state items_are =
     record {
@@ -83,15 +84,15 @@ taken_more before first most items_before made choices outcomes m chooser items 
     }
 
 -- The same, of a turn by the next choice.
-pub taken_next : (before : Machine) (first : Chooser) (most : ℕ) (items_before : List Item) (made : ℕ) (choices : List ℕ) (outcomes : List Outcome) (m : Machine) (chooser : Chooser) (items : List Item)
-    (taken : ℕ × Outcome) (after : Machine) (later : Chooser) (more : List Item)
+pub taken_next : (before : Machine) (first : Chooser) (most : ℕ) (items_before : Option (List Item)) (made : ℕ) (choices : List ℕ) (outcomes : List Outcome) (m : Machine) (chooser : Chooser) (items : Option (List Item))
+    (taken : ℕ × Outcome) (after : Machine) (later : Chooser) (more : Option (List Item))
     → AreTaken before first most items_before made choices outcomes m chooser items → made < most → IsTurnOf m chooser items taken after later more
     → AreTaken before first most items_before (made + 1) (choices ++ taken.0 ∷ []) (outcomes ++ taken.1 ∷ []) after later more
 taken_next before first most items_before made choices outcomes m chooser items taken after later more are below is =
     taken_more before first most items_before made choices outcomes m chooser items taken.0 taken.1 after later more are below is.0 is.3 is.1 is.2 is.4
 
 -- A run that breaks off here has made the first of the choices.
-pub broken_here : (before : Machine) (first : Chooser) (most : ℕ) (items_before : List Item) (made : ℕ) (choices : List ℕ) (outcomes : List Outcome) (m : Machine) (chooser : Chooser) (items : List Item)
+pub broken_here : (before : Machine) (first : Chooser) (most : ℕ) (items_before : Option (List Item)) (made : ℕ) (choices : List ℕ) (outcomes : List Outcome) (m : Machine) (chooser : Chooser) (items : Option (List Item))
     → AreTaken before first most items_before made choices outcomes m chooser items → BrokeOff before (choices_from most first before) m items_before items
 broken_here before first most items_before made choices outcomes m chooser items taken =
     let rest = choices_from (most - made) chooser m in
@@ -103,25 +104,25 @@ broken_here before first most items_before made choices outcomes m chooser items
     }
 
 -- What was noted of them is their run.
-pub told : (before : Machine) (first : Chooser) (most : ℕ) (items_before : List Item) (made : ℕ) (choices more : List ℕ) (outcomes more_outcomes : List Outcome) (m : Machine) (chooser : Chooser) (items : List Item)
+pub told : (before : Machine) (first : Chooser) (most : ℕ) (items_before : Option (List Item)) (made : ℕ) (choices more : List ℕ) (outcomes more_outcomes : List Outcome) (m : Machine) (chooser : Chooser) (items : Option (List Item))
     → AreTaken before first most items_before made choices outcomes m chooser items → more ≡ choices → more_outcomes ≡ outcomes → IsRun before more more_outcomes m items_before items
 told before first most items_before made choices more outcomes more_outcomes m chooser items taken choices_are outcomes_are = rw (choices_are, outcomes_are) taken.ran
 
 -- No choice is left: none is given.
-pub all_given : (before : Machine) (first : Chooser) (most : ℕ) (items_before : List Item) (made : ℕ) (choices : List ℕ) (outcomes : List Outcome) (m : Machine) (chooser : Chooser) (items : List Item)
+pub all_given : (before : Machine) (first : Chooser) (most : ℕ) (items_before : Option (List Item)) (made : ℕ) (choices : List ℕ) (outcomes : List Outcome) (m : Machine) (chooser : Chooser) (items : Option (List Item))
     → AreTaken before first most items_before made choices outcomes m chooser items → choice_of chooser m ≡ None → choices ≡ choices_from most first before
 all_given before first most items_before made choices outcomes m chooser items taken none =
     sym (append-nil choices) ∙ ap (λ l. choices ++ l) (sym (none_left (most - made) chooser m none)) ∙ taken.left
 
 -- No choice is left: as many were made as may be.
-pub all_made : (before : Machine) (first : Chooser) (most : ℕ) (items_before : List Item) (made : ℕ) (choices : List ℕ) (outcomes : List Outcome) (m : Machine) (chooser : Chooser) (items : List Item)
+pub all_made : (before : Machine) (first : Chooser) (most : ℕ) (items_before : Option (List Item)) (made : ℕ) (choices : List ℕ) (outcomes : List Outcome) (m : Machine) (chooser : Chooser) (items : Option (List Item))
     → AreTaken before first most items_before made choices outcomes m chooser items → most ≤ made → choices ≡ choices_from most first before
 all_made before first most items_before made choices outcomes m chooser items taken reached =
     let none : most - made ≡ 0 = omega arith in
     sym (append-nil choices) ∙ ap (λ l. choices ++ l) (sym (nothing_left chooser m)) ∙ ap (λ n. choices ++ choices_from n chooser m) (sym none) ∙ taken.left
 
 -- The chooser at the end, where it gave no choice more.
-pub behind_all_given : (before : Machine) (first : Chooser) (most : ℕ) (items_before : List Item) (made : ℕ) (choices : List ℕ) (outcomes : List Outcome) (m : Machine) (chooser later : Chooser) (items : List Item)
+pub behind_all_given : (before : Machine) (first : Chooser) (most : ℕ) (items_before : Option (List Item)) (made : ℕ) (choices : List ℕ) (outcomes : List Outcome) (m : Machine) (chooser later : Chooser) (items : Option (List Item))
     → AreTaken before first most items_before made choices outcomes m chooser items → made < most → choice_of chooser m ≡ None → later ≡ chooser_after chooser m → later ≡ chooser_behind most first before
 behind_all_given before first most items_before made choices outcomes m chooser later items taken below none later_is =
     later_is
@@ -130,7 +131,7 @@ behind_all_given before first most items_before made choices outcomes m chooser 
     ∙ taken.left_behind
 
 -- The chooser at the end, where as many turns were made as may be.
-pub behind_all_made : (before : Machine) (first : Chooser) (most : ℕ) (items_before : List Item) (made : ℕ) (choices : List ℕ) (outcomes : List Outcome) (m : Machine) (chooser : Chooser) (items : List Item)
+pub behind_all_made : (before : Machine) (first : Chooser) (most : ℕ) (items_before : Option (List Item)) (made : ℕ) (choices : List ℕ) (outcomes : List Outcome) (m : Machine) (chooser : Chooser) (items : Option (List Item))
     → AreTaken before first most items_before made choices outcomes m chooser items → most ≤ made → chooser ≡ chooser_behind most first before
 behind_all_made before first most items_before made choices outcomes m chooser items taken reached =
     let none : most - made ≡ 0 = omega arith in

@@ -1,4 +1,5 @@
 pub mod ChosenTurns
+mod CountedTurns
 mod NextTurns
 mod OwnTurns
 mod Rows

@@ -1,10 +1,11 @@
 -- The turn of a candidate.
-use Rattle.std.proofs.Common.{◌≡◌, ℕ, ◌≤◌, true, false, List, ◌++◌, length, Some, ap, sym, ◌∙◌}
-use Rattle.std.proofs.lemmas.List.{append-nil}
+use Rattle.std.proofs.Common.{◌≡◌, ℕ, ◌≤◌, true, false, List, length, Option, Some, ap, sym, ◌∙◌}
 use Rattle.jvms_machine.specs.declared.machine.Outcome.{Outcome}
 use Rattle.jvms_machine.specs.declared.trace.Item.{Item}
 use Rattle.jvms_machine.specs.Status.{is_enabled}
 use Rattle.jvms_machine.proofs.UnmadeTurns.{unmade_turn_keeps}
+use Rattle.trace.specs.Recording.{recorded}
+use Rattle.trace.proofs.Recorded.{recorded_none}
 use Rattle.machine.specs.Machine.{Machine, row_of, with_state}
 use Rattle.schedule.specs.Choosers.{Chooser, counted_times, IsNextFor}
 use Rattle.schedule.specs.Enabled.{can_go_on}
@@ -12,12 +13,12 @@ use Rattle.runs.specs.Choices.{choice_of, chooser_after}
 use Rattle.runs.proofs.TurnsOn.{next_once}
 
 -- It wasn't enabled: nothing changed.
-pub unmade : (m after : Machine) (t : ℕ) (o : Outcome) (items more : List Item)
-    → o ≡ (row_of m t).outcome → is_enabled o ≡ false → after ≡ with_state m (row_of m t).state → more ≡ items ++ (row_of m t).items
+pub unmade : (m after : Machine) (t : ℕ) (o : Outcome) (items more : Option (List Item))
+    → o ≡ (row_of m t).outcome → is_enabled o ≡ false → after ≡ with_state m (row_of m t).state → more ≡ recorded items (row_of m t).items
     → (after ≡ m) × (more ≡ items)
 unmade m after t o items more outcome disabled state items_are =
     let kept = unmade_turn_keeps m.program m.limits m.start m.state t (sym (ap is_enabled outcome) ∙ disabled) in
-    (state ∙ ap (with_state m) kept.0, items_are ∙ ap (λ l. items ++ l) kept.1 ∙ append-nil items)
+    (state ∙ ap (with_state m) kept.0, items_are ∙ ap (λ l. recorded items l) kept.1 ∙ recorded_none items)
 
 -- It was enabled: it is the choice.
 pub chosen : (m : Machine) (chooser : Chooser) (t times : ℕ) (o : Outcome)

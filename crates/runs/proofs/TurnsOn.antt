@@ -1,10 +1,11 @@
 -- Turns of one thread on end.
-use Rattle.std.proofs.Common.{◌≡◌, ℕ, zero, suc, ◌+◌, ◌-◌, ◌≤◌, Bool, true, List, [], ◌∷◌, ◌++◌, length, replicate, refl, ap, sym, ◌∙◌, subst, arith, Some}
+use Rattle.std.proofs.Common.{◌≡◌, ℕ, zero, suc, ◌+◌, ◌-◌, ◌<◌, ◌≤◌, ◌≢◌, Bool, true, List, [], ◌∷◌, ◌++◌, length, replicate, refl, ap, sym, ◌∙◌, subst, arith, Option, Some}
 use Rattle.std.proofs.lemmas.List.{append-nil, append_assoc, replicate-append-replicate}
 use Rattle.jvms_machine.specs.declared.machine.Outcome.{Outcome}
 use Rattle.jvms_machine.specs.declared.machine.Outcome.TheVariants as outcome
 use Rattle.jvms_machine.specs.declared.trace.Item.{Item}
 use Rattle.jvms_machine.specs.Status.{is_enabled}
+use Rattle.trace.specs.Recording.{recorded}
 use Rattle.machine.specs.Machine.{Machine, row_of}
 use Rattle.machine.specs.Runs.{RanAmong, RanOn}
 use Rattle.schedule.specs.Choosers.{Chooser, counted, counted_times, enabled_of, next, IsNextFor}
@@ -13,7 +14,7 @@ use Rattle.runs.specs.Choices.{after_turn, AreTurnsOn}
 use Rattle.runs.proofs.ChosenTurns.{AreTaken, taken_more}
 
 -- No turn at all.
-pub none_on : (m : Machine) (chooser : Chooser) (items : List Item) (thread : ℕ) → AreTurnsOn m chooser items thread 0 m chooser items
+pub none_on : (m : Machine) (chooser : Chooser) (items : Option (List Item)) (thread : ℕ) → AreTurnsOn m chooser items thread 0 m chooser items
 unfolding RanOn IsNextFor counted_times
 none_on m chooser items thread = record { ran = (refl, refl); chosen = tt; counted = refl }
 
@@ -26,7 +27,7 @@ next_fewer (suc fewer) (suc times) thread threads chooser few is =
     (is.0, next_fewer fewer times thread threads (counted thread chooser) (omega arith) is.1)
 
 -- As many turns as were made of those for which the thread is next.
-pub fewer_on : (m after : Machine) (chooser later : Chooser) (items more : List Item) (thread times turns : ℕ) → RanOn times thread (length m.state.threads) m items after more → times ≤ turns
+pub fewer_on : (m after : Machine) (chooser later : Chooser) (items more : Option (List Item)) (thread times turns : ℕ) → RanOn times thread (length m.state.threads) m items after more → times ≤ turns
     → IsNextFor turns thread (length m.state.threads) chooser → later ≡ counted_times times thread chooser → AreTurnsOn m chooser items thread times after later more
 fewer_on m after chooser later items more thread times turns ran few next_is counted_is =
     record { ran = ran; chosen = next_fewer times turns thread (length m.state.threads) chooser few next_is; counted = counted_is }
@@ -38,8 +39,8 @@ unfolding IsNextFor counted_times
 next_once zero thread threads chooser p some is enabled = let never : ⊥ = omega arith in absurd never
 next_once (suc times) thread threads chooser p some is enabled = is.0 p enabled
 
-on_taken : (n threads : ℕ) (before : Machine) (first : Chooser) (most : ℕ) (items_before : List Item) (made : ℕ) (choices : List ℕ) (outcomes : List Outcome) (m : Machine) (chooser : Chooser) (items : List Item)
-    (t : ℕ) (after : Machine) (later : Chooser) (more : List Item)
+on_taken : (n threads : ℕ) (before : Machine) (first : Chooser) (most : ℕ) (items_before : Option (List Item)) (made : ℕ) (choices : List ℕ) (outcomes : List Outcome) (m : Machine) (chooser : Chooser) (items : Option (List Item))
+    (t : ℕ) (after : Machine) (later : Chooser) (more : Option (List Item))
     → AreTaken before first most items_before made choices outcomes m chooser items → made + n ≤ most
     → RanOn n t threads m items after more → IsNextFor n t threads chooser → later ≡ counted_times n t chooser
     → AreTaken before first most items_before (made + n) (choices ++ replicate n t) (outcomes ++ replicate n outcome.Ran) after later more
@@ -53,9 +54,9 @@ on_taken (suc n) threads before first most items_before made choices outcomes m 
     let among : RanAmong threads m t = ran.0 in
     let chosen : next chooser (enabled_threads m) ≡ (Some t, counted t chooser) =
     subst (λ k. next chooser (enabled_of (can_go_on m) k) ≡ (Some t, counted t chooser)) (sym among.1) (next_is.0 (can_go_on m) (ap is_enabled among.0)) in
-    let one = taken_more before first most items_before made choices outcomes m chooser items t outcome.Ran (after_turn m t) (counted t chooser) (items ++ (row_of m t).items)
+    let one = taken_more before first most items_before made choices outcomes m chooser items t outcome.Ran (after_turn m t) (counted t chooser) (recorded items (row_of m t).items)
     taken (omega arith) (ap (λ c. c.0) chosen) (sym (ap (λ c. c.1) chosen)) (sym among.0) refl refl in
-    let rest = on_taken n threads before first most items_before (made + 1) (choices ++ t ∷ []) (outcomes ++ outcome.Ran ∷ []) (after_turn m t) (counted t chooser) (items ++ (row_of m t).items) t after later more
+    let rest = on_taken n threads before first most items_before (made + 1) (choices ++ t ∷ []) (outcomes ++ outcome.Ran ∷ []) (after_turn m t) (counted t chooser) (recorded items (row_of m t).items) t after later more
     one (omega arith) ran.1 next_is.1 later_is in
     let as_many : made + 1 + n ≡ made + suc n = omega arith in
     subst (λ l. AreTaken before first most items_before (made + suc n) l (outcomes ++ replicate (suc n) outcome.Ran) after later more) (append_assoc choices (t ∷ []) (replicate n t))
@@ -63,8 +64,8 @@ on_taken (suc n) threads before first most items_before made choices outcomes m 
     (subst (λ k. AreTaken before first most items_before k ((choices ++ t ∷ []) ++ replicate n t) ((outcomes ++ outcome.Ran ∷ []) ++ replicate n outcome.Ran) after later more) as_many rest))
 
 -- So many turns more of those that a chooser gives.
-pub taken_on : (before : Machine) (first : Chooser) (most : ℕ) (items_before : List Item) (made : ℕ) (choices : List ℕ) (outcomes : List Outcome) (m : Machine) (chooser : Chooser) (items : List Item)
-    (t n : ℕ) (after : Machine) (later : Chooser) (more_items : List Item)
+pub taken_on : (before : Machine) (first : Chooser) (most : ℕ) (items_before : Option (List Item)) (made : ℕ) (choices : List ℕ) (outcomes : List Outcome) (m : Machine) (chooser : Chooser) (items : Option (List Item))
+    (t n : ℕ) (after : Machine) (later : Chooser) (more_items : Option (List Item))
     → AreTaken before first most items_before made choices outcomes m chooser items → n ≤ most - made → AreTurnsOn m chooser items t n after later more_items
     → AreTaken before first most items_before (made + n) (choices ++ replicate n t) (outcomes ++ replicate n outcome.Ran) after later more_items
 taken_on before first most items_before made choices outcomes m chooser items t n after later more_items taken fits on =
@@ -72,8 +73,8 @@ taken_on before first most items_before made choices outcomes m chooser items t 
     on_taken n (length m.state.threads) before first most items_before made choices outcomes m chooser items t after later more_items taken (omega arith) on.ran on.chosen on.counted
 
 -- The same, with their choices and outcomes put behind those before.
-pub noted_on : (before : Machine) (first : Chooser) (most : ℕ) (items_before : List Item) (made : ℕ) (choices more : List ℕ) (outcomes more_outcomes : List Outcome) (m : Machine) (chooser : Chooser) (items : List Item)
-    (t n : ℕ) (after : Machine) (later : Chooser) (more_items : List Item)
+pub noted_on : (before : Machine) (first : Chooser) (most : ℕ) (items_before : Option (List Item)) (made : ℕ) (choices more : List ℕ) (outcomes more_outcomes : List Outcome) (m : Machine) (chooser : Chooser) (items : Option (List Item))
+    (t n : ℕ) (after : Machine) (later : Chooser) (more_items : Option (List Item))
     → AreTaken before first most items_before made choices outcomes m chooser items → n ≤ most - made → AreTurnsOn m chooser items t n after later more_items
     → more ≡ choices ++ replicate n t → more_outcomes ≡ outcomes ++ replicate n outcome.Ran
     → AreTaken before first most items_before (made + n) more more_outcomes after later more_items
@@ -83,3 +84,11 @@ noted_on before first most items_before made choices more outcomes more_outcomes
 -- One more of the same.
 pub one_more : {A : Type 0} (n : ℕ) (x : A) (xs : List A) → (xs ++ replicate n x) ++ x ∷ [] ≡ xs ++ replicate (n + 1) x
 one_more n x xs = append_assoc xs (replicate n x) (x ∷ []) ∙ ap (λ l. xs ++ l) (replicate-append-replicate n 1 x)
+
+-- Not as many were made as may be.
+pub fewer : (made times most : ℕ) → made < most → times ≤ most - made → made + times ≢ most → made + times < most
+fewer made times most left few not_all = omega (arith, left, few, not_all)
+
+-- As many were made as may be.
+pub as_many : (made most : ℕ) → made ≡ most → most ≤ made
+as_many made most all = omega (arith, all)

@@ -6,7 +6,7 @@ ghost use Rattle.runs.specs.Choices.{AreTurnsOn, IsNextTurn, IsTurn};
 use machine::{Machine, Outcome, ThreadId, is_enabled};
 use schedule::{Candidate, Chooser};
 use std::alloc::AllocError;
-use trace::Trace;
+use trace::Recording;
 
 /// A choice, and what its turn came to.
 pub(crate) type Taken = (ThreadId, Outcome);
@@ -26,10 +26,10 @@ pub(crate) fn take_turns_on(
     machine: &mut Machine<'_>,
     chooser: &mut Chooser,
     most: u64,
-    trace: &mut Trace,
+    recording: &mut Recording,
 ) -> TurnsOn
     ensures most { result.times ≤ most }
-    ensures taken { AreTurnsOn machine.old chooser.old trace.old result.thread result.times machine.new chooser.new trace.new }
+    ensures taken { AreTurnsOn machine.old chooser.old recording.old result.thread result.times machine.new chooser.new recording.new }
 {
     let Some(Candidate { thread, turns }) = chooser.candidate(machine) else {
         return TurnsOn {
@@ -37,7 +37,7 @@ pub(crate) fn take_turns_on(
             times: 0,
         };
     };
-    let times = machine.step_on(thread, most.min(turns), trace);
+    let times = machine.step_on(thread, most.min(turns), recording);
     chooser.count(thread, times);
     TurnsOn { thread, times }
 }
@@ -47,16 +47,16 @@ pub(crate) fn take_turns_on(
 fn take_candidate(
     machine: &mut Machine<'_>,
     chooser: &mut Chooser,
-    trace: &mut Trace,
+    recording: &mut Recording,
 ) -> Result<Option<Taken>, AllocError>
-    ensures taken { IfOk result (λ taken. IsTurn machine.old chooser.old trace.old taken machine.new chooser.new trace.new) }
+    ensures taken { IfOk result (λ taken. IsTurn machine.old chooser.old recording.old taken machine.new chooser.new recording.new) }
     ensures kept { OnErr result (machine.new ≡ machine.old) }
-    ensures no_items { OnErr result (trace.new ≡ trace.old) }
+    ensures no_items { OnErr result (recording.new ≡ recording.old) }
 {
     let Some(Candidate { thread, .. }) = chooser.candidate(machine) else {
         return Ok(None);
     };
-    let outcome = machine.step(thread, trace)?;
+    let outcome = machine.step_recorded(thread, recording)?;
     if !is_enabled(outcome) {
         return Ok(None);
     }
@@ -68,18 +68,18 @@ fn take_candidate(
 pub(crate) fn take_turn(
     machine: &mut Machine<'_>,
     chooser: &mut Chooser,
-    trace: &mut Trace,
+    recording: &mut Recording,
 ) -> Result<Option<Taken>, AllocError>
-    ensures taken { IfOk result (λ taken. IsNextTurn machine.old chooser.old trace.old taken machine.new chooser.new trace.new) }
+    ensures taken { IfOk result (λ taken. IsNextTurn machine.old chooser.old recording.old taken machine.new chooser.new recording.new) }
     ensures kept { OnErr result (machine.new ≡ machine.old) }
-    ensures no_items { OnErr result (trace.new ≡ trace.old) }
+    ensures no_items { OnErr result (recording.new ≡ recording.old) }
 {
-    if let Some(taken) = take_candidate(machine, chooser, trace)? {
+    if let Some(taken) = take_candidate(machine, chooser, recording)? {
         return Ok(Some(taken));
     }
     let Some(thread) = chooser.next(machine) else {
         return Ok(None);
     };
-    let outcome = machine.step(thread, trace)?;
+    let outcome = machine.step_recorded(thread, recording)?;
     Ok(Some((thread, outcome)))
 }

@@ -4,6 +4,7 @@ ghost use Rattle.std.specs.Prelude.{◌≡◌, ◌++◌, replicate, IfOk, OnOk, 
 ghost use Rattle.machine.specs.Machine.{with_state};
 ghost use Rattle.machine.specs.Runs.{run_of};
 ghost use Rattle.runs.specs.Choices.{choices_from, chooser_behind, BrokeOff};
+ghost use Rattle.trace.specs.Recording.{recorded};
 
 use crate::turn::{TurnsOn, take_turn, take_turns_on};
 use held::items::Items;
@@ -11,7 +12,7 @@ use machine::{Machine, ThreadId};
 use outcome_list::OutcomeList;
 use schedule::Chooser;
 use std::alloc::{AllocError, Global};
-use trace::Trace;
+use trace::Recording;
 
 /// The turns of a run, in order.
 #[derive(Debug, Drop)]
@@ -45,36 +46,36 @@ fn put_choices(choices: &mut Vec<ThreadId>, on: TurnsOn) -> Result<(), AllocErro
     Ok(())
 }
 
-/// Makes the turns that a chooser gives, at most so many, and puts their items behind those of the trace. The chooser is
-/// asked before each turn, and no more once it has answered none. Without memory it stops behind some of the turns.
+/// Makes the turns that a chooser gives, at most so many, and puts their items behind those that are kept, if any are. The
+/// chooser is asked before each turn, and no more once it has answered none. Without memory it stops behind some of the turns.
 pub fn take_turns(
     alloc: Global,
     machine: &mut Machine<'_>,
     chooser: &mut Chooser,
     most: u64,
-    trace: &mut Trace,
+    recording: &mut Recording,
 ) -> Result<Turns, AllocError>
     ensures choices { IfOk result (λ r. r.choices ≡ choices_from most chooser.old machine.old) }
     ensures chooser { OnOk result (chooser.new ≡ chooser_behind most chooser.old machine.old) }
     // Outcomes, machine and items are those of the run of these choices by the instruction table.
     ensures outcomes { IfOk result (λ r. r.outcomes ≡ (run_of machine.old r.choices).outcomes) }
     ensures state { IfOk result (λ r. machine.new ≡ with_state machine.old (run_of machine.old r.choices).state) }
-    ensures items { IfOk result (λ r. trace.new ≡ trace.old ++ (run_of machine.old r.choices).items) }
+    ensures items { IfOk result (λ r. recording.new ≡ recorded recording.old (run_of machine.old r.choices).items) }
     // Without memory some of the turns were made, from the first one on.
-    ensures broken { OnErr result (BrokeOff machine.old (choices_from most chooser.old machine.old) machine.new trace.old trace.new) }
+    ensures broken { OnErr result (BrokeOff machine.old (choices_from most chooser.old machine.old) machine.new recording.old recording.new) }
 {
     let mut choices = Vec::new(alloc);
     let mut outcomes = OutcomeList::new(alloc);
     let mut made = 0;
     while made < most {
-        let on = take_turns_on(machine, chooser, most - made, trace);
+        let on = take_turns_on(machine, chooser, most - made, recording);
         put_choices(&mut choices, on)?;
         outcomes.push_ran(on.times as usize)?;
         made += on.times;
         if made == most {
             return Ok(turns_of(choices, outcomes));
         }
-        let Some((thread, outcome)) = take_turn(machine, chooser, trace)? else {
+        let Some((thread, outcome)) = take_turn(machine, chooser, recording)? else {
             return Ok(turns_of(choices, outcomes));
         };
         choices.push(thread)?;

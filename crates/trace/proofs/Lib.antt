@@ -1,2 +1,3 @@
 mod Writing
 mod Reading
+pub mod Recorded

@@ -1,5 +1,5 @@
 -- Reads one behind another.
-use Rattle.std.proofs.Common.{◌≡◌, ℕ, List, ◌++◌, Option, Some, None, sym, ◌∙◌, refl}
+use Rattle.std.proofs.Common.{ℕ, List, Option, Some, None, sym, ◌∙◌, refl}
 use Rattle.std.specs.Io.KnownBytes.{Consumes, Keeps}
 
 -- Nothing was read yet.

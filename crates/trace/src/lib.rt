@@ -4,6 +4,7 @@
 mod bytes;
 mod failures;
 mod list;
+mod recording;
 #[cfg(test)]
 mod tests;
 
@@ -12,3 +13,4 @@ pub use failures::Failures;
 pub use jvms_machine::trace::{Item, Variable};
 pub use jvms_program::key::{FieldKey, MethodKey};
 pub use list::Trace;
+pub use recording::Recording;

@@ -9,6 +9,7 @@ ghost use Rattle.jvms_machine.specs.Turn.{CanBeLocked, IsReady};
 ghost use Rattle.machine_parts.specs.Machine.{with_state, after};
 ghost use Rattle.machine_parts.specs.Ready.{HasCaller};
 ghost use Rattle.machine_thread.specs.Tops.{gives, noted, pushed};
+ghost use Rattle.trace.specs.Recording.{recorded};
 
 use frames::Frame;
 use jvms_machine::action::{Lock, MonitorUse};
@@ -16,9 +17,9 @@ use jvms_machine::machine::ThreadId;
 use jvms_machine::value::Value;
 use jvms_program::number::MethodNumber;
 use jvms_program::program::Body;
-use machine_parts::{Parts, lock_item, push_both, unlock_item};
+use machine_parts::Parts;
 use std::alloc::AllocError;
-use trace::Trace;
+use trace::Recording;
 
 /// The monitor that a call holds with its frame.
 #[inline(always)]
@@ -74,22 +75,22 @@ fn give_operands(parts: &mut Parts, t: ThreadId, takes: u16)
 /// What a call locks is entered, and its items, at most two, are put behind the others. Without memory nothing
 /// changes.
 #[inline(always)]
+#[tactic(auto, using(trace::proofs::Recorded::cut_recorded))]
 fn lock_marked(
     parts: &mut Parts,
     t: ThreadId,
     method: MethodNumber,
     lock: Lock,
-    trace: &mut Trace,
+    trace: &mut Recording,
 ) -> Result<(), AllocError>
     requires { CanBeLocked parts.old.state lock }
     ensures state { OnOk result (parts.new ≡ with_state parts.old (with_lock parts.old.program parts.old.state t lock)) }
-    ensures items { OnOk result (trace.new ≡ trace.old ++ (enter_items parts.old.program t method ++ lock_items t lock)) }
+    ensures items { OnOk result (trace.new ≡ recorded trace.old (enter_items parts.old.program t method ++ lock_items t lock)) }
     ensures kept { OnErr result (parts.new ≡ parts.old) }
     ensures no_items { OnErr result (trace.new ≡ trace.old) }
 {
-    let item = parts.enter_item(t, method)?;
     let before = trace.len();
-    push_both(trace, item, lock_item(t, lock))?;
+    parts.record_entry(t, method, lock, trace)?;
     if let Err(error) = parts.lock(t, lock) {
         trace.truncate(before);
         return Err(error);
@@ -137,11 +138,11 @@ pub fn enter<'p>(
     method: MethodNumber,
     code: &'p Body,
     lock: Lock,
-    trace: &mut Trace,
+    trace: &mut Recording,
 ) -> Result<(), AllocError>
     requires { IsReady parts.old.start parts.old.state t (action.Enters method code.now lock) }
     ensures state { OnOk result (parts.new ≡ after parts.old t (action.Enters method code.now lock)) }
-    ensures items { OnOk result (trace.new ≡ trace.old ++ items_of parts.old.program t (action.Enters method code.now lock)) }
+    ensures items { OnOk result (trace.new ≡ recorded trace.old (items_of parts.old.program t (action.Enters method code.now lock))) }
     ensures kept { OnErr result (parts.new ≡ parts.old) }
     ensures no_items { OnErr result (trace.new ≡ trace.old) }
 {
@@ -182,11 +183,11 @@ pub fn call<'p>(
     code: &'p Body,
     takes: u16,
     lock: Lock,
-    trace: &mut Trace,
+    trace: &mut Recording,
 ) -> Result<(), AllocError>
     requires { IsReady parts.old.start parts.old.state t (action.Calls method code.now takes lock) }
     ensures state { OnOk result (parts.new ≡ after parts.old t (action.Calls method code.now takes lock)) }
-    ensures items { OnOk result (trace.new ≡ trace.old ++ items_of parts.old.program t (action.Calls method code.now takes lock)) }
+    ensures items { OnOk result (trace.new ≡ recorded trace.old (items_of parts.old.program t (action.Calls method code.now takes lock))) }
     ensures kept { OnErr result (parts.new ≡ parts.old) }
     ensures no_items { OnErr result (trace.new ≡ trace.old) }
 {
@@ -209,18 +210,17 @@ pub fn return_below(
     method: MethodNumber,
     value: Option<Value>,
     unlock: Option<MonitorUse>,
-    trace: &mut Trace,
+    trace: &mut Recording,
 ) -> Result<(), AllocError>
     requires ready { IsReady parts.old.start parts.old.state t (action.Returns method value unlock) }
     requires caller { HasCaller parts.old.state t (action.Returns method value unlock) }
     ensures state { OnOk result (parts.new ≡ after parts.old t (action.Returns method value unlock)) }
-    ensures items { OnOk result (trace.new ≡ trace.old ++ items_of parts.old.program t (action.Returns method value unlock)) }
+    ensures items { OnOk result (trace.new ≡ recorded trace.old (items_of parts.old.program t (action.Returns method value unlock))) }
     ensures kept { OnErr result (parts.new ≡ parts.old) }
     ensures no_items { OnErr result (trace.new ≡ trace.old) }
     ensures none { items_of parts.old.program t (action.Returns method value unlock) ≡ [] → IsOk result }
 {
-    let item = parts.exit_item(t, method)?;
-    push_both(trace, unlock_item(t, unlock), item)?;
+    parts.record_exit(t, method, unlock, trace)?;
     parts.unlock(unlock);
     parts.threads[t as usize].return_below(value);
     Ok(())
@@ -243,16 +243,15 @@ pub fn end(
     method: MethodNumber,
     value: Option<Value>,
     unlock: Option<MonitorUse>,
-    trace: &mut Trace,
+    trace: &mut Recording,
 ) -> Result<(), AllocError>
     ensures state { OnOk result (parts.new ≡ after parts.old t (action.Ends method value unlock)) }
-    ensures items { OnOk result (trace.new ≡ trace.old ++ items_of parts.old.program t (action.Ends method value unlock)) }
+    ensures items { OnOk result (trace.new ≡ recorded trace.old (items_of parts.old.program t (action.Ends method value unlock))) }
     ensures kept { OnErr result (parts.new ≡ parts.old) }
     ensures no_items { OnErr result (trace.new ≡ trace.old) }
     ensures none { items_of parts.old.program t (action.Ends method value unlock) ≡ [] → IsOk result }
 {
-    let item = parts.exit_item(t, method)?;
-    push_both(trace, unlock_item(t, unlock), item)?;
+    parts.record_exit(t, method, unlock, trace)?;
     parts.unlock(unlock);
     if let Some(thread) = parts.threads.get_mut(t as usize) {
         thread.end();

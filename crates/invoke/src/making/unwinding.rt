@@ -1,6 +1,6 @@
 //! What a pending exception makes of a machine (JVMS 2.10), and the `<clinit>` of a class (JVMS 5.5).
 
-ghost use Rattle.std.specs.Prelude.{◌≡◌, ◌++◌, [], IsOk, IsTrue, OnOk, OnErr};
+ghost use Rattle.std.specs.Prelude.{◌≡◌, [], IsOk, IsTrue, OnOk, OnErr};
 ghost use Rattle.jvms_machine.specs.declared.action.Action.TheVariants as action;
 ghost use Rattle.jvms_machine.specs.Actions.{initialising, items_of};
 ghost use Rattle.jvms_machine.specs.Turn.{IsReady};
@@ -8,6 +8,7 @@ ghost use Rattle.machine_parts.specs.Decided.{is_held};
 ghost use Rattle.machine_parts.specs.Machine.{after};
 ghost use Rattle.machine_parts.specs.Marks.{listed};
 ghost use Rattle.machine_parts.specs.Ready.{HasReference};
+ghost use Rattle.trace.specs.Recording.{recorded};
 
 use crate::making::initialisation::mark;
 use frames::Frame;
@@ -17,20 +18,20 @@ use jvms_machine::state::Initialisation;
 use jvms_machine::trace::Item;
 use jvms_program::number::MethodNumber;
 use jvms_program::program::Body;
-use machine_parts::{Parts, push_both, push_listed, unlock_item};
+use machine_parts::{Parts, push_listed};
 use machine_thread::Thread;
 use std::alloc::AllocError;
-use trace::Trace;
+use trace::Recording;
 
 /// Makes the call of a `<clinit>`, with its mark.
 fn call_initializer<'p>(
     thread: &mut Thread<'p>,
     frame: Frame<'p>,
     item: Option<Item>,
-    trace: &mut Trace,
+    trace: &mut Recording,
 ) -> Result<(), AllocError>
     ensures state { OnOk result (thread.new ≡ initialising frame.entry thread.old) }
-    ensures items { OnOk result (trace.new ≡ trace.old ++ listed item) }
+    ensures items { OnOk result (trace.new ≡ recorded trace.old (listed item)) }
     ensures kept { OnErr result (thread.new ≡ thread.old) }
     ensures no_items { OnErr result (trace.new ≡ trace.old) }
 {
@@ -50,11 +51,11 @@ pub fn initialise<'p>(
     t: ThreadId,
     method: MethodNumber,
     code: &'p Body,
-    trace: &mut Trace,
+    trace: &mut Recording,
 ) -> Result<(), AllocError>
     requires { IsReady parts.old.start parts.old.state t (action.Initialises method code.now) }
     ensures state { OnOk result (parts.new ≡ after parts.old t (action.Initialises method code.now)) }
-    ensures items { OnOk result (trace.new ≡ trace.old ++ items_of parts.old.program t (action.Initialises method code.now)) }
+    ensures items { OnOk result (trace.new ≡ recorded trace.old (items_of parts.old.program t (action.Initialises method code.now))) }
     ensures kept { OnErr result (parts.new ≡ parts.old) }
     ensures no_items { OnErr result (trace.new ≡ trace.old) }
 {
@@ -94,16 +95,15 @@ pub fn unwind(
     method: MethodNumber,
     last: bool,
     unlock: Option<MonitorUse>,
-    trace: &mut Trace,
+    trace: &mut Recording,
 ) -> Result<(), AllocError>
     ensures state { OnOk result (parts.new ≡ after parts.old t (action.Unwinds method last unlock)) }
-    ensures items { OnOk result (trace.new ≡ trace.old ++ items_of parts.old.program t (action.Unwinds method last unlock)) }
+    ensures items { OnOk result (trace.new ≡ recorded trace.old (items_of parts.old.program t (action.Unwinds method last unlock))) }
     ensures kept { OnErr result (parts.new ≡ parts.old) }
     ensures no_items { OnErr result (trace.new ≡ trace.old) }
     ensures none { items_of parts.old.program t (action.Unwinds method last unlock) ≡ [] → IsOk result }
 {
-    let item = parts.exit_item(t, method)?;
-    push_both(trace, unlock_item(t, unlock), item)?;
+    parts.record_exit(t, method, unlock, trace)?;
     parts.unlock(unlock);
     if let Some(thread) = parts.threads.get_mut(t as usize) {
         thread.unwind(last);
@@ -112,18 +112,18 @@ pub fn unwind(
 }
 
 /// The call on top, of this method, is popped, and this exception is pending: its thread doesn't own the monitor.
-#[tactic(auto, unfolding(jvms_machine::specs::Actions::applied_to, jvms_machine::specs::Actions::items_of))]
+#[tactic(auto, using(trace::proofs::Recorded::cut_recorded), unfolding(jvms_machine::specs::Actions::applied_to, jvms_machine::specs::Actions::items_of))]
 pub fn fail_to_unlock(
     parts: &mut Parts,
     t: ThreadId,
     method: MethodNumber,
     exception: Exception,
     last: bool,
-    trace: &mut Trace,
+    trace: &mut Recording,
 ) -> Result<(), AllocError>
     requires { HasReference parts.old.state }
     ensures state { OnOk result (parts.new ≡ after parts.old t (action.FailsToUnlock method exception last)) }
-    ensures items { OnOk result (trace.new ≡ trace.old ++ items_of parts.old.program t (action.FailsToUnlock method exception last)) }
+    ensures items { OnOk result (trace.new ≡ recorded trace.old (items_of parts.old.program t (action.FailsToUnlock method exception last))) }
     ensures kept { OnErr result (parts.new ≡ parts.old) }
     ensures no_items { OnErr result (trace.new ≡ trace.old) }
     ensures none { IsTrue (is_held exception) → items_of parts.old.program t (action.FailsToUnlock method exception last) ≡ [] → IsOk result }

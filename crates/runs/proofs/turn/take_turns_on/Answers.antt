@@ -4,7 +4,7 @@ use Rattle.runs.proofs.TurnsOn.{none_on, fewer_on}
 use Rattle.runs.proofs.turn.take_turns_on.Goals as goal
 
 pub returns-in_default-clause-taken : goal.returns-in_default-clause-taken
-returns-in_default-clause-taken c = none_on c.args.machine.now c.args.chooser.now c.args.trace.now 0
+returns-in_default-clause-taken c = none_on c.args.machine.now c.args.chooser.now c.args.recording.now 0
 
 pub returns-clause-taken : goal.returns-clause-taken
 returns-clause-taken c =

@@ -1,26 +1,20 @@
 -- Turns on end and then one more are the first of those that are left; at the end none is.
-use Rattle.std.proofs.Common.{rules, arith, ◌≡◌, ◌≢◌, ◌+◌, ◌-◌, ◌<◌, ◌≤◌, ℕ, None, ◌∙◌}
+use Rattle.std.proofs.Common.{rules, ◌≡◌, ◌+◌, ◌<◌, ◌≤◌, None, ◌∙◌}
 use Rattle.std.proofs.lemmas.Result.{err_from_is_err_and}
 use Rattle.runs.specs.Choices.{choice_of, chooser_after, IsTurnOf}
 use Rattle.runs.proofs.ChosenTurns.{all_given, all_made, behind_all_given, behind_all_made, broken_here, taken_next, taken_none, told}
-use Rattle.runs.proofs.TurnsOn.{noted_on, taken_on}
+use Rattle.runs.proofs.TurnsOn.{as_many, fewer, noted_on, taken_on}
 use Rattle.runs.proofs.turns.take_turns.Goals as goal
-
-fewer : (made times most : ℕ) → made < most → times ≤ most - made → made + times ≢ most → made + times < most
-fewer made times most left few not_all = omega (arith, left, few, not_all)
-
-as_many : (made most : ℕ) → made ≡ most → most ≤ made
-as_many made most all = omega (arith, all)
 
 pub loop-made-init : goal.loop-made-init
 loop-made-init c =
-    taken_none c.args.machine.now c.args.chooser.now c.args.most c.args.trace.now _ _ c.new-choices.ensures.items c.new-outcomes.ensures
+    taken_none c.args.machine.now c.args.chooser.now c.args.most c.args.recording.now _ _ c.new-choices.ensures.items c.new-outcomes.ensures
 
 pub loop-made-preserved : goal.loop-made-preserved
 loop-made-preserved c =
     let now = noted_on _ _ _ _ _ _ _ _ _ _ _ _ _ _ _ _ _ c.loop-made.invariant c.take_turns_on-on.ensures.most c.take_turns_on-on.ensures.taken c.in_ok-put_choices.ensures c.in_ok-push_ran.ensures.ok in
     let below : c.loop-made.made + c.take_turns_on-on.result.times < c.args.most = fewer _ _ _ c.loop-made-test.true c.take_turns_on-on.ensures.most c.if-made-most.false in
-    let is : IsTurnOf c.take_turns_on-on.new.machine c.take_turns_on-on.new.chooser c.take_turns_on-on.new.trace (c.in-Some.thread, c.in-Some.outcome) c.take_turn.new.machine c.take_turn.new.chooser c.take_turn.new.trace = search rules in
+    let is : IsTurnOf c.take_turns_on-on.new.machine c.take_turns_on-on.new.chooser c.take_turns_on-on.new.recording (c.in-Some.thread, c.in-Some.outcome) c.take_turn.new.machine c.take_turn.new.chooser c.take_turn.new.recording = search rules in
     rw (c.in_ok-push.ensures.items, c.in_ok-push-2.ensures.ok)
     (taken_next _ _ _ _ _ _ _ _ _ _ _ _ _ _ now below is)
 
@@ -106,14 +100,14 @@ pub returns-in_default-clause-items : goal.returns-in_default-clause-items
 returns-in_default-clause-items c =
     let now = noted_on _ _ _ _ _ _ _ _ _ _ _ _ _ _ _ _ _ c.loop-made.invariant c.take_turns_on-on.ensures.most c.take_turns_on-on.ensures.taken c.in_ok-put_choices.ensures c.in_ok-push_ran.ensures.ok in
     let ran = told _ _ _ _ _ _ _ _ _ _ _ _ now c.turns_of-in_default.ensures.choices c.turns_of-in_default.ensures.outcomes in
-    let same : c.take_turn.new.trace ≡ c.take_turns_on-on.new.trace = search rules in
+    let same : c.take_turn.new.recording ≡ c.take_turns_on-on.new.recording = search rules in
     same ∙ ran.2
 
 pub returns-in_err-push-clause-broken : goal.returns-in_err-push-clause-broken
 returns-in_err-push-clause-broken c =
     let now = noted_on _ _ _ _ _ _ _ _ _ _ _ _ _ _ _ _ _ c.loop-made.invariant c.take_turns_on-on.ensures.most c.take_turns_on-on.ensures.taken c.in_ok-put_choices.ensures c.in_ok-push_ran.ensures.ok in
     let below : c.loop-made.made + c.take_turns_on-on.result.times < c.args.most = fewer _ _ _ c.loop-made-test.true c.take_turns_on-on.ensures.most c.if-made-most.false in
-    let is : IsTurnOf c.take_turns_on-on.new.machine c.take_turns_on-on.new.chooser c.take_turns_on-on.new.trace (c.in-Some.thread, c.in-Some.outcome) c.take_turn.new.machine c.take_turn.new.chooser c.take_turn.new.trace = search rules in
+    let is : IsTurnOf c.take_turns_on-on.new.machine c.take_turns_on-on.new.chooser c.take_turns_on-on.new.recording (c.in-Some.thread, c.in-Some.outcome) c.take_turn.new.machine c.take_turn.new.chooser c.take_turn.new.recording = search rules in
     let failed = err_from_is_err_and c.from_residual-in_err-push.result c.from_residual-in_err-push.ensures.1 in
     rw failed.1
     (broken_here _ _ _ _ _ _ _ _ _ _
@@ -123,7 +117,7 @@ pub returns-in_err-push-2-clause-broken : goal.returns-in_err-push-2-clause-brok
 returns-in_err-push-2-clause-broken c =
     let now = noted_on _ _ _ _ _ _ _ _ _ _ _ _ _ _ _ _ _ c.loop-made.invariant c.take_turns_on-on.ensures.most c.take_turns_on-on.ensures.taken c.in_ok-put_choices.ensures c.in_ok-push_ran.ensures.ok in
     let below : c.loop-made.made + c.take_turns_on-on.result.times < c.args.most = fewer _ _ _ c.loop-made-test.true c.take_turns_on-on.ensures.most c.if-made-most.false in
-    let is : IsTurnOf c.take_turns_on-on.new.machine c.take_turns_on-on.new.chooser c.take_turns_on-on.new.trace (c.in-Some.thread, c.in-Some.outcome) c.take_turn.new.machine c.take_turn.new.chooser c.take_turn.new.trace = search rules in
+    let is : IsTurnOf c.take_turns_on-on.new.machine c.take_turns_on-on.new.chooser c.take_turns_on-on.new.recording (c.in-Some.thread, c.in-Some.outcome) c.take_turn.new.machine c.take_turn.new.chooser c.take_turn.new.recording = search rules in
     let failed = err_from_is_err_and c.from_residual-in_err-push-2.result c.from_residual-in_err-push-2.ensures.1 in
     rw failed.1
     (broken_here _ _ _ _ _ _ _ _ _ _

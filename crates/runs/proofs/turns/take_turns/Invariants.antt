@@ -4,7 +4,7 @@ use Rattle.runs.proofs.ChosenTurns.{AreTaken}
 use Rattle.runs.proofs.turns.take_turns.Given as goal
 
 abbrev pub invariant-loop-made : goal.invariant-loop-made
-invariant-loop-made l = AreTaken l.fn.machine l.fn.chooser l.fn.most l.fn.trace l.made l.choices.items l.outcomes l.machine l.chooser l.trace
+invariant-loop-made l = AreTaken l.fn.machine l.fn.chooser l.fn.most l.fn.recording l.made l.choices.items l.outcomes l.machine l.chooser l.recording
 
 abbrev pub decreases-loop-made : goal.decreases-loop-made
 decreases-loop-made l = l.most - l.made

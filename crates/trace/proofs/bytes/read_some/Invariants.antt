@@ -1,4 +1,3 @@
-use Rattle.std.proofs.Common.{List, Option}
 use Rattle.std.specs.Io.KnownBytes.{Keeps}
 use Rattle.trace.proofs.bytes.read_some.Given as goal
 

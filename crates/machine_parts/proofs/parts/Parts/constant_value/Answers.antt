@@ -1,4 +1,4 @@
-use Rattle.std.proofs.Common.{◌≡◌, ap, sym, ◌∙◌}
+use Rattle.std.proofs.Common.{ap, sym, ◌∙◌}
 use Rattle.jvms_machine.specs.State.{text_reference}
 use Rattle.jvms_machine.specs.Actions.{constant_value}
 use Rattle.machine_parts.specs.Constants.{text_value}

@@ -1,4 +1,4 @@
-use Rattle.std.proofs.Common.{rules, ◌≡◌}
+use Rattle.std.proofs.Common.{rules}
 use Rattle.machine_parts.proofs.ConstantTexts.{texts_behind}
 use Rattle.machine_parts.proofs.parts.Parts.texts_of.Goals as goal
 

@@ -1,11 +1,11 @@
 use Rattle.std.proofs.Common.{◌≡◌, take, length}
 use Rattle.machine.specs.Runs.{IsRun}
-use Rattle.machine.proofs.machine.Machine.run.Given as goal
+use Rattle.machine.proofs.machine.Machine.run_recorded.Given as goal
 
 -- The choices so far were made, and each has its outcome.
 abbrev pub invariant-loop-choice : goal.invariant-loop-choice
 invariant-loop-choice l =
     record {
-      ran : IsRun l.fn.self (take l.choice-index l.fn.choices) l.outcomes.items l.self l.fn.trace l.trace;
+      ran : IsRun l.fn.self (take l.choice-index l.fn.choices) l.outcomes.items l.self l.fn.recording l.recording;
       many : length l.outcomes.items ≡ l.choice-index;
     }

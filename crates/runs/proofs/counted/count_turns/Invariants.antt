@@ -1,0 +1,10 @@
+-- The turns that were made are the first of those that the chooser gives.
+use Rattle.std.proofs.Common.{◌-◌}
+use Rattle.runs.proofs.CountedTurns.{AreCounted}
+use Rattle.runs.proofs.counted.count_turns.Given as goal
+
+abbrev pub invariant-loop-made : goal.invariant-loop-made
+invariant-loop-made l = AreCounted l.fn.machine l.fn.chooser l.fn.most l.fn.recording l.made l.machine l.chooser l.recording
+
+abbrev pub decreases-loop-made : goal.decreases-loop-made
+decreases-loop-made l = l.most - l.made

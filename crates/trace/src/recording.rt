@@ -1,0 +1,90 @@
+//! What becomes of the items of turns.
+
+ghost use Rattle.std.specs.Prelude.{◌≡◌, ◌∷◌, [], false, None, Some, IsSome, IsTrue, OnOk, OnErr};
+ghost use Rattle.trace.specs.Recording.{recorded, count_of, cut};
+
+use crate::list::Trace;
+use jvms_machine::trace::Item;
+use std::alloc::AllocError;
+use std::marker::Model;
+
+/// What becomes of the items of turns: they are put behind those of a trace, or nobody asks for them. Contracts see the
+/// list of those that are kept, if they are.
+#[derive(Debug, Drop)]
+pub struct Recording {
+    trace: Option<Trace>,
+}
+
+impl Model for Recording {
+    ghost use Rattle.std.specs.Prelude.{List, Option};
+    ghost use Rattle.jvms_machine.specs.declared.trace.Item.{Item};
+
+    ghost Value = { Option (List Item) };
+
+    ghost view = { λ r. r.trace };
+}
+
+impl Recording {
+    /// Items are put behind those of a trace.
+    pub fn of(trace: Trace) -> Self
+        ensures { result ≡ Some trace }
+    {
+        Recording { trace: Some(trace) }
+    }
+
+    /// Nobody asks for items.
+    pub fn of_nothing() -> Self
+        ensures { result ≡ None }
+    {
+        Recording { trace: None }
+    }
+
+    /// Whether items are kept.
+    #[inline(always)]
+    pub fn keeps(&self) -> bool
+        ensures some { IsTrue result → IsSome self.now }
+        ensures none { result ≡ false → self.now ≡ None }
+    {
+        self.trace.is_some()
+    }
+
+    /// Puts an item behind the others. Without memory for it nothing changes.
+    #[inline(always)]
+    pub fn push(&mut self, item: Item) -> Result<(), AllocError>
+        ensures ok { OnOk result (self.new ≡ recorded self.old (item ∷ [])) }
+        ensures err { OnErr result (self.new ≡ self.old) }
+    {
+        match &mut self.trace {
+            None => Ok(()),
+            Some(trace) => trace.push(item),
+        }
+    }
+
+    /// Takes away the items behind so many.
+    #[inline(always)]
+    pub fn truncate(&mut self, count: usize)
+        ensures { self.new ≡ cut count self.old }
+    {
+        if let Some(trace) = &mut self.trace {
+            trace.truncate(count);
+        }
+    }
+
+    /// How many items are kept.
+    #[inline(always)]
+    pub fn len(&self) -> usize
+        ensures { result ≡ count_of self.now }
+    {
+        match &self.trace {
+            None => 0,
+            Some(trace) => trace.len(),
+        }
+    }
+
+    /// The trace of the items that were kept, if they were.
+    pub fn into_trace(self) -> Option<Trace>
+        ensures { result ≡ self }
+    {
+        self.trace
+    }
+}
