@@ -24,14 +24,23 @@ fn push_value(value: Value, frame: &Frame) -> FrameDecision
     }
 }
 
+/// An int is put on top.
 #[inline(always)]
+pub(crate) fn push_int(n: i32, frame: &Frame) -> FrameDecision
+    ensures decision { result ≡ pushed frame.now.body frame.now.activation (Value.Int n) }
+    ensures room { IfDoes result (HasRoom frame.now.body frame.now.activation) }
+{
+    push_value(Value::Int(n), frame)
+}
+
+#[inline(never)]
 pub(crate) fn push(what: insn::Push, frame: &Frame) -> FrameDecision
     ensures decision { result ≡ push_decision frame.now.body what frame.now.activation }
     ensures room { IfDoes result (HasRoom frame.now.body frame.now.activation) }
 {
     match what {
         insn::Push::Null => push_value(Value::Null, frame),
-        insn::Push::Int(n) => push_value(Value::Int(i32::from(n)), frame),
+        insn::Push::Int(n) => push_int(i32::from(n), frame),
         insn::Push::Long(_) | insn::Push::Float(_) | insn::Push::Double(_) => {
             FrameDecision::Stops(BadCause::OutOfProfile)
         }
@@ -39,25 +48,16 @@ pub(crate) fn push(what: insn::Push, frame: &Frame) -> FrameDecision
 }
 
 /// A constant of the pool is put on top, where its frame tells it.
-#[inline(always)]
-pub(crate) fn loaded(what: &Loadable, frame: &Frame) -> FrameDecision
-    ensures decision { result ≡ constant_decision frame.now.body what.now frame.now.activation }
-    ensures room { IfDoes result (HasRoom frame.now.body frame.now.activation) }
-{
-    match what {
-        Loadable::Integer(n) => push_value(Value::Int(*n), frame),
-        Loadable::Float(_) | Loadable::Long(_) | Loadable::Double(_) => {
-            FrameDecision::Stops(BadCause::OutOfProfile)
-        }
-        Loadable::String(_) | Loadable::Class(_) => FrameDecision::Beyond,
-    }
-}
-
-/// The same, out of the way.
 #[inline(never)]
 pub(crate) fn constant(what: &Loadable, frame: &Frame) -> FrameDecision
     ensures decision { result ≡ constant_decision frame.now.body what.now frame.now.activation }
     ensures room { IfDoes result (HasRoom frame.now.body frame.now.activation) }
 {
-    loaded(what, frame)
+    match what {
+        Loadable::Integer(n) => push_int(*n, frame),
+        Loadable::Float(_) | Loadable::Long(_) | Loadable::Double(_) => {
+            FrameDecision::Stops(BadCause::OutOfProfile)
+        }
+        Loadable::String(_) | Loadable::Class(_) => FrameDecision::Beyond,
+    }
 }

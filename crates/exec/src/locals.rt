@@ -40,7 +40,7 @@ fn is_stored(value: Value) -> bool
 
 /// JVMS 6.5 iload.
 #[inline(always)]
-fn load_int(n: u16, frame: &Frame) -> FrameDecision
+pub(crate) fn load_int(n: u16, frame: &Frame) -> FrameDecision
     ensures decision { result ≡ load_decision frame.now.body kinds.Int n frame.now.activation }
     ensures room { IfDoes result (HasRoom frame.now.body frame.now.activation) }
 {
@@ -58,7 +58,7 @@ fn load_int(n: u16, frame: &Frame) -> FrameDecision
 
 /// JVMS 6.5 aload.
 #[inline(always)]
-fn load_reference(n: u16, frame: &Frame) -> FrameDecision
+pub(crate) fn load_reference(n: u16, frame: &Frame) -> FrameDecision
     ensures decision { result ≡ load_decision frame.now.body kinds.Reference n frame.now.activation }
     ensures room { IfDoes result (HasRoom frame.now.body frame.now.activation) }
 {
@@ -76,8 +76,7 @@ fn load_reference(n: u16, frame: &Frame) -> FrameDecision
     }
 }
 
-#[inline(always)]
-pub(crate) fn load(kind: Kind, n: u16, frame: &Frame) -> FrameDecision
+fn load(kind: Kind, n: u16, frame: &Frame) -> FrameDecision
     ensures decision { result ≡ load_decision frame.now.body kind n frame.now.activation }
     ensures room { IfDoes result (HasRoom frame.now.body frame.now.activation) }
 {
@@ -102,7 +101,7 @@ fn stores_in(local: u16, value: Value) -> FrameDecision
 
 /// JVMS 6.5 istore.
 #[inline(always)]
-fn store_int(n: u16, frame: &Frame) -> FrameDecision
+pub(crate) fn store_int(n: u16, frame: &Frame) -> FrameDecision
     ensures decision { result ≡ store_decision frame.now.body kinds.Int n frame.now.activation }
     ensures room { IfDoes result (HasRoom frame.now.body frame.now.activation) }
 {
@@ -120,7 +119,7 @@ fn store_int(n: u16, frame: &Frame) -> FrameDecision
 
 /// JVMS 6.5 astore.
 #[inline(always)]
-fn store_reference(n: u16, frame: &Frame) -> FrameDecision
+pub(crate) fn store_reference(n: u16, frame: &Frame) -> FrameDecision
     ensures decision { result ≡ store_decision frame.now.body kinds.Reference n frame.now.activation }
     ensures room { IfDoes result (HasRoom frame.now.body frame.now.activation) }
 {
@@ -138,8 +137,7 @@ fn store_reference(n: u16, frame: &Frame) -> FrameDecision
     }
 }
 
-#[inline(always)]
-pub(crate) fn store(kind: Kind, n: u16, frame: &Frame) -> FrameDecision
+fn store(kind: Kind, n: u16, frame: &Frame) -> FrameDecision
     ensures decision { result ≡ store_decision frame.now.body kind n frame.now.activation }
     ensures room { IfDoes result (HasRoom frame.now.body frame.now.activation) }
 {

@@ -13,7 +13,6 @@ use jvms_machine::action::{FrameAction, FrameDecision};
 use jvms_machine::machine::BadCause;
 use jvms_machine::value::Value;
 
-#[inline(always)]
 #[inline]
 fn takes(form: StackForm) -> u8
     ensures value { result ≡ form_takes form }
@@ -28,7 +27,6 @@ fn takes(form: StackForm) -> u8
     }
 }
 
-#[inline(always)]
 #[inline]
 fn gives(form: StackForm) -> u8
     ensures { result ≡ form_gives form }
@@ -43,7 +41,7 @@ fn gives(form: StackForm) -> u8
     }
 }
 
-#[inline]
+#[inline(always)]
 fn is_set(value: Value) -> bool
     ensures { result ≡ set_value value }
 {
@@ -79,8 +77,8 @@ fn are_set(frame: &Frame, count: u8) -> bool
 }
 
 /// Operands are moved as the form does. In this order: the depth; that each is set.
-#[inline(always)]
-pub(crate) fn moved(form: StackForm, frame: &Frame) -> FrameDecision
+#[inline(never)]
+pub(crate) fn stack(form: StackForm, frame: &Frame) -> FrameDecision
     ensures decision { result ≡ stack_decision frame.now.body form frame.now.activation }
     ensures room { IfDoes result (HasRoom frame.now.body frame.now.activation) }
 {
@@ -93,17 +91,25 @@ pub(crate) fn moved(form: StackForm, frame: &Frame) -> FrameDecision
     FrameDecision::Does(FrameAction::Rearrange(form))
 }
 
-/// The same, out of the way.
-#[inline(never)]
-pub(crate) fn stack(form: StackForm, frame: &Frame) -> FrameDecision
-    ensures decision { result ≡ stack_decision frame.now.body form frame.now.activation }
+/// JVMS 6.5 dup.
+#[inline(always)]
+pub(crate) fn duplicates(frame: &Frame) -> FrameDecision
+    ensures decision { result ≡ stack_decision frame.now.body form.Dup frame.now.activation }
     ensures room { IfDoes result (HasRoom frame.now.body frame.now.activation) }
 {
-    moved(form, frame)
+    if !has_depth(frame, 1, 2) {
+        return FrameDecision::Stops(BadCause::Depth);
+    }
+    if is_set(frame.top()) {
+        FrameDecision::Does(FrameAction::Rearrange(StackForm::Dup))
+    } else {
+        FrameDecision::Stops(BadCause::Kind)
+    }
 }
 
-/// Leaves the operands as the form does.
-#[inline]
+/// Leaves the operands as the form does. It isn't inlined, so that what makes the frequent instructions is short enough
+/// to be.
+#[inline(never)]
 pub(crate) fn rearrange(form: StackForm, frame: &mut Frame)
     requires there { form_takes form ≤ length frame.old.activation.operands }
     requires room { length frame.old.activation.operands - form_takes form + form_gives form ≤ frame.old.body.max_stack }

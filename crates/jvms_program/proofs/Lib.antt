@@ -1,1 +1,2 @@
+pub mod FrequentLaws
 pub mod ProgramLaws

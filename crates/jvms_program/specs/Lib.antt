@@ -1,4 +1,5 @@
 pub mod BuiltIn
+pub mod Frequent
 pub mod Meaning
 pub mod Program
 pub mod Resolution

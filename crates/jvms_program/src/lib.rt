@@ -2,6 +2,8 @@
 //! classes, and how names are resolved.
 #![tactic(auto)]
 
+pub mod frequent;
+pub mod instructions;
 pub mod key;
 pub mod laws;
 pub mod number;

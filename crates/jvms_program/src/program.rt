@@ -1,5 +1,6 @@
 //! A program: classes with their members by name, and their methods as lists of instructions.
 
+use crate::instructions::Instructions;
 use held::boxed::Boxed;
 use held::items::Items;
 use held::shared::{Shared, Text};
@@ -74,7 +75,7 @@ pub struct ExceptionHandler {
 pub struct Body {
     pub max_stack: u16,
     pub max_locals: u16,
-    pub instructions: Items<Instruction>,
+    pub instructions: Instructions,
     pub handlers: Items<ExceptionHandler>,
 }
 

@@ -7,8 +7,8 @@ use crate::loadable::loadable_of;
 use crate::reference::{field_reference_of, method_reference_of};
 use crate::texts::{Texts, copied};
 use held::boxed::Boxed;
-use held::items::Items;
 use jvms_file::insn::{Insn, LookupSwitch, TableSwitch};
+use jvms_program::instructions::Instructions;
 use jvms_program::program::Instruction;
 use std::alloc::{AllocError, Global};
 
@@ -72,12 +72,12 @@ pub(crate) fn instructions_of(
     alloc: Global,
     texts: &Texts,
     insns: &[Insn],
-) -> Result<Items<Instruction>, AllocError>
+) -> Result<Instructions, AllocError>
     ensures { IfOk result (λ is. is ≡ map (instruction_of texts.now) insns.now) }
 {
     let mut instructions = Vec::with_capacity(alloc, insns.len())?;
     for insn in insns {
         instructions.push(instruction_of(alloc, texts, insn)?)?;
     }
-    Ok(Items::from_vec(instructions))
+    Instructions::from_vec(alloc, instructions)
 }

@@ -7,6 +7,7 @@ use crate::text::text;
 use descriptor::{field_type, method_type};
 use held::items::Items;
 use held::shared::Shared;
+use jvms_program::instructions::Instructions;
 use jvms_program::program::{Body, Field, Instruction, Method, MethodFlags};
 use std::alloc::{AllocError, Global};
 
@@ -58,7 +59,7 @@ pub(crate) fn coded(
     let body = Body {
         max_stack: 2,
         max_locals: 2,
-        instructions: Items::from_vec(code),
+        instructions: Instructions::from_vec(alloc, code)?,
         handlers: Items::new(alloc),
     };
     method(alloc, name, descriptor, no_flags(), Some(body))
