@@ -1,2 +1,1 @@
 mod Beyond
-pub mod OnLaws

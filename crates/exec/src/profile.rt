@@ -115,7 +115,7 @@ fn is_outside_component(component: ArrayType) -> bool
 
 /// Whether it is a load, a store or newarray of float, double or long.
 #[inline(always)]
-pub(crate) fn is_outside_array(what: ArrayInsn) -> bool
+pub fn is_outside_array(what: ArrayInsn) -> bool
     ensures { result ≡ outside_array what }
 {
     match what {

@@ -2,4 +2,3 @@ mod Asked
 pub mod CountLaws
 mod EffectLaws
 mod FieldPlaces
-mod Told

@@ -10,7 +10,6 @@ mod new_objects;
 mod objects;
 
 pub use arrays::array_decision;
-pub use arrays::elements::{length_told, load_told, store_told};
 pub use arrays::many::new_arrays_decision;
 pub use effects::reach;
 pub use fields::field_decision;

@@ -2,10 +2,10 @@
 
 ghost use Rattle.std.specs.Prelude.{◌≡◌, ◌+◌, ◌<◌, ◌^◌};
 ghost use Rattle.std.specs.Option.{option_and_then};
-ghost use Rattle.jvms_machine.specs.Arrays.{if_deep, array_length_decision as measures, fits_component as fits_into, load_operands, store_operands};
-ghost use Rattle.jvms_machine.specs.State.{Thread as SeenThread, object_at};
+ghost use Rattle.jvms_machine.specs.Arrays.{if_deep, fits_component as fits_into, load_operands, store_operands};
+ghost use Rattle.jvms_machine.specs.State.{object_at};
 ghost use Rattle.exec_ref.specs.Asked.{element_by, loads_from, stores_to};
-ghost use Rattle.machine_parts.specs.Decided.{seen, IsReached};
+ghost use Rattle.machine_parts.specs.Decided.{seen};
 
 use super::components::{
     component_class, component_type, is_reference_kind, kind_of_elements, serves,
@@ -18,7 +18,7 @@ use jvms_machine::machine::BadCause;
 use jvms_machine::value::Value;
 use jvms_program::thrown::Thrown;
 use machine_parts::{
-    Decided, Parts, Reached, bad, has_depth, never_seen, reaches, stored_in_component, taking,
+    Decided, Parts, bad, has_depth, never_seen, reaches, stored_in_component, taking,
 };
 use machine_thread::Thread;
 
@@ -163,84 +163,5 @@ pub(crate) fn store_decision<'p>(
         Value::Reference(reference) => store_to(parts, thread, frame, kind, value, n, reference),
         Value::Null => parts.throws(thread, Thrown::NullPointerException),
         Value::Int(_) | Value::ReturnAddress(_) | Value::Unset => bad(BadCause::Kind),
-    }
-}
-
-/// What a load comes to where it runs, told at once; else nothing is told.
-#[inline(always)]
-#[tactic(auto, using(crate::proofs::Told::loads))]
-pub fn load_told<'p>(parts: &Parts<'p>, frame: &Frame, kind: ArrayKind) -> Option<Reached<'p>>
-    ensures { (thread : SeenThread) → IsReached result (if_deep frame.now 2 1 (load_operands parts.now.limits parts.now.state thread kind frame.now.activation.operands)) }
-{
-    if !has_depth(frame, 2, 1) {
-        return None;
-    }
-    let (Value::Reference(reference), Value::Int(n)) = frame.top_two() else {
-        return None;
-    };
-    if n < 0 {
-        return None;
-    }
-    let index = n.unsigned_abs();
-    match parts.heap.loaded(reference, kind, index as usize) {
-        None => None,
-        Some(value) => Some(Reached {
-            effect: Effect::LoadElement { reference, index },
-            action: FrameAction::Push { takes: 2, value },
-        }),
-    }
-}
-
-/// What a store of an int comes to where it runs, told at once; else nothing is told.
-#[inline(always)]
-#[tactic(auto, using(crate::proofs::Told::stores))]
-pub fn store_told<'p>(parts: &Parts<'p>, frame: &Frame, kind: ArrayKind) -> Option<Reached<'p>>
-    requires { frame.now.activation.place + 1 < 2 ^ 64 }
-    ensures { (thread : SeenThread) → IsReached result (if_deep frame.now 3 0 (store_operands parts.now.program parts.now.limits parts.now.state thread frame.now.activation kind frame.now.activation.operands)) }
-{
-    if is_reference_kind(kind) || !has_depth(frame, 3, 0) {
-        return None;
-    }
-    let (Value::Reference(reference), Value::Int(n), value) = frame.top_three() else {
-        return None;
-    };
-    if n < 0 || !is_loaded(kind_of_elements(kind), value) {
-        return None;
-    }
-    let index = n.unsigned_abs();
-    match parts.heap.stored(reference, kind, index as usize, value) {
-        None => None,
-        Some(value) => Some(Reached {
-            effect: Effect::StoreElement {
-                reference,
-                index,
-                value,
-            },
-            action: taking(3, frame),
-        }),
-    }
-}
-
-/// What arraylength comes to where it runs, told at once; else nothing is told.
-#[inline(always)]
-#[tactic(auto, using(crate::proofs::Told::measures))]
-pub fn length_told<'p>(parts: &Parts<'p>, frame: &Frame) -> Option<Reached<'p>>
-    ensures { (thread : SeenThread) → IsReached result (if_deep frame.now 1 1 (measures parts.now.limits parts.now.state thread frame.now.activation.operands)) }
-{
-    if !has_depth(frame, 1, 1) {
-        return None;
-    }
-    let Value::Reference(reference) = frame.top() else {
-        return None;
-    };
-    match parts.heap.array_length(reference) {
-        None => None,
-        Some(length) => Some(Reached {
-            effect: Effect::Nothing,
-            action: FrameAction::Push {
-                takes: 1,
-                value: Value::Int(length as i32),
-            },
-        }),
     }
 }

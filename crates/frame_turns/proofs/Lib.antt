@@ -1,0 +1,4 @@
+pub mod Rows
+pub mod Decided
+pub mod ElementTurns
+pub mod TurnsOn
