@@ -17,4 +17,4 @@ pub use actions::apply;
 pub use decisions::has_depth;
 pub use locals::is_loaded;
 pub use profile::{is_outside_array, is_outside_method};
-pub use turn::{decide, is_beyond, step};
+pub use turn::{decide, is_beyond, step, step_by_instruction};

@@ -166,6 +166,7 @@ impl<'p> Heap<'p> {
     }
 
     /// The value of the field of a slot, of an instance.
+    #[inline(always)]
     pub fn field(&self, reference: u32, slot: usize) -> Option<Value>
         ensures { result ≡ asked (value_in slot) self.now.objects reference }
     {

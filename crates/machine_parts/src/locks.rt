@@ -93,6 +93,7 @@ impl Parts<'_> {
     }
 
     /// What a call locks is entered. Without memory nothing changes.
+    #[inline(always)]
     pub fn lock(&mut self, t: ThreadId, lock: Lock) -> Result<(), AllocError>
         requires { CanBeLocked self.old.state lock }
         ensures ok { OnOk result (self.new ≡ with_state self.old (with_lock self.old.program self.old.state t lock)) }

@@ -13,3 +13,4 @@ pub mod LinkLaws
 pub mod InterfaceLaws
 pub mod SignatureLaws
 pub mod SelectLaws
+pub mod SpecialLaws

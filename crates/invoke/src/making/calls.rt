@@ -159,18 +159,20 @@ pub fn enter<'p>(
 /// The frame of a call that takes so many operands of the call on top.
 #[inline(always)]
 fn called_frame<'p>(
-    parts: &Parts<'p>,
+    parts: &mut Parts<'p>,
     t: ThreadId,
     method: MethodNumber,
     code: &'p Body,
     takes: u16,
     lock: Lock,
 ) -> Result<Frame<'p>, AllocError>
-    requires { IsReady parts.now.start parts.now.state t (action.Calls method code.now takes lock) }
-    ensures { IfOk result (λ frame. frame ≡ entered method code.now (reference_locked lock) (arguments_of takes (slice_get parts.now.state.threads t))) }
+    requires { IsReady parts.old.start parts.old.state t (action.Calls method code.now takes lock) }
+    ensures frame { IfOk result (λ frame. frame ≡ entered method code.now (reference_locked lock) (arguments_of takes (slice_get parts.old.state.threads t))) }
+    ensures kept { parts.new ≡ parts.old }
 {
-    let arguments = parts.threads[t as usize].arguments(usize::from(takes));
-    Frame::new(parts.alloc, method, code, locked_reference(lock), arguments)
+    let alloc = parts.alloc;
+    let monitor = locked_reference(lock);
+    parts.threads[t as usize].called_frame(alloc, method, code, monitor, usize::from(takes))
 }
 
 /// Calls a method, which has this code, with so many operands of the call on top.
