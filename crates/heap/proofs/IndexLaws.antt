@@ -1,5 +1,6 @@
 -- What is found among texts and references.
 use Rattle.std.proofs.Common.{◌≡◌, ℕ, Bool, true, false, cond, List, [], ◌∷◌, map, Option, Some, None, Vec, Global, refl, sym, ap, ◌∙◌}
+use Rattle.std.specs.List.{AllZip}
 use Rattle.std.specs.Map.{lookup}
 use Rattle.std.specs.Option.{option_or}
 use Rattle.std.specs.Ordering.{is_eq, match_ordering, nat_cmp}
@@ -98,3 +99,16 @@ put_first entries new units v none puts q = puts q ∙ by (same_text units q) re
     by : (b : Bool) → same_text units q ≡ b → cond b (Some v) (found entries q) ≡ option_or (found entries q) (cond b (Some v) None)
     by true same = ap (λ o. option_or o (Some v)) (none ∙ ap (found entries) (same_is units q same))
     by false same = or_none (found entries q)
+
+-- ---- The same once more
+
+-- Entries with the same texts and references are seen alike.
+pub copied : (IsCopy : Vec ℕ Global → Vec ℕ Global → Type 0) → ((v w : Vec ℕ Global) → IsCopy v w → w.items ≡ v.items) → (es fs : Entries) → AllZip (λ p q. IsCopy p.0 q.0 × (q.1 ≡ p.1)) es fs
+    → seen fs ≡ seen es
+copied IsCopy same [] [] are = refl
+copied IsCopy same [] (f ∷ fs) are = absurd are
+copied IsCopy same (e ∷ es) [] are = absurd are
+copied IsCopy same (e ∷ es) (f ∷ fs) are =
+    ap (λ l. (f.0.items, f.1) ∷ l) (copied IsCopy same es fs are.1)
+    ∙ ap (λ (i : List ℕ). (i, f.1) ∷ seen es) (same e.0 f.0 are.0.0)
+    ∙ ap (λ (n : ℕ). (e.0.items, n) ∷ seen es) are.0.1

@@ -1,5 +1,6 @@
 pub mod ArrayLaws
 pub mod ChainLaws
+pub mod CopyLaws
 pub mod DimensionLaws
 pub mod ElementLaws
 pub mod Ends

@@ -178,6 +178,26 @@ impl Elements {
         }
     }
 
+    /// The same elements once more.
+    pub(crate) fn copy(&self, alloc: Global) -> Result<Elements, AllocError>
+        ensures values { IfOk result (λ e. values_of e ≡ values_of self.now) }
+        ensures kind { IfOk result (λ e. kind_held e ≡ kind_held self.now) }
+    {
+        Ok(match self {
+            Elements::Ints(items) => Elements::Ints(Vec::from_slice(alloc, items.as_slice())?),
+            Elements::Bytes(items) => Elements::Bytes(Vec::from_slice(alloc, items.as_slice())?),
+            Elements::Booleans(items) => {
+                Elements::Booleans(Vec::from_slice(alloc, items.as_slice())?)
+            }
+            Elements::Chars(items) => Elements::Chars(Vec::from_slice(alloc, items.as_slice())?),
+            Elements::Shorts(items) => Elements::Shorts(Vec::from_slice(alloc, items.as_slice())?),
+            Elements::References(items) => {
+                Elements::References(Vec::from_slice(alloc, items.as_slice())?)
+            }
+            Elements::Nothing(count) => Elements::Nothing(*count),
+        })
+    }
+
     /// How many there are.
     #[inline(always)]
     pub(crate) fn len(&self) -> usize

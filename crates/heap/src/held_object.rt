@@ -1,6 +1,6 @@
 //! One object.
 
-ghost use Rattle.std.specs.Prelude.{◌≡◌, ◌<◌, ◌^◌, IfSome, List, slice_get};
+ghost use Rattle.std.specs.Prelude.{◌≡◌, ◌<◌, ◌^◌, IfOk, IfSome, List, slice_get};
 ghost use Rattle.std.specs.Option.{option_map};
 ghost use Rattle.jvms_program.specs.declared.program.Class.{Class};
 ghost use Rattle.jvms_machine.specs.State.{class_of};
@@ -13,6 +13,7 @@ use held::shared::Text;
 use jvms_file::insn::ArrayKind;
 use jvms_machine::value::Value;
 use program::Program;
+use std::alloc::{AllocError, Global};
 
 /// `java/lang/String`, the class of a string.
 const STRING: [u16; 16] = [
@@ -45,6 +46,25 @@ pub(crate) fn value_at(values: &[Value], place: usize) -> Option<Value>
 }
 
 impl HeldObject {
+    /// The same object once more.
+    pub(crate) fn copy(&self, alloc: Global) -> Result<HeldObject, AllocError>
+        ensures shown { (program : List Class) → IfOk result (λ o. shown program o ≡ shown program self.now) }
+        ensures kept { (program : List Class) → IsKept program self.now → IfOk result (IsKept program) }
+    {
+        match self {
+            HeldObject::Instance { class, values } => Ok(HeldObject::Instance {
+                class: *class,
+                values: Vec::from_slice(alloc, values.as_slice())?,
+            }),
+            HeldObject::Array { class, elements } => Ok(HeldObject::Array {
+                class: class.share()?,
+                elements: elements.copy(alloc)?,
+            }),
+            HeldObject::Text(units) => Ok(HeldObject::Text(units.share()?)),
+            HeldObject::ClassObject(name) => Ok(HeldObject::ClassObject(name.share()?)),
+        }
+    }
+
     /// The name of its class.
     #[inline(always)]
     pub(crate) fn class_name<'a>(&'a self, program: &'a Program) -> &'a [u16]

@@ -1,6 +1,6 @@
 //! References of objects by a text.
 
-ghost use Rattle.std.specs.Prelude.{◌≡◌, ℕ, List, [], OnOk, OnErr, Some, None, if◌then◌else◌};
+ghost use Rattle.std.specs.Prelude.{◌≡◌, ℕ, List, [], IfOk, OnOk, OnErr, Some, None, if◌then◌else◌};
 ghost use Rattle.std.specs.Option.{option_or};
 ghost use Rattle.jvms_file.specs.Names.{same_text};
 ghost use Rattle.heap.specs.Held.{found};
@@ -33,6 +33,15 @@ impl Index {
         Index {
             references: BTreeMap::new(alloc),
         }
+    }
+
+    /// The same index once more.
+    pub(crate) fn copy(&self) -> Result<Index, AllocError>
+        ensures { IfOk result (λ i. i ≡ self.now) }
+    {
+        Ok(Index {
+            references: self.references.clone()?,
+        })
     }
 
     /// The reference for a text.

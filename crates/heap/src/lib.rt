@@ -3,6 +3,7 @@
 #![tactic(auto)]
 
 mod arrays;
+mod copying;
 mod elements;
 mod first_values;
 mod heap;

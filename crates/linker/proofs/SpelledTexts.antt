@@ -9,7 +9,7 @@ use Rattle.jvms_file.specs.declared.descriptor.MethodType.{MethodType}
 use Rattle.jvms_file.specs.ConstantPool.{entry, utf8_of, utf8_at}
 use Rattle.jvms_file.specs.Descriptors.{field_type_of, field_type_from, method_type_of}
 use Rattle.jvms_file.specs.Descriptors.{field_type, method_type}
-use Rattle.linker.specs.declared.spelled.Spelled.{Spelled}
+use Rattle.linker.specs.declared.spelled.SpelledText.{SpelledText}
 use Rattle.linker.specs.Spelled.{spelled, spelled_of}
 
 nothing_is_no_field : field_type_of [] ≡ None
@@ -39,6 +39,6 @@ spelled_at pool (suc i) some =
     rw place (ap (λ o. option_and_then (λ s. s) o) (slice_get-map spelled_of pool i) ∙ flat (slice_get pool i))
 
 -- What is found, or else what the empty text gives.
-pub found_spelled : (text : Option (List ℕ)) (s : Spelled) → Some s ≡ option_map spelled text → s ≡ spelled (unwrap_or text [])
+pub found_spelled : (text : Option (List ℕ)) (s : SpelledText) → Some s ≡ option_map spelled text → s ≡ spelled (unwrap_or text [])
 found_spelled None s is = absurd (none-some s (sym is))
 found_spelled (Some t) s is = same_Some s (spelled t) is

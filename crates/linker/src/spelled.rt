@@ -16,19 +16,19 @@ use std::alloc::{AllocError, Global};
 
 /// A text and its types; those of a text that is no descriptor are those of the empty text.
 #[derive(Drop)]
-pub(crate) struct Spelled {
+pub(crate) struct SpelledText {
     pub(crate) text: Text,
     pub(crate) field_type: Shared<FieldType>,
     pub(crate) method_type: Shared<MethodType>,
 }
 
 /// What the empty text gives.
-pub(crate) fn spelled_by_nothing(alloc: Global) -> Result<Spelled, AllocError>
+pub(crate) fn spelled_by_nothing(alloc: Global) -> Result<SpelledText, AllocError>
     ensures { IfOk result (λ s. s ≡ spelled []) }
 {
     let field = field_type(alloc, &[])?;
     let method = method_type(alloc, &[])?;
-    Ok(Spelled {
+    Ok(SpelledText {
         text: Shared::new(alloc, Items::new(alloc))?,
         field_type: Shared::new(alloc, field)?,
         method_type: Shared::new(alloc, method)?,
@@ -70,14 +70,14 @@ fn method_type_of(
 }
 
 /// What a text gives.
-fn spelled_by(alloc: Global, text: &[u16], nothing: &Spelled) -> Result<Spelled, AllocError>
+fn spelled_by(alloc: Global, text: &[u16], nothing: &SpelledText) -> Result<SpelledText, AllocError>
     requires { nothing.now ≡ spelled [] }
     ensures { IfOk result (λ s. s ≡ spelled text.now) }
 {
     let field_type = field_type_of(alloc, text, &nothing.field_type)?;
     let method_type = method_type_of(alloc, text, &nothing.method_type)?;
     let units = Vec::from_slice(alloc, text)?;
-    Ok(Spelled {
+    Ok(SpelledText {
         text: Shared::new(alloc, Items::from_vec(units))?,
         field_type,
         method_type,
@@ -88,8 +88,8 @@ fn spelled_by(alloc: Global, text: &[u16], nothing: &Spelled) -> Result<Spelled,
 fn spelled_of(
     alloc: Global,
     entry: &Constant,
-    nothing: &Spelled,
-) -> Result<Option<Spelled>, AllocError>
+    nothing: &SpelledText,
+) -> Result<Option<SpelledText>, AllocError>
     requires { nothing.now ≡ spelled [] }
     ensures { IfOk result (λ s. s ≡ spelled_of_entry entry.now) }
 {
@@ -103,8 +103,8 @@ fn spelled_of(
 pub(crate) fn all_spelled(
     alloc: Global,
     entries: &[Constant],
-    nothing: &Spelled,
-) -> Result<Vec<Option<Spelled>>, AllocError>
+    nothing: &SpelledText,
+) -> Result<Vec<Option<SpelledText>>, AllocError>
     requires { nothing.now ≡ spelled [] }
     ensures { IfOk result (λ v. v.items ≡ map spelled_of_entry entries.now) }
 {

@@ -6,7 +6,7 @@ ghost use Rattle.jvms_file.specs.ConstantPool.{utf8_at};
 ghost use Rattle.jvms_program.specs.Meaning.{text_of, class_text, name_and_type};
 ghost use Rattle.linker.specs.Spelled.{spelled};
 
-use crate::spelled::{Spelled, all_spelled, spelled_by_nothing};
+use crate::spelled::{SpelledText, all_spelled, spelled_by_nothing};
 use const_pool::{Constant, Pool};
 use held::items::Items;
 use held::shared::Text;
@@ -18,9 +18,9 @@ use std::marker::Model;
 #[derive(Drop)]
 pub(crate) struct Texts {
     pool: Pool,
-    spelled: Vec<Option<Spelled>>,
+    spelled: Vec<Option<SpelledText>>,
     /// What stands for a text that isn't there.
-    nothing: Spelled,
+    nothing: SpelledText,
 }
 
 impl Model for Texts {
@@ -43,7 +43,7 @@ pub(crate) fn copied<T: Copy>(alloc: Global, items: &[T]) -> Result<Items<T>, Al
 }
 
 /// What the entry at a place gives, if it is a Utf8.
-fn at_place(spelled: &[Option<Spelled>], place: usize) -> Option<&Spelled>
+fn at_place(spelled: &[Option<SpelledText>], place: usize) -> Option<&SpelledText>
     ensures { option_copied result ≡ option_and_then (λ s. s) (slice_get spelled.now place) }
 {
     match spelled.get(place) {
@@ -75,7 +75,7 @@ impl Texts {
 
     /// What the text of a Utf8 entry gives (JVMS 4.4.7), if a number is one's.
     #[tactic(auto, using(crate::proofs::SpelledTexts::spelled_at))]
-    fn found(&self, number: u16) -> Option<&Spelled>
+    fn found(&self, number: u16) -> Option<&SpelledText>
         ensures { option_copied result ≡ option_map spelled (utf8_at self.now number) }
     {
         if number == 0 {
@@ -86,7 +86,7 @@ impl Texts {
 
     /// What the text of a Utf8 entry gives; where a number names none, the empty text.
     #[tactic(auto, using(crate::proofs::SpelledTexts::found_spelled))]
-    pub(crate) fn spelled(&self, number: u16) -> &Spelled
+    pub(crate) fn spelled(&self, number: u16) -> &SpelledText
         ensures { result.now ≡ spelled (text_of self.now number) }
     {
         match self.found(number) {
@@ -129,7 +129,7 @@ impl Texts {
 
     /// What the name and the descriptor of a NameAndType entry give (JVMS 4.4.6); where a number names none,
     /// empty texts.
-    pub(crate) fn name_and_type(&self, number: u16) -> (&Spelled, &Spelled)
+    pub(crate) fn name_and_type(&self, number: u16) -> (&SpelledText, &SpelledText)
         ensures name { result.0.now ≡ spelled (name_and_type self.now number).0 }
         ensures descriptor { result.1.now ≡ spelled (name_and_type self.now number).1 }
     {

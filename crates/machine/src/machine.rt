@@ -83,6 +83,15 @@ impl<'p> Machine<'p> {
         Ok(Machine { parts })
     }
 
+    /// A machine with the same program, limits and start, in the same state. Both go on from there, each for itself.
+    pub fn copy(&self) -> Result<Machine<'p>, AllocError>
+        ensures { IfOk result (λ machine. machine ≡ self.now) }
+    {
+        Ok(Machine {
+            parts: self.parts.copy()?,
+        })
+    }
+
     /// Makes the turn of a thread, as its row of the instruction table says: the outcome, the state
     /// afterwards, and the items that are put behind those of the trace. Without memory nothing changes.
     pub fn step(&mut self, t: ThreadId, trace: &mut Trace) -> Result<Outcome, AllocError>

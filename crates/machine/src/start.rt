@@ -3,14 +3,14 @@
 ghost use Rattle.std.specs.Prelude.{◌≡◌};
 ghost use Rattle.std.specs.Option.{option_map};
 ghost use Rattle.jvms_machine.specs.Start.{start_of, takes_arguments as takes, entry_reference, resolved_entry as resolved};
-ghost use Rattle.program.specs.Named.{reference};
+ghost use Rattle.program.specs.MethodNames.{reference};
 ghost use Rattle.machine.specs.Entries.{is_int_letter, has_letters, takes_ints};
 ghost use Rattle.machine.specs.Started.{with_arguments};
 
 use descriptor::{is_initializer_name, is_method_descriptor};
 use jvms_machine::machine::Entry;
 use jvms_program::number::MethodNumber;
-use program::{Named, Program};
+use program::{MethodNames, Program};
 
 /// The name of an entry that is a class, `main`.
 const MAIN: [u16; 4] = [109, 97, 105, 110];
@@ -70,11 +70,11 @@ fn takes_arguments(entry: &Entry) -> bool
 }
 
 /// The names of an entry's method, as by a Methodref.
-fn names(entry: &Entry) -> Named<'_>
+fn names(entry: &Entry) -> MethodNames<'_>
     ensures { reference result ≡ entry_reference entry.now }
 {
     match entry {
-        Entry::Main { class } => Named {
+        Entry::Main { class } => MethodNames {
             is_interface: false,
             class: class.as_slice(),
             name: &MAIN,
@@ -85,7 +85,7 @@ fn names(entry: &Entry) -> Named<'_>
             name,
             descriptor,
             ..
-        } => Named {
+        } => MethodNames {
             is_interface: false,
             class: class.as_slice(),
             name: name.as_slice(),

@@ -1,6 +1,6 @@
 //! The parts of a machine.
 
-ghost use Rattle.std.specs.Prelude.{◌≡◌};
+ghost use Rattle.std.specs.Prelude.{◌≡◌, IfOk};
 ghost use Rattle.jvms_machine.specs.State.{monitor_at};
 ghost use Rattle.jvms_machine.specs.Threads.{thread_of};
 
@@ -12,7 +12,7 @@ use jvms_program::number::MethodNumber;
 use machine_thread::Thread;
 use monitors::Monitors;
 use program::Program;
-use std::alloc::Global;
+use std::alloc::{AllocError, Global};
 use std::marker::Model;
 
 /// The parts of a machine, also in the middle of a turn. The program is that of the heap.
@@ -32,7 +32,7 @@ pub struct Parts<'p> {
 }
 
 impl<'p> Model for Parts<'p> {
-    ghost use Rattle.std.specs.Prelude.{◌≡◌};
+    ghost use Rattle.std.specs.Prelude.{◌≡◌, IfOk};
     ghost use Rattle.machine_parts.specs.Machine.{Machine as Seen};
 
     ghost Value = { Seen };
@@ -57,7 +57,38 @@ impl<'p> Model for Parts<'p> {
     ghost invariant = { λ m. m.statics.program ≡ m.heap.program };
 }
 
+/// The same threads once more.
+fn copied_threads<'p>(alloc: Global, threads: &[Thread<'p>]) -> Result<Vec<Thread<'p>>, AllocError>
+    ensures { IfOk result (λ copies. copies.items ≡ threads.now) }
+{
+    let mut copies = Vec::with_capacity(alloc, threads.len())?;
+    for thread in threads {
+        copies.push(thread.copy(alloc)?)?;
+    }
+    Ok(copies)
+}
+
 impl<'p> Parts<'p> {
+    /// The same parts once more.
+    pub fn copy(&self) -> Result<Parts<'p>, AllocError>
+        ensures { IfOk result (λ parts. parts ≡ self.now) }
+    {
+        let alloc = self.alloc;
+        Ok(Parts {
+            alloc,
+            limits: self.limits,
+            method: self.method,
+            arguments: Vec::from_slice(alloc, self.arguments.as_slice())?,
+            heap: self.heap.copy()?,
+            statics: self.statics.copy(alloc)?,
+            initialisations: Vec::from_slice(alloc, self.initialisations.as_slice())?,
+            threads: copied_threads(alloc, self.threads.as_slice())?,
+            monitors: self.monitors.copy()?,
+            output: Vec::from_slice(alloc, self.output.as_slice())?,
+            result: self.result,
+        })
+    }
+
     /// The program.
     pub fn program(&self) -> &'p Program
         ensures { result.now ≡ self.now.program }

@@ -2,6 +2,7 @@
 
 use fixtures::texts::units;
 use held::items::Items;
+use jvms_machine::value::Value;
 use machine::{Entry, Limits, Machine, Outcome, admits};
 use program::Program;
 use source_programs::program_of;
@@ -18,6 +19,27 @@ const ADDS: &str = "
   iload_0
   iload_1
   nop
+  iadd
+  ireturn
+.end method
+";
+
+/// A class whose method enters the monitor of a string, makes an array of so many ints as its first argument says, and adds
+/// their number, by way of a static field, to the second.
+const COUNTS: &str = "
+.class public P
+.field static count I
+.method static add(II)I
+.limit stack 2
+.limit locals 2
+  ldc \"text\"
+  monitorenter
+  iload_0
+  newarray int
+  arraylength
+  putstatic P/count I
+  iload_1
+  getstatic P/count I
   iadd
   ireturn
 .end method
@@ -119,5 +141,36 @@ fn opening_is_bare(alloc: Global, program: &Program) -> Result<bool, Fail> {
 fn an_opening_has_no_text_and_no_class_object(rt: HostRuntime) -> Result<(), Fail> {
     let program = program_of(rt.alloc(), &[ADDS])?;
     assert!(rt; opening_is_bare(rt.alloc(), &program)?);
+    Ok(())
+}
+
+/// What a machine gives in the end, all of whose turns are of thread 0.
+fn given_in_the_end(machine: &mut Machine<'_>) -> Result<Option<Value>, AllocError> {
+    let mut recording = Recording::of_nothing();
+    let _ = machine.step_on(0, 99, &mut recording);
+    let _ = machine.step_recorded(0, &mut recording)?;
+    Ok(machine.result())
+}
+
+/// What a machine gives in the end, and before it a copy of it that was made behind so many turns.
+fn given_by_both(alloc: Global, program: &Program, turns: u64) -> Result<[Option<Value>; 2], Fail> {
+    let entry = entry(alloc, "P", &[3, 4])?;
+    let mut machine = Machine::new(alloc, program, LIMITS, &entry)?;
+    let _ = machine.step_on(0, turns, &mut Recording::of_nothing());
+    let mut copy = machine.copy()?;
+    Ok([
+        given_in_the_end(&mut copy)?,
+        given_in_the_end(&mut machine)?,
+    ])
+}
+
+/// Behind nine turns there are a string, its monitor, an array and a static field with a value.
+#[test]
+fn a_copy_goes_on_for_itself(rt: HostRuntime) -> Result<(), Fail> {
+    let program = program_of(rt.alloc(), &[COUNTS])?;
+    let seven = Some(Value::Int(7));
+    for turns in 0..12 {
+        assert_eq!(rt; given_by_both(rt.alloc(), &program, turns)?, [seven, seven]);
+    }
     Ok(())
 }

@@ -1,6 +1,6 @@
 //! Monitors by reference.
 
-ghost use Rattle.std.specs.Prelude.{◌≡◌, ℕ, ◌+◌, ◌^◌, ◌<◌, [], length, IsTrue, ◌↔◌, IsSome, IfSome, IsOk, OnOk, OnErr};
+ghost use Rattle.std.specs.Prelude.{◌≡◌, ℕ, ◌+◌, ◌^◌, ◌<◌, [], length, IsTrue, ◌↔◌, IfOk, IsSome, IfSome, IsOk, OnOk, OnErr};
 ghost use Rattle.jvms_machine.specs.Monitors.{entered_monitor, left_monitor};
 ghost use Rattle.jvms_machine.specs.State.{monitor_at};
 
@@ -34,6 +34,15 @@ impl Monitors {
         Monitors {
             holds: BTreeMap::new(alloc),
         }
+    }
+
+    /// The same monitors, held alike.
+    pub fn copy(&self) -> Result<Monitors, AllocError>
+        ensures { IfOk result (λ m. m ≡ self.now) }
+    {
+        Ok(Monitors {
+            holds: self.holds.clone()?,
+        })
     }
 
     /// How many monitors are held.

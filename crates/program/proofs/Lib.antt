@@ -3,7 +3,7 @@ pub mod BuiltInLaws
 pub mod MarkLaws
 pub mod MethodLaws
 pub mod NumberLaws
-mod NamedLaws
+mod MethodNamesLaws
 pub mod PlaceLaws
 pub mod WalkLaws
 pub mod SearchLaws
@@ -13,4 +13,5 @@ pub mod LinkLaws
 pub mod InterfaceLaws
 pub mod SignatureLaws
 pub mod SelectLaws
+pub mod SelectionLaws
 pub mod SpecialLaws

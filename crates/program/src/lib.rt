@@ -33,7 +33,7 @@ pub use descriptor::same_text;
 pub use field_name::FieldName;
 pub use list::Program;
 pub use lookup::declared_number;
-pub use methods::Named;
+pub use methods::MethodNames;
 pub use names::OBJECT;
 pub use slots::Slot;
 pub use text::is_named;

@@ -64,11 +64,11 @@ impl Look for DeclaredField<'_> {
 
 /// A class of this name. It has no member, so its place says nothing.
 #[derive(Clone, Copy)]
-pub(crate) struct Named<'a> {
+pub(crate) struct ClassNamed<'a> {
     pub(crate) name: &'a [u16],
 }
 
-impl Look for Named<'_> {
+impl Look for ClassNamed<'_> {
     ghost gives = { λ s class c. if same_text c.name s.name.now then Some (0, 0) else None };
 
     fn look(&self, _number: usize, class: &Class) -> Option<(usize, usize)> {

@@ -3,7 +3,7 @@
 ghost use Rattle.std.specs.Prelude.{◌≡◌};
 ghost use Rattle.jvms_file.specs.Names.{is_constructor_name};
 ghost use Rattle.jvms_program.specs.Resolution.{names_interface, members_class, found_in_order, found_method};
-ghost use Rattle.program.specs.Named.{reference};
+ghost use Rattle.program.specs.MethodNames.{reference};
 ghost use Rattle.program.specs.Places.{IsMethodAt, Locates};
 
 use crate::list::Program;
@@ -17,7 +17,7 @@ use jvms_program::program::ClassKind;
 
 /// A method by its names: what resolution asks of a reference.
 #[derive(Clone, Copy)]
-pub struct Named<'a> {
+pub struct MethodNames<'a> {
     /// Whether the pool entry is an InterfaceMethodref.
     pub is_interface: bool,
     pub class: &'a [u16],
@@ -38,7 +38,7 @@ impl Program {
 }
 
 /// The method that a reference finds in the order of the classes above.
-fn found_in_order(program: &Program, r: Named) -> Option<(usize, usize)>
+fn found_in_order(program: &Program, r: MethodNames) -> Option<(usize, usize)>
     ensures { Locates (IsMethodAt program.now) (found_in_order program.now (reference r.entry)) result }
 {
     let look = DeclaredMethod {
@@ -53,7 +53,7 @@ fn found_in_order(program: &Program, r: Named) -> Option<(usize, usize)>
 }
 
 /// The method that a reference finds. A constructor is looked for in the named class alone.
-pub(crate) fn found_method(program: &Program, r: Named) -> Option<(usize, usize)>
+pub(crate) fn found_method(program: &Program, r: MethodNames) -> Option<(usize, usize)>
     ensures { Locates (IsMethodAt program.now) (found_method program.now (reference r.entry)) result }
 {
     if !is_constructor_name(r.name) {

@@ -1,12 +1,12 @@
 //! Resolution of what instructions name (JVMS 5.4.3).
 
 ghost use Rattle.jvms_program.specs.Resolution.{resolved_method};
-ghost use Rattle.program.specs.Named.{reference};
+ghost use Rattle.program.specs.MethodNames.{reference};
 ghost use Rattle.program.specs.Places.{IsMethodAt, Resolves};
 
 use crate::exists::class_exists;
 use crate::list::Program;
-use crate::methods::{Named, found_method};
+use crate::methods::{MethodNames, found_method};
 use jvms_program::number::MethodNumber;
 use jvms_program::program::MethodReference;
 use jvms_program::thrown::Thrown;
@@ -14,7 +14,7 @@ use jvms_program::thrown::Thrown;
 impl Program {
     /// The method of these names (JVMS 5.4.3.3, 5.4.3.4): the numbers of its class and of it there. It takes
     /// no memory.
-    pub fn resolve_named(&self, is_static: bool, r: Named) -> Result<(usize, usize), Thrown>
+    pub fn resolve_named(&self, is_static: bool, r: MethodNames) -> Result<(usize, usize), Thrown>
         ensures { Resolves (IsMethodAt self.now) (resolved_method self.now is_static (reference r.entry)) result }
     {
         if !class_exists(self, r.class) {
@@ -44,7 +44,7 @@ impl Program {
     ) -> Result<(usize, usize), Thrown>
         ensures { Resolves (IsMethodAt self.now) (resolved_method self.now is_static r.now) result }
     {
-        let named = Named {
+        let named = MethodNames {
             is_interface: r.is_interface,
             class: r.class.as_slice(),
             name: r.name.as_slice(),

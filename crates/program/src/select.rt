@@ -6,7 +6,7 @@ ghost use Rattle.program.specs.Places.{IsMethodAt, Locates};
 
 use crate::chain::superclass_name;
 use crate::list::Program;
-use crate::look::{Named, Selectable};
+use crate::look::{ClassNamed, Selectable};
 use crate::names::members_class;
 use crate::walk::first_up;
 use descriptor::{is_constructor_name, same_text};
@@ -24,7 +24,7 @@ fn is_superclass(program: &Program, above: &[u16], class: &[u16]) -> bool
 fn is_up(program: &Program, name: &[u16], class: &[u16]) -> bool
     ensures { result ≡ names_class name.now (chain program.now class.now) }
 {
-    first_up(program, class, &Named { name }).is_some()
+    first_up(program, class, &ClassNamed { name }).is_some()
 }
 
 impl Program {

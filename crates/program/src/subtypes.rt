@@ -7,7 +7,7 @@ ghost use Rattle.descriptor.specs.Scanning.{element_of, type_of};
 
 use crate::class_type::class_type;
 use crate::list::Program;
-use crate::look::Named;
+use crate::look::ClassNamed;
 use crate::text::is_named;
 use crate::walk::first_in_ancestry;
 use descriptor::{Innermost, Spelled};
@@ -33,7 +33,7 @@ fn letter_of(primitive: Primitive) -> u16
 fn is_above(program: &Program, name: &[u16], class: &[u16]) -> bool
     ensures { result ≡ names_class name.now (ancestry program.now class.now) }
 {
-    first_in_ancestry(program, class, &Named { name }).is_some()
+    first_in_ancestry(program, class, &ClassNamed { name }).is_some()
 }
 
 /// Whether a name is that of a class that every array fits.

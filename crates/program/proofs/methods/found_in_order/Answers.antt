@@ -1,5 +1,5 @@
 use Rattle.std.proofs.Common.{refl}
-use Rattle.program.specs.Named.{reference}
+use Rattle.program.specs.MethodNames.{reference}
 use Rattle.program.proofs.MethodLaws.{in_interface_order, in_class_order}
 use Rattle.program.proofs.methods.found_in_order.Goals as goal
 

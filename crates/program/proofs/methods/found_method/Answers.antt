@@ -1,5 +1,5 @@
 use Rattle.std.proofs.Common.{rules, refl, sym, ap, ◌∙◌}
-use Rattle.program.specs.Named.{reference}
+use Rattle.program.specs.MethodNames.{reference}
 use Rattle.program.specs.Places.{method_in}
 use Rattle.program.proofs.MethodLaws.{constructor_located}
 use Rattle.program.proofs.methods.found_method.Goals as goal

@@ -1,6 +1,6 @@
 use Rattle.std.proofs.Common.{refl, subst}
 use Rattle.program.specs.Places.{IsMethodAt, Resolves}
-use Rattle.program.proofs.NamedLaws.{same_names}
+use Rattle.program.proofs.MethodNamesLaws.{same_names}
 use Rattle.program.proofs.list.Program.resolve_method.Goals as goal
 
 pub returns : goal.returns

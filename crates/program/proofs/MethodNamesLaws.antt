@@ -6,15 +6,15 @@ use Rattle.jvms_program.specs.declared.thrown.Thrown.{Thrown}
 use Rattle.std.specs.Prelude.{Result}
 use Rattle.jvms_file.specs.Descriptors.{method_type}
 use Rattle.jvms_program.specs.Resolution.{MethodFound, resolved_method}
-use Rattle.program.specs.declared.methods.Named.{Named}
-use Rattle.program.specs.Named.{reference}
+use Rattle.program.specs.declared.methods.MethodNames.{MethodNames}
+use Rattle.program.specs.MethodNames.{reference}
 
 -- What a reference of these names resolves to.
 resolved : List Class → Bool → Bool → List ℕ → List ℕ → List ℕ → Result MethodFound Thrown
 resolved program static interface class name descriptor =
     resolved_method program static (record { is_interface = interface; class = class; name = name; descriptor = descriptor; method_type = method_type descriptor })
 
-pub same_names : (program : List Class) (static : Bool) (n : Named) (r : MethodReference) → n.is_interface ≡ r.is_interface → n.class.now ≡ r.class → n.name.now ≡ r.name → n.descriptor.now ≡ r.descriptor
+pub same_names : (program : List Class) (static : Bool) (n : MethodNames) (r : MethodReference) → n.is_interface ≡ r.is_interface → n.class.now ≡ r.class → n.name.now ≡ r.name → n.descriptor.now ≡ r.descriptor
     → resolved_method program static (reference n) ≡ resolved_method program static r
 unfolding resolved
 same_names program static n r interface class name descriptor =
