@@ -4,3 +4,4 @@ pub mod FirstPlaces
 pub mod RepeatedNames
 pub mod SetLaws
 pub mod SpelledTexts
+pub mod Refused

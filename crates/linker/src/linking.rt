@@ -69,6 +69,8 @@ pub fn link(alloc: Global, files: Vec<ClassFile>) -> Result<Program, LinkFault>
     let classes = classes_of(alloc, files)?;
     let count = classes.len();
     let program = Program::new(alloc, classes)?;
-    check(alloc, &program, last_classes(&program, count))?;
-    Ok(program)
+    match check(alloc, &program, last_classes(&program, count)) {
+        Ok(()) => Ok(program),
+        Err(fault) => Err(fault),
+    }
 }
