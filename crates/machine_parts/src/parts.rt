@@ -32,7 +32,7 @@ pub struct Parts<'p> {
 }
 
 impl<'p> Model for Parts<'p> {
-    ghost use Rattle.std.specs.Prelude.{◌≡◌, IfOk};
+    ghost use Rattle.std.specs.Prelude.{◌≡◌};
     ghost use Rattle.machine_parts.specs.Machine.{Machine as Seen};
 
     ghost Value = { Seen };
