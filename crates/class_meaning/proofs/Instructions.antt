@@ -77,7 +77,7 @@ insn_means pool items n (operation.ConstantLong k) is = ap (λ e. instruction.Co
 insn_means pool items n (operation.Field how f) is = ap (λ r. instruction.Field how r) (field_is pool n f.class f.name f.descriptor is.1)
 insn_means pool items n (operation.Invoke how m) is = ap (λ r. instruction.Invoke how r) (method_is how pool n m.class m.name m.descriptor is.1)
 insn_means pool items n (operation.Class how name) is = ap (λ t. instruction.Class how t) (class_text_is pool n name is.1)
-insn_means pool items n (operation.MultiNewArray name count) is = ap (λ t. instruction.MultiNewArray t count) (class_text_is pool n name is.1)
+insn_means pool items n (operation.MultiNewArray name count) is = ap (λ t. instruction.MultiNewArray count t) (class_text_is pool n name is.1)
 insn_means pool items n _ is = refl
 
 pub insns_mean : (pool : List Constant) (items : List CodeItem) (numbers : List ℕ) (os : List Operation) → AreOperands pool numbers os

@@ -1,1 +1,2 @@
 mod Beyond
+mod CaseLaws

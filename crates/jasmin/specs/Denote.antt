@@ -102,7 +102,7 @@ instruction_of items (operation.Invoke how m) =
     instruction.Invoke how (record { is_interface = names_interface how; class = m.class; name = m.name; descriptor = m.descriptor; method_type = method_type m.descriptor })
 instruction_of items (operation.Class how name) = instruction.Class how name
 instruction_of items (operation.NewArray type) = instruction.Simple (simple.Array (array_insn.New type))
-instruction_of items (operation.MultiNewArray name count) = instruction.MultiNewArray name count
+instruction_of items (operation.MultiNewArray name count) = instruction.MultiNewArray count name
 
 -- ---- Members
 

@@ -256,4 +256,4 @@ module _ (heap : List Object) (body : Body) (a : Activation) (fit : IsFit heap b
   frame_decision_keeps (instruction.Field how r) = beyond_keeps (is_outside_element r.field_type.element)
   frame_decision_keeps (instruction.Invoke how r) = beyond_keeps (is_outside_method r.method_type)
   frame_decision_keeps (instruction.Class how name) = beyond_keeps (is_outside_use how name)
-  frame_decision_keeps (instruction.MultiNewArray name count) = beyond_keeps (is_outside_class name)
+  frame_decision_keeps (instruction.MultiNewArray count name) = beyond_keeps (is_outside_class name)

@@ -69,7 +69,7 @@ module _ (program : List Class) (limits : Limits) (start : Start) (s : State) (t
     reaching_keeps frame below (instruction.Constant c) stands at = loadable_keeps program limits start s t thread frame below stands c
     reaching_keeps frame below (instruction.Field how r) stands at = field_keeps program limits start s t thread frame below stands how r
     reaching_keeps frame below (instruction.Class how name) stands at = class_keeps program limits start s t thread frame below stands how name
-    reaching_keeps frame below (instruction.MultiNewArray name dimensions) stands at = new_arrays_keeps program limits start s t thread frame below stands name dimensions
+    reaching_keeps frame below (instruction.MultiNewArray dimensions name) stands at = new_arrays_keeps program limits start s t thread frame below stands name dimensions
     reaching_keeps frame below (instruction.Simple (simple.Object object_insn.Throw)) stands at = throw_keeps program limits start s t thread frame below stands
     reaching_keeps frame below (instruction.Simple (simple.Object object_insn.MonitorEnter)) stands at = monitor_enter_keeps program limits start s t thread frame below stands
     reaching_keeps frame below (instruction.Simple (simple.Object object_insn.MonitorExit)) stands at = monitor_exit_keeps program limits start s t thread frame below stands

@@ -82,7 +82,7 @@ instruction_of pool (insn.Constant n) = instruction.Constant (loadable_of pool (
 instruction_of pool (insn.Field how n) = instruction.Field how (field_reference_of pool (entry pool n))
 instruction_of pool (insn.Invoke how n) = instruction.Invoke how (method_reference_of pool (entry pool n))
 instruction_of pool (insn.Class how n) = instruction.Class how (class_text pool n)
-instruction_of pool (insn.MultiNewArray n count) = instruction.MultiNewArray (class_text pool n) count
+instruction_of pool (insn.MultiNewArray n count) = instruction.MultiNewArray count (class_text pool n)
 
 -- ---- Members
 

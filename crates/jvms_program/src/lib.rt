@@ -2,6 +2,7 @@
 //! classes, and how names are resolved.
 #![tactic(auto)]
 
+pub mod case_table;
 pub mod frequent;
 pub mod instructions;
 pub mod key;

@@ -1,11 +1,12 @@
 //! A program: classes with their members by name, and their methods as lists of instructions.
 
+use crate::case_table::CaseTable;
 use crate::instructions::Instructions;
 use held::boxed::Boxed;
 use held::items::Items;
 use held::shared::{Shared, Text};
 use jvms_file::descriptor::{FieldType, MethodType};
-use jvms_file::insn::{Branch, ClassUse, FieldUse, Invoke, LookupSwitch, Simple, TableSwitch};
+use jvms_file::insn::{Branch, ClassUse, FieldUse, Invoke, Simple, TableSwitch};
 
 /// A field that an instruction names (JVMS 5.1).
 #[derive(Debug, Drop)]
@@ -46,12 +47,13 @@ pub enum Instruction {
     Simple(Simple),
     Branch(Branch, u32),
     Table(Boxed<TableSwitch>),
-    Lookup(Boxed<LookupSwitch>),
+    Lookup(Boxed<CaseTable>),
     Constant(Boxed<Loadable>),
     Field(FieldUse, Boxed<FieldReference>),
     Invoke(Invoke, Boxed<MethodReference>),
     Class(ClassUse, Text),
-    MultiNewArray(Text, u8),
+    /// How many dimensions are made, and the array's class.
+    MultiNewArray(u8, Text),
 }
 
 /// What a handler catches (JVMS 4.7.3, catch_type).

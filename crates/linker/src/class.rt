@@ -61,18 +61,19 @@ fn names_of(alloc: Global, texts: &Texts, file: &ClassFile) -> Result<ClassNames
     })
 }
 
-/// The class that a class file means, whose pool has these texts.
+/// The class that a class file means, whose pool has these texts. The file is given up on the way.
 #[tactic(auto, unfolding(jvms_program::specs::Meaning::meaning))]
-fn class_of(alloc: Global, texts: &Texts, file: &ClassFile) -> Result<Class, AllocError>
-    ensures { IfOk result (λ c. c ≡ meaning (record file.now { pool = texts.now })) }
+fn class_of(alloc: Global, texts: &Texts, file: ClassFile) -> Result<Class, AllocError>
+    ensures { IfOk result (λ c. c ≡ meaning (record file { pool = texts.now })) }
 {
-    let is_interface = Flags::of_access(file.access).is_interface();
-    let names = names_of(alloc, texts, file)?;
+    let access = file.access;
+    let is_interface = Flags::of_access(access).is_interface();
+    let names = names_of(alloc, texts, &file)?;
     let fields = fields_of(alloc, texts, is_interface, file.fields.as_slice())?;
-    let methods = methods_of(alloc, texts, file.methods.as_slice())?;
+    let methods = methods_of(alloc, texts, file.methods)?;
     Ok(Class {
         name: names.name,
-        kind: kind_of(file.access),
+        kind: kind_of(access),
         superclass: names.superclass,
         interfaces: names.interfaces,
         fields,
@@ -88,5 +89,5 @@ pub fn meaning(alloc: Global, file: ClassFile) -> Result<Class, AllocError>
     let mut file = file;
     let pool = mem::replace(&mut file.pool, Items::new(alloc));
     let texts = Texts::of(alloc, Pool::of(pool))?;
-    class_of(alloc, &texts, &file)
+    class_of(alloc, &texts, file)
 }

@@ -8,6 +8,7 @@ use crate::reference::{field_reference_of, method_reference_of};
 use crate::texts::{Texts, copied};
 use held::boxed::Boxed;
 use jvms_file::insn::{Insn, LookupSwitch, TableSwitch};
+use jvms_program::case_table::CaseTable;
 use jvms_program::instructions::Instructions;
 use jvms_program::program::Instruction;
 use std::alloc::{AllocError, Global};
@@ -24,13 +25,13 @@ fn table_switch(alloc: Global, s: &TableSwitch) -> Result<TableSwitch, AllocErro
 }
 
 /// The same cases of a lookupswitch.
-fn lookup_switch(alloc: Global, s: &LookupSwitch) -> Result<LookupSwitch, AllocError>
+fn lookup_switch(alloc: Global, s: &LookupSwitch) -> Result<CaseTable, AllocError>
     ensures { IfOk result (λ copy. copy ≡ s.now) }
 {
-    Ok(LookupSwitch {
+    Ok(CaseTable::new(LookupSwitch {
         default: s.default,
         cases: copied(alloc, s.cases.as_slice())?,
-    })
+    }))
 }
 
 /// The instruction with what its number names.
@@ -62,7 +63,7 @@ fn instruction_of(alloc: Global, texts: &Texts, insn: &Insn) -> Result<Instructi
         }
         Insn::Class(how, n) => Ok(Instruction::Class(*how, texts.class_name(*n)?)),
         Insn::MultiNewArray(n, count) => {
-            Ok(Instruction::MultiNewArray(texts.class_name(*n)?, *count))
+            Ok(Instruction::MultiNewArray(*count, texts.class_name(*n)?))
         }
     }
 }

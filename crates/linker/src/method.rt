@@ -72,17 +72,17 @@ fn method_of(alloc: Global, texts: &Texts, info: &MethodInfo) -> Result<Method, 
     })
 }
 
-/// The methods of a class, in order.
+/// The methods of a class, in order. What the class file says of a method is given up as the method is made.
 pub(crate) fn methods_of(
     alloc: Global,
     texts: &Texts,
-    infos: &[MethodInfo],
+    infos: Items<MethodInfo>,
 ) -> Result<Items<Method>, AllocError>
-    ensures { IfOk result (λ ms. ms ≡ map (method_of texts.now) infos.now) }
+    ensures { IfOk result (λ ms. ms ≡ map (method_of texts.now) infos) }
 {
     let mut methods = Vec::with_capacity(alloc, infos.len())?;
-    for info in infos {
-        methods.push(method_of(alloc, texts, info)?)?;
+    for info in infos.into_vec() {
+        methods.push(method_of(alloc, texts, &info)?)?;
     }
     Ok(Items::from_vec(methods))
 }

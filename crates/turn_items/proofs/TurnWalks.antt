@@ -156,8 +156,8 @@ module _ (program : List Class) (limits : Limits) (start : Start) (s : State) (t
       instruction_has (instruction.Invoke how r) at =
           beyond_has (join_items t (joined_for program s frame how r (receiver_reference how r frame.activation.operands))) [] (instruction.Invoke how r) (is_outside_method r.method_type) (invoke_reached how r at)
       instruction_has (instruction.Class how name) at = frame_has (instruction.Class how name) (class_has program limits s t thread (P [] []) leaves.actions frame how name)
-      instruction_has (instruction.MultiNewArray name dimensions) at =
-          frame_has (instruction.MultiNewArray name dimensions) (new_arrays_has program limits s t thread (P [] []) leaves.actions frame name dimensions)
+      instruction_has (instruction.MultiNewArray dimensions name) at =
+          frame_has (instruction.MultiNewArray dimensions name) (new_arrays_has program limits s t thread (P [] []) leaves.actions frame name dimensions)
 
       frame_turn_has : (o : Option Instruction) → instruction_at frame ≡ o → OfInstruction frame o (frame_turn_decision program limits s t thread frame below o)
       frame_turn_has None at = silent_tests.unmade (outcome.Bad cause.FellOff)
