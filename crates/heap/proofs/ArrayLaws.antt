@@ -12,10 +12,10 @@ use Rattle.jvms_machine.specs.Heap.{arrays_made, component_type, elements_made, 
 use Rattle.jvms_machine.proofs.ListLaws.{all_append}
 use Rattle.heap.specs.declared.held_object.HeldObject.{HeldObject}
 use Rattle.heap.specs.declared.held_object.HeldObject.TheVariants as held
-use Rattle.heap.specs.declared.elements.Elements.TheVariants as elements
-use Rattle.heap.specs.declared.kind.Kind.TheVariants as kind
-use Rattle.heap.specs.Elements.{reference_value}
-use Rattle.heap.specs.Kinds.{kind_of}
+use Rattle.array_elements.specs.declared.elements.Elements.TheVariants as elements
+use Rattle.array_elements.specs.declared.kind.Kind.TheVariants as kind
+use Rattle.array_elements.specs.Elements.{reference_value}
+use Rattle.array_elements.specs.Kinds.{kind_of}
 use Rattle.heap.specs.Held.{shown, IsKept, IsPlain, AreHeld}
 use Rattle.heap.specs.Arrays.{IsArray, MadeFrom}
 use Rattle.heap.proofs.MakingLaws.{plain_added}

@@ -13,9 +13,9 @@ use Rattle.jvms_machine.specs.Heap.{component_type, has_dimensions, stored_as}
 use Rattle.jvms_machine.specs.Locals.{is_loaded}
 use Rattle.jvms_machine.specs.Returns.{kind_of_element}
 use Rattle.jvms_machine.specs.Turn.{CanHold, ElementsCanHold, IsProper}
-use Rattle.heap.specs.declared.kind.Kind.TheVariants as kind
-use Rattle.heap.specs.Kinds.{kind_of, IsOfKind}
-use Rattle.heap.specs.Kinds.{kind_of_element as held_as}
+use Rattle.array_elements.specs.declared.kind.Kind.TheVariants as kind
+use Rattle.array_elements.specs.Kinds.{kind_of, IsOfKind}
+use Rattle.array_elements.specs.Kinds.{kind_of_element as held_as}
 use Rattle.heap.specs.Objects.{HasDimensions, Suits}
 
 -- ---- Dimensions

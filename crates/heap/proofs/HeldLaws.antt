@@ -12,11 +12,12 @@ use Rattle.jvms_machine.specs.Heap.{with_object}
 use Rattle.jvms_machine.proofs.ListLaws.{all_set, all_at, option_map_some}
 use Rattle.heap.specs.declared.held_object.HeldObject.{HeldObject}
 use Rattle.heap.specs.declared.held_object.HeldObject.TheVariants as held
-use Rattle.heap.specs.Held.{name_at, shown, IsKept, Becomes, AreHeld, SuitsHeld, found}
-use Rattle.heap.specs.Kinds.{IsOfKind}
+use Rattle.heap.specs.Held.{name_at, shown, IsKept, Becomes, AreHeld, SuitsHeld}
+use Rattle.text_index.specs.Found.{found}
+use Rattle.array_elements.specs.Kinds.{IsOfKind}
 use Rattle.heap.specs.Objects.{IfThere, Suits, instance_class}
 use Rattle.jvms_machine.specs.declared.value.Value.{Value}
-use Rattle.heap.proofs.Lists.{get_map, set_map}
+use Rattle.array_elements.proofs.Lists.{get_map, set_map}
 use Rattle.heap.proofs.SlotLaws.{keys_kept}
 
 pub as_many_shown : (program : List Class) (objects : List HeldObject) → length objects ≡ length (map (shown program) objects)

@@ -2,17 +2,12 @@ pub mod ArrayLaws
 pub mod ChainLaws
 pub mod CopyLaws
 pub mod DimensionLaws
-pub mod ElementLaws
 pub mod Ends
 pub mod HeldLaws
-pub mod IndexLaws
 pub mod KeyLaws
-pub mod KindLaws
-pub mod Lists
 pub mod MakingLaws
 pub mod NamedLaws
 pub mod OpeningLaws
-pub mod RemovalLaws
 pub mod SlotLaws
 pub mod StaticLaws
 pub mod TakenBack

@@ -10,7 +10,8 @@ use Rattle.jvms_machine.specs.State.{Object, instance, instance_fields, first_in
 use Rattle.jvms_machine.proofs.ListLaws.{all_append}
 use Rattle.heap.specs.declared.held_object.HeldObject.{HeldObject}
 use Rattle.heap.specs.declared.held_object.HeldObject.TheVariants as held
-use Rattle.heap.specs.Held.{name_at, with_values, shown, IsKept, IsPlain, AreHeld, found}
+use Rattle.heap.specs.Held.{name_at, with_values, shown, IsKept, IsPlain, AreHeld}
+use Rattle.text_index.specs.Found.{found}
 use Rattle.heap.proofs.SlotLaws.{first_values_are}
 
 -- ---- Searches

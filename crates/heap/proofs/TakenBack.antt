@@ -9,11 +9,12 @@ use Rattle.jvms_file.specs.Names.{same_text}
 use Rattle.jvms_machine.specs.State.{Object, text, is_text, is_class_object}
 use Rattle.heap.specs.declared.held_object.HeldObject.{HeldObject}
 use Rattle.heap.specs.declared.held_object.HeldObject.TheVariants as held
-use Rattle.heap.specs.Held.{shown, IsKept, AreHeld, found}
+use Rattle.heap.specs.Held.{shown, IsKept, AreHeld}
+use Rattle.text_index.specs.Found.{found}
 use Rattle.heap.specs.Objects.{Heap, units_of, with_new}
 use Rattle.heap.proofs.Ends.{all_front, but_last, last_at, same_front}
-use Rattle.heap.proofs.IndexLaws.{same_here, same_is}
-use Rattle.heap.proofs.Lists.{get_map}
+use Rattle.text_index.proofs.IndexLaws.{same_here, same_is}
+use Rattle.array_elements.proofs.Lists.{get_map}
 use Rattle.heap.proofs.MakingLaws.{position_past, position_more, shown_more}
 
 -- ---- The last object is a string

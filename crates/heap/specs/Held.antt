@@ -1,17 +1,15 @@
 -- The objects that are held.
-use Rattle.std.specs.Prelude.{◌≡◌, ℕ, ◌<◌, ◌^◌, List, [], ◌∷◌, length, map, Option, unwrap_or, slice_get}
+use Rattle.std.specs.Prelude.{◌≡◌, ℕ, ◌<◌, ◌^◌, List, [], ◌∷◌, length, map, unwrap_or, slice_get}
 use Rattle.std.specs.Option.{option_map}
 use Rattle.std.specs.List.{AllByRecursion}
-use Rattle.std.specs.Map.{lookup}
-use Rattle.std.specs.Ordering.{is_eq, nat_cmp}
-use Rattle.std.specs.Cmp.Lexicographic.{slice_cmp}
 use Rattle.jvms_program.specs.declared.program.Class.{Class}
 use Rattle.jvms_program.specs.declared.key.FieldKey.{FieldKey}
 use Rattle.jvms_machine.specs.declared.value.Value.{Value}
 use Rattle.jvms_machine.specs.State.{Object, instance, array, text, class_object, instance_fields, is_text, is_class_object, text_reference, class_reference}
 use Rattle.jvms_machine.specs.Heap.{component_type}
-use Rattle.heap.specs.Kinds.{kind_of, IsOfKind}
-use Rattle.heap.specs.Elements.{values_of, kind_held}
+use Rattle.array_elements.specs.Kinds.{kind_of, IsOfKind}
+use Rattle.array_elements.specs.Elements.{values_of, kind_held}
+use Rattle.text_index.specs.Found.{found}
 use Rattle.heap.specs.declared.held_object.HeldObject.{HeldObject}
 use Rattle.heap.specs.declared.held_object.HeldObject.TheVariants as held
 
@@ -51,10 +49,6 @@ pub record Becomes (change : Object → Object) (program : List Class) (before a
   pub kept : IsKept program after
   pub text_stays : (units : List ℕ) → is_text units (shown program after) ≡ is_text units (shown program before)
   pub class_stays : (name : List ℕ) → is_class_object name (shown program after) ≡ is_class_object name (shown program before)
-
--- What is found for a text among texts and references.
-abbrev pub found : List (List ℕ × ℕ) → List ℕ → Option ℕ
-found entries units = lookup (λ k. is_eq (slice_cmp nat_cmp units k)) entries
 
 -- A value can be put among the elements that are held.
 abbrev pub SuitsHeld : Value → HeldObject → Type 0

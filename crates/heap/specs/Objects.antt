@@ -9,8 +9,8 @@ use Rattle.jvms_program.specs.Slots.{slot_of}
 use Rattle.jvms_machine.specs.State.{Object, instance, array, text, class_object, class_of, object_at}
 use Rattle.jvms_machine.specs.Arrays.{serves}
 use Rattle.jvms_machine.specs.Heap.{component_type, stored_as, value_of}
-use Rattle.heap.specs.declared.kind.Kind.TheVariants as kind
-use Rattle.heap.specs.Kinds.{kind_of, IsOfKind}
+use Rattle.array_elements.specs.declared.kind.Kind.TheVariants as kind
+use Rattle.array_elements.specs.Kinds.{kind_of, IsOfKind}
 
 -- The class of the object of a reference.
 abbrev pub class_at : List Object → ℕ → Option (List ℕ)

@@ -4,15 +4,14 @@ ghost use Rattle.std.specs.Prelude.{◌≡◌, ◌+◌, ◌*◌, ◌<◌, ◌≤
 ghost use Rattle.jvms_machine.specs.declared.value.Value.TheVariants as value;
 ghost use Rattle.jvms_machine.specs.State.{array};
 ghost use Rattle.jvms_machine.specs.Heap.{component_type, first_element, arrays_made, elements_made, part_references, new_arrays, next_reference};
-ghost use Rattle.heap.specs.declared.kind.Kind.TheVariants as kind;
-ghost use Rattle.heap.specs.Kinds.{kind_of};
+ghost use Rattle.array_elements.specs.declared.kind.Kind.TheVariants as kind;
+ghost use Rattle.array_elements.specs.Kinds.{kind_of};
 ghost use Rattle.heap.specs.Objects.{HasDimensions, with_arrays};
 ghost use Rattle.heap.specs.Arrays.{IsArray, MadeFrom};
 
-use crate::elements::Elements;
 use crate::heap::Heap;
 use crate::held_object::HeldObject;
-use crate::kind::{component, kind_of_array};
+use array_elements::{Elements, component, kind_of_array};
 use held::items::Items;
 use held::shared::{Shared, Text};
 use std::alloc::{AllocError, Global};

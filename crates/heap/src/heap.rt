@@ -10,7 +10,6 @@ ghost use Rattle.heap.specs.Objects.{IfThere, Loads, Stores, Suits, class_at, as
 ghost use Rattle.heap.specs.Held.{name_at, shown, IsKept};
 
 use crate::held_object::HeldObject;
-use crate::index::Index;
 use crate::primitive_arrays::PrimitiveArrays;
 use held::shared::Text;
 use jvms_file::insn::{ArrayKind, ArrayType};
@@ -18,6 +17,7 @@ use jvms_machine::value::Value;
 use program::Program;
 use std::alloc::Global;
 use std::marker::Model;
+use text_index::Index;
 
 /// The objects of a program's machine. Contracts see the objects themselves.
 #[derive(Drop)]

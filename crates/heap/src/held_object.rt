@@ -8,7 +8,7 @@ ghost use Rattle.jvms_machine.specs.Heap.{with_element};
 ghost use Rattle.heap.specs.Objects.{Loads, Stores, array_class, instance_class, length_of, element_of, units_of, named_by, value_in, with_slot};
 ghost use Rattle.heap.specs.Held.{name_at, shown, IsKept, SuitsHeld, Becomes};
 
-use crate::elements::Elements;
+use array_elements::Elements;
 use held::shared::Text;
 use jvms_file::insn::ArrayKind;
 use jvms_machine::value::Value;

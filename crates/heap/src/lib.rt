@@ -4,12 +4,9 @@
 
 mod arrays;
 mod copying;
-mod elements;
 mod first_values;
 mod heap;
 mod held_object;
-mod index;
-mod kind;
 pub mod laws;
 mod making;
 mod named_fields;

@@ -6,11 +6,10 @@ ghost use Rattle.jvms_machine.specs.Heap.{first_element};
 ghost use Rattle.heap.specs.Objects.{with_new, with_arrays};
 ghost use Rattle.heap.specs.Held.{name_at, shown, IsKept, IsPlain};
 
-use crate::elements::Elements;
 use crate::first_values::first_values;
 use crate::heap::Heap;
 use crate::held_object::HeldObject;
-use crate::kind::kind_of_array;
+use array_elements::{Elements, kind_of_array};
 use held::shared::Text;
 use program::Program;
 use std::alloc::AllocError;

@@ -4,12 +4,12 @@ ghost use Rattle.std.specs.Prelude.{◌≡◌, [], IfOk, OnOk, codes};
 ghost use Rattle.jvms_machine.specs.Opening.{opening_heap};
 
 use crate::heap::Heap;
-use crate::index::Index;
 use crate::primitive_arrays::PrimitiveArrays;
 use held::items::Items;
 use held::shared::{Shared, Text};
 use program::Program;
 use std::alloc::{AllocError, Global};
+use text_index::Index;
 
 /// The place of `java/lang/OutOfMemoryError` in every program.
 const OUT_OF_MEMORY: usize = 35;

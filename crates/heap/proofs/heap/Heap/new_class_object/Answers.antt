@@ -1,7 +1,8 @@
 use Rattle.std.specs.Option.{option_or}
 use Rattle.std.proofs.Common.{◌+◌, cond, length, None, Some, sym, ap, ◌∙◌, subst}
 use Rattle.jvms_file.specs.Names.{same_text}
-use Rattle.heap.specs.Held.{AreHeld, found}
+use Rattle.heap.specs.Held.{AreHeld}
+use Rattle.text_index.specs.Found.{found}
 use Rattle.heap.proofs.MakingLaws.{class_added}
 use Rattle.heap.proofs.heap.Heap.new_class_object.Goals as goal
 

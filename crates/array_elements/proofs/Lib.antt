@@ -1,0 +1,3 @@
+pub mod ElementLaws
+pub mod KindLaws
+pub mod Lists

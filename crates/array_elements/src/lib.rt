@@ -1,0 +1,8 @@
+//! The elements of arrays (JVMS 2.4), held in their array's own kind.
+#![tactic(auto)]
+
+mod elements;
+mod kind;
+
+pub use elements::{Elements, put};
+pub use kind::{Kind, component, kind_of_array};
