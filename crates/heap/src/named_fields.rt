@@ -7,8 +7,8 @@ ghost use Rattle.heap.specs.Objects.{asked, field_of, slot_in};
 
 use crate::heap::Heap;
 use crate::making::name_at;
+use classes::{FieldName, Slot};
 use jvms_machine::value::Value;
-use program::{FieldName, Slot};
 
 impl Heap<'_> {
     /// The slot of an instance's field.

@@ -6,9 +6,12 @@ ghost use Rattle.jvms_program.specs.Program.{class_named};
 ghost use Rattle.jvms_program.specs.Resolution.{is_interface_kind, names_interface};
 ghost use Rattle.linker.specs.Linking.{built_in_name, has_wrong_interface, has_wrong_superclass, is_never_extended, lacks_super, missing_super, names_of, repeated_name, wrong_super};
 
+use built_in::{is_built_in, is_named};
+use classes::OBJECT;
+use descriptor::same_text;
 use held::shared::Text;
 use jvms_program::program::{Class, ClassKind};
-use program::{OBJECT, Program, is_built_in, is_named, same_text};
+use program::Program;
 use std::alloc::{AllocError, Global};
 use std::collections::BTreeSet;
 
@@ -86,7 +89,7 @@ fn has_wrong_superclass(program: &Program, class: &Class) -> bool
         return true;
     };
     let name = superclass.as_slice();
-    program.names_interface(name)
+    program.by_name().names_interface(name)
         || is_never_extended(name)
         || (matches!(class.kind, ClassKind::Interface) && !same_text(name, &OBJECT))
 }
@@ -98,7 +101,7 @@ fn has_wrong_interface(program: &Program, class: &Class) -> bool
     let interfaces = class.interfaces.as_slice();
     interfaces
         .iter()
-        .any(|name| !program.names_interface(name.as_slice()))
+        .any(|name| !program.by_name().names_interface(name.as_slice()))
 }
 
 /// Whether the superclass of a class or a superinterface is of a wrong kind.

@@ -14,11 +14,11 @@ mod state;
 mod status;
 mod turn;
 
+pub use classes::FieldName;
 pub use fault::MachineFault;
 pub use jvms_machine::machine::{Entry, Limits, Outcome, Status, ThreadId};
 pub use jvms_machine::state::{Hold, Initialisation};
 pub use machine::{Machine, admits};
-pub use program::FieldName;
 pub use run::RunStop;
 pub use state::FrameView;
 pub use status::is_enabled;

@@ -7,6 +7,7 @@ ghost use Rattle.jvms_machine.specs.Opening.{opening_heap, opening_initialisatio
 ghost use Rattle.jvms_machine.specs.State.{new_thread, static_fields};
 ghost use Rattle.machine.specs.Started.{with_arguments, opened};
 
+use built_in::is_built_in;
 use heap::{Heap, Statics};
 use jvms_machine::machine::{Entry, Limits};
 use jvms_machine::state::Initialisation;
@@ -16,7 +17,7 @@ use jvms_program::program::Class;
 use machine_parts::Parts;
 use machine_thread::Thread;
 use monitors::Monitors;
-use program::{Program, is_built_in};
+use program::Program;
 use std::alloc::{AllocError, Global};
 
 /// The reference of main's argument, an array of no strings.

@@ -3,14 +3,15 @@
 ghost use Rattle.std.specs.Prelude.{◌≡◌};
 ghost use Rattle.std.specs.Option.{option_map};
 ghost use Rattle.jvms_machine.specs.Start.{start_of, takes_arguments as takes, entry_reference, resolved_entry as resolved};
-ghost use Rattle.program.specs.MethodNames.{reference};
+ghost use Rattle.classes.specs.MethodNames.{reference};
 ghost use Rattle.machine.specs.Entries.{is_int_letter, has_letters, takes_ints};
 ghost use Rattle.machine.specs.Started.{with_arguments};
 
+use classes::MethodNames;
 use descriptor::{is_initializer_name, is_method_descriptor};
 use jvms_machine::machine::Entry;
 use jvms_program::number::MethodNumber;
-use program::{MethodNames, Program};
+use program::Program;
 
 /// The name of an entry that is a class, `main`.
 const MAIN: [u16; 4] = [109, 97, 105, 110];
@@ -103,7 +104,7 @@ pub(crate) fn start_of(program: &Program, entry: &Entry) -> Option<MethodNumber>
     if !takes_arguments(entry) {
         return None;
     }
-    let Ok(place) = program.resolve_named(true, names(entry)) else {
+    let Ok(place) = program.by_name().resolve_named(true, names(entry)) else {
         return None;
     };
     let number = MethodNumber {

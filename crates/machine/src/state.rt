@@ -7,10 +7,11 @@ mod objects;
 mod threads;
 
 use crate::machine::Machine;
+use classes::FieldName;
 use jvms_machine::machine::Limits;
 use jvms_machine::state::Initialisation;
 use jvms_machine::value::Value;
-use program::{FieldName, Program};
+use program::Program;
 pub use threads::FrameView;
 
 impl<'p> Machine<'p> {

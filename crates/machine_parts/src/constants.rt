@@ -12,12 +12,12 @@ ghost use Rattle.machine_parts.specs.Ready.{texts_to_make};
 
 use crate::parts::Parts;
 use crate::stored::stored_in_field;
+use classes::FieldName;
 use descriptor::same_text;
 use held::shared::Text;
 use jvms_file::descriptor::FieldType;
 use jvms_machine::value::Value;
 use jvms_program::program::{Class, Field, Loadable};
-use program::FieldName;
 use std::alloc::AllocError;
 
 /// The string that initialisation stores in a field, if it stores one.

@@ -1,13 +1,5 @@
-pub mod Chains
-pub mod Marks
-pub mod MethodNames
-pub mod Numbers
-pub mod Ordinary
-pub mod Places
-pub mod Searches
 pub mod Selecting
 pub mod Selections
 pub mod Signatures
-pub mod Slots
 pub mod Tables
 pub mod TablesOf

@@ -1,10 +1,12 @@
 //! What is looked up in programs, by the Java Virtual Machine Specification (JVMS 5.4.3, 6.5).
 
+use built_in::is_built_in;
+use classes::OBJECT;
 use fixtures::members::{field_reference, method_reference};
 use fixtures::texts::units;
 use jvms_program::number::MethodNumber;
 use jvms_program::thrown::Thrown;
-use program::{OBJECT, Program, is_built_in};
+use program::Program;
 use source_programs::program_of;
 use std::alloc::Global;
 use std::test::Fail;

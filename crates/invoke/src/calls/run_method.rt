@@ -1,7 +1,7 @@
 //! The first call of a thread that was started: `run` of its Thread object (Java SE API, `Thread.run`).
 
 ghost use Rattle.std.specs.Prelude.{◌≡◌, Some};
-ghost use Rattle.program.specs.Places.{IsMethodAt, Locates};
+ghost use Rattle.classes.specs.Places.{IsMethodAt, Locates};
 ghost use Rattle.jvms_program.specs.Resolution.{MethodFound};
 ghost use Rattle.jvms_machine.specs.Calls.{run_of_object as runs_object, run_decision as runs, selected_run as runs_selected};
 ghost use Rattle.jvms_machine.specs.State.{object_at};
@@ -51,7 +51,10 @@ fn run_of_object<'p>(parts: &Parts<'p>, t: usize, thread: &Thread, reference: u3
     match parts.heap.class_of(reference) {
         None => never_seen(),
         Some(class) => {
-            let selected = parts.program().select_named(class, &RUN, &NOTHING);
+            let selected = parts
+                .program()
+                .by_name()
+                .select_named(class, &RUN, &NOTHING);
             selected_run(parts, t, thread, reference, selected)
         }
     }

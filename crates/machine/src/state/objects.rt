@@ -6,9 +6,9 @@ ghost use Rattle.jvms_machine.specs.State.{monitor_at, text_reference, class_ref
 ghost use Rattle.heap.specs.Objects.{asked, class_at, field_of, length_of, element_of, units_of, named_by};
 
 use crate::machine::Machine;
+use classes::FieldName;
 use jvms_machine::state::Hold;
 use jvms_machine::value::Value;
-use program::FieldName;
 
 impl Machine<'_> {
     /// How many references were ever made.

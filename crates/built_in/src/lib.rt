@@ -1,0 +1,12 @@
+//! The classes that every program has, and their names.
+#![tactic(auto)]
+
+mod all;
+mod classes;
+mod code;
+mod members;
+mod text;
+mod throwables;
+
+pub use all::{built_in_classes, is_built_in};
+pub use text::{is_named, is_text};

@@ -1,0 +1,46 @@
+//! Texts of a program's data.
+
+ghost use Rattle.std.specs.Prelude.{◌≡◌, IfOk};
+ghost use Rattle.jvms_file.specs.Names.{same_text};
+
+use held::items::Items;
+use held::shared::{Shared, Text};
+use std::alloc::{AllocError, Global};
+
+/// The units of an ASCII text.
+pub(crate) fn text(alloc: Global, ascii: &str) -> Result<Text, AllocError>
+    ensures { IfOk result (λ units. units ≡ ascii.now) }
+{
+    let mut units = Vec::new(alloc);
+    for byte in ascii.as_bytes() {
+        units.push(u16::from(*byte))?;
+    }
+    Shared::new(alloc, Items::from_vec(units))
+}
+
+/// Whether bytes and units are the same text.
+fn are_same(bytes: &[u8], units: &[u16]) -> bool
+    ensures { result ≡ same_text bytes.now units.now }
+{
+    match (bytes.split_first(), units.split_first()) {
+        (None, None) => true,
+        (Some((byte, bytes)), Some((unit, units))) => {
+            u16::from(*byte) == *unit && are_same(bytes, units)
+        }
+        _ => false,
+    }
+}
+
+/// Whether units are those of an ASCII text.
+pub fn is_text(ascii: &str, units: &[u16]) -> bool
+    ensures { result ≡ same_text ascii.now units.now }
+{
+    are_same(ascii.as_bytes(), units)
+}
+
+/// Whether a name is an ASCII text.
+pub fn is_named(name: &[u16], ascii: &str) -> bool
+    ensures { result ≡ same_text name.now ascii.now }
+{
+    is_text(ascii, name)
+}

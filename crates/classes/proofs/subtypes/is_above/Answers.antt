@@ -1,0 +1,9 @@
+use Rattle.std.proofs.Common.{ℕ, ap, ◌∙◌}
+use Rattle.std.specs.Prelude.{is_some}
+use Rattle.jvms_program.specs.Resolution.{ancestry}
+use Rattle.classes.proofs.WalkLaws.{first_in_named}
+use Rattle.classes.proofs.subtypes.is_above.Goals as goal
+
+pub returns : goal.returns
+returns c =
+    c.is_some.ensures ∙ ap (λ o. is_some {T = ℕ × ℕ} o) c.first_in_ancestry.ensures ∙ first_in_named c.args.name.now (ancestry c.args.program.now c.args.class.now)

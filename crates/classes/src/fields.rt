@@ -1,0 +1,47 @@
+//! Resolution of fields (JVMS 5.4.3.2).
+
+ghost use Rattle.std.specs.Prelude.{◌≡◌};
+ghost use Rattle.jvms_program.specs.Resolution.{found_field, resolved_field};
+ghost use Rattle.classes.specs.Places.{IsFieldAt, Locates, Resolves};
+
+use crate::exists::class_exists;
+use crate::list::Classes;
+use crate::look::DeclaredField;
+use crate::lookup::field_at;
+use crate::names::members_class;
+use crate::walk::first_in_ancestry;
+use jvms_program::program::FieldReference;
+use jvms_program::thrown::Thrown;
+
+/// The field that a reference finds.
+fn found_field(program: &Classes, r: &FieldReference) -> Option<(usize, usize)>
+    ensures { Locates (IsFieldAt program.now) (found_field program.now r.now) result }
+{
+    let look = DeclaredField {
+        name: r.name.as_slice(),
+        descriptor: r.descriptor.as_slice(),
+    };
+    first_in_ancestry(program, members_class(r.class.as_slice()), &look)
+}
+
+impl Classes {
+    /// The field that a reference names (JVMS 5.4.3.2): the numbers of its class and of it there.
+    pub fn resolve_field(
+        &self,
+        is_static: bool,
+        r: &FieldReference,
+    ) -> Result<(usize, usize), Thrown>
+        ensures { Resolves (IsFieldAt self.now) (resolved_field self.now is_static r.now) result }
+    {
+        if !class_exists(self, r.class.as_slice()) {
+            return Err(Thrown::NoClassDefFoundError);
+        }
+        let Some(place) = found_field(self, r) else {
+            return Err(Thrown::NoSuchFieldError);
+        };
+        match field_at(self, place) {
+            Some(field) if field.is_static == is_static => Ok(place),
+            _ => Err(Thrown::IncompatibleClassChangeError),
+        }
+    }
+}

@@ -1,0 +1,68 @@
+//! Resolution of methods (JVMS 5.4.3.3, 5.4.3.4).
+
+ghost use Rattle.std.specs.Prelude.{◌≡◌};
+ghost use Rattle.jvms_file.specs.Names.{is_constructor_name};
+ghost use Rattle.jvms_program.specs.Resolution.{names_interface, members_class, found_in_order, found_method};
+ghost use Rattle.classes.specs.MethodNames.{reference};
+ghost use Rattle.classes.specs.Places.{IsMethodAt, Locates};
+
+use crate::list::Classes;
+use crate::look::DeclaredMethod;
+use crate::lookup::numbered;
+use crate::names::members_class;
+use crate::order::{first_for_class, first_for_interface};
+use crate::walk::Look;
+use descriptor::is_constructor_name;
+use jvms_program::program::ClassKind;
+
+/// A method by its names: what resolution asks of a reference.
+#[derive(Clone, Copy)]
+pub struct MethodNames<'a> {
+    /// Whether the pool entry is an InterfaceMethodref.
+    pub is_interface: bool,
+    pub class: &'a [u16],
+    pub name: &'a [u16],
+    pub descriptor: &'a [u16],
+}
+
+impl Classes {
+    /// Whether the class of a name is there, and an interface.
+    pub fn names_interface(&self, name: &[u16]) -> bool
+        ensures { result ≡ names_interface self.now name.now }
+    {
+        match self.class_named(name) {
+            Some(class) => matches!(class.kind, ClassKind::Interface),
+            None => false,
+        }
+    }
+}
+
+/// The method that a reference finds in the order of the classes above.
+fn found_in_order(program: &Classes, r: MethodNames) -> Option<(usize, usize)>
+    ensures { Locates (IsMethodAt program.now) (found_in_order program.now (reference r.entry)) result }
+{
+    let look = DeclaredMethod {
+        name: r.name,
+        descriptor: r.descriptor,
+    };
+    if r.is_interface {
+        first_for_interface(program, r.class, &look)
+    } else {
+        first_for_class(program, members_class(r.class), &look)
+    }
+}
+
+/// The method that a reference finds. A constructor is looked for in the named class alone.
+pub(crate) fn found_method(program: &Classes, r: MethodNames) -> Option<(usize, usize)>
+    ensures { Locates (IsMethodAt program.now) (found_method program.now (reference r.entry)) result }
+{
+    if !is_constructor_name(r.name) {
+        return found_in_order(program, r);
+    }
+    let (number, class) = numbered(program, r.class)?;
+    let look = DeclaredMethod {
+        name: r.name,
+        descriptor: r.descriptor,
+    };
+    look.look(number, class)
+}

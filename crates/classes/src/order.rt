@@ -1,0 +1,45 @@
+//! The classes that method resolution passes, in order (JVMS 5.4.3.3, 5.4.3.4).
+
+ghost use Rattle.std.specs.Prelude.{◌≡◌};
+ghost use Rattle.jvms_program.specs.Resolution.{class_method_order, interface_method_order, first_in};
+ghost use Rattle.classes.specs.Places.{placed};
+
+use crate::list::Classes;
+use crate::lookup::numbered;
+use crate::names::OBJECT;
+use crate::walk::{Look, first_in_ancestries, first_in_interfaces_up, first_up};
+
+/// What is found first where a method of a class is looked for (JVMS 5.4.3.3).
+#[tactic(auto, using(crate::proofs::WalkLaws::appended))]
+pub(crate) fn first_for_class<L: Look>(
+    program: &Classes,
+    name: &[u16],
+    look: &L,
+) -> Option<(usize, usize)>
+    ensures { result ≡ first_in (placed program.now (L.gives look.now)) (class_method_order program.now name.now) }
+{
+    if let Some(found) = first_up(program, name, look) {
+        return Some(found);
+    }
+    first_in_interfaces_up(program, name, look)
+}
+
+/// What is found first where a method of an interface is looked for (JVMS 5.4.3.4).
+pub(crate) fn first_for_interface<L: Look>(
+    program: &Classes,
+    name: &[u16],
+    look: &L,
+) -> Option<(usize, usize)>
+    ensures { result ≡ first_in (placed program.now (L.gives look.now)) (interface_method_order program.now name.now) }
+{
+    let (number, interface) = numbered(program, name)?;
+    if let Some(found) = look.look(number, interface) {
+        return Some(found);
+    }
+    if let Some((number, object)) = numbered(program, &OBJECT) {
+        if let Some(found) = look.look(number, object) {
+            return Some(found);
+        }
+    }
+    first_in_ancestries(program, interface.interfaces.as_slice(), look)
+}

@@ -1,0 +1,55 @@
+//! Resolution of what instructions name (JVMS 5.4.3).
+
+ghost use Rattle.jvms_program.specs.Resolution.{resolved_method};
+ghost use Rattle.classes.specs.MethodNames.{reference};
+ghost use Rattle.classes.specs.Places.{IsMethodAt, Resolves};
+
+use crate::exists::class_exists;
+use crate::list::Classes;
+use crate::methods::{MethodNames, found_method};
+use jvms_program::number::MethodNumber;
+use jvms_program::program::MethodReference;
+use jvms_program::thrown::Thrown;
+
+impl Classes {
+    /// The method of these names (JVMS 5.4.3.3, 5.4.3.4): the numbers of its class and of it there. It takes
+    /// no memory.
+    pub fn resolve_named(&self, is_static: bool, r: MethodNames) -> Result<(usize, usize), Thrown>
+        ensures { Resolves (IsMethodAt self.now) (resolved_method self.now is_static (reference r.entry)) result }
+    {
+        if !class_exists(self, r.class) {
+            return Err(Thrown::NoClassDefFoundError);
+        }
+        if r.is_interface != self.names_interface(r.class) {
+            return Err(Thrown::IncompatibleClassChangeError);
+        }
+        let Some(place) = found_method(self, r) else {
+            return Err(Thrown::NoSuchMethodError);
+        };
+        let number = MethodNumber {
+            class: place.0,
+            method: place.1,
+        };
+        match self.method(number) {
+            Some(method) if method.flags.is_static == is_static => Ok(place),
+            _ => Err(Thrown::IncompatibleClassChangeError),
+        }
+    }
+
+    /// The method that a reference names (JVMS 5.4.3.3, 5.4.3.4): the numbers of its class and of it there.
+    pub fn resolve_method(
+        &self,
+        is_static: bool,
+        r: &MethodReference,
+    ) -> Result<(usize, usize), Thrown>
+        ensures { Resolves (IsMethodAt self.now) (resolved_method self.now is_static r.now) result }
+    {
+        let named = MethodNames {
+            is_interface: r.is_interface,
+            class: r.class.as_slice(),
+            name: r.name.as_slice(),
+            descriptor: r.descriptor.as_slice(),
+        };
+        self.resolve_named(is_static, named)
+    }
+}

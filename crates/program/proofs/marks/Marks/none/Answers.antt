@@ -1,5 +1,0 @@
-use Rattle.program.proofs.MarkLaws.{none_marked}
-use Rattle.program.proofs.marks.Marks.none.Goals as goal
-
-pub returns : goal.returns
-returns c = λ number marked. none_marked 2048 number marked
