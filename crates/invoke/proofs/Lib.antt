@@ -1,3 +1,2 @@
 pub mod Entering
-mod FailedClasses
 mod Printed

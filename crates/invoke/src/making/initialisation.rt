@@ -2,19 +2,27 @@
 
 ghost use Rattle.std.specs.Prelude.{◌≡◌, ◌+◌, ◌<◌, ◌^◌, OnOk, OnErr, length, map};
 ghost use Rattle.jvms_machine.specs.declared.action.Action.TheVariants as action;
-ghost use Rattle.jvms_machine.specs.Actions.{begun, with_changed, with_initialisation as marked, with_texts};
+ghost use Rattle.jvms_machine.specs.Actions.{begun, initialising, items_of, with_changed, with_initialisation as marked, with_texts};
 ghost use Rattle.jvms_machine.specs.State.{text};
+ghost use Rattle.jvms_machine.specs.Turn.{IsReady};
 ghost use Rattle.heap.specs.Objects.{with_new};
+ghost use Rattle.machine_parts.specs.Marks.{listed};
 ghost use Rattle.machine_parts.specs.Ready.{HasTextsToMake};
 ghost use Rattle.machine_parts.specs.Machine.{with_state, after};
+ghost use Rattle.trace.specs.Recording.{recorded};
 
+use frames::Frame;
 use heap::Heap;
 use held::shared::Text;
 use jvms_machine::machine::ThreadId;
 use jvms_machine::state::Initialisation;
-use machine_parts::Parts;
+use jvms_machine::trace::Item;
+use jvms_program::number::MethodNumber;
+use jvms_program::program::Body;
+use machine_parts::{Parts, push_listed};
 use machine_thread::Thread;
 use std::alloc::AllocError;
+use trace::Recording;
 
 /// Puts the frame of an initialisation on a thread, and makes strings. Without memory for all of it nothing changes.
 fn begin_with_texts(
@@ -38,7 +46,7 @@ fn begin_with_texts(
 }
 
 /// Marks how far the initialisation of a class has come.
-pub(crate) fn mark(parts: &mut Parts, class: usize, how: Initialisation)
+pub fn mark(parts: &mut Parts, class: usize, how: Initialisation)
     ensures { parts.new ≡ with_state parts.old (marked parts.old.state class how) }
 {
     if let Some(slot) = parts.initialisations.get_mut(class) {
@@ -88,4 +96,46 @@ pub fn finish(parts: &mut Parts, t: ThreadId, class: usize)
         thread.pop();
     }
     mark(parts, class, Initialisation::Done);
+}
+
+/// Makes the call of a `<clinit>`, with its mark.
+fn call_initializer<'p>(
+    thread: &mut Thread<'p>,
+    frame: Frame<'p>,
+    item: Option<Item>,
+    trace: &mut Recording,
+) -> Result<(), AllocError>
+    ensures state { OnOk result (thread.new ≡ initialising frame.entry thread.old) }
+    ensures items { OnOk result (trace.new ≡ recorded trace.old (listed item)) }
+    ensures kept { OnErr result (thread.new ≡ thread.old) }
+    ensures no_items { OnErr result (trace.new ≡ trace.old) }
+{
+    thread.push_call(frame)?;
+    if let Err(error) = push_listed(trace, item) {
+        thread.pop();
+        return Err(error);
+    }
+    thread.set_initializer_called();
+    Ok(())
+}
+
+/// Calls the `<clinit>` of the class whose initialisation is on top.
+#[tactic(auto, unfolding(jvms_machine::specs::Actions::applied_to, jvms_machine::specs::Actions::items_of))]
+pub fn initialise<'p>(
+    parts: &mut Parts<'p>,
+    t: ThreadId,
+    method: MethodNumber,
+    code: &'p Body,
+    trace: &mut Recording,
+) -> Result<(), AllocError>
+    requires { IsReady parts.old.start parts.old.state t (action.Initialises method code.now) }
+    ensures state { OnOk result (parts.new ≡ after parts.old t (action.Initialises method code.now)) }
+    ensures items { OnOk result (trace.new ≡ recorded trace.old (items_of parts.old.program t (action.Initialises method code.now))) }
+    ensures kept { OnErr result (parts.new ≡ parts.old) }
+    ensures no_items { OnErr result (trace.new ≡ trace.old) }
+{
+    let frame = Frame::new(parts.alloc, method, code, None, &[])?;
+    let item = parts.enter_item(t, method)?;
+    call_initializer(&mut parts.threads[t as usize], frame, item, trace)?;
+    Ok(())
 }

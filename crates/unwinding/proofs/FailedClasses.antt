@@ -8,7 +8,7 @@ use Rattle.jvms_machine.specs.declared.action.Exception.TheVariants as exception
 use Rattle.jvms_machine.specs.State.{State, Object, class_of}
 use Rattle.jvms_machine.specs.Exceptions.{exception_of}
 use Rattle.jvms_machine.specs.Unwinding.{failed_with}
-use Rattle.invoke.specs.Replacing.{is_replaced}
+use Rattle.unwinding.specs.Replacing.{is_replaced}
 
 module _ (program : List Class) (limits : Limits) (s : State) (called : Bool) (r : ℕ) (o : Object) (class : List ℕ) (same : class ≡ class_of o) where
   told : (b : Bool) → is_replaced program called class ≡ b → cond b (exception_of limits s thrown.ExceptionInInitializerError) (exception.Held r) ≡ failed_with program limits s called r o

@@ -6,7 +6,7 @@ ghost use Rattle.jvms_machine.specs.Arrays.{with_object_of};
 ghost use Rattle.jvms_machine.specs.State.{Object, class_of};
 ghost use Rattle.jvms_machine.specs.Unwinding.{covers, takes_class, handles, handler_of, popped_decision as pops, handler_decision as handled, failed_with, top_decision as unwinds_top, unwinding_decision as unwinds, throwable_decision as throwable, throw_decision as throws_it};
 ghost use Rattle.machine_parts.specs.Decided.{seen};
-ghost use Rattle.invoke.specs.Replacing.{is_replaced};
+ghost use Rattle.unwinding.specs.Replacing.{is_replaced};
 
 use frames::Frame;
 use jvms_machine::action::{Action, Decision, Exception};

@@ -1,69 +1,22 @@
-//! What a pending exception makes of a machine (JVMS 2.10), and the `<clinit>` of a class (JVMS 5.5).
+//! What a pending exception makes of a machine (JVMS 2.10).
 
 ghost use Rattle.std.specs.Prelude.{◌≡◌, [], IsOk, IsTrue, OnOk, OnErr};
 ghost use Rattle.jvms_machine.specs.declared.action.Action.TheVariants as action;
-ghost use Rattle.jvms_machine.specs.Actions.{initialising, items_of};
+ghost use Rattle.jvms_machine.specs.Actions.{items_of};
 ghost use Rattle.jvms_machine.specs.Turn.{IsReady};
 ghost use Rattle.machine_parts.specs.Decided.{is_held};
 ghost use Rattle.machine_parts.specs.Machine.{after};
-ghost use Rattle.machine_parts.specs.Marks.{listed};
 ghost use Rattle.machine_parts.specs.Ready.{HasReference};
 ghost use Rattle.trace.specs.Recording.{recorded};
 
-use crate::making::initialisation::mark;
-use frames::Frame;
+use invoke::mark;
 use jvms_machine::action::{Exception, MonitorUse};
 use jvms_machine::machine::ThreadId;
 use jvms_machine::state::Initialisation;
-use jvms_machine::trace::Item;
 use jvms_program::number::MethodNumber;
-use jvms_program::program::Body;
 use machine_parts::{Parts, push_listed};
-use machine_thread::Thread;
 use std::alloc::AllocError;
 use trace::Recording;
-
-/// Makes the call of a `<clinit>`, with its mark.
-fn call_initializer<'p>(
-    thread: &mut Thread<'p>,
-    frame: Frame<'p>,
-    item: Option<Item>,
-    trace: &mut Recording,
-) -> Result<(), AllocError>
-    ensures state { OnOk result (thread.new ≡ initialising frame.entry thread.old) }
-    ensures items { OnOk result (trace.new ≡ recorded trace.old (listed item)) }
-    ensures kept { OnErr result (thread.new ≡ thread.old) }
-    ensures no_items { OnErr result (trace.new ≡ trace.old) }
-{
-    thread.push_call(frame)?;
-    if let Err(error) = push_listed(trace, item) {
-        thread.pop();
-        return Err(error);
-    }
-    thread.set_initializer_called();
-    Ok(())
-}
-
-/// Calls the `<clinit>` of the class whose initialisation is on top.
-#[tactic(auto, unfolding(jvms_machine::specs::Actions::applied_to, jvms_machine::specs::Actions::items_of))]
-pub fn initialise<'p>(
-    parts: &mut Parts<'p>,
-    t: ThreadId,
-    method: MethodNumber,
-    code: &'p Body,
-    trace: &mut Recording,
-) -> Result<(), AllocError>
-    requires { IsReady parts.old.start parts.old.state t (action.Initialises method code.now) }
-    ensures state { OnOk result (parts.new ≡ after parts.old t (action.Initialises method code.now)) }
-    ensures items { OnOk result (trace.new ≡ recorded trace.old (items_of parts.old.program t (action.Initialises method code.now))) }
-    ensures kept { OnErr result (parts.new ≡ parts.old) }
-    ensures no_items { OnErr result (trace.new ≡ trace.old) }
-{
-    let frame = Frame::new(parts.alloc, method, code, None, &[])?;
-    let item = parts.enter_item(t, method)?;
-    call_initializer(&mut parts.threads[t as usize], frame, item, trace)?;
-    Ok(())
-}
 
 /// The object on top of the operands is taken off, and is pending.
 #[tactic(auto, unfolding(jvms_machine::specs::Actions::applied_to))]
