@@ -152,16 +152,31 @@ fn given_in_the_end(machine: &mut Machine<'_>) -> Result<Option<Value>, AllocErr
     Ok(machine.result())
 }
 
-/// What a machine gives in the end, and before it a copy of it that was made behind so many turns.
-fn given_by_both(alloc: Global, program: &Program, turns: u64) -> Result<[Option<Value>; 2], Fail> {
-    let entry = entry(alloc, "P", &[3, 4])?;
-    let mut machine = Machine::new(alloc, program, LIMITS, &entry)?;
-    let _ = machine.step_on(0, turns, &mut Recording::of_nothing());
+/// What two machines give in the end, one after the other.
+fn given_by(
+    first: &mut Machine<'_>,
+    second: &mut Machine<'_>,
+) -> Result<[Option<Value>; 2], AllocError> {
+    Ok([given_in_the_end(first)?, given_in_the_end(second)?])
+}
+
+/// What a copy of a machine gives in the end, and then the machine itself.
+fn given_by_both(machine: &mut Machine<'_>) -> Result<[Option<Value>; 2], AllocError> {
     let mut copy = machine.copy()?;
-    Ok([
-        given_in_the_end(&mut copy)?,
-        given_in_the_end(&mut machine)?,
-    ])
+    given_by(&mut copy, machine)
+}
+
+/// A machine that counts.
+fn counting(alloc: Global, program: &Program) -> Result<Machine<'_>, Fail> {
+    let entry = entry(alloc, "P", &[3, 4])?;
+    Ok(Machine::new(alloc, program, LIMITS, &entry)?)
+}
+
+/// What a machine gives in the end, and before it a copy of it that was made behind so many turns.
+fn given_behind(alloc: Global, program: &Program, turns: u64) -> Result<[Option<Value>; 2], Fail> {
+    let mut machine = counting(alloc, program)?;
+    let _ = machine.step_on(0, turns, &mut Recording::of_nothing());
+    Ok(given_by_both(&mut machine)?)
 }
 
 /// Behind nine turns there are a string, its monitor, an array and a static field with a value.
@@ -170,7 +185,7 @@ fn a_copy_goes_on_for_itself(rt: HostRuntime) -> Result<(), Fail> {
     let program = program_of(rt.alloc(), &[COUNTS])?;
     let seven = Some(Value::Int(7));
     for turns in 0..12 {
-        assert_eq!(rt; given_by_both(rt.alloc(), &program, turns)?, [seven, seven]);
+        assert_eq!(rt; given_behind(rt.alloc(), &program, turns)?, [seven, seven]);
     }
     Ok(())
 }
