@@ -2,12 +2,13 @@
 
 /// A value. A reference is its number; the return address of `jsr` is a place in a list of
 /// instructions.
-#[derive(Clone, Copy, Debug, PartialEq, Eq)]
+#[derive(Clone, Copy, Debug, Default, PartialEq, Eq)]
 pub enum Value {
     Int(i32),
     Null,
     Reference(u32),
     ReturnAddress(usize),
     /// Nothing was stored yet.
+    #[default]
     Unset,
 }
