@@ -28,13 +28,18 @@ fn a_load_takes_two_bytes_of_number_above_255(rt: HostRuntime) -> Result<(), Fai
     Ok(())
 }
 
+/// Whether a pool is full with so many fields.
+fn is_full(alloc: Global, fields: u32) -> Result<bool, Fail> {
+    let text = int_behind_fields(alloc, fields)?;
+    let result = assembled(alloc, text.as_str())?;
+    Ok(matches!(result, Err(AsmFault::PoolFull)))
+}
+
 #[test]
 fn a_pool_has_numbers_up_to_65534(rt: HostRuntime) -> Result<(), Fail> {
     let last = int_behind_fields(rt.alloc(), 65_525)?;
     assert!(rt; assembled(rt.alloc(), last.as_str())?.is_ok());
-    let full = int_behind_fields(rt.alloc(), 65_526)?;
-    let refused = assembled(rt.alloc(), full.as_str())?;
-    assert!(rt; matches!(refused, Err(AsmFault::PoolFull)));
+    assert!(rt; is_full(rt.alloc(), 65_526)?);
     Ok(())
 }
 
@@ -46,14 +51,19 @@ fn goto_over(alloc: Global, nops: usize) -> Result<String, AllocError> {
     method(alloc, "()V", 0, lines.as_str())
 }
 
+/// Whether a goto over so many nops is too far.
+fn is_too_far(alloc: Global, nops: usize) -> Result<bool, Fail> {
+    let text = goto_over(alloc, nops)?;
+    let result = assembled(alloc, text.as_str())?;
+    Ok(matches!(result, Err(AsmFault::BranchTooFar)))
+}
+
 #[test]
 fn a_branch_reaches_32767_bytes(rt: HostRuntime) -> Result<(), Fail> {
     let far = goto_over(rt.alloc(), 32_764)?;
     let class = assembled(rt.alloc(), far.as_str())??;
     let begin = code_of(&class).and_then(|code| code.get(..3));
     assert!(rt; begin == Some(&[0xa7, 0x7f, 0xff]));
-    let too_far = goto_over(rt.alloc(), 32_765)?;
-    let refused = assembled(rt.alloc(), too_far.as_str())?;
-    assert!(rt; matches!(refused, Err(AsmFault::BranchTooFar)));
+    assert!(rt; is_too_far(rt.alloc(), 32_765)?);
     Ok(())
 }

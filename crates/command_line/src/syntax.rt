@@ -110,13 +110,23 @@ fn list_syntax<'a>(alloc: Global) -> Result<Command<'a>, AllocError> {
     bare(alloc, "list").arg(file(alloc, FILE))
 }
 
-/// All commands.
-pub(crate) fn syntax<'a>(alloc: Global) -> Result<Command<'a>, AllocError> {
-    bare(alloc, "jvmx")
+/// The commands that run a program, beside others.
+fn with_runs<'a>(alloc: Global, command: Command<'a>) -> Result<Command<'a>, AllocError> {
+    command
         .subcommand(program_syntax(alloc, "eval")?)?
         .subcommand(run_syntax(alloc)?)?
-        .subcommand(scheduled_syntax(alloc, "trace")?)?
+        .subcommand(scheduled_syntax(alloc, "trace")?)
+}
+
+/// The commands that read or write other texts, beside others.
+fn with_texts<'a>(alloc: Global, command: Command<'a>) -> Result<Command<'a>, AllocError> {
+    command
         .subcommand(check_syntax(alloc)?)?
         .subcommand(asm_syntax(alloc)?)?
         .subcommand(list_syntax(alloc)?)
+}
+
+/// All commands.
+pub(crate) fn syntax<'a>(alloc: Global) -> Result<Command<'a>, AllocError> {
+    with_texts(alloc, with_runs(alloc, bare(alloc, "jvmx"))?)
 }

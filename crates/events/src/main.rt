@@ -69,26 +69,56 @@ fn feed(checker: &mut Checker, trace: &Trace) -> Option<()> {
     Some(())
 }
 
-/// A checker that was fed a shape's rounds, until it has so many events.
-fn fed(alloc: Global, shape: &str, threads: u32, events: u64) -> Option<Checker> {
-    let spec = Spec::read(alloc, "atomic *\n").ok()?;
+/// What comes before all rounds, and a round.
+fn traces_of(alloc: Global, shape: &str, threads: u32) -> Option<(Trace, Trace)> {
     let opening = trace_text::read(alloc, opening_of(shape)).ok()?;
     let text = round_of(alloc, shape, threads).ok()?;
     let round = trace_text::read(alloc, text.as_str()).ok()?;
-    let mut checker = Checker::new(alloc, spec).ok()?;
-    feed(&mut checker, &opening)?;
+    Some((opening, round))
+}
+
+/// A checker of all methods.
+fn checker_of_all(alloc: Global) -> Option<Checker> {
+    let spec = Spec::read(alloc, "atomic *\n").ok()?;
+    Checker::new(alloc, spec).ok()
+}
+
+/// Feeds rounds until a checker has so many events.
+fn feed_rounds(checker: &mut Checker, round: &Trace, events: u64) -> Option<()> {
     for _ in 0..events {
         if checker.counts().events >= events {
             break;
         }
-        feed(&mut checker, &round)?;
+        feed(checker, round)?;
     }
+    Some(())
+}
+
+/// A checker that was fed a shape's rounds, until it has so many events.
+fn fed(alloc: Global, shape: &str, threads: u32, events: u64) -> Option<Checker> {
+    let (opening, round) = traces_of(alloc, shape, threads)?;
+    let mut checker = checker_of_all(alloc)?;
+    feed(&mut checker, &opening)?;
+    feed_rounds(&mut checker, &round, events)?;
     Some(checker)
 }
 
 /// The number that a word is.
 fn number_of(word: Option<&String>, otherwise: u64) -> u64 {
     word.and_then(|word| word.parse().ok()).unwrap_or(otherwise)
+}
+
+/// Prints what a checker says of what it was fed.
+fn print(rt: &HostRuntime, checker: &Checker) -> io::Result<()> {
+    let counts = checker.counts();
+    let how = match checker.verdict()? {
+        Verdict::Atomic { .. } => "atomic",
+        Verdict::Cycle { .. } => "cycle",
+    };
+    println!(rt;
+        "{how} events {} transactions {}",
+        counts.events, counts.transactions
+    )
 }
 
 fn main(rt: HostRuntime) -> io::Result<ExitCode> {
@@ -99,14 +129,6 @@ fn main(rt: HostRuntime) -> io::Result<ExitCode> {
     let Some(checker) = fed(rt.alloc(), shape, threads, events) else {
         return Ok(ExitCode::from(3));
     };
-    let counts = checker.counts();
-    let how = match checker.verdict()? {
-        Verdict::Atomic { .. } => "atomic",
-        Verdict::Cycle { .. } => "cycle",
-    };
-    println!(rt;
-        "{how} events {} transactions {}",
-        counts.events, counts.transactions
-    )?;
+    print(&rt, &checker)?;
     Ok(ExitCode::SUCCESS)
 }

@@ -68,23 +68,52 @@ fn copied_threads<'p>(alloc: Global, threads: &[Thread<'p>]) -> Result<Vec<Threa
     Ok(copies)
 }
 
+/// The same objects and the same static fields once more.
+fn copied_fields<'p>(
+    alloc: Global,
+    heap: &Heap<'p>,
+    statics: &Statics<'p>,
+) -> Result<(Heap<'p>, Statics<'p>), AllocError>
+    ensures { IfOk result (λ copies. (copies.0 ≡ heap.now) × (copies.1 ≡ statics.now)) }
+{
+    let copy = heap.copy()?;
+    Ok((copy, statics.copy(alloc)?))
+}
+
+/// The same threads, and how they hold monitors, once more.
+fn copied_holders<'p>(
+    alloc: Global,
+    threads: &[Thread<'p>],
+    monitors: &Monitors,
+) -> Result<(Vec<Thread<'p>>, Monitors), AllocError>
+    ensures { IfOk result (λ copies. (copies.0.items ≡ threads.now) × (copies.1 ≡ monitors.now)) }
+{
+    let copy = monitors.copy()?;
+    Ok((copied_threads(alloc, threads)?, copy))
+}
+
 impl<'p> Parts<'p> {
     /// The same parts once more.
     pub fn copy(&self) -> Result<Parts<'p>, AllocError>
         ensures { IfOk result (λ parts. parts ≡ self.now) }
     {
         let alloc = self.alloc;
+        let arguments = Vec::from_slice(alloc, self.arguments.as_slice())?;
+        let initialisations = Vec::from_slice(alloc, self.initialisations.as_slice())?;
+        let output = Vec::from_slice(alloc, self.output.as_slice())?;
+        let (threads, monitors) = copied_holders(alloc, self.threads.as_slice(), &self.monitors)?;
+        let (heap, statics) = copied_fields(alloc, &self.heap, &self.statics)?;
         Ok(Parts {
             alloc,
             limits: self.limits,
             method: self.method,
-            arguments: Vec::from_slice(alloc, self.arguments.as_slice())?,
-            heap: self.heap.copy()?,
-            statics: self.statics.copy(alloc)?,
-            initialisations: Vec::from_slice(alloc, self.initialisations.as_slice())?,
-            threads: copied_threads(alloc, self.threads.as_slice())?,
-            monitors: self.monitors.copy()?,
-            output: Vec::from_slice(alloc, self.output.as_slice())?,
+            arguments,
+            heap,
+            statics,
+            initialisations,
+            threads,
+            monitors,
+            output,
             result: self.result,
         })
     }
