@@ -1,4 +1,4 @@
--- The elements that an array holds, as values.
+-- The elements that an array holds, as values (JVMS 6.5 newarray, anewarray; how they are held: own).
 use Rattle.std.specs.Prelude.{ℕ, zero, suc, List, map, replicate, pos}
 use Rattle.jvms_machine.specs.declared.value.Value.{Value}
 use Rattle.jvms_machine.specs.declared.value.Value.TheVariants as value

@@ -1,4 +1,4 @@
--- What the elements of an array are held as.
+-- What the elements of an array are held as (JVMS 6.5 bastore, castore, sastore for the narrow ones; else own).
 use Rattle.std.specs.Prelude.{◌≡◌, ◌<◌, ◌==◌, if◌then◌else◌, pos}
 use Rattle.jvms_file.specs.declared.descriptor.Primitive.TheVariants as primitive
 use Rattle.jvms_file.specs.declared.descriptor.Element.{Element}

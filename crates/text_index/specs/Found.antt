@@ -1,4 +1,4 @@
--- What is found by a text.
+-- What is found by a text (own).
 use Rattle.std.specs.Prelude.{ℕ, List, Option}
 use Rattle.std.specs.Map.{lookup}
 use Rattle.std.specs.Ordering.{is_eq, nat_cmp}
