@@ -90,8 +90,8 @@ def build_library(root, name, jobs):
 
 
 def build_side_by_side(needed, below, copies):
-    """Builds libraries in copies of the sources, each after those that it stands on, those with the longest way to go first.
-    Those that the program waits for, since they have nearly the longest way of all, get two processors."""
+    """Builds libraries in copies of the sources, each after those that it stands on, the longest way to go first. Those
+    that the program waits for, since they have nearly the longest way of all, get two processors."""
     way = ways(needed, below)
     todo, done, free, running = set(needed), set(), list(copies), {}
     with ThreadPoolExecutor(len(copies)) as pool:
@@ -115,7 +115,7 @@ def build_side_by_side(needed, below, copies):
 
 
 def build_over_copies(program):
-    """Builds the libraries that a program stands on side by side, and it over them here; gives what was said where that fails."""
+    """Builds libraries side by side, and the program over them here. Gives what was said where that fails."""
     below = crates()
     with tempfile.TemporaryDirectory(prefix="jvmx-build-") as folder:
         copies = [Path(folder) / str(number) for number in range(workers())]
