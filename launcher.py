@@ -1,142 +1,347 @@
 #!/usr/bin/env python3
-"""Proves and builds a program of this repository, the crates that it stands on side by side: as many at a time as there are
-processors and memory.
+"""Finds or builds the program that `./jvmx` runs, and prints its path. What it does is said on standard error.
 
-    launcher.py NAME
+    launcher.py                      the proved program if it is current, else one that is built without a proof
+    launcher.py --prove              the proved program, proved here if need be
+    launcher.py --describe PROGRAM   which build one of the programs below is, and of which sources
+    launcher.py --quick NAME FILE    builds the program of crate NAME as FILE, without a proof and without checks
 
-Only one `rt` at a time works in a crate and in those below it, so each worker has a copy of the sources, in which it builds
-one library after another; `rt` takes from the others what they have built of the same text. At last the program is built
-here, over all of it. Where `rt` can't keep what it builds beside the kit, it builds one crate after another, here.
+A program is current if it was built from the sources as they are. Three may be there:
+
+    crates/jvmx/out/jvmx             the proved one, left by `rt ci` or by `--prove`
+    crates/jvmx/out/unproved/jvmx    of sources that the gate proved, built without a new proof
+    crates/jvmx/out/checked/jvmx     of other sources, with all checks
 """
+import contextlib
+import fcntl
 import os
 import shutil
-import subprocess
+import signal
 import sys
-import tempfile
-from concurrent.futures import FIRST_COMPLETED, ThreadPoolExecutor, wait
+import threading
+import time
 from pathlib import Path
+from typing import NamedTuple
+
+sys.dont_write_bytecode = True
+from build import checkout, proved, quick  # noqa: E402
 
 ROOT = Path(__file__).resolve().parent
-# What the check of a crate takes at most, but for a few.
-BYTES_A_CHECK = 3 * 2**30
-# From which part of the longest way on a crate is waited for.
-NEARLY = 0.85
+OUT = ROOT / "crates" / "jvmx" / "out"
+LOG = OUT / "launcher.log"
+# The folder of what a quick build makes on its way.
+BUILDING = OUT / "building"
+# The exit statuses of jvmx where words are refused, and where a file or a device fails.
+UNKNOWN_WORDS, FAILED = 2, 3
+
+# What is said before a build.
+QUICK_BUILD = (
+    "building the program without a new proof, in about three minutes: the gate proved these sources ({name}), and"
+    " rt ci proves them here"
+)
+CHECKED_BUILD = (
+    "the sources are {doubt} and unproved: building the program with all checks, in about four minutes; it stops at the"
+    " first that fails, and ./jvmx --prove proves it"
+)
+PROOF = "proving and building the program, which takes most of an hour the first time, and minutes after an edit"
+NO_KIT = (
+    "there is no rt on the PATH ({path}); rt is the command of the Rattle toolchain, the kit that proves and builds this"
+    " program: put the kit's folder bin on the PATH"
+)
 
 
-def crates():
-    """The repository's crates, each with those that it stands on itself."""
-    told = [line.partition("#")[0].partition(":") for line in (ROOT / "crates.txt").read_text().splitlines()]
-    named = {name.split()[0]: words.split() for name, _, words in told if name.strip()}
-    return {name: [one for one in words if one in named] for name, words in named.items()}
+class Failed(Exception):
+    """There is no program to run. Has a line that says why, and what the command said that failed."""
+
+    def __init__(self, line, said=""):
+        super().__init__(line)
+        self.said = said
 
 
-def weight(name):
-    """A measure of how long the check of a crate takes: its lines of code, and for each crate something."""
-    return 100 + sum(one.read_bytes().count(b"\n") for one in (ROOT / "crates" / name / "src").rglob("*.rt"))
+class Record(NamedTuple):
+    """What a program was built from."""
+
+    program: str  # its own sum, since `rt` may put another in its place
+    sources: str  # the sum of the sources
+    origin: str  # "commit d0a9e17"
 
 
-def closure(name, below):
-    """The crates that one stands on, itself not among them."""
-    found, todo = set(), list(below[name])
-    while todo:
-        one = todo.pop()
-        if one not in found:
-            found.add(one)
-            todo += below[one]
+class Build(NamedTuple):
+    """A program that may be there, and the words that describe it."""
+
+    program: Path
+    words: str
+
+    def record_file(self):
+        """Returns the file that keeps the record, beside the program."""
+        return self.program.with_name("jvmx.sources")
+
+    def record(self):
+        """Returns what the program was built from, or None where there is no program, or no record of it."""
+        if not self.program.exists() or not self.record_file().exists():
+            return None
+        lines = self.record_file().read_text().splitlines()
+        if len(lines) != len(Record._fields) or lines[0] != checkout.sum_of_file(self.program):
+            return None
+        return Record(*lines)
+
+    def keep_record(self, sources, origin):
+        """Writes down what the program was built from."""
+        lines = Record(checkout.sum_of_file(self.program), sources, origin)
+        self.record_file().write_text("\n".join([*lines, ""]))
+
+    def is_current(self):
+        """Returns whether the program was built from the sources as they are. If so, the next call sees it by its time."""
+        record, begin = self.record(), time.time()
+        if not record:
+            return False
+        if checkout.is_newest(self.program):
+            return True
+        if record.sources != checkout.sum_of_sources():
+            return False
+        with contextlib.suppress(OSError):
+            os.utime(self.program, (begin, begin))
+        return True
+
+    def install(self, made, begin, sources, origin):
+        """Puts a program in its place, as built at the time when its sources were read."""
+        self.program.parent.mkdir(parents=True, exist_ok=True)
+        os.utime(made, (begin, begin))
+        os.replace(made, self.program)
+        self.keep_record(sources, origin)
+
+
+PROVED = Build(OUT / "jvmx", "proved, from {}")
+UNCHECKED = Build(OUT / "unproved" / "jvmx", "built without a new proof from {}, which the gate proved")
+CHECKED = Build(OUT / "checked" / "jvmx", "unproved, built with all checks from {}")
+
+
+def say(text):
+    """Prints a line on standard error."""
+    print(f"jvmx: {text}", file=sys.stderr, flush=True)
+
+
+class Progress:
+    """Shows on a terminal what is done and for how many seconds, in one line that is written anew each second."""
+
+    def __init__(self, step):
+        self.step = step
+        self.begin = time.time()
+        self.ended = threading.Event()
+        self.thread = threading.Thread(target=self.show, daemon=True)
+
+    def tell(self, step):
+        """Changes what is shown as done."""
+        self.step = step
+
+    def show(self):
+        """Writes the line until the end, then clears it."""
+        while not self.ended.wait(1):
+            print(f"\r\x1b[Kjvmx: {self.step}, {time.time() - self.begin:.0f} s", end="", file=sys.stderr, flush=True)
+        print("\r\x1b[K", end="", file=sys.stderr, flush=True)
+
+    def __enter__(self):
+        if sys.stderr.isatty():
+            self.thread.start()
+        return self
+
+    def __exit__(self, *_):
+        self.ended.set()
+        if self.thread.is_alive():
+            self.thread.join()
+
+
+@contextlib.contextmanager
+def turn():
+    """Waits until no other launcher of this checkout builds, and has others wait."""
+    OUT.mkdir(parents=True, exist_ok=True)
+    with open(OUT / "launcher.lock", "w") as file:
+        try:
+            fcntl.flock(file, fcntl.LOCK_EX | fcntl.LOCK_NB)
+        except BlockingIOError:
+            say("waiting for another call, which builds a program")
+            fcntl.flock(file, fcntl.LOCK_EX)
+        yield
+
+
+@contextlib.contextmanager
+def empty_folder():
+    """Makes an empty folder for a build, which is removed after it. What a killed build left is removed before."""
+    shutil.rmtree(BUILDING, ignore_errors=True)
+    BUILDING.mkdir(parents=True)
+    try:
+        yield BUILDING
+    finally:
+        shutil.rmtree(BUILDING, ignore_errors=True)
+
+
+def need_kit():
+    """Fails where the kit isn't found."""
+    if not quick.kit_folder():
+        raise Failed(NO_KIT.format(path=os.environ.get("PATH", "")))
+
+
+def origin():
+    """Returns where the sources are from. In an archive, a change shows only after the first build."""
+    found, record = checkout.origin(), UNCHECKED.record()
+    if not checkout.has_git() and record and record.sources != checkout.sum_of_sources():
+        return found._replace(doubt="changed since the first build")
     return found
 
 
-def ways(needed, below):
-    """For each crate the weight of the longest chain of crates from it upwards."""
-    above = {one: [other for other in needed if one in below[other]] for one in needed}
-    found = {}
-
-    def way(one):
-        if one not in found:
-            found[one] = weight(one) + max(map(way, above[one]), default=0)
-        return found[one]
-
-    return {one: way(one) for one in needed}
-
-
-def store_is_usable():
-    """Whether `rt` can keep what it builds beside the kit, where others find it."""
-    store = Path(shutil.which("rt")).resolve().parent.parent.parent / "rattle-kept"
-    return os.access(store if store.exists() else store.parent, os.W_OK)
+def prove():
+    """Proves and builds the program, and returns its path."""
+    begin, sources, name = time.time(), checkout.sum_of_sources(), checkout.origin().name
+    with Progress("proving") as progress:
+        said = proved.build("jvmx", progress.tell)
+    if said:
+        LOG.write_text(said)
+        raise Failed(f"the program isn't proved; what was said is in {LOG}", said.rstrip())
+    # rt may have left an older program, if nothing changed since. It counts as one of the time at which this began.
+    os.utime(PROVED.program, (begin, begin))
+    if checkout.sum_of_sources() != sources:
+        raise Failed("a source changed while the program was proved: call again")
+    PROVED.keep_record(sources, name)
+    return PROVED.program
 
 
-def workers():
-    """How many checks run side by side."""
-    available = next(int(line.split()[1]) * 1024 for line in open("/proc/meminfo") if line.startswith("MemAvailable"))
-    return max(1, min(len(os.sched_getaffinity(0)), available // BYTES_A_CHECK))
+def make(kind, folder, progress):
+    """Makes the program in a folder without a proof, and returns its place there."""
+    LOG.write_bytes(b"")
+    if kind == CHECKED:
+        return quick.build("jvmx", folder, LOG, with_checks=True, tell=progress.tell)
+    return quick.build_and_run("jvmx", folder, LOG, progress.tell)
 
 
-def copy_sources(into):
-    """A copy of what a check reads."""
-    shutil.copy(ROOT / "crates.txt", into)
-    shutil.copy(ROOT / "HANDLES", into)
-    shutil.copytree(ROOT / "crates", into / "crates", ignore=shutil.ignore_patterns("out", "must-fail"))
+def build():
+    """Builds the program without a proof, and returns its path. Where the kit isn't as expected, proves instead."""
+    begin, sources, found = time.time(), checkout.sum_of_sources(), origin()
+    kind, line = (CHECKED, CHECKED_BUILD) if found.doubt else (UNCHECKED, QUICK_BUILD)
+    say(line.format(**found._asdict()))
+    try:
+        with empty_folder() as folder, Progress("building") as progress:
+            made = make(kind, folder, progress)
+            if checkout.sum_of_sources() != sources:
+                raise Failed("a source changed while the program was built: call again")
+            kind.install(made, begin, sources, found.name)
+    except quick.Refused as refusal:
+        raise Failed(f"the sources don't compile; what was said is in {LOG}", str(refusal)) from None
+    except quick.UnknownKit as cause:
+        say(f"this kit builds no program without a proof ({cause}; {LOG} may say more), so: {PROOF}")
+        return prove()
+    return kind.program
 
 
-def said_if_failed(words, folder):
-    """Runs a command, and gives what it said if it failed."""
-    ran = subprocess.run(words, cwd=folder, text=True, stdout=subprocess.PIPE, stderr=subprocess.STDOUT)
-    return None if ran.returncode == 0 else ran.stdout or f"{words[:2]} ended with {ran.returncode}"
+def is_proved():
+    """Returns whether the proved program is current. One that `rt ci` left has no record yet, and gets it here."""
+    if PROVED.record():
+        return PROVED.is_current()
+    if not checkout.is_newest(PROVED.program):
+        return False
+    with contextlib.suppress(OSError):
+        PROVED.keep_record(checkout.sum_of_sources(), checkout.origin().name)
+    return True
 
 
-def build_library(root, name, jobs):
-    """Builds the library of a crate in a copy, and gives what was said where it fails."""
-    return said_if_failed(["rt", "lib", "--jobs", str(jobs)], root / "crates" / name)
+def current_program():
+    """Returns the path of the program to run, or None if it has to be built."""
+    if is_proved():
+        return PROVED.program
+    kind = CHECKED if origin().doubt else UNCHECKED
+    return kind.program if kind.is_current() else None
 
 
-def build_side_by_side(needed, below, copies):
-    """Builds libraries in copies of the sources, each after those that it stands on, the longest way to go first. Those
-    that the program waits for, since they have nearly the longest way of all, get two processors."""
-    way = ways(needed, below)
-    todo, done, free, running = set(needed), set(), list(copies), {}
-    with ThreadPoolExecutor(len(copies)) as pool:
-        while todo or running:
-            longest = max(way[one] for one in [*todo, *(name for name, _ in running.values())])
-            ready = sorted((one for one in todo if set(below[one]) <= done), key=lambda one: -way[one])
-            share = len(copies) // (len(running) + len(ready))
-            for name in ready[: len(free)]:
-                todo.remove(name)
-                root = free.pop()
-                jobs = max(share, 2 if way[name] > NEARLY * longest else 1)
-                running[pool.submit(build_library, root, name, jobs)] = (name, root)
-            ended, _ = wait(running, return_when=FIRST_COMPLETED)
-            for one in ended:
-                name, root = running.pop(one)
-                if one.result():
-                    return one.result()
-                done.add(name)
-                free.append(root)
-    return None
+def program_to_run():
+    """Returns the path of a current program, built now if need be."""
+    found = current_program()
+    if found:
+        return found
+    need_kit()
+    with turn():
+        # Another call may have built it meanwhile.
+        return current_program() or build()
 
 
-def build_over_copies(program):
-    """Builds libraries side by side, and the program over them here. Gives what was said where that fails."""
-    below = crates()
-    with tempfile.TemporaryDirectory(prefix="jvmx-build-") as folder:
-        copies = [Path(folder) / str(number) for number in range(workers())]
-        for one in copies:
-            one.mkdir()
-            copy_sources(one)
-        failed = build_side_by_side(closure(program, below), below, copies)
-        return failed or build_here(program)
+def proved_program():
+    """Returns the path of the proved program, proved now if need be."""
+    if not is_proved():
+        need_kit()
+        with turn():
+            if not is_proved():
+                say(PROOF)
+                return prove()
+    return PROVED.program
 
 
-def build_here(program):
-    """Builds a program in this checkout, and gives what was said where it fails."""
-    return said_if_failed(["rt", "run", "--", "--version"], ROOT / "crates" / program)
+def description(program):
+    """Returns the line that says which build a program is, and of which sources."""
+    kind = next((one for one in (PROVED, UNCHECKED, CHECKED) if one.program == program), None)
+    if not kind:
+        raise Failed(f"{program} isn't a program of this checkout")
+    record = kind.record()
+    return kind.words.format(record.origin if record else "unknown sources")
+
+
+def need_programs(names):
+    """Fails where a name isn't that of a crate with a program."""
+    for name in names:
+        if not (ROOT / "crates" / name / "src" / "main.rt").exists():
+            raise Failed(f"there is no crate {name} with a program")
+
+
+def build_as(name, file, with_checks=False):
+    """Builds the program of a crate without a proof, for those who measure it or run its cases."""
+    need_programs([name])
+    need_kit()
+    with turn(), empty_folder() as folder, Progress(f"building {name}") as progress:
+        LOG.write_bytes(b"")
+        try:
+            shutil.move(quick.build(name, folder, LOG, with_checks, progress.tell), file)
+        except quick.Refused as refusal:
+            raise Failed(f"the sources don't compile; what was said is in {LOG}", str(refusal)) from None
+        except quick.UnknownKit as cause:
+            raise Failed(f"this kit builds no program without a proof: {cause}; {LOG} may say more") from None
+
+
+def answer(words):
+    """Does what the words ask for, and returns the line to print, if any."""
+    if not words:
+        return program_to_run()
+    if words == ["--prove"]:
+        return proved_program()
+    if words[0] == "--describe" and len(words) == 2:
+        return description(Path(words[1]))
+    if words[0] == "--quick" and len(words) == 3:
+        return build_as(*words[1:])
+    print(__doc__.strip(), file=sys.stderr)
+    sys.exit(UNKNOWN_WORDS)
+
+
+def guarded(work):
+    """Does some work, and ends with one line and a status where it fails."""
+    # So that commands are ended and folders removed where this program is told to stop.
+    for one in (signal.SIGTERM, signal.SIGHUP):
+        signal.signal(one, lambda number, _: sys.exit(128 + number))
+    try:
+        work()
+    except Failed as cause:
+        if cause.said:
+            print(cause.said, file=sys.stderr)
+        say(cause)
+        sys.exit(FAILED)
+    except OSError as error:
+        say(f"{error.filename}: {error.strerror}" if error.filename else error)
+        sys.exit(FAILED)
+    except KeyboardInterrupt:
+        sys.exit(128 + signal.SIGINT)
 
 
 def main():
-    if not shutil.which("rt"):
-        sys.exit("there is no rt on the PATH")
-    build = build_over_copies if workers() > 1 and store_is_usable() else build_here
-    sys.exit(build(sys.argv[1]))
+    """Prints what the words ask for."""
+    line = answer(sys.argv[1:])
+    if line:
+        print(line)
 
 
 if __name__ == "__main__":
-    main()
+    guarded(main)

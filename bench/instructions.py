@@ -4,7 +4,7 @@ two lengths of a run: the same each time, whatever else runs on the machine.
 
     bench/instructions.py [--jvmx PROGRAM] [NAME...]
 
-PROGRAM may be one of bench/unproved.py, which is made in some minutes after an edit.
+PROGRAM may be one of `./launcher.py --quick jvmx FILE`, which takes three minutes after an edit.
 """
 import argparse
 import re

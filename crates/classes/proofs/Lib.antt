@@ -1,4 +1,5 @@
 pub mod ChainLaws
+pub mod HierarchyLaws
 pub mod MarkLaws
 pub mod MethodLaws
 pub mod NumberLaws
@@ -6,4 +7,8 @@ mod MethodNamesLaws
 pub mod PlaceLaws
 pub mod WalkLaws
 pub mod SearchLaws
+pub mod MarkingLaws
+pub mod WayLaws
+pub mod AlongLaws
+pub mod NamesLaws
 pub mod SlotLaws

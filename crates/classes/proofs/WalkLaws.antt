@@ -1,6 +1,5 @@
 -- Steps of a search through the ancestry of a class.
-use Rattle.std.proofs.Common.{◌≡◌, ℕ, zero, suc, Bool, true, false, cond, ◌+◌, ◌-◌, ◌<◌, ◌≤◌, List, [], ◌∷◌, ◌++◌, length, drop, get_or, Option, Some, None, refl, sym, add-one, sub-one, drop-cons, arith}
-use Rattle.std.proofs.lemmas.List.{drop_all}
+use Rattle.std.proofs.Common.{◌≡◌, ℕ, zero, suc, Bool, true, false, cond, ◌+◌, ◌<◌, List, [], ◌∷◌, ◌++◌, length, drop, get_or, Option, Some, None, refl, add-one, drop-cons, arith}
 use Rattle.std.specs.Prelude.{is_some}
 use Rattle.std.specs.List.{flat_map, list_any}
 use Rattle.jvms_file.specs.Names.{same_text}
@@ -42,47 +41,13 @@ module _ {A : Type 0} (look : Class → Option A) where
   names_found classes_of names i name x h e some =
       rw (drop-cons names i name, ← e) (first_in-append_some (classes_of name) _ x some)
 
-  pub names_end : (classes_of : List ℕ → List Class) (names : List (List ℕ)) (i : ℕ) → length names ≤ i → first_in look (flat_map classes_of (drop i names)) ≡ None
-  names_end classes_of names i h = rw (drop_all i names h) refl
-
   -- ---- Through the ancestry
-
-  pub above_nowhere : (most : ℕ) (program : List Class) (name : List ℕ) → most ≡ 0 → None ≡ first_in look (ancestry_within most program name)
-  unfolding ancestry_within
-  above_nowhere most program name h = rw h refl
-
-  pub above_missing : (most : ℕ) (program : List Class) (name : List ℕ) → None ≡ class_named program name → None ≡ first_in look (ancestry_within most program name)
-  unfolding ancestry_within
-  above_missing zero program name h = refl
-  above_missing (suc most) program name h = rw (← h) refl
 
   pub above_found : (most : ℕ) (program : List Class) (name : List ℕ) (c : Class) (x : A) → 0 < most → Some c ≡ class_named program name
       → Some x ≡ look c → Some x ≡ first_in look (ancestry_within most program name)
   unfolding ancestry_within
   above_found zero program name c x m h l = absurd (omega arith)
   above_found (suc most) program name c x m h l = rw (← h) (rw (← l) refl)
-
-  pub above_interfaces : (most : ℕ) (program : List Class) (name : List ℕ) (c : Class) (x : A) → 0 < most → Some c ≡ class_named program name → None ≡ look c
-      → Some x ≡ first_in look (flat_map (ancestry_within (most - 1) program) c.interfaces) → Some x ≡ first_in look (ancestry_within most program name)
-  unfolding ancestry_within
-  above_interfaces zero program name c x m h l i = absurd (omega arith)
-  above_interfaces (suc most) program name c x m h l i =
-      rw (← h) (rw (← l) (sym (first_in-append_some (flat_map (ancestry_within most program) c.interfaces) _ x (sym (rw sub-one at i)))))
-
-  pub above_top : (most : ℕ) (program : List Class) (name : List ℕ) (c : Class) → Some c ≡ class_named program name → None ≡ look c
-      → None ≡ first_in look (flat_map (ancestry_within (most - 1) program) c.interfaces) → None ≡ c.superclass → None ≡ first_in look (ancestry_within most program name)
-  unfolding ancestry_within
-  above_top zero program name c h l i s = refl
-  above_top (suc most) program name c h l i s =
-      rw (← h) (rw (← l) (rw (← s) (sym (first_in-append_none (flat_map (ancestry_within most program) c.interfaces) _ (sym (rw sub-one at i))))))
-
-  pub above_next : (most : ℕ) (program : List Class) (name super : List ℕ) (c : Class) → 0 < most → Some c ≡ class_named program name → None ≡ look c
-      → None ≡ first_in look (flat_map (ancestry_within (most - 1) program) c.interfaces) → Some super ≡ c.superclass
-      → first_in look (ancestry_within (most - 1) program super) ≡ first_in look (ancestry_within most program name)
-  unfolding ancestry_within
-  above_next zero program name super c m h l i s = absurd (omega arith)
-  above_next (suc most) program name super c m h l i s =
-      rw (← h) (rw (← l) (rw (← s) (rw sub-one (sym (first_in-append_none (flat_map (ancestry_within most program) c.interfaces) _ (sym (rw sub-one at i)))))))
 
 -- A search through lists of classes is one search of each list after another.
 flat_step : {A : Type 0} (look : Class → Option A) (classes_of : Class → List Class) (c : Class) (cs : List Class) (o : Option A) → first_in look (classes_of c) ≡ o
@@ -109,7 +74,3 @@ first_in_named name [] = refl
 first_in_named name (c ∷ cs) = named_by name c cs (same_text c.name name) refl (first_in_named name cs)
 
 pub ruleset appended = (first_in-append_none, first_in-append_some, first_in-flat_map)
-
-pub ruleset aboves = (above_nowhere, above_missing, above_found, above_interfaces, above_top, above_next, names_past, names_found, names_end)
-
-pub ruleset names = (names_past, names_found, names_end)

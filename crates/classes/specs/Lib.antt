@@ -1,7 +1,10 @@
 pub mod Chains
+pub mod Hierarchy
 pub mod Marks
 pub mod MethodNames
 pub mod Numbers
+pub mod Ordered
 pub mod Places
 pub mod Searches
 pub mod Slots
+pub mod Starts

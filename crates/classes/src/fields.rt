@@ -4,12 +4,12 @@ ghost use Rattle.std.specs.Prelude.{◌≡◌};
 ghost use Rattle.jvms_program.specs.Resolution.{found_field, resolved_field};
 ghost use Rattle.classes.specs.Places.{IsFieldAt, Locates, Resolves};
 
+use crate::ancestors::first_in_ancestry;
 use crate::exists::class_exists;
 use crate::list::Classes;
 use crate::look::DeclaredField;
 use crate::lookup::field_at;
 use crate::names::members_class;
-use crate::walk::first_in_ancestry;
 use jvms_program::program::FieldReference;
 use jvms_program::thrown::Thrown;
 

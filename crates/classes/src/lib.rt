@@ -2,11 +2,14 @@
 //! name (JVMS 5.4.3).
 #![tactic(auto)]
 
+mod ancestors;
 mod chain;
+mod class_list;
 mod class_type;
 mod exists;
 mod field_name;
 mod fields;
+mod hierarchy;
 mod list;
 mod look;
 mod lookup;
@@ -15,16 +18,22 @@ mod methods;
 mod names;
 mod numbers;
 mod order;
+mod ranked;
+mod ranks;
 mod resolve;
 mod select;
 mod slots;
 mod subtypes;
+mod supers;
 mod walk;
 
 pub use chain::{height_of, superclass_name};
+pub use class_list::ClassList;
 pub use field_name::FieldName;
-pub use list::Classes;
+pub use list::{Classes, Ordered};
 pub use lookup::{declared_field_number, declared_number, numbered};
 pub use methods::MethodNames;
 pub use names::OBJECT;
+pub use ranks::ranks_of;
 pub use slots::Slot;
+pub use supers::{super_numbers, super_rows};

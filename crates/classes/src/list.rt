@@ -1,99 +1,61 @@
-//! The list of a program's classes.
+//! The classes of a program whose hierarchy has no circle.
 
-ghost use Rattle.std.specs.Prelude.{◌≡◌, ◌++◌, ◌≤◌, IfOk, IsOk, OnOk, None, false, length, map, option_copied, slice_get};
+ghost use Rattle.std.specs.Prelude.{◌≡◌, ◌≤◌, IfOk, IsOk, None, false, length, option_copied, slice_get};
 ghost use Rattle.std.specs.Option.{option_map, unwrap_or};
-ghost use Rattle.std.specs.List.{AllByRecursion};
-ghost use Rattle.jvms_program.specs.BuiltIn.{built_in_classes, is_built_in};
+ghost use Rattle.jvms_program.specs.BuiltIn.{is_built_in};
 ghost use Rattle.jvms_program.specs.Program.{IsProgram, class_named, class_number, method_at, key_of};
+ghost use Rattle.jvms_program.specs.Resolution.{names_interface};
+ghost use Rattle.classes.specs.Ordered.{IsOrderedOf};
 ghost use Rattle.classes.specs.Slots.{AreCountable};
 
+use crate::class_list::ClassList;
+use crate::hierarchy::{Hierarchy, hierarchy_of};
 use crate::lookup::method_of;
-use crate::numbers::numbers_by_name;
-use built_in::{built_in_classes, is_built_in};
-use held::items::Items;
+use crate::ranked::Ranked;
 use jvms_program::key::MethodKey;
 use jvms_program::number::MethodNumber;
 use jvms_program::program::{Class, Method};
 use std::alloc::{AllocError, Global};
-use std::collections::BTreeMap;
 use std::marker::Model;
 
-/// The classes of a program: the built-in ones, then others. Contracts see the list of them.
+/// The classes of a program, of which none is its own superclass or superinterface, over one or more steps. Contracts see the
+/// list of them.
 #[derive(Drop)]
 pub struct Classes {
-    classes: Vec<Class>,
-    /// Whether each class is built in.
-    built_in: Vec<bool>,
-    /// The number of each class by its name.
-    by_name: BTreeMap<Vec<u16>, usize>,
+    list: ClassList,
+    hierarchy: Hierarchy,
 }
 
 impl Model for Classes {
-    ghost use Rattle.std.specs.Prelude.{List, ◌≡◌, map};
+    ghost use Rattle.std.specs.Prelude.{List};
     ghost use Rattle.jvms_program.specs.declared.program.Class.{Class};
-    ghost use Rattle.jvms_program.specs.BuiltIn.{is_built_in};
-    ghost use Rattle.jvms_program.specs.Program.{IsProgram};
-    ghost use Rattle.classes.specs.Numbers.{AreNumbersOf};
-    ghost use Rattle.classes.specs.Slots.{AreCountable};
+    ghost use Rattle.classes.specs.Hierarchy.{IsHierarchyOf};
 
     ghost Value = { List Class };
 
-    ghost view = { λ p. p.classes.items };
+    ghost view = { λ p. p.list };
 
-    ghost invariant = { λ p. (p.built_in.items ≡ map (λ c. is_built_in c.name) p.classes.items) × AreNumbersOf p.classes.items p.by_name × IsProgram p.classes.items × AreCountable p.classes.items };
+    ghost invariant = { λ p. IsHierarchyOf p.list p.hierarchy.supers.items p.hierarchy.ranks.items p.hierarchy.order.items };
 }
 
-/// Whether each of these classes is built in.
-fn built_in_marks(alloc: Global, classes: &[Class]) -> Result<Vec<bool>, AllocError>
-    ensures { IfOk result (λ marks. marks.items ≡ map (λ c. is_built_in c.name) classes.now) }
-{
-    let mut marks = Vec::with_capacity(alloc, classes.len())?;
-    for class in classes {
-        marks.push(is_built_in(class.name.as_slice()))?;
-    }
-    Ok(marks)
-}
-
-/// The most fields that a class has.
-fn most_fields(classes: &[Class]) -> usize
-    ensures { AllByRecursion (λ c. length c.fields ≤ result) classes.now }
-{
-    let mut most = 0;
-    for class in classes {
-        most = most.max(class.fields.len());
-    }
-    most
-}
-
-/// Fails where the fields might be too many to be numbered, if each class had as many as any has. A class file has at most
-/// 65,535, so that this takes more than 2^48 classes, which no memory holds.
-fn count_fields(classes: &[Class]) -> Result<(), AllocError>
-    ensures { OnOk result (AreCountable classes.now) }
-{
-    match classes.len().checked_mul(most_fields(classes)) {
-        Some(_) => Ok(()),
-        None => Err(AllocError),
-    }
+/// What a list of classes is found to be.
+#[derive(Drop)]
+pub enum Ordered {
+    /// None of them is its own superclass or superinterface.
+    Classes(Classes),
+    /// No order was found in which each comes after its own.
+    Unordered(ClassList),
 }
 
 impl Classes {
-    /// These classes and the built-in ones, which come first.
-    pub fn new(alloc: Global, own: Vec<Class>) -> Result<Classes, AllocError>
-        // Types are those that descriptors spell, as in classes that class files mean.
-        requires { IsProgram (built_in_classes ++ own.items) }
-        ensures { IfOk result (λ p. p ≡ built_in_classes ++ own.items) }
+    /// Orders the classes of a list, each after its superclass and superinterfaces.
+    pub fn ordered(alloc: Global, list: ClassList) -> Result<Ordered, AllocError>
+        ensures { IfOk result (λ ordered. IsOrderedOf list ordered) }
     {
-        let mut own = own;
-        let mut classes = built_in_classes(alloc)?;
-        classes.append(&mut own)?;
-        count_fields(classes.as_slice())?;
-        let built_in = built_in_marks(alloc, classes.as_slice())?;
-        let by_name = numbers_by_name(alloc, classes.as_slice())?;
-        Ok(Classes {
-            classes,
-            built_in,
-            by_name,
-        })
+        match hierarchy_of(alloc, &list)? {
+            Some(hierarchy) => Ok(Ordered::Classes(Classes { list, hierarchy })),
+            None => Ok(Ordered::Unordered(list)),
+        }
     }
 
     /// The classes are a program: the built-in classes stand first, and types are those that descriptors spell. Nothing
@@ -101,50 +63,75 @@ impl Classes {
     pub fn is_program(&self)
         ensures { IsProgram self.now }
     {
-        let _ = &self.classes;
+        self.list.is_program();
     }
 
     /// As many fields as any class has, for each of the classes, can be counted. Nothing is done.
     pub(crate) fn is_countable(&self)
         ensures { AreCountable self.now }
     {
-        let _ = &self.classes;
+        self.list.is_countable();
+    }
+
+    /// There are no more classes than can be marked. Nothing is done.
+    pub(crate) fn are_few(&self)
+        ensures { length self.now ≤ 1048576 }
+    {
+        self.list.are_few();
+    }
+
+    /// Returns the classes with their order.
+    pub(crate) fn ranked(&self) -> Ranked<'_>
+        ensures { result.classes.now ≡ self.now }
+    {
+        Ranked {
+            classes: self.list.classes(),
+            supers: self.hierarchy.supers.as_slice(),
+            ranks: self.hierarchy.ranks.as_slice(),
+            order: self.hierarchy.order.as_slice(),
+        }
     }
 
     /// The classes in order.
     pub fn classes(&self) -> &[Class]
         ensures { result.now ≡ self.now }
     {
-        self.classes.as_slice()
+        self.list.classes()
     }
 
     /// The class of a number.
     pub fn class(&self, number: usize) -> Option<&Class>
         ensures { option_copied result ≡ slice_get self.now number }
     {
-        self.classes().get(number)
+        self.list.class(number)
     }
 
     /// Whether the class of a number is built in; false where there is no such class.
     pub fn is_built_in(&self, number: usize) -> bool
         ensures { result ≡ unwrap_or (option_map (λ c. is_built_in c.name) (slice_get self.now number)) false }
     {
-        self.built_in.get(number).copied().unwrap_or(false)
+        self.list.is_built_in(number)
     }
 
     /// The class of a name.
-    #[tactic(auto, using(crate::proofs::PlaceLaws::found_by_number))]
     pub fn class_named(&self, name: &[u16]) -> Option<&Class>
         ensures { option_copied result ≡ class_named self.now name.now }
     {
-        self.class(self.class_number(name)?)
+        self.list.class_named(name)
     }
 
     /// The number of the class of a name: its place in the list.
     pub fn class_number(&self, name: &[u16]) -> Option<usize>
         ensures { result ≡ class_number self.now name.now }
     {
-        self.by_name.get(name).copied()
+        self.list.class_number(name)
+    }
+
+    /// Returns whether the class of a name is there, and an interface.
+    pub fn names_interface(&self, name: &[u16]) -> bool
+        ensures { result ≡ names_interface self.now name.now }
+    {
+        self.list.names_interface(name)
     }
 
     /// The method of a number.

@@ -1,56 +1,64 @@
-//! Marks of classes by their numbers, which take no memory.
+//! Marks of classes by their numbers, 64 to a word.
 
-ghost use Rattle.std.specs.Prelude.{◌≡◌, ◌⊎◌, ℕ, true, slice_get, unwrap_or};
-ghost use Rattle.classes.specs.Marks.{is_marked};
+ghost use Rattle.std.specs.Prelude.{◌≡◌, ◌*◌, ◌<◌, ◌&&◌, ◌||◌, ℕ, length, nat_eq, nat_lt, slice_get, unwrap_or, true};
+ghost use Rattle.std.specs.List.{find, list_all, list_any};
+ghost use Rattle.classes.specs.Marks.{is_in, is_marked};
 
-use std::marker::Model;
-
-/// How many words of 64 marks there are. A class of a number above all marks stays without one.
-const WORDS: usize = 2_048;
-
-/// Which classes are marked, of those with a number below 131,072. Contracts see the words.
-#[derive(Drop)]
-pub(crate) struct Marks {
-    words: [u64; WORDS],
-}
-
-impl Model for Marks {
-    ghost use Rattle.std.specs.Prelude.{List, ℕ};
-
-    ghost Value = { List ℕ };
-
-    ghost view = { λ m. m.words };
-}
-
-/// The word at a place; where there is none, one without marks.
+/// Returns the word at a place, or one without marks where there is none.
 fn word_at(words: &[u64], place: usize) -> u64
     ensures { result ≡ unwrap_or (slice_get words.now place) 0 }
 {
     words.get(place).copied().unwrap_or(0)
 }
 
-impl Marks {
-    /// No class is marked.
-    pub(crate) fn none() -> Self
-        ensures { (number : ℕ) → is_marked result number ≡ true → ⊥ }
-    {
-        Marks { words: [0; WORDS] }
-    }
+/// Returns whether a class is marked.
+pub(crate) fn is_marked(words: &[u64], class: usize) -> bool
+    ensures { result ≡ is_marked words.now class }
+{
+    (word_at(words, class / 64) >> (class % 64)) & 1 == 1
+}
 
-    /// Whether a class is marked.
-    pub(crate) fn has(&self, number: usize) -> bool
-        ensures { result ≡ is_marked self.now number }
-    {
-        (word_at(&self.words, number / 64) >> (number % 64)) & 1 == 1
-    }
+/// Marks a class.
+pub(crate) fn mark(words: &mut [u64], class: usize)
+    requires { class < 64 * length words.old }
+    ensures { (n : ℕ) → is_marked words.new n ≡ (nat_eq n class || is_marked words.old n) }
+{
+    words[class / 64] |= 1 << (class % 64);
+}
 
-    /// Marks a class, if there is a mark for it.
-    pub(crate) fn add(&mut self, number: usize)
-        ensures { (n : ℕ) → is_marked self.new n ≡ true → (n ≡ number) ⊎ (is_marked self.old n ≡ true) }
-    {
-        let place = number / 64;
-        if place < WORDS {
-            self.words[place] |= 1 << (number % 64);
-        }
+/// Marks a class, or changes nothing.
+pub(crate) fn mark_if(words: &mut [u64], class: usize, is: bool)
+    requires { class < 64 * length words.old }
+    ensures { (n : ℕ) → is_marked words.new n ≡ ((is && nat_eq n class) || is_marked words.old n) }
+{
+    if is {
+        mark(words, class);
     }
+}
+
+/// Marks some classes.
+pub(crate) fn mark_all(words: &mut [u64], classes: &[usize])
+    requires { list_all (λ n. nat_lt n (64 * length words.old)) classes.now ≡ true }
+    ensures { (n : ℕ) → is_marked words.new n ≡ (is_in classes.now n || is_marked words.old n) }
+{
+    for class in classes {
+        mark(words, *class);
+    }
+}
+
+/// Returns whether one of these classes is marked.
+pub(crate) fn is_any_marked(words: &[u64], classes: &[usize]) -> bool
+    ensures { result ≡ list_any (is_marked words.now) classes.now }
+{
+    classes.iter().any(|class| is_marked(words, *class))
+}
+
+/// Returns the first of these classes that is marked.
+pub(crate) fn first_marked(words: &[u64], classes: &[usize]) -> Option<usize>
+    ensures { result ≡ find (is_marked words.now) classes.now }
+{
+    classes
+        .iter()
+        .copied()
+        .find(|class| is_marked(words, *class))
 }

@@ -2,7 +2,7 @@
 
 ghost use Rattle.std.specs.Prelude.{◌≡◌};
 ghost use Rattle.jvms_file.specs.Names.{is_constructor_name};
-ghost use Rattle.jvms_program.specs.Resolution.{names_interface, members_class, found_in_order, found_method};
+ghost use Rattle.jvms_program.specs.Resolution.{members_class, found_in_order, found_method};
 ghost use Rattle.classes.specs.MethodNames.{reference};
 ghost use Rattle.classes.specs.Places.{IsMethodAt, Locates};
 
@@ -13,7 +13,6 @@ use crate::names::members_class;
 use crate::order::{first_for_class, first_for_interface};
 use crate::walk::Look;
 use descriptor::is_constructor_name;
-use jvms_program::program::ClassKind;
 
 /// A method by its names: what resolution asks of a reference.
 #[derive(Clone, Copy)]
@@ -23,18 +22,6 @@ pub struct MethodNames<'a> {
     pub class: &'a [u16],
     pub name: &'a [u16],
     pub descriptor: &'a [u16],
-}
-
-impl Classes {
-    /// Whether the class of a name is there, and an interface.
-    pub fn names_interface(&self, name: &[u16]) -> bool
-        ensures { result ≡ names_interface self.now name.now }
-    {
-        match self.class_named(name) {
-            Some(class) => matches!(class.kind, ClassKind::Interface),
-            None => false,
-        }
-    }
 }
 
 /// The method that a reference finds in the order of the classes above.

@@ -4,10 +4,11 @@ ghost use Rattle.std.specs.Prelude.{◌≡◌};
 ghost use Rattle.jvms_program.specs.Resolution.{class_method_order, interface_method_order, first_in};
 ghost use Rattle.classes.specs.Places.{placed};
 
+use crate::ancestors::{Start, first_from};
 use crate::list::Classes;
 use crate::lookup::numbered;
 use crate::names::OBJECT;
-use crate::walk::{Look, first_in_ancestries, first_in_interfaces_up, first_up};
+use crate::walk::{Look, first_up};
 
 /// What is found first where a method of a class is looked for (JVMS 5.4.3.3).
 #[tactic(auto, using(crate::proofs::WalkLaws::appended))]
@@ -21,7 +22,7 @@ pub(crate) fn first_for_class<L: Look>(
     if let Some(found) = first_up(program, name, look) {
         return Some(found);
     }
-    first_in_interfaces_up(program, name, look)
+    first_from(program, Start::InterfacesUp(name), look)
 }
 
 /// What is found first where a method of an interface is looked for (JVMS 5.4.3.4).
@@ -36,10 +37,10 @@ pub(crate) fn first_for_interface<L: Look>(
     if let Some(found) = look.look(number, interface) {
         return Some(found);
     }
-    if let Some((number, object)) = numbered(program, &OBJECT) {
-        if let Some(found) = look.look(number, object) {
+    if let Some((own, object)) = numbered(program, &OBJECT) {
+        if let Some(found) = look.look(own, object) {
             return Some(found);
         }
     }
-    first_in_ancestries(program, interface.interfaces.as_slice(), look)
+    first_from(program, Start::Interfaces(name), look)
 }

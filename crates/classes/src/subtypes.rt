@@ -5,10 +5,10 @@ ghost use Rattle.jvms_file.specs.Descriptors.{letter_of};
 ghost use Rattle.jvms_program.specs.Resolution.{ancestry, names_class, is_array_ancestor, is_array_ancestor_element, element_fits, type_fits, fits};
 ghost use Rattle.descriptor.specs.Scanning.{element_of, type_of};
 
+use crate::ancestors::first_in_ancestry;
 use crate::class_type::class_type;
 use crate::list::Classes;
 use crate::look::ClassNamed;
-use crate::walk::first_in_ancestry;
 use built_in::is_named;
 use descriptor::{Innermost, Spelled};
 use jvms_file::descriptor::Primitive;

@@ -3,8 +3,6 @@
 
 mod fault;
 mod space;
-#[cfg(test)]
-mod tests;
 mod text;
 mod token_list;
 mod units;

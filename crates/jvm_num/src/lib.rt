@@ -8,8 +8,6 @@ mod bits;
 mod narrowing;
 mod operation;
 mod shift;
-#[cfg(test)]
-mod tests;
 
 pub use arithmetic::{add, div, mul, neg, rem, sub, wrap};
 pub use bits::{and, or, xor};

@@ -5,6 +5,7 @@ use crate::value::Value;
 use jvms_file::insn::StackForm;
 use jvms_program::number::{FieldNumber, MethodNumber};
 use jvms_program::thrown::Thrown;
+use std::alloc::AllocError;
 
 /// What an instruction does that touches its frame alone (JVMS 6.5). What it takes it takes off the top of the
 /// operands.
@@ -44,7 +45,7 @@ pub enum Exception {
 }
 
 /// What is made on the heap (JVMS 2.4, 2.7). `T` is a text, or what leads to it.
-#[derive(Clone, Copy)]
+#[derive(Copy)]
 pub enum NewObject<T> {
     /// An object of the class of a number.
     Instance { class: usize },
@@ -56,6 +57,12 @@ pub enum NewObject<T> {
     Text { units: T },
     /// The object of the class of this name.
     ClassObject { name: T },
+}
+
+impl<T: Copy> Clone for NewObject<T> {
+    fn clone(&self) -> Result<Self, AllocError> {
+        Ok(*self)
+    }
 }
 
 /// What is printed before the end of a line, if the line ends.
@@ -89,7 +96,7 @@ pub enum Lock {
 }
 
 /// What an instruction does beside what it makes of its frame.
-#[derive(Clone, Copy)]
+#[derive(Copy)]
 pub enum Effect<T> {
     Nothing,
     GetField {
@@ -137,9 +144,15 @@ pub enum Effect<T> {
     },
 }
 
+impl<T: Copy> Clone for Effect<T> {
+    fn clone(&self) -> Result<Self, AllocError> {
+        Ok(*self)
+    }
+}
+
 /// How a turn changes the state, with what its making needs. `C` is a method's code, or what leads to it, and `T` a
 /// text.
-#[derive(Clone, Copy)]
+#[derive(Copy)]
 pub enum Action<C, T> {
     /// The call on top goes on by an instruction that touches its frame alone.
     Goes(FrameAction),
@@ -218,10 +231,22 @@ pub enum Action<C, T> {
     Fails(Exception),
 }
 
+impl<C: Copy, T: Copy> Clone for Action<C, T> {
+    fn clone(&self) -> Result<Self, AllocError> {
+        Ok(*self)
+    }
+}
+
 /// What a turn comes to.
-#[derive(Clone, Copy)]
+#[derive(Copy)]
 pub enum Decision<C, T> {
     /// It isn't made: nothing changes.
     Unmade(Outcome),
     Makes(Action<C, T>),
+}
+
+impl<C: Copy, T: Copy> Clone for Decision<C, T> {
+    fn clone(&self) -> Result<Self, AllocError> {
+        Ok(*self)
+    }
 }

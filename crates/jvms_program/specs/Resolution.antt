@@ -58,6 +58,14 @@ ancestry_within (suc most) program name = from_class (class_named program name) 
 abbrev pub ancestry : List Class → List ℕ → List Class
 ancestry program name = ancestry_within (length program) program name
 
+-- The names of a class's superinterfaces and of its superclass.
+abbrev pub supers_of : Class → List (List ℕ)
+supers_of c = c.interfaces ++ listed c.superclass
+  where
+    listed : Option (List ℕ) → List (List ℕ)
+    listed None = []
+    listed (Some name) = name ∷ []
+
 abbrev pub names_class : List ℕ → List Class → Bool
 names_class name classes = list_any (λ c. same_text c.name name) classes
 

@@ -15,8 +15,9 @@ use Rattle.jvms_file.specs.Names.{same_text}
 use Rattle.jvms_program.specs.Program.{class_named, class_number}
 use Rattle.jvms_program.specs.Resolution.{ancestry_within, names_class}
 use Rattle.classes.proofs.PlaceLaws.{name_is, named_at, one_name, position_found, position_none}
-use Rattle.linker.specs.Linking.{supers_of}
-use Rattle.linker.specs.Supers.{to_list, numbers_of, super_numbers, super_rows, is_above, is_in, with_numbers, rank, AreAllAbove, Fall}
+use Rattle.jvms_program.specs.Resolution.{supers_of}
+use Rattle.classes.specs.Hierarchy.{to_list, numbers_of, super_numbers, super_rows, rank}
+use Rattle.linker.specs.Supers.{is_above, is_in, with_numbers, AreAllAbove, Fall}
 use Rattle.linker.proofs.SetLaws.{all_in, new_place, place_of, same_place, still_all_in}
 
 -- ---- Tests of lists

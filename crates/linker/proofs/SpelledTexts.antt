@@ -4,9 +4,7 @@ use Rattle.std.proofs.lemmas.Option.{none-some, same_Some, slice_get-map}
 use Rattle.std.specs.Option.{option_and_then, option_map, unwrap_or}
 use Rattle.std.specs.Prelude.{slice_get}
 use Rattle.jvms_file.specs.declared.class_file.Constant.{Constant}
-use Rattle.jvms_file.specs.declared.descriptor.FieldType.{FieldType}
-use Rattle.jvms_file.specs.declared.descriptor.MethodType.{MethodType}
-use Rattle.jvms_file.specs.ConstantPool.{entry, utf8_of, utf8_at}
+use Rattle.jvms_file.specs.ConstantPool.{utf8_of, utf8_at}
 use Rattle.jvms_file.specs.Descriptors.{field_type_of, field_type_from, method_type_of}
 use Rattle.jvms_file.specs.Descriptors.{field_type, method_type}
 use Rattle.linker.specs.declared.spelled.SpelledText.{SpelledText}

@@ -1,6 +1,6 @@
 -- Linking (JVMS 5.3): the program of class files, or the first test that one of their classes fails. Each
 -- test is made of all classes, in order, before the next.
-use Rattle.std.specs.Prelude.{◌≡◌, ℕ, Bool, true, false, not, ◌||◌, ◌&&◌, List, [], ◌∷◌, ◌++◌, is_some, codes, map, length, take, Option, Some, None, Result, Ok, Err, slice_index_or}
+use Rattle.std.specs.Prelude.{◌≡◌, ℕ, Bool, true, not, ◌||◌, ◌&&◌, List, [], ◌++◌, is_some, codes, map, length, take, Option, Some, None, Result, Ok, Err, slice_index_or}
 use Rattle.std.specs.List.{find, list_any, position, range_with_len, IsDistinct}
 use Rattle.jvms_file.specs.declared.class_file.ClassFile.{ClassFile}
 use Rattle.jvms_program.specs.declared.program.Class.{Class}
@@ -9,7 +9,7 @@ use Rattle.jvms_file.specs.Names.{same_text}
 use Rattle.jvms_program.specs.BuiltIn.{object, is_built_in, built_in_classes}
 use Rattle.jvms_program.specs.Meaning.{meaning}
 use Rattle.jvms_program.specs.Program.{class_named, program_of}
-use Rattle.jvms_program.specs.Resolution.{ancestry, is_interface_kind, names_class, names_interface}
+use Rattle.jvms_program.specs.Resolution.{ancestry, is_interface_kind, names_class, names_interface, supers_of}
 use Rattle.linker.specs.declared.fault.LinkFault.{LinkFault}
 use Rattle.linker.specs.declared.fault.LinkFault.TheVariants as fault
 
@@ -35,14 +35,6 @@ abbrev pub built_in_name : List Class → Option ℕ
 built_in_name classes = position (λ c. is_built_in c.name) classes
 
 -- ---- Superclasses and superinterfaces (JVMS 5.3.5)
-
--- The names of a class's superinterfaces and of its superclass.
-abbrev pub supers_of : Class → List (List ℕ)
-supers_of c = c.interfaces ++ listed c.superclass
-  where
-    listed : Option (List ℕ) → List (List ℕ)
-    listed None = []
-    listed (Some name) = name ∷ []
 
 -- Its superclass or a superinterface isn't there.
 abbrev pub lacks_super : List Class → Class → Bool

@@ -1,36 +1,14 @@
 -- Superclasses and superinterfaces by their numbers.
-use Rattle.std.specs.Prelude.{◌≡◌, ℕ, Bool, true, false, nat_eq, nat_le, if◌then◌else◌, List, [], ◌∷◌, ◌++◌, map, length, Option, Some, None, slice_get, slice_index_or, unwrap_or}
-use Rattle.std.specs.List.{flat_map, fold, list_all, list_any, IsDistinct}
+use Rattle.std.specs.Prelude.{◌≡◌, ℕ, Bool, true, false, nat_eq, nat_le, if◌then◌else◌, List, [], ◌∷◌, ◌++◌, length, Some, slice_get, slice_index_or, unwrap_or}
+use Rattle.std.specs.List.{fold, list_all, list_any, IsDistinct}
 use Rattle.jvms_program.specs.declared.program.Class.{Class}
 use Rattle.jvms_program.specs.Program.{class_number}
 use Rattle.jvms_program.specs.Resolution.{ancestry_within, names_class}
-use Rattle.linker.specs.Linking.{supers_of}
-
--- ---- Numbers
-
-abbrev pub to_list : Option ℕ → List ℕ
-to_list None = []
-to_list (Some n) = n ∷ []
-
--- The numbers of the classes of these names that are there.
-abbrev pub numbers_of : List Class → List (List ℕ) → List ℕ
-numbers_of program names = flat_map (λ name. to_list (class_number program name)) names
-
-abbrev pub super_numbers : List Class → Class → List ℕ
-super_numbers program c = numbers_of program (supers_of c)
-
--- The same of each class of the program.
-abbrev pub super_rows : List Class → List (List ℕ)
-super_rows program = map (super_numbers program) program
+use Rattle.classes.specs.Hierarchy.{rank, super_rows}
 
 -- Whether a class of a name stands in the ancestry of one of these names, so many classes up at most.
 abbrev pub is_above : List Class → ℕ → List ℕ → List (List ℕ) → Bool
 is_above program most name names = list_any (λ super. names_class name (ancestry_within most program super)) names
-
--- ---- Ranks
-
-abbrev pub rank : List ℕ → ℕ → ℕ
-rank ranks number = unwrap_or (slice_get ranks number) 0
 
 -- ---- Sets of numbers, in the order in which they came
 

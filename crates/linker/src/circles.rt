@@ -4,14 +4,13 @@ ghost use Rattle.std.specs.Prelude.{◌≡◌, ◌<◌, ℕ, List, [], Some, sli
 ghost use Rattle.std.specs.List.{list_all};
 ghost use Rattle.jvms_program.specs.Program.{class_number};
 ghost use Rattle.linker.specs.Linking.{circular, is_circular};
-ghost use Rattle.linker.specs.Supers.{AreAllAbove, Fall, is_above, numbers_of, rank, super_rows};
+ghost use Rattle.classes.specs.Hierarchy.{numbers_of, rank, super_rows};
+ghost use Rattle.linker.specs.Supers.{AreAllAbove, Fall, is_above};
 
 use crate::number_set::NumberSet;
-use crate::ranks::ranks_of;
-use crate::supers::{super_numbers, super_rows};
+use classes::{ClassList, ranks_of, super_numbers, super_rows};
 use held::items::Items;
 use jvms_program::program::Class;
-use program::Program;
 use std::alloc::{AllocError, Global};
 use std::marker::Model;
 
@@ -51,7 +50,7 @@ fn fall(rows: &[Items<usize>], ranks: &[usize]) -> bool
 /// The superclasses and superinterfaces of a program's classes, by their numbers. Contracts see the classes.
 #[derive(Drop)]
 struct Supers<'p> {
-    program: &'p Program,
+    program: &'p ClassList,
     /// For each class the numbers of its superinterfaces and of its superclass.
     rows: Vec<Items<usize>>,
     /// For each class its rank.
@@ -74,7 +73,7 @@ impl<'p> Model for Supers<'p> {
 
 impl<'p> Supers<'p> {
     /// Those of a program.
-    fn of(alloc: Global, program: &'p Program) -> Result<Self, AllocError>
+    fn of(alloc: Global, program: &'p ClassList) -> Result<Self, AllocError>
         ensures { IfOk result (λ supers. supers ≡ program.now) }
     {
         let rows = super_rows(alloc, program)?;
@@ -89,7 +88,7 @@ impl<'p> Supers<'p> {
     }
 
     /// The program.
-    fn program(&self) -> &'p Program
+    fn program(&self) -> &'p ClassList
         ensures { result.now ≡ self.now }
     {
         self.program
@@ -156,7 +155,7 @@ impl<'p> Supers<'p> {
 /// The first of these classes that stands in the ancestry of its superclass or of a superinterface.
 pub(crate) fn circular(
     alloc: Global,
-    program: &Program,
+    program: &ClassList,
     classes: &[Class],
 ) -> Result<Option<usize>, AllocError>
     ensures { IfOk result (λ place. place ≡ circular program.now classes.now) }

@@ -11,11 +11,9 @@ mod linking;
 mod loadable;
 mod method;
 mod number_set;
-mod ranks;
 mod reference;
 mod refusals;
 mod spelled;
-mod supers;
 mod texts;
 
 pub use class::meaning;

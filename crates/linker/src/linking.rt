@@ -1,14 +1,16 @@
 //! Linking (JVMS 5.3).
 
-ghost use Rattle.std.specs.Prelude.{◌≡◌, ◌++◌, ◌-◌, IfOk, drop, length, map};
+ghost use Rattle.std.specs.Prelude.{◌≡◌, ◌++◌, ◌-◌, IfOk, MatchResult, drop, length, map};
 ghost use Rattle.jvms_program.specs.BuiltIn.{built_in_classes};
 ghost use Rattle.jvms_program.specs.Meaning.{meaning};
+ghost use Rattle.linker.specs.declared.fault.LinkFault.TheVariants as fault;
 ghost use Rattle.linker.specs.Linking.{Answers, HaveDistinctNames, linked, refusal};
 
 use crate::circles::circular;
 use crate::class::meaning;
 use crate::fault::LinkFault;
 use crate::refusals::{built_in_name, missing_super, repeated_name, wrong_super};
+use classes::{ClassList, Classes, Ordered};
 use jvms_file::class_file::ClassFile;
 use jvms_program::program::Class;
 use program::Program;
@@ -25,18 +27,18 @@ fn classes_of(alloc: Global, files: Vec<ClassFile>) -> Result<Vec<Class>, AllocE
     Ok(classes)
 }
 
-/// The last classes of a program, so many.
-fn last_classes(program: &Program, count: usize) -> &[Class]
-    ensures { result.now ≡ drop (length program.now - count) program.now }
+/// Returns the last classes of a list, so many.
+fn last_classes(list: &ClassList, count: usize) -> &[Class]
+    ensures { result.now ≡ drop (length list.now - count) list.now }
 {
-    let classes = program.classes();
+    let classes = list.classes();
     classes.split_at(classes.len().saturating_sub(count)).1
 }
 
-/// Tests all classes, which stand behind the built-in ones: of the tests in their order, the first that one fails, with
-/// the first class that fails it.
-fn check(alloc: Global, program: &Program, classes: &[Class]) -> Result<(), LinkFault>
-    requires { program.now ≡ built_in_classes ++ classes.now }
+/// Runs the tests in order over all classes, which follow the built-in ones, and returns the first that fails, with the first
+/// class that fails it.
+fn check(alloc: Global, list: &ClassList, classes: &[Class]) -> Result<(), LinkFault>
+    requires { list.now ≡ built_in_classes ++ classes.now }
     ensures { Answers result (refusal classes.now) }
 {
     if let Some(class) = built_in_name(classes) {
@@ -45,19 +47,29 @@ fn check(alloc: Global, program: &Program, classes: &[Class]) -> Result<(), Link
     if let Some(class) = repeated_name(alloc, classes)? {
         return Err(LinkFault::RepeatedClass { class });
     }
-    if let Some(class) = missing_super(program, classes) {
+    if let Some(class) = missing_super(list, classes) {
         return Err(LinkFault::MissingSuper { class });
     }
-    if let Some(class) = wrong_super(program, classes) {
+    if let Some(class) = wrong_super(list, classes) {
         return Err(LinkFault::SuperKind { class });
     }
-    if let Some(class) = circular(alloc, program, classes)? {
+    if let Some(class) = circular(alloc, list, classes)? {
         return Err(LinkFault::Circular { class });
     }
     Ok(())
 }
 
-/// The program of class files with the built-in classes (JVMS 5.3), or the first test that one of their
+/// Makes the program of classes that passed the tests. None of them is on a circle then, so that an order of them is found.
+fn program_of(alloc: Global, list: ClassList) -> Result<Program, LinkFault>
+    ensures { MatchResult result (λ p. p ≡ list) (λ e. e ≡ fault.Memory) }
+{
+    match Classes::ordered(alloc, list)? {
+        Ordered::Classes(classes) => Ok(Program::new(alloc, classes)?),
+        Ordered::Unordered(_) => Err(LinkFault::Memory),
+    }
+}
+
+/// Returns the program of class files with the built-in classes (JVMS 5.3), or the first test that one of their
 /// classes fails, want of memory aside.
 #[tactic(auto, unfolding(crate::specs::Linking::linked, jvms_program::specs::Program::program_of), using(jvms_program::proofs::ProgramLaws::files_are_program))]
 pub fn link(alloc: Global, files: Vec<ClassFile>) -> Result<Program, LinkFault>
@@ -68,9 +80,9 @@ pub fn link(alloc: Global, files: Vec<ClassFile>) -> Result<Program, LinkFault>
 {
     let classes = classes_of(alloc, files)?;
     let count = classes.len();
-    let program = Program::new(alloc, classes)?;
-    match check(alloc, &program, last_classes(&program, count)) {
-        Ok(()) => Ok(program),
+    let list = ClassList::new(alloc, classes)?;
+    match check(alloc, &list, last_classes(&list, count)) {
+        Ok(()) => program_of(alloc, list),
         Err(fault) => Err(fault),
     }
 }

@@ -7,11 +7,10 @@ ghost use Rattle.jvms_program.specs.Resolution.{is_interface_kind, names_interfa
 ghost use Rattle.linker.specs.Linking.{built_in_name, has_wrong_interface, has_wrong_superclass, is_never_extended, lacks_super, missing_super, names_of, repeated_name, wrong_super};
 
 use built_in::{is_built_in, is_named};
-use classes::OBJECT;
+use classes::{ClassList, OBJECT};
 use descriptor::same_text;
 use held::shared::Text;
 use jvms_program::program::{Class, ClassKind};
-use program::Program;
 use std::alloc::{AllocError, Global};
 use std::collections::BTreeSet;
 
@@ -39,14 +38,14 @@ pub(crate) fn repeated_name(alloc: Global, classes: &[Class]) -> Result<Option<u
 }
 
 /// Whether there is no class of a name.
-fn is_missing(program: &Program, name: &Text) -> bool
+fn is_missing(program: &ClassList, name: &Text) -> bool
     ensures { result ≡ not (is_some (class_named program.now name.now)) }
 {
     program.class_named(name.as_slice()).is_none()
 }
 
 /// Whether a superinterface of a class isn't there.
-fn lacks_interface(program: &Program, class: &Class) -> bool
+fn lacks_interface(program: &ClassList, class: &Class) -> bool
     ensures { result ≡ list_any (λ name. not (is_some (class_named program.now name))) class.now.interfaces }
 {
     let interfaces = class.interfaces.as_slice();
@@ -54,7 +53,7 @@ fn lacks_interface(program: &Program, class: &Class) -> bool
 }
 
 /// Whether the superclass of a class or a superinterface isn't there.
-fn lacks_super(program: &Program, class: &Class) -> bool
+fn lacks_super(program: &ClassList, class: &Class) -> bool
     ensures { result ≡ lacks_super program.now class.now }
 {
     let lacks_interface = lacks_interface(program, class);
@@ -65,7 +64,7 @@ fn lacks_super(program: &Program, class: &Class) -> bool
 }
 
 /// The first class whose superclass or a superinterface isn't there.
-pub(crate) fn missing_super(program: &Program, classes: &[Class]) -> Option<usize>
+pub(crate) fn missing_super(program: &ClassList, classes: &[Class]) -> Option<usize>
     ensures { result ≡ missing_super program.now classes.now }
 {
     classes.iter().position(|class| lacks_super(program, class))
@@ -82,37 +81,37 @@ fn is_never_extended(name: &[u16]) -> bool
 }
 
 /// Whether the superclass of a class is missing or of a wrong kind.
-fn has_wrong_superclass(program: &Program, class: &Class) -> bool
+fn has_wrong_superclass(program: &ClassList, class: &Class) -> bool
     ensures { result ≡ has_wrong_superclass program.now class.now }
 {
     let Some(superclass) = &class.superclass else {
         return true;
     };
     let name = superclass.as_slice();
-    program.by_name().names_interface(name)
+    program.names_interface(name)
         || is_never_extended(name)
         || (matches!(class.kind, ClassKind::Interface) && !same_text(name, &OBJECT))
 }
 
 /// Whether a superinterface of a class is no interface.
-fn has_wrong_interface(program: &Program, class: &Class) -> bool
+fn has_wrong_interface(program: &ClassList, class: &Class) -> bool
     ensures { result ≡ has_wrong_interface program.now class.now }
 {
     let interfaces = class.interfaces.as_slice();
     interfaces
         .iter()
-        .any(|name| !program.by_name().names_interface(name.as_slice()))
+        .any(|name| !program.names_interface(name.as_slice()))
 }
 
 /// Whether the superclass of a class or a superinterface is of a wrong kind.
-fn has_wrong_super(program: &Program, class: &Class) -> bool
+fn has_wrong_super(program: &ClassList, class: &Class) -> bool
     ensures { result ≡ (has_wrong_superclass program.now class.now || has_wrong_interface program.now class.now) }
 {
     has_wrong_superclass(program, class) || has_wrong_interface(program, class)
 }
 
 /// The first class whose superclass or a superinterface is of a wrong kind.
-pub(crate) fn wrong_super(program: &Program, classes: &[Class]) -> Option<usize>
+pub(crate) fn wrong_super(program: &ClassList, classes: &[Class]) -> Option<usize>
     ensures { result ≡ wrong_super program.now classes.now }
 {
     classes

@@ -2,8 +2,6 @@
 #![tactic(auto)]
 
 mod monitors;
-#[cfg(test)]
-mod tests;
 
 pub use jvms_machine::state::Hold;
 pub use monitors::Monitors;

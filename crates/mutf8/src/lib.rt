@@ -13,6 +13,3 @@ use held::items::Items;
 
 /// A text: its 16-bit units in order.
 pub type Units = Items<u16>;
-
-#[cfg(test)]
-mod tests;

@@ -6,6 +6,3 @@ mod list;
 mod names;
 
 pub use list::OutcomeList;
-
-#[cfg(test)]
-mod tests;

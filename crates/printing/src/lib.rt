@@ -6,6 +6,3 @@ mod line;
 
 pub use characters::put_text;
 pub use line::{put_int, put_line, put_line_end, put_null};
-
-#[cfg(test)]
-mod tests;

@@ -5,3 +5,4 @@ pub mod SignatureLaws
 pub mod SelectLaws
 pub mod SelectionLaws
 pub mod SpecialLaws
+pub mod ResolutionLaws

@@ -1,3 +1,4 @@
+pub mod Resolutions
 pub mod Selecting
 pub mod Selections
 pub mod Signatures

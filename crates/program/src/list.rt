@@ -1,8 +1,8 @@
 //! A program as a list of its classes.
 
-ghost use Rattle.std.specs.Prelude.{◌≡◌, ◌++◌, IfOk, IsOk, None, false, option_copied, slice_get};
+ghost use Rattle.std.specs.Prelude.{◌≡◌, IfOk, IsOk, None, false, option_copied, slice_get};
 ghost use Rattle.std.specs.Option.{option_map, unwrap_or};
-ghost use Rattle.jvms_program.specs.BuiltIn.{built_in_classes, is_built_in};
+ghost use Rattle.jvms_program.specs.BuiltIn.{is_built_in};
 ghost use Rattle.jvms_program.specs.Program.{IsProgram, class_named, class_number, method_at, key_of};
 ghost use Rattle.jvms_program.specs.Resolution.{class_exists, fits};
 
@@ -36,15 +36,15 @@ impl Model for Program {
 }
 
 impl Program {
-    /// The program of these classes and the built-in ones, which come first.
-    pub fn new(alloc: Global, own: Vec<Class>) -> Result<Program, AllocError>
-        // Types are those that descriptors spell, as in classes that class files mean.
-        requires { IsProgram (built_in_classes ++ own.items) }
-        ensures { IfOk result (λ p. p ≡ built_in_classes ++ own.items) }
+    /// Makes the tables of these classes.
+    pub fn new(alloc: Global, classes: Classes) -> Result<Program, AllocError>
+        ensures { IfOk result (λ p. p ≡ classes) }
     {
-        let by_name = Classes::new(alloc, own)?;
-        let tables = tables_of(alloc, &by_name)?;
-        Ok(Program { by_name, tables })
+        let tables = tables_of(alloc, &classes)?;
+        Ok(Program {
+            by_name: classes,
+            tables,
+        })
     }
 
     /// The classes, with what is looked up by name alone.

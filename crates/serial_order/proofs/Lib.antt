@@ -8,5 +8,4 @@ pub mod Blocks
 pub mod Following
 pub mod Asked
 pub mod Verdicts
-pub mod Example
 pub mod Spans

@@ -7,6 +7,3 @@ mod numbers;
 pub mod transactions;
 
 pub use numbers::serial;
-
-#[cfg(test)]
-mod tests;

@@ -4,8 +4,6 @@
 mod fault;
 mod labels;
 mod range;
-#[cfg(test)]
-mod tests;
 mod undefined;
 
 pub use fault::LabelsFault;

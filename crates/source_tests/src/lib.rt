@@ -1,6 +1,26 @@
-//! Two sources, cut at each character. What a source is read as otherwise is tested by files of cases, in
-//! `command_cases`.
+//! Tests of what needs no program and no machine: class files and their parts, and lines of sources. They are in a crate above
+//! the tested ones, so that each of those is proved once. Expected values are from the Java Virtual Machine Specification
+//! (JVMS) or the rules of sources, never from the program's answers.
+//!
+//! Only what no clause says is tested: that the definitions agree with the standard, by its own values, that each
+//! public call succeeds with ample memory, and the texts of faults. More cases, as data, are in `command_cases`.
 #![tactic(auto)]
 
 #[cfg(test)]
+mod class_bytes;
+#[cfg(test)]
+mod classes;
+#[cfg(test)]
 mod cuts;
+#[cfg(test)]
+mod descriptors;
+#[cfg(test)]
+mod fault_texts;
+#[cfg(test)]
+mod instructions;
+#[cfg(test)]
+mod modified_utf8;
+#[cfg(test)]
+mod pools;
+#[cfg(test)]
+mod tokens;

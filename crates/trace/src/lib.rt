@@ -5,8 +5,6 @@ mod bytes;
 mod failures;
 mod list;
 mod recording;
-#[cfg(test)]
-mod tests;
 
 pub use bytes::{ByteIn, ByteOut, Counted, DeviceFailure};
 pub use failures::Failures;

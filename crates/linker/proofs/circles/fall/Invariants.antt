@@ -1,7 +1,7 @@
 use Rattle.std.proofs.Common.{◌≡◌, ℕ, ◌<◌, [], true, get_or}
 use Rattle.std.specs.Prelude.{nat_le}
 use Rattle.std.specs.List.{list_all}
-use Rattle.linker.specs.Supers.{rank}
+use Rattle.classes.specs.Hierarchy.{rank}
 use Rattle.linker.proofs.circles.fall.Given as goal
 
 -- the classes so far

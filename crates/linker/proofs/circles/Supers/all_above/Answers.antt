@@ -1,6 +1,7 @@
-use Rattle.std.proofs.Common.{◌≡◌, ◌+◌, ◌<◌, ◌≤◌, ℕ, [], length, get_or, refl, sym, ap, ◌∙◌, arith}
+use Rattle.std.proofs.Common.{◌≡◌, ◌<◌, ℕ, [], length, get_or, refl, sym, ap, ◌∙◌, arith}
 use Rattle.std.proofs.lemmas.Option.{get_or_from_slice_get, slice_get_within}
-use Rattle.linker.specs.Supers.{super_rows, with_numbers, Numbers}
+use Rattle.classes.specs.Hierarchy.{super_rows}
+use Rattle.linker.specs.Supers.{with_numbers, Numbers}
 use Rattle.linker.proofs.AncestryLaws.{closed_none, closed_next, reached_first, reached_next, whole}
 use Rattle.linker.proofs.SetLaws.{all_in, past_place, still_all_in}
 use Rattle.linker.proofs.circles.Supers.all_above.Goals as goal

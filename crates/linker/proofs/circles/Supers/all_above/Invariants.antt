@@ -1,6 +1,7 @@
 use Rattle.std.proofs.Common.{◌≡◌, ℕ, true, List, length}
 use Rattle.std.specs.List.{list_all}
-use Rattle.linker.specs.Supers.{is_in, numbers_of}
+use Rattle.classes.specs.Hierarchy.{numbers_of}
+use Rattle.linker.specs.Supers.{is_in}
 use Rattle.linker.proofs.AncestryLaws.{AreClosed, AreReached}
 use Rattle.linker.proofs.circles.Supers.all_above.Given as goal
 

@@ -2,8 +2,8 @@ use Rattle.std.proofs.Common.{◌≡◌, ℕ, List, Some, None, true, length, lt
 use Rattle.std.specs.List.{list_all}
 use Rattle.jvms_program.specs.declared.program.Class.{Class}
 use Rattle.jvms_program.specs.Program.{class_number}
-use Rattle.linker.specs.Linking.{supers_of}
-use Rattle.linker.specs.Supers.{super_numbers}
+use Rattle.jvms_program.specs.Resolution.{supers_of}
+use Rattle.classes.specs.Hierarchy.{super_numbers}
 use Rattle.linker.proofs.AncestryLaws.{none_is_above, numbers_within}
 use Rattle.linker.proofs.circles.Supers.is_circular.Goals as goal
 

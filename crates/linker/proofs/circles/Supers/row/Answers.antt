@@ -1,7 +1,7 @@
 use Rattle.std.proofs.Common.{◌≡◌, ℕ, List, [], true, get_or, length, ltb, sym, subst, arith}
 use Rattle.std.specs.List.{list_all}
 use Rattle.std.proofs.lemmas.Grind.{common_steps}
-use Rattle.linker.specs.Supers.{super_rows}
+use Rattle.classes.specs.Hierarchy.{super_rows}
 use Rattle.linker.proofs.AncestryLaws.{row_within}
 use Rattle.linker.proofs.circles.Supers.row.Goals as goal
 

@@ -1,5 +1,6 @@
-use Rattle.std.proofs.Common.{List, ℕ, true, sym, subst, ap, ◌∙◌}
-use Rattle.linker.specs.Supers.{super_rows, Fall}
+use Rattle.std.proofs.Common.{List, ℕ, sym, subst, ap, ◌∙◌}
+use Rattle.classes.specs.Hierarchy.{super_rows}
+use Rattle.linker.specs.Supers.{Fall}
 use Rattle.linker.proofs.AncestryLaws.{apart}
 use Rattle.linker.proofs.circles.Supers.stands_apart.Goals as goal
 

@@ -1,4 +1,4 @@
-use Rattle.std.proofs.Common.{◌≡◌, ◌<◌, false, sym, subst, ap, ◌∙◌}
+use Rattle.std.proofs.Common.{◌<◌, sym, subst, ap, ◌∙◌}
 use Rattle.linker.specs.Supers.{is_in, Numbers}
 use Rattle.linker.proofs.SetLaws.{one_marked}
 use Rattle.linker.proofs.number_set.NumberSet.add.Goals as goal

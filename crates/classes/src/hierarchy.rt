@@ -1,0 +1,98 @@
+//! An order of classes in which each comes after its superclass and its superinterfaces (JVMS 5.3.5).
+
+ghost use Rattle.std.specs.Prelude.{◌≡◌, ◌&&◌, IfOk, IfSome, length, nat_lt, true};
+ghost use Rattle.std.specs.List.{list_all};
+ghost use Rattle.classes.specs.Hierarchy.{AreFound, ArePlaced, IsHierarchyOf, rank};
+
+use crate::class_list::ClassList;
+use crate::ranks::{put, ranks_of};
+use crate::supers::super_rows;
+use held::items::Items;
+use std::alloc::{AllocError, Global};
+
+/// For each class the numbers of its superinterfaces and of its superclass, and an order in which it comes after these.
+#[derive(Drop)]
+pub(crate) struct Hierarchy {
+    pub(crate) supers: Vec<Items<usize>>,
+    /// The place of each class in the order.
+    pub(crate) ranks: Vec<usize>,
+    /// The numbers of the classes, in the order.
+    pub(crate) order: Vec<usize>,
+}
+
+/// Returns the place of a class in the order.
+pub(crate) fn rank(ranks: &[usize], class: usize) -> usize
+    ensures { result ≡ rank ranks.now class }
+{
+    ranks.get(class).copied().unwrap_or(0)
+}
+
+/// Returns whether some classes are there, of so many, and have lower ranks than a limit.
+fn come_before(ranks: &[usize], count: usize, limit: usize, classes: &[usize]) -> bool
+    ensures { result ≡ list_all (λ n. nat_lt n count && nat_lt (rank ranks.now n) limit) classes.now }
+{
+    classes
+        .iter()
+        .all(|class| *class < count && rank(ranks, *class) < limit)
+}
+
+/// Returns whether each class stands at its place in the order, after its superclass and its superinterfaces.
+fn are_placed(supers: &[Items<usize>], ranks: &[usize], order: &[usize]) -> bool
+    ensures { result ≡ true → ArePlaced supers.now ranks.now order.now }
+{
+    for (class, row) in supers.iter().enumerate() {
+        let place = rank(ranks, class);
+        if place >= order.len() || order[place] != class {
+            return false;
+        }
+        if !come_before(ranks, supers.len(), place, row.as_slice()) {
+            return false;
+        }
+    }
+    true
+}
+
+/// Returns whether each number of the order is that of a class, of so many, whose place it has.
+fn are_found(count: usize, ranks: &[usize], order: &[usize]) -> bool
+    ensures { result ≡ true → AreFound count ranks.now order.now }
+{
+    if order.len() > count {
+        return false;
+    }
+    for (place, class) in order.iter().enumerate() {
+        if *class >= count || rank(ranks, *class) != place {
+            return false;
+        }
+    }
+    true
+}
+
+/// Makes ranks begin at 0, and puts the classes in their order.
+fn order_by(alloc: Global, ranks: &mut [usize]) -> Result<Vec<usize>, AllocError> {
+    let mut order = vec![in alloc; 0; ranks.len()]?;
+    for (class, rank) in ranks.iter_mut().enumerate() {
+        *rank = rank.saturating_sub(1);
+        put(order.as_mut_slice(), *rank, class);
+    }
+    Ok(order)
+}
+
+/// Orders the classes of a list, if an order is found.
+pub(crate) fn hierarchy_of(alloc: Global, list: &ClassList) -> Result<Option<Hierarchy>, AllocError>
+    ensures { IfOk result (λ found. IfSome found (λ h. IsHierarchyOf list.now h.supers.items h.ranks.items h.order.items)) }
+{
+    let supers = super_rows(alloc, list)?;
+    let mut ranks = ranks_of(alloc, supers.as_slice())?;
+    let order = order_by(alloc, ranks.as_mut_slice())?;
+    if are_placed(supers.as_slice(), ranks.as_slice(), order.as_slice())
+        && are_found(supers.len(), ranks.as_slice(), order.as_slice())
+    {
+        Ok(Some(Hierarchy {
+            supers,
+            ranks,
+            order,
+        }))
+    } else {
+        Ok(None)
+    }
+}
