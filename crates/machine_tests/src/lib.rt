@@ -8,6 +8,8 @@ mod arithmetic;
 #[cfg(test)]
 mod asked;
 #[cfg(test)]
+mod hierarchies;
+#[cfg(test)]
 mod outcomes;
 #[cfg(test)]
 mod printed;
