@@ -12,8 +12,8 @@ use std::alloc::{AllocError, Global};
 use std::test::Fail;
 use trace::Recording;
 
-/// How many interfaces stand one above another.
-const DEPTH: usize = 60_000;
+/// How many interfaces stand one above another. `bench/hierarchies.py` has 60,000.
+const DEPTH: usize = 2_000;
 
 /// A method of an interface that names a field which isn't there.
 const REFERENCE: &str = "
@@ -28,7 +28,7 @@ return
 /// interface, and below one that it isn't below: f returns 1 shifted by 0.
 const LOWEST: &str = "
 .class C
-.implements I59999
+.implements I1999
 .method <init>()V
 aload_0
 invokespecial java/lang/Object/<init>()V
@@ -56,14 +56,19 @@ fn assembled(alloc: Global, text: &str) -> Result<ClassFile, Fail> {
     Ok(assemble(alloc, &source)?.into_class())
 }
 
-/// Makes the interface of a number, with the superinterfaces of these numbers.
-fn interface(alloc: Global, number: usize, above: &[usize]) -> Result<ClassFile, Fail> {
+/// Makes the interface of a number, with the superinterfaces of these numbers and this method.
+fn interface(
+    alloc: Global,
+    number: usize,
+    above: &[usize],
+    method: &str,
+) -> Result<ClassFile, Fail> {
     let mut text = format!(in alloc; ".interface I{number}\n")?;
     for other in above {
         let line = format!(in alloc; ".implements I{other}\n")?;
         text.push_str(line.as_str())?;
     }
-    text.push_str(REFERENCE)?;
+    text.push_str(method)?;
     assembled(alloc, text.as_str())
 }
 
@@ -73,7 +78,7 @@ fn chain(alloc: Global, count: usize) -> Result<Vec<ClassFile>, Fail> {
     for number in 0..count {
         let above = [number.saturating_sub(1)];
         let supers = if number == 0 { &above[..0] } else { &above[..] };
-        files.push(interface(alloc, number, supers)?)?;
+        files.push(interface(alloc, number, supers, "")?)?;
     }
     Ok(files)
 }
@@ -85,7 +90,7 @@ fn diamonds(alloc: Global, levels: usize) -> Result<Vec<ClassFile>, Fail> {
         let first = (number / 2).saturating_sub(1).saturating_mul(2);
         let above = [first, first.saturating_add(1)];
         let supers = if number < 2 { &above[..0] } else { &above[..] };
-        files.push(interface(alloc, number, supers)?)?;
+        files.push(interface(alloc, number, supers, REFERENCE)?)?;
     }
     Ok(files)
 }
@@ -96,7 +101,7 @@ fn circle(alloc: Global, count: usize) -> Result<Vec<ClassFile>, Fail> {
     for number in 0..count {
         let next = number.saturating_add(1);
         let above = [if next < count { next } else { 0 }];
-        files.push(interface(alloc, number, &above)?)?;
+        files.push(interface(alloc, number, &above, REFERENCE)?)?;
     }
     Ok(files)
 }

@@ -1,0 +1,4 @@
+mod Hits
+mod Reading
+mod Runs
+mod Sessions

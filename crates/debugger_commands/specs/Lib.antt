@@ -1,0 +1,4 @@
+pub mod Commands
+pub mod Readings
+pub mod Runs
+pub mod Sessions

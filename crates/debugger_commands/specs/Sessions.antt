@@ -1,0 +1,153 @@
+-- What the commands of a debugger act on, and what each of them does.
+use Rattle.std.specs.Prelude.{ℕ, zero, suc, ◌+◌, ◌-◌, ◌<◌, ◌≤◌, ◌==◌, ◌&&◌, Bool, false, not, min, List, [], ◌∷◌, ◌++◌, length, take, Option, Some, None, is_some, slice_get, Result, Ok, Err, position as place_of_first, if◌then◌else◌, nat_lt}
+use Rattle.std.specs.List.{All, list_any, remove}
+use Rattle.std.specs.Option.{option_and_then, option_map, ok_or}
+use Rattle.jvms_program.specs.declared.program.Class.{Class}
+use Rattle.jvms_program.specs.declared.number.MethodNumber.{MethodNumber}
+use Rattle.jvms_program.specs.declared.key.MethodKey.{MethodKey}
+use Rattle.jvms_program.specs.Program.{class_number, declared_number}
+use Rattle.jvms_machine.specs.declared.machine.Limits.{Limits}
+use Rattle.jvms_machine.specs.declared.state.StackFrame.TheVariants as stack_frame
+use Rattle.jvms_machine.specs.State.{State, Thread, Frame, object_at, body_at}
+use Rattle.jvms_machine.specs.Start.{Start}
+use Rattle.jvms_machine.specs.Run.{run}
+use Rattle.debugger_commands.specs.declared.breakpoint.Breakpoint.{Breakpoint}
+use Rattle.debugger_commands.specs.declared.command.Command.{Command}
+use Rattle.debugger_commands.specs.declared.command.Command.TheVariants as command
+use Rattle.debugger_commands.specs.declared.command.Place.{Place}
+use Rattle.debugger_commands.specs.declared.fault.DebugFault.{DebugFault}
+use Rattle.debugger_commands.specs.declared.fault.DebugFault.TheVariants as fault
+
+-- The choices, how many of them were made, and the breakpoints with the number of the next one.
+pub record Session : Type 0 where
+  pub choices : List ℕ
+  pub position : ℕ
+  pub breakpoints : List Breakpoint
+  pub next : ℕ
+
+-- What holds of every session: it is at one of its positions, and numbers that were given out are below the next.
+pub record IsSession (x : Session) : Type 0 where
+  pub position : x.position ≤ length x.choices
+  pub next : 0 < x.next
+  pub numbers : All (λ b. b.number < x.next) x.breakpoints
+
+-- A session begins before the first choice, without a breakpoint.
+abbrev pub opened : List ℕ → Session
+opened choices = record { choices = choices; position = 0; breakpoints = []; next = 1 }
+
+-- The state behind so many of these choices.
+unfoldable pub state_behind : List Class → Limits → Start → List ℕ → ℕ → State
+state_behind program limits start choices n = (run program limits start (take n choices)).state
+
+-- The state that a session shows.
+abbrev pub state_of : List Class → Limits → Start → Session → State
+state_of program limits start x = state_behind program limits start x.choices x.position
+
+-- ---- Moves
+
+-- A session at a position, or at the last where that is beyond it.
+abbrev pub moved_to : Session → ℕ → Session
+moved_to x p = record x { position = min p (length x.choices) }
+
+-- The choices are cut at the position, one is added, and the session is behind it.
+abbrev pub picked : Session → ℕ → Session
+picked x t = record x { choices = take x.position x.choices ++ t ∷ []; position = x.position + 1 }
+
+-- ---- Breakpoints
+
+-- The method that the class itself declares.
+abbrev pub method_of_key : List Class → MethodKey → Option MethodNumber
+method_of_key program key =
+    option_and_then (λ c. option_and_then (λ class. option_map (λ m. record { class = c; method = m }) (declared_number class key.name key.descriptor)) (slice_get program c))
+    (class_number program key.class)
+
+-- An instruction of a method's code.
+abbrev pub has_instruction : List Class → ℕ → MethodNumber → Bool
+has_instruction program i n = is_some (option_and_then (λ body. slice_get body.instructions i) (body_at program n))
+
+-- The method of a place, where its code has the instruction.
+abbrev pub method_of_place : List Class → Place → Option MethodNumber
+method_of_place program place =
+    option_and_then (λ n. if has_instruction program place.instruction n then Some n else None)
+    (option_and_then (method_of_key program) place.method)
+
+-- A breakpoint takes the next number. No number is used again, and the last is 4,294,967,295.
+abbrev pub with_breakpoint : Session → ℕ → MethodNumber → Result Session DebugFault
+with_breakpoint x i n =
+    if nat_lt x.next 4294967296
+    then Ok (record x { breakpoints = x.breakpoints ++ record { number = x.next; method = n; instruction = i } ∷ []; next = x.next + 1 })
+    else Err fault.NoBreakpoint
+
+abbrev pub broken_at : Session → ℕ → Option MethodNumber → Result Session DebugFault
+broken_at x i None = Err fault.NoPlace
+broken_at x i (Some n) = with_breakpoint x i n
+
+-- Where the breakpoint of a number stands in the list.
+abbrev pub breakpoint_index : ℕ → List Breakpoint → Option ℕ
+breakpoint_index k breakpoints = place_of_first (λ b. b.number == k) breakpoints
+
+abbrev pub deleted : Session → Option ℕ → Result Session DebugFault
+deleted x None = Err fault.NoBreakpoint
+deleted x (Some i) = Ok (record x { breakpoints = remove x.breakpoints i })
+
+-- ---- Hits
+
+-- A call's frame stands at a breakpoint: its next instruction is that.
+abbrev pub is_frame_at : Option Frame → Breakpoint → Bool
+is_frame_at (Some (stack_frame.Call f)) b =
+    (f.method.class == b.method.class) && (f.method.method == b.method.method) && (f.activation.place == b.instruction)
+is_frame_at (Some (stack_frame.Initialisation class called)) b = false
+is_frame_at None b = false
+
+-- A thread with nothing pending stands at one of these breakpoints with its top frame.
+abbrev pub is_thread_at : List Breakpoint → Option Thread → Bool
+is_thread_at breakpoints None = false
+is_thread_at breakpoints (Some thread) = not (is_some thread.pending) && list_any (is_frame_at (slice_get thread.frames 0)) breakpoints
+
+-- Whether the thread that the next choice names does.
+abbrev pub is_hit_by : List Breakpoint → State → Option ℕ → Bool
+is_hit_by breakpoints s None = false
+is_hit_by breakpoints s (Some t) = is_thread_at breakpoints (slice_get s.threads t)
+
+-- A position is a hit where the thread of the next choice stands at a breakpoint. The last position is none.
+unfoldable pub is_hit : List Class → Limits → Start → Session → ℕ → Bool
+is_hit program limits start x n = is_hit_by x.breakpoints (state_behind program limits start x.choices n) (slice_get x.choices n)
+
+-- The next number behind one that passes a test, of so many; the last of them where none does.
+unfoldable pub next_hit : (ℕ → Bool) → ℕ → ℕ → ℕ
+next_hit test p zero = p
+next_hit test p (suc left) = if test (p + 1) then p + 1 else next_hit test (p + 1) left
+
+-- The greatest number below one that passes a test, else 0.
+unfoldable pub hit_before : (ℕ → Bool) → ℕ → ℕ
+hit_before test zero = 0
+hit_before test (suc p) = if test p then p else hit_before test p
+
+abbrev pub continued : List Class → Limits → Start → Session → Session
+continued program limits start x = record x { position = next_hit (is_hit program limits start x) x.position (length x.choices - x.position) }
+
+abbrev pub continued_back : List Class → Limits → Start → Session → Session
+continued_back program limits start x = record x { position = hit_before (is_hit program limits start x) x.position }
+
+-- ---- Commands
+
+-- A session that shows what is there.
+abbrev pub shows : {X : Type 0} → Session → Option X → DebugFault → Result Session DebugFault
+shows x what none = ok_or (option_map (λ _. x) what) none
+
+-- The session behind a command, or why the command is refused.
+abbrev pub behind : List Class → Limits → Start → Session → Command → Result Session DebugFault
+behind program limits start x (command.Step n) = Ok (moved_to x (x.position + n))
+behind program limits start x (command.Back n) = Ok (moved_to x (x.position - n))
+behind program limits start x (command.Goto n) = Ok (moved_to x n)
+behind program limits start x command.Continue = Ok (continued program limits start x)
+behind program limits start x command.ReverseContinue = Ok (continued_back program limits start x)
+behind program limits start x (command.Pick t) = Ok (picked x t)
+behind program limits start x (command.Break place) = broken_at x place.instruction (method_of_place program place)
+behind program limits start x (command.Delete k) = deleted x (breakpoint_index k x.breakpoints)
+behind program limits start x command.Threads = Ok x
+behind program limits start x (command.Frames t) = shows x (slice_get (state_of program limits start x).threads t) fault.NoThread
+behind program limits start x (command.Object r) = shows x (object_at (state_of program limits start x).heap r) fault.NoObject
+behind program limits start x (command.Class name) = shows x (option_and_then (class_number program) name) fault.NoPlace
+behind program limits start x command.Trace = Ok x
+behind program limits start x command.Output = Ok x

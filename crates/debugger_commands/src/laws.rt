@@ -1,0 +1,46 @@
+//! Laws about the definitions, owed to the gate: each is the contract of a function that does nothing.
+
+ghost use Rattle.std.specs.Prelude.{◌≡◌, ◌+◌, ◌<◌, ◌≤◌, ◌++◌, true, false, Bool, List, ℕ, Ok};
+ghost use Rattle.jvms_program.specs.declared.program.Class.{Class};
+ghost use Rattle.jvms_machine.specs.declared.machine.Limits.{Limits};
+ghost use Rattle.jvms_machine.specs.Start.{Start};
+ghost use Rattle.jvms_machine.specs.State.{State};
+ghost use Rattle.jvms_machine.specs.Run.{run_from};
+ghost use Rattle.debugger_commands.specs.declared.command.Command.{Command};
+ghost use Rattle.debugger_commands.specs.Readings.{AreRead};
+ghost use Rattle.debugger_commands.specs.Runs.{joined};
+ghost use Rattle.debugger_commands.specs.Sessions.{Session, IsSession, opened, next_hit, hit_before, behind};
+
+/// Words are read as one command at most.
+pub fn words_are_of_one_command()
+    ensures { (words : List (List ℕ)) (a b : Command) → AreRead words (Ok a) → AreRead words (Ok b) → a ≡ b }
+{}
+
+/// A run of one list of choices and then another is the run of the second from the state behind the first: outcomes and
+/// items are joined.
+pub fn a_run_goes_on()
+    ensures { (program : List Class) (limits : Limits) (start : Start) (s : State) (xs ys : List ℕ) → run_from program limits start s (xs ++ ys) ≡ joined (run_from program limits start s xs) (run_from program limits start (run_from program limits start s xs).state ys) }
+{}
+
+/// `continue` comes to a hit behind the position, or to the end, and passes none.
+pub fn the_next_hit_is_the_nearest()
+    ensures hit { (test : ℕ → Bool) (p left : ℕ) → next_hit test p left < p + left → test (next_hit test p left) ≡ true }
+    ensures nearest { (test : ℕ → Bool) (p left k : ℕ) → p < k → k < next_hit test p left → test k ≡ false }
+    ensures within { (test : ℕ → Bool) (p left : ℕ) → (p ≤ next_hit test p left) × (next_hit test p left ≤ p + left) }
+    ensures behind { (test : ℕ → Bool) (p left : ℕ) → 0 < left → p < next_hit test p left }
+{}
+
+/// `rcontinue` comes to a hit before the position, or to 0, and passes none.
+pub fn the_hit_before_is_the_nearest()
+    ensures hit { (test : ℕ → Bool) (p : ℕ) → 0 < hit_before test p → test (hit_before test p) ≡ true }
+    ensures nearest { (test : ℕ → Bool) (p k : ℕ) → k < p → hit_before test p < k → test k ≡ false }
+    ensures within { (test : ℕ → Bool) (p : ℕ) → hit_before test p ≤ p }
+    ensures before { (test : ℕ → Bool) (p : ℕ) → 0 < p → hit_before test p < p }
+{}
+
+/// A session is opened at one of its positions, and no command leads away from them; numbers of breakpoints that were
+/// given out stay below the next.
+pub fn a_session_stays_one()
+    ensures opened { (choices : List ℕ) → IsSession (opened choices) }
+    ensures behind { (program : List Class) (limits : Limits) (start : Start) (x y : Session) (c : Command) → IsSession x → behind program limits start x c ≡ Ok y → IsSession y }
+{}

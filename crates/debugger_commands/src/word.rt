@@ -1,0 +1,14 @@
+//! Words that stand for numbers.
+
+ghost use Rattle.std.specs.Prelude.{◌^◌, ◌<◌, MatchOption};
+ghost use Rattle.debugger_commands.specs.Readings.{WritesNumber, WritesNone};
+
+/// The number that a word writes.
+pub(crate) fn number(word: &str) -> Option<u32>
+    ensures { MatchOption result (WritesNone word.now) (WritesNumber word.now) }
+{
+    if word.starts_with('+') {
+        return None;
+    }
+    word.parse::<u32>().ok()
+}
