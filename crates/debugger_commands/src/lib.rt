@@ -6,6 +6,8 @@ mod command;
 mod fault;
 mod laws;
 mod line;
+#[cfg(test)]
+mod tests;
 mod word;
 
 pub use breakpoint::Breakpoint;

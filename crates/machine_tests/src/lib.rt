@@ -1,16 +1,12 @@
-//! Tests of the machine's calls that no row asks for, of its parts, and of the debugger's lines: the rows are the data of
-//! `row_cases`, turn by turn. They are in a crate above the tested ones, so that each of those is proved once. Expected
-//! values are from the Java Virtual Machine Specification (JVMS), never from the program's answers.
+//! Tests of the machine's calls that no row asks for, and of its parts: the rows are the data of `row_cases`, turn by turn. They
+//! are in a crate above the tested ones, so that each of those is proved once. Expected values are from the Java Virtual
+//! Machine Specification (JVMS), never from the program's answers.
 #![tactic(auto)]
 
 #[cfg(test)]
 mod arithmetic;
 #[cfg(test)]
 mod asked;
-#[cfg(test)]
-mod debugger_lines;
-#[cfg(test)]
-mod hierarchies;
 #[cfg(test)]
 mod outcomes;
 #[cfg(test)]

@@ -1,9 +1,9 @@
 //! Lines of the debugger: the fault of each that spells no command, and what the others spell.
 
-use debugger_commands::{Command, DebugFault, Place};
+use super::*;
 use std::alloc::Global;
 use std::process::Abort;
-use std::test::Fail;
+use std::test::*;
 
 /// Lines that spell no command.
 const UNKNOWN: [&[u8]; 15] = [
