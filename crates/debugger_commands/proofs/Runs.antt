@@ -1,4 +1,4 @@
--- Runs of one list of choices behind another.
+-- A run of one list of choices after another.
 use Rattle.std.proofs.Common.{◌≡◌, ℕ, List, [], ◌∷◌, ◌++◌, refl, ap, sym, ◌∙◌}
 use Rattle.std.proofs.lemmas.List.{append_assoc}
 use Rattle.jvms_program.specs.declared.program.Class.{Class}

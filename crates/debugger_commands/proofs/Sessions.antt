@@ -13,7 +13,7 @@ use Rattle.debugger_commands.specs.declared.command.Command.{Command}
 use Rattle.debugger_commands.specs.declared.command.Command.TheVariants as command
 use Rattle.debugger_commands.specs.declared.fault.DebugFault.{DebugFault}
 use Rattle.debugger_commands.specs.declared.fault.DebugFault.TheVariants as fault
-use Rattle.debugger_commands.specs.Sessions.{Session, IsSession, opened, moved_to, picked, broken_at, deleted, breakpoint_index, method_of_place, continued, continued_back, is_hit, shows, behind}
+use Rattle.debugger_commands.specs.Sessions.{Session, IsSession, opened, moved_to, picked, broken_at, deleted, breakpoint_index, method_of_place, continued, continued_back, is_hit, shows, after}
 use Rattle.debugger_commands.proofs.Hits.{next_hit_within, hit_before_within}
 
 abbrev After : Type 0
@@ -79,7 +79,7 @@ shown x y None e is h = absurd (no_ok e y h)
 shown x y (Some what) e is h = subst IsSession (same_ok x y h) is
 
 -- A command leads from a session to a session.
-pub stays : (program : List Class) (limits : Limits) (start : Start) (x y : Session) (c : Command) → IsSession x → behind program limits start x c ≡ Ok y → IsSession y
+pub stays : (program : List Class) (limits : Limits) (start : Start) (x y : Session) (c : Command) → IsSession x → after program limits start x c ≡ Ok y → IsSession y
 stays program limits start x y (command.Step n) is h = subst IsSession (same_ok _ y h) (moved x (x.position + n) is)
 stays program limits start x y (command.Back n) is h = subst IsSession (same_ok _ y h) (moved x (x.position - n) is)
 stays program limits start x y (command.Goto n) is h = subst IsSession (same_ok _ y h) (moved x n is)

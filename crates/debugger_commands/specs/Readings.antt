@@ -19,7 +19,7 @@ use Rattle.debugger_commands.specs.Commands.{command_of, with_number}
 abbrev pub words_of : List ℕ → List (List ℕ)
 words_of line = slice_split (λ b. b == 32) line
 
--- Decimal digits, maybe behind zeros, of a number that is at most 4,294,967,295.
+-- Decimal digits, maybe after zeros, of a number that is at most 4,294,967,295.
 abbrev pub WritesNumber : List ℕ → ℕ → Type 0
 WritesNumber word n = IsNumeral 10 word × (digits_value 10 word ≡ n) × (n ≤ 4294967295)
 

@@ -1,4 +1,4 @@
--- What the commands of a debugger act on, and what each of them does.
+-- The state of a debugger's session, and the effect of each command on it.
 use Rattle.std.specs.Prelude.{ℕ, zero, suc, ◌+◌, ◌-◌, ◌<◌, ◌≤◌, ◌==◌, ◌&&◌, Bool, false, not, min, List, [], ◌∷◌, ◌++◌, length, take, Option, Some, None, is_some, slice_get, Result, Ok, Err, position as place_of_first, if◌then◌else◌, nat_lt}
 use Rattle.std.specs.List.{All, list_any, remove}
 use Rattle.std.specs.Option.{option_and_then, option_map, ok_or}
@@ -35,21 +35,21 @@ pub record IsSession (x : Session) : Type 0 where
 abbrev pub opened : List ℕ → Session
 opened choices = record { choices = choices; position = 0; breakpoints = []; next = 1 }
 
--- The state behind so many of these choices.
-unfoldable pub state_behind : List Class → Limits → Start → List ℕ → ℕ → State
-state_behind program limits start choices n = (run program limits start (take n choices)).state
+-- The machine's state after the first n of these choices.
+unfoldable pub state_after : List Class → Limits → Start → List ℕ → ℕ → State
+state_after program limits start choices n = (run program limits start (take n choices)).state
 
--- The state that a session shows.
+-- The state at a session's position.
 abbrev pub state_of : List Class → Limits → Start → Session → State
-state_of program limits start x = state_behind program limits start x.choices x.position
+state_of program limits start x = state_after program limits start x.choices x.position
 
 -- ---- Moves
 
--- A session at a position, or at the last where that is beyond it.
+-- Moves a session to a position, or to the end if that is less.
 abbrev pub moved_to : Session → ℕ → Session
 moved_to x p = record x { position = min p (length x.choices) }
 
--- The choices are cut at the position, one is added, and the session is behind it.
+-- Truncates the choices at the position, appends one, and moves after it.
 abbrev pub picked : Session → ℕ → Session
 picked x t = record x { choices = take x.position x.choices ++ t ∷ []; position = x.position + 1 }
 
@@ -111,9 +111,9 @@ is_hit_by breakpoints s (Some t) = is_thread_at breakpoints (slice_get s.threads
 
 -- A position is a hit where the thread of the next choice stands at a breakpoint. The last position is none.
 unfoldable pub is_hit : List Class → Limits → Start → Session → ℕ → Bool
-is_hit program limits start x n = is_hit_by x.breakpoints (state_behind program limits start x.choices n) (slice_get x.choices n)
+is_hit program limits start x n = is_hit_by x.breakpoints (state_after program limits start x.choices n) (slice_get x.choices n)
 
--- The next number behind one that passes a test, of so many; the last of them where none does.
+-- The first of the next n numbers that passes a test, or the last of them if none does.
 unfoldable pub next_hit : (ℕ → Bool) → ℕ → ℕ → ℕ
 next_hit test p zero = p
 next_hit test p (suc left) = if test (p + 1) then p + 1 else next_hit test (p + 1) left
@@ -135,19 +135,19 @@ continued_back program limits start x = record x { position = hit_before (is_hit
 abbrev pub shows : {X : Type 0} → Session → Option X → DebugFault → Result Session DebugFault
 shows x what none = ok_or (option_map (λ _. x) what) none
 
--- The session behind a command, or why the command is refused.
-abbrev pub behind : List Class → Limits → Start → Session → Command → Result Session DebugFault
-behind program limits start x (command.Step n) = Ok (moved_to x (x.position + n))
-behind program limits start x (command.Back n) = Ok (moved_to x (x.position - n))
-behind program limits start x (command.Goto n) = Ok (moved_to x n)
-behind program limits start x command.Continue = Ok (continued program limits start x)
-behind program limits start x command.ReverseContinue = Ok (continued_back program limits start x)
-behind program limits start x (command.Pick t) = Ok (picked x t)
-behind program limits start x (command.Break place) = broken_at x place.instruction (method_of_place program place)
-behind program limits start x (command.Delete k) = deleted x (breakpoint_index k x.breakpoints)
-behind program limits start x command.Threads = Ok x
-behind program limits start x (command.Frames t) = shows x (slice_get (state_of program limits start x).threads t) fault.NoThread
-behind program limits start x (command.Object r) = shows x (object_at (state_of program limits start x).heap r) fault.NoObject
-behind program limits start x (command.Class name) = shows x (option_and_then (class_number program) name) fault.NoPlace
-behind program limits start x command.Trace = Ok x
-behind program limits start x command.Output = Ok x
+-- The session after a command, or the fault of a refused command.
+abbrev pub after : List Class → Limits → Start → Session → Command → Result Session DebugFault
+after program limits start x (command.Step n) = Ok (moved_to x (x.position + n))
+after program limits start x (command.Back n) = Ok (moved_to x (x.position - n))
+after program limits start x (command.Goto n) = Ok (moved_to x n)
+after program limits start x command.Continue = Ok (continued program limits start x)
+after program limits start x command.ReverseContinue = Ok (continued_back program limits start x)
+after program limits start x (command.Pick t) = Ok (picked x t)
+after program limits start x (command.Break place) = broken_at x place.instruction (method_of_place program place)
+after program limits start x (command.Delete k) = deleted x (breakpoint_index k x.breakpoints)
+after program limits start x command.Threads = Ok x
+after program limits start x (command.Frames t) = shows x (slice_get (state_of program limits start x).threads t) fault.NoThread
+after program limits start x (command.Object r) = shows x (object_at (state_of program limits start x).heap r) fault.NoObject
+after program limits start x (command.Class name) = shows x (option_and_then (class_number program) name) fault.NoPlace
+after program limits start x command.Trace = Ok x
+after program limits start x command.Output = Ok x

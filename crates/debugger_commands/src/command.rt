@@ -23,21 +23,21 @@ pub struct Place {
 /// next choice has nothing pending and its top frame is at a breakpoint.
 #[derive(Drop)]
 pub enum Command {
-    /// Goes so many choices on, at most to the end.
+    /// Moves forward by this number of choices, at most to the end.
     Step(u32),
-    /// Goes so many choices back, at most to 0.
+    /// Moves back by this number of choices, at most to 0.
     Back(u32),
-    /// Goes to this position, or to the end where it is beyond.
+    /// Moves to this position, or to the end if that is less.
     Goto(u32),
-    /// Goes to the next hit, else to the end.
+    /// Moves to the next hit, or to the end if there is none.
     Continue,
-    /// Goes to the nearest hit before, else to 0.
+    /// Moves to the nearest hit before the position, or to 0 if there is none.
     ReverseContinue,
-    /// Cuts the choices at the position, adds this thread, and moves behind it.
+    /// Truncates the choices at the position, appends this thread, and moves after it.
     Pick(ThreadId),
-    /// Makes a breakpoint.
+    /// Adds a breakpoint.
     Break(Place),
-    /// Takes the breakpoint with this number away.
+    /// Removes the breakpoint with this number.
     Delete(u32),
     /// Shows each thread.
     Threads,
@@ -54,7 +54,7 @@ pub enum Command {
 }
 
 impl Command {
-    /// The command that a line spells. Single spaces part its words.
+    /// Reads the command that a line spells. Single spaces separate its words.
     ///
     /// # Errors
     ///

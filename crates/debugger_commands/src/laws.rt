@@ -9,20 +9,20 @@ ghost use Rattle.jvms_machine.specs.Run.{run_from};
 ghost use Rattle.debugger_commands.specs.declared.command.Command.{Command};
 ghost use Rattle.debugger_commands.specs.Readings.{AreRead};
 ghost use Rattle.debugger_commands.specs.Runs.{joined};
-ghost use Rattle.debugger_commands.specs.Sessions.{Session, IsSession, opened, next_hit, hit_before, behind};
+ghost use Rattle.debugger_commands.specs.Sessions.{Session, IsSession, opened, next_hit, hit_before, after};
 
 /// Words are read as one command at most.
 pub fn words_are_of_one_command()
     ensures { (words : List (List ℕ)) (a b : Command) → AreRead words (Ok a) → AreRead words (Ok b) → a ≡ b }
 {}
 
-/// A run of one list of choices and then another is the run of the second from the state behind the first: outcomes and
-/// items are joined.
+/// A run of one list of choices and then another is the run of the second from the state after the first: outcomes and
+/// items are concatenated.
 pub fn a_run_goes_on()
     ensures { (program : List Class) (limits : Limits) (start : Start) (s : State) (xs ys : List ℕ) → run_from program limits start s (xs ++ ys) ≡ joined (run_from program limits start s xs) (run_from program limits start (run_from program limits start s xs).state ys) }
 {}
 
-/// `continue` comes to a hit behind the position, or to the end, and passes none.
+/// `continue` moves to a hit after the position, or to the end, and passes none.
 pub fn the_next_hit_is_the_nearest()
     ensures hit { (test : ℕ → Bool) (p left : ℕ) → next_hit test p left < p + left → test (next_hit test p left) ≡ true }
     ensures nearest { (test : ℕ → Bool) (p left k : ℕ) → p < k → k < next_hit test p left → test k ≡ false }
@@ -30,7 +30,7 @@ pub fn the_next_hit_is_the_nearest()
     ensures behind { (test : ℕ → Bool) (p left : ℕ) → 0 < left → p < next_hit test p left }
 {}
 
-/// `rcontinue` comes to a hit before the position, or to 0, and passes none.
+/// `rcontinue` moves to a hit before the position, or to 0, and passes none.
 pub fn the_hit_before_is_the_nearest()
     ensures hit { (test : ℕ → Bool) (p : ℕ) → 0 < hit_before test p → test (hit_before test p) ≡ true }
     ensures nearest { (test : ℕ → Bool) (p k : ℕ) → k < p → hit_before test p < k → test k ≡ false }
@@ -42,5 +42,5 @@ pub fn the_hit_before_is_the_nearest()
 /// given out stay below the next.
 pub fn a_session_stays_one()
     ensures opened { (choices : List ℕ) → IsSession (opened choices) }
-    ensures behind { (program : List Class) (limits : Limits) (start : Start) (x y : Session) (c : Command) → IsSession x → behind program limits start x c ≡ Ok y → IsSession y }
+    ensures behind { (program : List Class) (limits : Limits) (start : Start) (x y : Session) (c : Command) → IsSession x → after program limits start x c ≡ Ok y → IsSession y }
 {}

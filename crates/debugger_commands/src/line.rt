@@ -69,14 +69,14 @@ fn has_number(name: &str) -> bool
     with_number(name, 0).is_some()
 }
 
-/// The command that one word spells.
+/// Returns the command that one word spells.
 pub(crate) fn alone(name: &str) -> Result<Command, DebugFault>
     ensures { AreRead (name.now ∷ []) result }
 {
     named(name).ok_or(DebugFault::UnknownCommand)
 }
 
-/// The command that a name and one word spell.
+/// Returns the command that a name and one word spell.
 pub(crate) fn with_one_word(alloc: Global, name: &str, word: &str) -> Result<Command, DebugFault>
     ensures { AreRead (name.now ∷ word.now ∷ []) result }
 {
@@ -103,7 +103,7 @@ fn break_at(alloc: Global, method: &str, instruction: &str) -> Result<Command, D
     }))
 }
 
-/// The command that a name, a word and what stands behind it spell.
+/// Returns the command that a name, a word and the rest of a line spell.
 pub(crate) fn with_two_words(
     alloc: Global,
     name: &str,
