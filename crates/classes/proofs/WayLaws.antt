@@ -77,7 +77,7 @@ module _ (program : List Class) (rows : List (List ℕ)) (ranks order : List ℕ
     next_within at next c there marked found =
         let l = next_leads at next c there marked found in number_within program l.name next l.number
 
-    -- The way goes on by the first useful class above.
+    -- The way continues with the first useful class above.
     pub next_way : (class at next : ℕ) (c : Class) → IsOnTheWay program look class at → slice_get program at ≡ Some c → is_marked reached at ≡ true → gives at c ≡ None
         → find (is_marked useful) (super_numbers program c) ≡ Some next → IsOnTheWay program look class next
     next_way class at next c way there marked not found =

@@ -185,7 +185,7 @@ fn first_along<L: Look>(
     None
 }
 
-/// Where a search begins, and how it goes on.
+/// Where a search begins, and how it continues.
 #[derive(Clone, Copy)]
 pub(crate) enum Start<'a> {
     /// In the class of a name, and then in all classes above it.

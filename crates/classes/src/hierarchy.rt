@@ -27,7 +27,7 @@ pub(crate) fn rank(ranks: &[usize], class: usize) -> usize
     ranks.get(class).copied().unwrap_or(0)
 }
 
-/// Returns whether some classes are there, of so many, and have lower ranks than a limit.
+/// Returns whether each of these classes is one of `count`, and its rank is below a limit.
 fn come_before(ranks: &[usize], count: usize, limit: usize, classes: &[usize]) -> bool
     ensures { result ≡ list_all (λ n. nat_lt n count && nat_lt (rank ranks.now n) limit) classes.now }
 {
@@ -52,7 +52,7 @@ fn are_placed(supers: &[Items<usize>], ranks: &[usize], order: &[usize]) -> bool
     true
 }
 
-/// Returns whether each number of the order is that of a class, of so many, whose place it has.
+/// Returns whether each number of the order is that of one of `count` classes, whose place it has.
 fn are_found(count: usize, ranks: &[usize], order: &[usize]) -> bool
     ensures { result ≡ true → AreFound count ranks.now order.now }
 {

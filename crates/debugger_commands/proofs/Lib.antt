@@ -1,4 +1,3 @@
 mod Hits
 mod Reading
-mod Runs
 mod Sessions

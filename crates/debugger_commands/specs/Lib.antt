@@ -1,4 +1,3 @@
 pub mod Commands
 pub mod Readings
-pub mod Runs
 pub mod Sessions

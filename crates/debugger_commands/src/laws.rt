@@ -1,25 +1,16 @@
 //! Laws about the definitions, owed to the gate: each is the contract of a function that does nothing.
 
-ghost use Rattle.std.specs.Prelude.{◌≡◌, ◌+◌, ◌<◌, ◌≤◌, ◌++◌, true, false, Bool, List, ℕ, Ok};
+ghost use Rattle.std.specs.Prelude.{◌≡◌, ◌+◌, ◌<◌, ◌≤◌, true, false, Bool, List, ℕ, Ok};
 ghost use Rattle.jvms_program.specs.declared.program.Class.{Class};
 ghost use Rattle.jvms_machine.specs.declared.machine.Limits.{Limits};
 ghost use Rattle.jvms_machine.specs.Start.{Start};
-ghost use Rattle.jvms_machine.specs.State.{State};
-ghost use Rattle.jvms_machine.specs.Run.{run_from};
 ghost use Rattle.debugger_commands.specs.declared.command.Command.{Command};
 ghost use Rattle.debugger_commands.specs.Readings.{AreRead};
-ghost use Rattle.debugger_commands.specs.Runs.{joined};
 ghost use Rattle.debugger_commands.specs.Sessions.{Session, IsSession, opened, next_hit, hit_before, after};
 
 /// Words are read as one command at most.
 pub fn words_are_of_one_command()
     ensures { (words : List (List ℕ)) (a b : Command) → AreRead words (Ok a) → AreRead words (Ok b) → a ≡ b }
-{}
-
-/// A run of one list of choices and then another is the run of the second from the state after the first: outcomes and
-/// items are concatenated.
-pub fn a_run_goes_on()
-    ensures { (program : List Class) (limits : Limits) (start : Start) (s : State) (xs ys : List ℕ) → run_from program limits start s (xs ++ ys) ≡ joined (run_from program limits start s xs) (run_from program limits start (run_from program limits start s xs).state ys) }
 {}
 
 /// `continue` moves to a hit after the position, or to the end, and passes none.

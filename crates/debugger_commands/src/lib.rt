@@ -14,6 +14,6 @@ pub use breakpoint::Breakpoint;
 pub use command::{Command, Place};
 pub use fault::DebugFault;
 pub use laws::{
-    a_run_goes_on, a_session_stays_one, the_hit_before_is_the_nearest, the_next_hit_is_the_nearest,
+    a_session_stays_one, the_hit_before_is_the_nearest, the_next_hit_is_the_nearest,
     words_are_of_one_command,
 };

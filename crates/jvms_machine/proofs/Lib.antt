@@ -26,6 +26,7 @@ pub mod NewArrays
 pub mod ObjectSoundness
 pub mod OpeningSoundness
 pub mod ReturnSoundness
+pub mod RunLaws
 pub mod SearchLaws
 pub mod SlotKeys
 pub mod StartLaws

@@ -4,7 +4,7 @@ mod Deciding
 mod EntryLaws
 mod Made
 mod OnLaws
-mod RunLaws
+pub mod RunLaws
 mod Sites
 mod StatusLaws
 mod Told

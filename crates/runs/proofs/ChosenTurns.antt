@@ -7,7 +7,7 @@ use Rattle.jvms_machine.specs.declared.trace.Item.{Item}
 use Rattle.trace.specs.Recording.{recorded}
 use Rattle.machine.specs.Machine.{Machine, row_of, with_state}
 use Rattle.machine.specs.Runs.{IsRun}
-use Rattle.runs.proofs.Rows.{run_none, run_more}
+use Rattle.machine.proofs.RunLaws.{run_none, run_more}
 use Rattle.schedule.specs.Choosers.{Chooser}
 use Rattle.runs.specs.Choices.{after_turn, choice_of, chooser_after, choices_from, chooser_behind, first_then, BrokeOff, IsTurnOf}
 

@@ -2,5 +2,4 @@ pub mod ChosenTurns
 mod CountedTurns
 mod NextTurns
 mod OwnTurns
-mod Rows
 mod TurnsOn
