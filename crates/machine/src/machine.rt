@@ -1,6 +1,6 @@
 //! The machine.
 
-ghost use Rattle.std.specs.Prelude.{◌≡◌, ◌≤◌, ◌++◌, length, IsOk, IsSome, IfOk, OnOk, OnErr, Some, is_ok};
+ghost use Rattle.std.specs.Prelude.{◌≡◌, ◌≤◌, ◌++◌, length, IsOk, IfOk, OnOk, OnErr, is_ok};
 ghost use Rattle.jvms_machine.specs.Opening.{made as made_by};
 ghost use Rattle.jvms_machine.specs.State.{Sound};
 ghost use Rattle.machine_parts.specs.Machine.{row_of, with_state, TakesNone};
@@ -21,7 +21,6 @@ use machine_parts::Parts;
 use program::Program;
 use std::alloc::{AllocError, Global};
 use std::marker::Model;
-use std::mem;
 use trace::{Recording, Trace};
 
 /// Whether a machine of this program can be made with these limits and this entry: the entry's method is
@@ -31,17 +30,6 @@ pub fn admits(program: &Program, limits: Limits, entry: &Entry) -> bool
     ensures { result ≡ is_ok (made_by program.now limits entry.now) }
 {
     start_of(program, entry).is_some() && are_limits(limits)
-}
-
-/// Gives a trace its items back, with those behind them.
-pub(crate) fn give_back(recording: Recording, trace: &mut Trace)
-    requires { IsSome recording }
-    ensures { recording ≡ Some trace.new }
-{
-    match recording.into_trace() {
-        Some(kept) => *trace = kept,
-        None => unreachable!(),
-    }
 }
 
 /// A machine: a program, the limits of its run, where it starts, and its state (JVMS 2.5). Contracts see
@@ -103,9 +91,9 @@ impl<'p> Machine<'p> {
         // A turn that pushes no frame, makes no object and gives no item takes no memory.
         ensures none { TakesNone self.old t → IsOk result }
     {
-        let mut recording = self.recording_of(trace);
+        let mut recording = Recording::taken_from(self.parts.alloc, trace);
         let outcome = self.step_recorded(t, &mut recording);
-        give_back(recording, trace);
+        recording.give_back(trace);
         outcome
     }
 
@@ -133,13 +121,6 @@ impl<'p> Machine<'p> {
         ensures ran { RanOn result t (length self.old.state.threads) self.old recording.old self.new recording.new }
     {
         step_on(&mut self.parts, t, most, recording)
-    }
-
-    /// The items of a trace, to put others behind them. None is left in the trace until they are given back.
-    pub(crate) fn recording_of(&self, trace: &mut Trace) -> Recording
-        ensures { result ≡ Some trace.old }
-    {
-        Recording::of(mem::replace(trace, Trace::new(self.parts.alloc)))
     }
 
     /// What the turn of a thread would come to, with nothing changed. It takes no memory.

@@ -3,7 +3,7 @@
 ghost use Rattle.std.specs.Prelude.{◌≡◌, ◌<◌, take, length, IfOk, IfErr, Some};
 ghost use Rattle.machine.specs.Runs.{IsRun};
 
-use crate::machine::{Machine, give_back};
+use crate::machine::Machine;
 use jvms_machine::machine::{Outcome, ThreadId};
 use trace::{Recording, Trace};
 
@@ -23,9 +23,9 @@ impl Machine<'_> {
         ensures fewer { IfErr result (λ s. length s.outcomes.items < length choices.now) }
         ensures stop { IfErr result (λ s. IsRun self.old (take (length s.outcomes.items) choices.now) s.outcomes.items self.new (Some trace.old) (Some trace.new)) }
     {
-        let mut recording = self.recording_of(trace);
+        let mut recording = Recording::taken_from(self.parts.alloc, trace);
         let outcomes = self.run_recorded(choices, &mut recording);
-        give_back(recording, trace);
+        recording.give_back(trace);
         outcomes
     }
 

@@ -5,8 +5,9 @@ ghost use Rattle.trace.specs.Recording.{recorded, count_of, cut};
 
 use crate::list::Trace;
 use jvms_machine::trace::Item;
-use std::alloc::AllocError;
+use std::alloc::{AllocError, Global};
 use std::marker::Model;
+use std::mem;
 
 /// What becomes of the items of turns: they are put behind those of a trace, or nobody asks for them. Contracts see the
 /// list of those that are kept, if they are.
@@ -37,6 +38,24 @@ impl Recording {
         ensures { result ≡ None }
     {
         Recording { trace: None }
+    }
+
+    /// Takes the items out of a trace, to append others to them. The trace is empty until they are given back.
+    pub fn taken_from(alloc: Global, trace: &mut Trace) -> Self
+        ensures { result ≡ Some trace.old }
+    {
+        Recording::of(mem::replace(trace, Trace::new(alloc)))
+    }
+
+    /// Gives a trace its items back, followed by those that were appended.
+    pub fn give_back(self, trace: &mut Trace)
+        requires { IsSome self }
+        ensures { self ≡ Some trace.new }
+    {
+        match self.trace {
+            Some(kept) => *trace = kept,
+            None => unreachable!(),
+        }
     }
 
     /// Whether items are kept.
