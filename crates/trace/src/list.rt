@@ -41,6 +41,19 @@ impl Trace {
         Ok(())
     }
 
+    /// Keeps the first `count` items, and appends those of another trace to them. Without memory nothing changes.
+    pub fn replace_after(&mut self, count: usize, other: Trace) -> Result<(), AllocError>
+        ensures ok { OnOk result (self.new ≡ take count self.old ++ other) }
+        ensures err { OnErr result (self.new ≡ self.old) }
+    {
+        let mut items = other.items;
+        self.items.reserve(items.len())?;
+        self.items.truncate(count);
+        let appended = self.items.append(&mut items).is_ok();
+        prove!(appended);
+        Ok(())
+    }
+
     /// Takes away the items behind so many.
     #[inline(always)]
     pub fn truncate(&mut self, count: usize)
