@@ -1,6 +1,6 @@
 //! The list of items.
 
-ghost use Rattle.std.specs.Prelude.{◌≡◌, ◌++◌, ◌∷◌, [], length, take, IsTrue, ◌↔◌, OnOk, OnErr};
+ghost use Rattle.std.specs.Prelude.{◌≡◌, ◌<◌, ◌^◌, ◌++◌, ◌∷◌, [], length, take, IsTrue, ◌↔◌, OnOk, OnErr};
 
 use jvms_machine::trace::Item;
 use std::alloc::{AllocError, Global};
@@ -72,7 +72,9 @@ impl Trace {
     /// How many items there are.
     #[inline(always)]
     pub fn len(&self) -> usize
-        ensures { result ≡ length self.now }
+        ensures count { result ≡ length self.now }
+        // No vector holds more.
+        ensures few { result < 2 ^ 63 }
     {
         self.items.len()
     }
