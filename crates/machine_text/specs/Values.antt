@@ -1,0 +1,18 @@
+-- Values as the debugger writes them (own).
+use Rattle.std.specs.Prelude.{ℕ, List, ◌++◌, codes}
+use Rattle.std.specs.Fmt.{decimal, signed_decimal}
+use Rattle.std.specs.List.{flat_map}
+use Rattle.jvms_machine.specs.declared.value.Value.{Value}
+use Rattle.jvms_machine.specs.declared.value.Value.TheVariants as value
+
+-- `I:n`, `null`, `R:n`, `ret:i`, and `-` where nothing was stored.
+abbrev pub value_text : Value → List ℕ
+value_text (value.Int n) = codes "I:" ++ signed_decimal n
+value_text value.Null = codes "null"
+value_text (value.Reference r) = codes "R:" ++ decimal r
+value_text (value.ReturnAddress i) = codes "ret:" ++ decimal i
+value_text value.Unset = codes "-"
+
+-- Each value after a space.
+abbrev pub values_text : List Value → List ℕ
+values_text values = flat_map (λ v. codes " " ++ value_text v) values

@@ -1,0 +1,22 @@
+//! Texts of a machine's parts, as the debugger writes them.
+#![tactic(auto)]
+
+mod chain;
+mod class;
+mod fields;
+mod frames;
+mod object;
+mod outcome;
+mod output;
+mod place;
+mod threads;
+mod value;
+
+pub use crate::class::class_text;
+pub use crate::frames::frames_text;
+pub use crate::object::object_text;
+pub use crate::outcome::{put_outcome, put_status};
+pub use crate::output::output_text;
+pub use crate::place::put_place;
+pub use crate::threads::threads_text;
+pub use crate::value::put_number;

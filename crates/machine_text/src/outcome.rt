@@ -1,0 +1,82 @@
+//! Outcomes of turns and the status of a machine, as the debugger writes them.
+
+ghost use Rattle.std.specs.Prelude.{◌≡◌, ◌++◌, OnOk};
+ghost use Rattle.std.specs.String.{string_bytes};
+ghost use Rattle.machine_text.specs.Outcomes.{blocked_text, cause_text, outcome_text, status_text};
+
+use crate::place::put_initialisation;
+use crate::value::put_counted;
+use jvms_machine::machine::{BadCause, BlockedOn, Outcome, Status};
+use program::Program;
+use std::alloc::AllocError;
+
+/// Returns the name of a status.
+fn status_name(status: Status) -> &'static str
+    ensures { result.now ≡ status_text status }
+{
+    match status {
+        Status::Finished => "Finished",
+        Status::Running => "Running",
+        Status::Stalled => "Stalled",
+        Status::Deadlocked => "Deadlocked",
+    }
+}
+
+/// Appends the name of a status.
+pub fn put_status(out: &mut String, status: Status) -> Result<(), AllocError>
+    ensures { OnOk result (string_bytes out.new ≡ string_bytes out.old ++ status_text status) }
+{
+    out.push_str(status_name(status))
+}
+
+/// Returns the name of a cause.
+fn cause_name(cause: BadCause) -> &'static str
+    ensures { result.now ≡ cause_text cause }
+{
+    match cause {
+        BadCause::FellOff => "FellOff",
+        BadCause::OutOfProfile => "OutOfProfile",
+        BadCause::Depth => "Depth",
+        BadCause::Kind => "Kind",
+        BadCause::Local => "Local",
+    }
+}
+
+/// Appends what a blocked thread waits for.
+fn put_blocked(out: &mut String, program: &Program, on: BlockedOn) -> Result<(), AllocError>
+    ensures { OnOk result (string_bytes out.new ≡ string_bytes out.old
+        ++ blocked_text program.now on) }
+{
+    match on {
+        BlockedOn::Monitor { reference, owner } => {
+            put_counted(out, "monitor ", u64::from(reference))?;
+            put_counted(out, " by ", u64::from(owner))
+        }
+        BlockedOn::Initialisation { class, owner } => {
+            put_initialisation(out, program, class)?;
+            put_counted(out, " by ", u64::from(owner))
+        }
+        BlockedOn::Join { thread } => put_counted(out, "join ", u64::from(thread)),
+    }
+}
+
+/// Appends an outcome, with what a blocked thread waits for and why a turn can't be made.
+pub fn put_outcome(out: &mut String, program: &Program, outcome: Outcome) -> Result<(), AllocError>
+    ensures { OnOk result (string_bytes out.new ≡ string_bytes out.old
+        ++ outcome_text program.now outcome) }
+{
+    match outcome {
+        Outcome::Ran => out.push_str("Ran"),
+        Outcome::Raised => out.push_str("Raised"),
+        Outcome::Ended { .. } => out.push_str("Ended"),
+        Outcome::NoThread => out.push_str("NoThread"),
+        Outcome::Blocked { on } => {
+            out.push_str("Blocked ")?;
+            put_blocked(out, program, on)
+        }
+        Outcome::Bad { cause } => {
+            out.push_str("Bad ")?;
+            out.push_str(cause_name(cause))
+        }
+    }
+}

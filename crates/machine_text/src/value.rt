@@ -1,0 +1,76 @@
+//! Numbers and values, as the debugger writes them.
+
+ghost use Rattle.std.specs.Prelude.{◌≡◌, ◌++◌, OnOk, codes};
+ghost use Rattle.std.specs.Fmt.{decimal, signed_decimal};
+ghost use Rattle.std.specs.String.{string_bytes};
+ghost use Rattle.machine_text.specs.Values.{value_text, values_text};
+
+use itoa::Buffer;
+use jvms_machine::value::Value;
+use std::alloc::AllocError;
+
+/// Appends a number in decimal.
+pub fn put_number(out: &mut String, number: u64) -> Result<(), AllocError>
+    ensures { OnOk result (string_bytes out.new ≡ string_bytes out.old ++ decimal number) }
+{
+    let mut buffer = Buffer::new();
+    out.push_str(buffer.format(number))
+}
+
+/// Appends a signed number in decimal.
+fn put_signed(out: &mut String, number: i32) -> Result<(), AllocError>
+    ensures { OnOk result (string_bytes out.new ≡ string_bytes out.old ++ signed_decimal number) }
+{
+    let mut buffer = Buffer::new();
+    out.push_str(buffer.format(number))
+}
+
+/// Appends a word and then a number.
+pub(crate) fn put_counted(out: &mut String, word: &str, number: u64) -> Result<(), AllocError>
+    ensures { OnOk result (string_bytes out.new ≡ string_bytes out.old
+        ++ (word.now ++ decimal number)) }
+{
+    out.push_str(word)?;
+    put_number(out, number)
+}
+
+/// Appends an int: `I:n`.
+fn put_int(out: &mut String, number: i32) -> Result<(), AllocError>
+    ensures { OnOk result (string_bytes out.new ≡ string_bytes out.old
+        ++ value_text (Value.Int number)) }
+{
+    out.push_str("I:")?;
+    put_signed(out, number)
+}
+
+/// Appends a value.
+pub(crate) fn put_value(out: &mut String, value: Value) -> Result<(), AllocError>
+    ensures { OnOk result (string_bytes out.new ≡ string_bytes out.old ++ value_text value) }
+{
+    match value {
+        Value::Int(number) => put_int(out, number),
+        Value::Null => out.push_str("null"),
+        Value::Reference(reference) => put_counted(out, "R:", u64::from(reference)),
+        Value::ReturnAddress(place) => put_counted(out, "ret:", place as u64),
+        Value::Unset => out.push_str("-"),
+    }
+}
+
+/// Appends a space and then a value.
+fn put_spaced(out: &mut String, value: Value) -> Result<(), AllocError>
+    ensures { OnOk result (string_bytes out.new ≡ string_bytes out.old
+        ++ (codes " " ++ value_text value)) }
+{
+    out.push_str(" ")?;
+    put_value(out, value)
+}
+
+/// Appends values, each after a space.
+pub(crate) fn put_values(out: &mut String, values: &[Value]) -> Result<(), AllocError>
+    ensures { OnOk result (string_bytes out.new ≡ string_bytes out.old ++ values_text values.now) }
+{
+    for value in values {
+        put_spaced(out, *value)?;
+    }
+    Ok(())
+}
