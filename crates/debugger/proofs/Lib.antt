@@ -1,0 +1,7 @@
+mod ChoiceLaws
+mod HitLaws
+mod MarkLaws
+mod PickLaws
+mod RunLaws
+mod SpacingLaws
+mod TurnLaws

@@ -1,0 +1,16 @@
+use Rattle.std.proofs.Common.{ℕ, ◌-◌, length, ap, ◌∙◌}
+use Rattle.debugger_commands.specs.Sessions.{Session, next_hit}
+use Rattle.debugger.specs.Hits.{hit_after}
+use Rattle.debugger.specs.Sessions.{Debugger, session_of}
+use Rattle.debugger.specs.Timelines.{setting}
+use Rattle.debugger.proofs.HitLaws.{same_hits}
+use Rattle.debugger.proofs.body.Body.go_to_hit.Goals as goal
+
+pub returns-clause-session : goal.returns-clause-session
+returns-clause-session c =
+    let old = c.args.self.now in
+    let g = setting old.timeline in
+    let x = session_of old in
+    let at : ℕ → Session = λ p. record x { position = p } in
+    ap (λ (d : Debugger). d.session) c.in_ok-settle.ensures.seen
+    ∙ ap at (c.in_ok-walk.ensures.position ∙ ap (λ bs. hit_after g x.choices bs x.position) c.deref.ensures.value ∙ ap (λ test. next_hit test x.position (length x.choices - x.position)) (same_hits g x))

@@ -1,0 +1,13 @@
+use Rattle.std.proofs.Common.{◌≡◌, ◌+◌, ◌-◌, ◌≤◌}
+use Rattle.debugger.specs.Timelines.{IsWalkOf}
+use Rattle.debugger.proofs.timeline.Timeline.walk_to.Given as goal
+
+abbrev pub invariant-loop-walk : goal.invariant-loop-walk
+invariant-loop-walk l = record {
+  walk : IsWalkOf l.self l.walk;
+  within : l.walk.replay.position ≤ l.place;
+  made : l.walk.replay.made + l.initial.walk.replay.position ≡ l.walk.replay.position;
+}
+
+abbrev pub decreases-loop-walk : goal.decreases-loop-walk
+decreases-loop-walk l = l.place - l.walk.replay.position

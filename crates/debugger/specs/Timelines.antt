@@ -1,0 +1,65 @@
+-- The timeline of a session: its choices, the machine at its position, and its checkpoints.
+use Rattle.std.specs.Prelude.{◌≡◌, ℕ, ◌≤◌, ◌<◌, ◌^◌, max, List, length}
+use Rattle.std.specs.Vec.{vec_capacity}
+use Rattle.debugger.specs.declared.reach.Reach.{Reach}
+use Rattle.debugger.specs.declared.replay.Replay.{Replay}
+use Rattle.debugger.specs.declared.timeline.Timeline.{Timeline}
+use Rattle.debugger.specs.declared.walk.Walk.{Walk}
+use Rattle.debugger.specs.Marks.{mark_at, AreMarks, IsSpacing}
+use Rattle.debugger.specs.States.{Setting, setting_of, items_at}
+use Rattle.debugger.specs.Walks.{IsReach, IsReplay, IsWalk}
+
+-- What is debugged on a timeline.
+abbrev pub setting : Timeline → Setting
+setting t = setting_of t.here.machine
+
+-- Where a timeline stands: `far` is the greatest position since the choices were last cut, `most` the greatest ever, and
+-- `spacing` the distance between checkpoints.
+pub record Extent : Type 0 where
+  pub setting : Setting
+  pub choices : List ℕ
+  pub position : ℕ
+  pub most : ℕ
+  pub far : ℕ
+  pub spacing : ℕ
+
+abbrev pub extent : Timeline → Extent
+extent t = record {
+  setting = setting t;
+  choices = t.choices.items;
+  position = t.position;
+  most = t.most;
+  far = t.far;
+  spacing = t.spacing;
+}
+
+-- The machine is the one at the position, and each checkpoint the one at its own.
+pub record IsTimeline (t : Timeline) : Type 0 where
+  pub position : t.position ≤ t.far
+  pub far : t.far ≤ length t.choices.items
+  pub most : t.far ≤ t.most
+  pub bound : t.most < 2 ^ 63
+  pub spacing : IsSpacing t.most t.spacing
+  pub here : t.here ≡ mark_at (setting t) t.choices.items t.position
+  pub checkpoints : AreMarks (mark_at (setting t) t.choices.items) t.spacing 0 t.far t.checkpoints.items
+  pub room : 64 ≤ vec_capacity t.checkpoints
+  pub few : length (items_at (setting t) t.choices.items t.far) < 2 ^ 63
+
+-- A replay along a timeline's choices, with what it brings.
+pub record IsAlong (t : Timeline) (r : Replay) (x : Reach) : Type 0 where
+  pub replay : IsReplay (setting t) t.choices.items r
+  pub reach : IsReach (setting t) t.choices.items x
+  pub setting : setting_of r.mark.machine ≡ setting t
+  pub far : x.far ≡ max x.from r.position
+  pub from : x.from ≡ t.far
+  pub base : x.base ≡ t.spacing
+  pub most : x.most ≡ max t.most r.position
+
+-- A walk along a timeline's choices.
+pub record IsWalkOf (t : Timeline) (w : Walk) : Type 0 where
+  pub walk : IsWalk (setting t) t.choices.items w
+  pub along : IsAlong t w.replay w.reach
+
+-- The extent of a timeline that has moved to where a replay is.
+abbrev pub moved : Extent → Replay → Reach → Extent
+moved e r x = record e { position = r.position; most = x.most; far = x.far; spacing = x.spacing }

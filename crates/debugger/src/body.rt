@@ -1,0 +1,122 @@
+//! The parts of a session, and its moves.
+
+ghost use Rattle.std.specs.Prelude.{◌≡◌, ◌+◌, ◌<◌, ◌≤◌, min, max, length, OnOk, OnErr};
+ghost use Rattle.debugger.specs.Sessions.{IsBody, moved_by, seen, session_of};
+ghost use Rattle.debugger.specs.Timelines.{IsWalkOf, setting};
+ghost use Rattle.debugger_commands.specs.Sessions.{continued, continued_back, picked};
+
+use crate::timeline::Timeline;
+use crate::walk::Walk;
+use debugger_commands::Breakpoint;
+use jvms_machine::machine::ThreadId;
+use std::alloc::AllocError;
+use trace::Trace;
+
+/// The parts of a session.
+#[derive(Drop)]
+pub(crate) struct Body<'p> {
+    pub(crate) timeline: Timeline<'p>,
+    /// The items up to the timeline's `far`.
+    pub(crate) trace: Trace,
+    pub(crate) breakpoints: Vec<Breakpoint>,
+    /// The number of the next breakpoint.
+    pub(crate) next: u64,
+    /// How many turns the last command took that was not refused.
+    pub(crate) replayed: u64,
+}
+
+impl<'p> Body<'p> {
+    /// Moves to where a walk is, and keeps what it brings. Without memory nothing changes.
+    fn settle(&mut self, walk: Walk<'p>) -> Result<(), AllocError>
+        requires body { IsBody self.old }
+        requires walk { IsWalkOf self.old.timeline walk }
+        ensures body { IsBody self.new }
+        ensures seen { OnOk result (seen self.new ≡ moved_by (seen self.old) walk.entry.replay walk.entry.reach) }
+        ensures kept { OnErr result (seen self.new ≡ seen self.old) }
+    {
+        let replay = walk.replay;
+        let reach = walk.reach;
+        self.trace.replace_after(self.trace.len(), walk.items)?;
+        let _ = self.trace.len();
+        self.replayed = replay.made;
+        self.timeline.arrive(replay, reach);
+        Ok(())
+    }
+
+    /// Moves to a position. Without memory nothing changes.
+    pub(crate) fn go_to(&mut self, place: usize) -> Result<(), AllocError>
+        requires body { IsBody self.old }
+        requires within { place ≤ length self.old.timeline.choices.items }
+        ensures body { IsBody self.new }
+        ensures setting { setting self.new.timeline ≡ setting self.old.timeline }
+        ensures session { OnOk result (session_of self.new ≡ record (session_of self.old) { position = place }) }
+        ensures most { OnOk result (self.new.timeline.most ≡ max self.old.timeline.most place) }
+        ensures far { OnOk result (self.new.timeline.far ≡ max self.old.timeline.far place) }
+        ensures replayed { OnOk result (self.new.replayed + min place self.old.timeline.far < place + self.new.timeline.spacing) }
+        ensures kept { OnErr result (seen self.new ≡ seen self.old) }
+    {
+        let walk = self.timeline.walk_to(place)?;
+        self.settle(walk)?;
+        Ok(())
+    }
+
+    /// Moves to the next hit, or to the end if there is none. Without memory nothing changes.
+    pub(crate) fn go_to_hit(&mut self) -> Result<(), AllocError>
+        requires body { IsBody self.old }
+        ensures body { IsBody self.new }
+        ensures setting { setting self.new.timeline ≡ setting self.old.timeline }
+        ensures session { OnOk result (session_of self.new ≡ continued (setting self.old.timeline).program (setting self.old.timeline).limits (setting self.old.timeline).start (session_of self.old)) }
+        ensures most { OnOk result (self.new.timeline.most ≡ max self.old.timeline.most self.new.timeline.position) }
+        ensures far { OnOk result (self.new.timeline.far ≡ max self.old.timeline.far self.new.timeline.position) }
+        ensures replayed { OnOk result (self.new.replayed + self.old.timeline.position ≤ self.new.timeline.position) }
+        ensures kept { OnErr result (seen self.new ≡ seen self.old) }
+    {
+        let walk = self.timeline.walk_to_hit(&self.breakpoints)?;
+        self.settle(walk)?;
+        Ok(())
+    }
+
+    /// Moves to the nearest hit before the position, or to 0 if there is none. Without memory nothing changes.
+    pub(crate) fn go_back_to_hit(&mut self) -> Result<(), AllocError>
+        requires body { IsBody self.old }
+        ensures body { IsBody self.new }
+        ensures setting { setting self.new.timeline ≡ setting self.old.timeline }
+        ensures session { OnOk result (session_of self.new ≡ continued_back (setting self.old.timeline).program (setting self.old.timeline).limits (setting self.old.timeline).start (session_of self.old)) }
+        ensures most { OnOk result (self.new.timeline.most ≡ self.old.timeline.most) }
+        ensures far { OnOk result (self.new.timeline.far ≡ self.old.timeline.far) }
+        ensures replayed { OnOk result (self.new.replayed < self.old.timeline.position + self.new.timeline.spacing) }
+        ensures kept { OnErr result (seen self.new ≡ seen self.old) }
+    {
+        let hit = self.timeline.hit_before(&self.breakpoints)?;
+        self.go_to(hit.position)?;
+        self.replayed += hit.made;
+        Ok(())
+    }
+
+    /// Cuts the choices at the position, appends one, and moves after it. Without memory nothing changes.
+    pub(crate) fn pick(&mut self, t: ThreadId) -> Result<(), AllocError>
+        requires body { IsBody self.old }
+        ensures body { IsBody self.new }
+        ensures setting { setting self.new.timeline ≡ setting self.old.timeline }
+        ensures session { OnOk result (session_of self.new ≡ picked (session_of self.old) t) }
+        ensures most { OnOk result (self.new.timeline.most ≡ max self.old.timeline.most (self.old.timeline.position + 1)) }
+        ensures far { OnOk result (self.new.timeline.far ≡ self.old.timeline.position + 1) }
+        ensures replayed { OnOk result (self.new.replayed ≡ 1) }
+        ensures kept { OnErr result (seen self.new ≡ seen self.old) }
+    {
+        let timeline = &self.timeline;
+        let position = timeline.position;
+        let choices = timeline.choices_with(t)?;
+        let mut walk = timeline.begin(&choices, &timeline.here, position, position)?;
+        walk.advance(&choices, position + 1)?;
+        let replay = walk.replay;
+        let reach = walk.reach;
+        self.trace
+            .replace_after(self.timeline.here.items, walk.items)?;
+        let _ = self.trace.len();
+        self.replayed = replay.made;
+        self.timeline.cut(choices);
+        self.timeline.arrive(replay, reach);
+        Ok(())
+    }
+}

@@ -1,0 +1,140 @@
+//! What each command does.
+
+ghost use Rattle.std.specs.Prelude.{◌≡◌, IfErr, IfOk, OnErr};
+ghost use Rattle.debugger.specs.Commands.{Did, IsRefused};
+ghost use Rattle.debugger.specs.Sessions.{IsBody, seen};
+ghost use Rattle.debugger_commands.specs.declared.command.Command.TheVariants as command;
+
+use crate::body::Body;
+use crate::places::method_of_place;
+use crate::view::View;
+use debugger_commands::{Command, DebugFault, Place};
+use held::shared::Text;
+use jvms_machine::machine::ThreadId;
+
+impl Body<'_> {
+    /// Adds a breakpoint at a place.
+    fn break_at(&mut self, place: Place) -> Result<View, DebugFault>
+        requires { IsBody self.old }
+        ensures body { IsBody self.new }
+        ensures did { IfOk result (λ view. Did (command.Break place) (seen self.old) (seen self.new) view) }
+        ensures refused { IfErr result (λ fault. IsRefused (command.Break place) (seen self.old) fault) }
+        ensures kept { OnErr result (seen self.new ≡ seen self.old) }
+    {
+        let program = self.timeline.here.machine.program();
+        let Some(method) = method_of_place(program, &place) else {
+            return Err(DebugFault::NoPlace);
+        };
+        if self.next > u32::MAX as u64 {
+            return Err(DebugFault::NoBreakpoint);
+        }
+        match self.add_breakpoint(method, place.instruction) {
+            Ok(breakpoint) => Ok(View::Added(breakpoint)),
+            Err(_) => Err(DebugFault::Memory),
+        }
+    }
+
+    /// Removes the breakpoint of a number.
+    fn delete(&mut self, k: u32) -> Result<View, DebugFault>
+        requires { IsBody self.old }
+        ensures body { IsBody self.new }
+        ensures did { IfOk result (λ view. Did (command.Delete k) (seen self.old) (seen self.new) view) }
+        ensures refused { IfErr result (λ fault. IsRefused (command.Delete k) (seen self.old) fault) }
+        ensures kept { OnErr result (seen self.new ≡ seen self.old) }
+    {
+        let Some(index) = self.breakpoint_index(k) else {
+            return Err(DebugFault::NoBreakpoint);
+        };
+        self.remove_breakpoint(index);
+        Ok(View::Removed(k))
+    }
+
+    /// Shows something; no turn is taken.
+    fn show(&mut self, view: View) -> View
+        requires { IsBody self.old }
+        ensures body { IsBody self.new }
+        ensures seen { seen self.new ≡ record (seen self.old) { replayed = 0 } }
+        ensures view { result ≡ view }
+    {
+        self.replayed = 0;
+        view
+    }
+
+    /// Shows the frames of a thread.
+    fn show_frames(&mut self, t: ThreadId) -> Result<View, DebugFault>
+        requires { IsBody self.old }
+        ensures body { IsBody self.new }
+        ensures did { IfOk result (λ view. Did (command.Frames t) (seen self.old) (seen self.new) view) }
+        ensures refused { IfErr result (λ fault. IsRefused (command.Frames t) (seen self.old) fault) }
+        ensures kept { OnErr result (seen self.new ≡ seen self.old) }
+    {
+        match self.timeline.here.machine.has_ended(t) {
+            Some(_) => Ok(self.show(View::Frames(t))),
+            None => Err(DebugFault::NoThread),
+        }
+    }
+
+    /// Shows the object that a reference names.
+    fn show_object(&mut self, r: u32) -> Result<View, DebugFault>
+        requires { IsBody self.old }
+        ensures body { IsBody self.new }
+        ensures did { IfOk result (λ view. Did (command.Object r) (seen self.old) (seen self.new) view) }
+        ensures refused { IfErr result (λ fault. IsRefused (command.Object r) (seen self.old) fault) }
+        ensures kept { OnErr result (seen self.new ≡ seen self.old) }
+    {
+        match self.timeline.here.machine.class_of(r) {
+            Some(_) => Ok(self.show(View::Object(r))),
+            None => Err(DebugFault::NoObject),
+        }
+    }
+
+    /// Shows a class.
+    fn show_class(&mut self, name: Option<Text>) -> Result<View, DebugFault>
+        requires { IsBody self.old }
+        ensures body { IsBody self.new }
+        ensures did { IfOk result (λ view. Did (command.Class name) (seen self.old) (seen self.new) view) }
+        ensures refused { IfErr result (λ fault. IsRefused (command.Class name) (seen self.old) fault) }
+        ensures kept { OnErr result (seen self.new ≡ seen self.old) }
+    {
+        let Some(name) = name else {
+            return Err(DebugFault::NoPlace);
+        };
+        let program = self.timeline.here.machine.program();
+        match program.class_number(name.as_slice()) {
+            Some(class) => Ok(self.show(View::Class(class))),
+            None => Err(DebugFault::NoPlace),
+        }
+    }
+
+    /// Carries a command out. Where it is refused nothing changes.
+    pub(crate) fn carry_out(&mut self, command: Command) -> Result<View, DebugFault>
+        requires { IsBody self.old }
+        ensures body { IsBody self.new }
+        ensures did { IfOk result (λ view. Did command (seen self.old) (seen self.new) view) }
+        ensures refused { IfErr result (λ fault. IsRefused command (seen self.old) fault) }
+        ensures kept { OnErr result (seen self.new ≡ seen self.old) }
+    {
+        let position = self.timeline.position;
+        let end = self.timeline.choices.len();
+        let moved = match command {
+            Command::Step(n) => self.go_to((position + n as usize).min(end)),
+            Command::Back(n) => self.go_to(position.saturating_sub(n as usize).min(end)),
+            Command::Goto(n) => self.go_to((n as usize).min(end)),
+            Command::Continue => self.go_to_hit(),
+            Command::ReverseContinue => self.go_back_to_hit(),
+            Command::Pick(t) => self.pick(t),
+            Command::Break(place) => return self.break_at(place),
+            Command::Delete(k) => return self.delete(k),
+            Command::Threads => return Ok(self.show(View::Threads)),
+            Command::Frames(t) => return self.show_frames(t),
+            Command::Object(r) => return self.show_object(r),
+            Command::Class(name) => return self.show_class(name),
+            Command::Trace => return Ok(self.show(View::Trace)),
+            Command::Output => return Ok(self.show(View::Output)),
+        };
+        match moved {
+            Ok(()) => Ok(View::Position),
+            Err(_) => Err(DebugFault::Memory),
+        }
+    }
+}

@@ -1,0 +1,149 @@
+//! Walks to positions.
+
+ghost use Rattle.std.specs.Prelude.{◌≡◌, ◌+◌, ◌*◌, ◌<◌, ◌≤◌, min, length, unwrap_or, IfOk, IfSome};
+ghost use Rattle.debugger.specs.Hits.{hit_after, hits, nearest_before};
+ghost use Rattle.debugger.specs.Timelines.{IsTimeline, IsWalkOf, setting};
+
+use crate::timeline::Timeline;
+use crate::walk::Walk;
+use debugger_commands::Breakpoint;
+use std::alloc::AllocError;
+
+/// The nearest hit before a position, and how many turns were taken to find it.
+#[derive(Clone, Copy)]
+pub(crate) struct HitBefore {
+    pub(crate) position: usize,
+    pub(crate) made: u64,
+}
+
+/// The last hit among some positions, if there is one, and how many turns were taken to find it.
+#[derive(Clone, Copy)]
+struct LastHit {
+    position: Option<usize>,
+    made: u64,
+}
+
+impl<'p> Timeline<'p> {
+    /// Begins a walk to a position at the nearest machine at or before it.
+    fn nearest(&self, place: usize) -> Result<Walk<'p>, AllocError>
+        requires timeline { IsTimeline self.now }
+        ensures walk { IfOk result (λ w. IsWalkOf self.now w) }
+        ensures before { IfOk result (λ w. w.replay.position ≤ place) }
+        ensures near { IfOk result (λ w. min place self.now.far < w.replay.position + self.now.spacing) }
+        // A walk forward begins at the session's position or after it.
+        ensures forward { IfOk result (λ w. self.now.position ≤ place → self.now.position ≤ w.replay.position) }
+        ensures made { IfOk result (λ w. w.replay.made ≡ 0) }
+    {
+        let number = place.min(self.far) / self.spacing;
+        let before = number * self.spacing;
+        if before <= self.position && self.position <= place {
+            return self.start(&self.here, self.position);
+        }
+        self.start(&self.checkpoints[number], before)
+    }
+
+    /// Walks to a position.
+    pub(crate) fn walk_to(&self, place: usize) -> Result<Walk<'p>, AllocError>
+        requires timeline { IsTimeline self.now }
+        requires within { place ≤ length self.now.choices.items }
+        ensures walk { IfOk result (λ w. IsWalkOf self.now w) }
+        ensures position { IfOk result (λ w. w.replay.position ≡ place) }
+        ensures made { IfOk result (λ w. w.replay.made + min place self.now.far < place + self.now.spacing) }
+        ensures forward { IfOk result (λ w. self.now.position ≤ place → w.replay.made + self.now.position ≤ place) }
+    {
+        let mut walk = self.nearest(place)?;
+        while walk.replay.position < place {
+            self.advance(&mut walk, place)?;
+        }
+        Ok(walk)
+    }
+
+    /// Walks to the next hit, or to the end if there is none.
+    fn walk_by_turns(&self, breakpoints: &[Breakpoint]) -> Result<Walk<'p>, AllocError>
+        requires timeline { IsTimeline self.now }
+        ensures walk { IfOk result (λ w. IsWalkOf self.now w) }
+        ensures position { IfOk result (λ w. w.replay.position ≡ hit_after (setting self.now) self.now.choices.items breakpoints.now self.now.position) }
+        ensures made { IfOk result (λ w. w.replay.made + self.now.position ≤ w.replay.position) }
+    {
+        let mut walk = self.start(&self.here, self.position)?;
+        for position in self.position..self.choices.len() {
+            self.advance(&mut walk, position + 1)?;
+            if self.is_hit(&walk.replay, breakpoints) {
+                return Ok(walk);
+            }
+        }
+        Ok(walk)
+    }
+
+    /// Walks to the next hit, or to the end if there is none. Without a breakpoint no position is looked at.
+    pub(crate) fn walk_to_hit(&self, breakpoints: &[Breakpoint]) -> Result<Walk<'p>, AllocError>
+        requires timeline { IsTimeline self.now }
+        ensures walk { IfOk result (λ w. IsWalkOf self.now w) }
+        ensures position { IfOk result (λ w. w.replay.position ≡ hit_after (setting self.now) self.now.choices.items breakpoints.now self.now.position) }
+        ensures made { IfOk result (λ w. w.replay.made + self.now.position ≤ w.replay.position) }
+    {
+        if breakpoints.is_empty() {
+            let walk = self.walk_to(self.choices.len())?;
+            return Ok(walk);
+        }
+        self.walk_by_turns(breakpoints)
+    }
+
+    /// Finds the last hit from the checkpoint of a number on and before an end, if there is one.
+    fn last_hit(
+        &self,
+        breakpoints: &[Breakpoint],
+        number: usize,
+        end: usize,
+    ) -> Result<LastHit, AllocError>
+        requires timeline { IsTimeline self.now }
+        requires within { end ≤ self.now.position }
+        requires start { number * self.now.spacing < end }
+        ensures hit { IfOk result (λ h. nearest_before (setting self.now) self.now.choices.items breakpoints.now end ≡ unwrap_or h.position (nearest_before (setting self.now) self.now.choices.items breakpoints.now (number * self.now.spacing))) }
+        ensures within { IfOk result (λ h. IfSome h.position (λ p. p < end)) }
+        ensures made { IfOk result (λ h. h.made + number * self.now.spacing ≡ end) }
+    {
+        let start = number * self.spacing;
+        let mut walk = self.start(&self.checkpoints[number], start)?;
+        let mut hit = None;
+        for position in start..end {
+            if self.is_hit(&walk.replay, breakpoints) {
+                hit = Some(position);
+            }
+            self.advance(&mut walk, position + 1)?;
+        }
+        Ok(LastHit {
+            position: hit,
+            made: walk.replay.made,
+        })
+    }
+
+    /// Finds the nearest hit before the position, or 0 if there is none: from the last checkpoint before the position back
+    /// to the first, from each up to the next.
+    pub(crate) fn hit_before(&self, breakpoints: &[Breakpoint]) -> Result<HitBefore, AllocError>
+        requires timeline { IsTimeline self.now }
+        ensures position { IfOk result (λ h. h.position ≡ nearest_before (setting self.now) self.now.choices.items breakpoints.now self.now.position) }
+        ensures within { IfOk result (λ h. h.position ≤ self.now.position) }
+        ensures made { IfOk result (λ h. h.made ≤ self.now.position) }
+    {
+        let mut found = HitBefore {
+            position: 0,
+            made: 0,
+        };
+        if breakpoints.is_empty() {
+            return Ok(found);
+        }
+        let mut end = self.position;
+        while end > 0 {
+            let number = (end - 1) / self.spacing;
+            let last = self.last_hit(breakpoints, number, end)?;
+            found.made += last.made;
+            if let Some(position) = last.position {
+                found.position = position;
+                return Ok(found);
+            }
+            end = number * self.spacing;
+        }
+        Ok(found)
+    }
+}

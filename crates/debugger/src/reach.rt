@@ -1,0 +1,100 @@
+//! The positions after those where a session has been.
+
+ghost use Rattle.std.specs.Prelude.{◌≡◌, ℕ, ◌+◌, ◌-◌, ◌*◌, ◌/◌, ◌%◌, ◌^◌, ◌<◌, ◌≤◌, max, length, OnOk};
+ghost use Rattle.debugger.specs.declared.mark.Mark.{Mark as Seen};
+ghost use Rattle.debugger.specs.Marks.{mark_at, AreMarks};
+ghost use Rattle.debugger.specs.States.{setting_of};
+ghost use Rattle.debugger.specs.Walks.{IsReach};
+
+use crate::mark::{Mark, thin};
+use crate::replay::Replay;
+use jvms_machine::machine::ThreadId;
+use std::alloc::AllocError;
+
+/// What a walk keeps of the positions after those where its session has been.
+#[derive(Drop)]
+pub(crate) struct Reach<'p> {
+    /// The greatest position of the session since its choices were last cut.
+    pub(crate) from: usize,
+    /// The spacing of the session's checkpoints.
+    pub(crate) base: usize,
+    /// The greatest position of session and walk since the choices were last cut.
+    pub(crate) far: usize,
+    /// The greatest position that session or walk ever had.
+    pub(crate) most: usize,
+    /// The spacing of checkpoints for `most`.
+    pub(crate) spacing: usize,
+    /// How many times the session's spacing that is.
+    pub(crate) ratio: usize,
+    /// The checkpoints after `from`.
+    pub(crate) fresh: Vec<Mark<'p>>,
+}
+
+impl<'p> Reach<'p> {
+    /// Returns the distance to the next position of a checkpoint.
+    pub(crate) fn distance(&self) -> usize
+        requires { 0 < self.now.spacing }
+        ensures some { 0 < result }
+        ensures distance { result ≡ self.now.spacing - self.now.far % self.now.spacing }
+    {
+        self.spacing - self.far % self.spacing
+    }
+
+    /// Doubles the spacing, and drops the checkpoints that are at none of its multiples.
+    fn widen(&mut self)
+        requires positive { 0 < self.old.spacing }
+        requires small { self.old.spacing < 2 ^ 62 }
+        requires ratio { self.old.ratio ≤ self.old.spacing }
+        requires from { self.old.from ≤ self.old.far }
+        requires far { self.old.far < 2 ^ 64 - 1 }
+        ensures fresh { (at : ℕ → Seen) → AreMarks at self.old.spacing (self.old.from / self.old.spacing + 1) self.old.far self.old.fresh.items → AreMarks at self.new.spacing (self.new.from / self.new.spacing + 1) self.new.far self.new.fresh.items }
+        ensures spacing { self.new.spacing ≡ 2 * self.old.spacing }
+        ensures ratio { self.new.ratio ≡ 2 * self.old.ratio }
+        ensures places { (self.new.from ≡ self.old.from) × (self.new.far ≡ self.old.far) × (self.new.most ≡ self.old.most) × (self.new.base ≡ self.old.base) }
+    {
+        let first = (self.from / self.spacing + 1) % 2;
+        thin(&mut self.fresh, first, 2);
+        self.spacing = 2 * self.spacing;
+        self.ratio = 2 * self.ratio;
+    }
+
+    /// Notes a greater position. The spacing doubles where it is too small for that.
+    fn grow(&mut self, choices: &[ThreadId], mark: &Mark<'p>, far: usize)
+        requires reach { IsReach (setting_of mark.now.machine) choices.now self.old }
+        requires more { self.old.far < far }
+        requires within { far ≤ length choices.now }
+        requires near { far ≤ self.old.far + (self.old.spacing - self.old.far % self.old.spacing) }
+        ensures reach { IsReach (setting_of mark.now.machine) choices.now self.new }
+        ensures near { far ≤ self.new.far + (self.new.spacing - self.new.far % self.new.spacing) }
+        ensures places { (self.new.from ≡ self.old.from) × (self.new.far ≡ self.old.far) × (self.new.most ≡ max self.old.most far) × (self.new.base ≡ self.old.base) }
+    {
+        if far > self.most {
+            self.most = far;
+            if far / 64 >= self.spacing {
+                self.widen();
+            }
+        }
+    }
+
+    /// Goes on to a position, up to the next one of a checkpoint.
+    pub(crate) fn extend(
+        &mut self,
+        choices: &[ThreadId],
+        replay: &Replay<'p>,
+    ) -> Result<(), AllocError>
+        requires reach { IsReach (setting_of replay.now.mark.machine) choices.now self.old }
+        requires more { self.old.far < replay.now.position }
+        requires within { replay.now.position ≤ length choices.now }
+        requires near { replay.now.position ≤ self.old.far + (self.old.spacing - self.old.far % self.old.spacing) }
+        requires mark { replay.now.mark ≡ mark_at (setting_of replay.now.mark.machine) choices.now replay.now.position }
+        ensures reach { OnOk result (IsReach (setting_of replay.now.mark.machine) choices.now self.new) }
+        ensures places { OnOk result ((self.new.from ≡ self.old.from) × (self.new.far ≡ replay.now.position) × (self.new.most ≡ max self.old.most replay.now.position) × (self.new.base ≡ self.old.base)) }
+    {
+        self.grow(choices, &replay.mark, replay.position);
+        self.far = replay.position;
+        if self.far % self.spacing == 0 {
+            self.fresh.push(replay.mark.copy()?)?;
+        }
+        Ok(())
+    }
+}

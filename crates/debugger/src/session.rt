@@ -1,0 +1,168 @@
+//! Sessions.
+
+ghost use Rattle.std.specs.Prelude.{◌≡◌, ◌+◌, ◌/◌, ◌≤◌, MatchResult, List, IfErr, IfOk, Ok, OnErr};
+ghost use Rattle.jvms_machine.specs.Opening.{made};
+ghost use Rattle.jvms_machine.specs.Start.{Start};
+ghost use Rattle.machine.specs.Started.{IsNotMade, opened};
+ghost use Rattle.debugger.specs.Commands.{Did, IsRefused};
+ghost use Rattle.debugger.specs.Marks.{IsSpacing};
+ghost use Rattle.debugger.specs.Sessions.{begun};
+ghost use Rattle.debugger.specs.States.{items_at, machine_at, outcome_at, setting_of};
+ghost use Rattle.debugger.specs.Timelines.{IsTimeline, extent};
+
+use crate::body::Body;
+use crate::mark::Mark;
+use crate::timeline::Timeline;
+use crate::view::View;
+use debugger_commands::{Command, DebugFault};
+use jvms_machine::machine::{Entry, Limits, Outcome, ThreadId};
+use jvms_machine::trace::Item;
+use machine::{Machine, MachineFault};
+use program::Program;
+use std::alloc::{AllocError, Global};
+use std::marker::Model;
+use trace::Trace;
+
+/// The most checkpoints that are kept.
+const MOST_CHECKPOINTS: usize = 64;
+
+/// A session of the debugger: a program with the choices of a run, a position among these, and breakpoints. Contracts see
+/// these, with the positions that the bounds on turns speak of.
+#[derive(Drop)]
+pub struct Session<'p> {
+    body: Body<'p>,
+}
+
+impl<'p> Model for Session<'p> {
+    ghost use Rattle.debugger.specs.Sessions.{Debugger, IsBody, seen};
+
+    ghost Value = { Debugger };
+
+    ghost view = { λ s. seen s.body };
+
+    ghost invariant = { λ s. IsBody s.body };
+}
+
+/// Makes the timeline of some choices at their begin.
+fn timeline_of<'p>(
+    alloc: Global,
+    machine: Machine<'p>,
+    choices: Vec<ThreadId>,
+) -> Result<Timeline<'p>, AllocError>
+    requires { machine ≡ opened machine.program machine.limits machine.start }
+    ensures timeline { IfOk result (λ t. IsTimeline t) }
+    ensures extent { IfOk result (λ t. extent t ≡ record { setting = setting_of machine.entry; choices = choices.items; position = 0; most = 0; far = 0; spacing = 1 }) }
+{
+    let here = Mark {
+        machine,
+        items: 0,
+        outcome: None,
+    };
+    let mut checkpoints = Vec::with_capacity(alloc, MOST_CHECKPOINTS)?;
+    checkpoints.push(here.copy()?)?;
+    Ok(Timeline {
+        alloc,
+        choices,
+        position: 0,
+        here,
+        most: 0,
+        far: 0,
+        spacing: 1,
+        checkpoints,
+    })
+}
+
+impl<'p> Session<'p> {
+    /// Begins a session before the first of these choices, without a breakpoint.
+    ///
+    /// # Errors
+    ///
+    /// Those of `Machine::new`: M01 where the entry names no method to begin with, else M02 where a limit is out of its
+    /// range, else M03 without memory.
+    pub fn new(
+        alloc: Global,
+        program: &'p Program,
+        limits: Limits,
+        entry: &Entry,
+        choices: Vec<ThreadId>,
+    ) -> Result<Session<'p>, MachineFault>
+        ensures { MatchResult result (λ s. (start : Start) × (made program.now limits entry.now ≡ Ok start) × (s ≡ begun (record { program = program.now; limits = limits; start = start }) choices.items)) (IsNotMade program.now limits entry.now) }
+    {
+        let machine = Machine::new(alloc, program, limits, entry)?;
+        Ok(Session {
+            body: Body {
+                timeline: timeline_of(alloc, machine, choices)?,
+                trace: Trace::new(alloc),
+                breakpoints: Vec::new(alloc),
+                next: 1,
+                replayed: 0,
+            },
+        })
+    }
+
+    /// Carries a command out, and returns what it shows. A command that is refused changes nothing.
+    ///
+    /// # Errors
+    ///
+    /// B03 where no thread has the number of `frames`, B04 where the reference of `object` names none, B05 where no
+    /// breakpoint has the number of `delete` or no number is left for one, B06 where there is no such place or class, B07
+    /// without memory, and only where none of the others is.
+    pub fn command(&mut self, command: Command) -> Result<View, DebugFault>
+        ensures did { IfOk result (λ view. Did command self.old self.new view) }
+        ensures spacing { IsSpacing self.new.most self.new.spacing }
+        ensures refused { IfErr result (λ fault. IsRefused command self.old fault) }
+        ensures kept { OnErr result (self.new ≡ self.old) }
+    {
+        self.body.carry_out(command)
+    }
+
+    /// Returns how many turns the last command took that was not refused.
+    pub fn replayed(&self) -> u64
+        ensures { result ≡ self.now.replayed }
+    {
+        self.body.replayed
+    }
+
+    /// Returns the choices.
+    pub fn choices(&self) -> &[ThreadId]
+        ensures { result.now ≡ self.now.session.choices }
+    {
+        self.body.timeline.choices.as_slice()
+    }
+
+    /// Returns the position: how many of the choices come before it.
+    pub fn position(&self) -> usize
+        ensures { result ≡ self.now.session.position }
+    {
+        self.body.timeline.position
+    }
+
+    /// Returns the machine after the choices before the position.
+    pub fn machine(&self) -> &Machine<'p>
+        ensures { result.now ≡ machine_at self.now.setting self.now.session.choices self.now.session.position }
+    {
+        &self.body.timeline.here.machine
+    }
+
+    /// Returns the items of the choices before the position.
+    pub fn items(&self) -> &[Item]
+        ensures { result.now ≡ items_at self.now.setting self.now.session.choices self.now.session.position }
+    {
+        &self.body.trace.items()[..self.body.timeline.here.items]
+    }
+
+    /// Returns the outcome of the last choice before the position, if there is one.
+    pub fn last_outcome(&self) -> Option<Outcome>
+        ensures { result ≡ outcome_at self.now.setting self.now.session.choices self.now.session.position }
+    {
+        self.body.timeline.here.outcome
+    }
+
+    /// Returns the number of checkpoints.
+    pub fn checkpoint_count(&self) -> usize
+        ensures count { result ≡ self.now.far / self.now.spacing + 1 }
+        ensures few { result ≤ 64 }
+    {
+        self.body.timeline.checkpoints.len()
+    }
+}

@@ -1,0 +1,134 @@
+//! The choices of a session with the machine at its position and the checkpoints.
+
+ghost use Rattle.std.specs.Prelude.{◌≡◌, ◌+◌, ◌^◌, ◌<◌, ◌≤◌, length, IfOk, OnOk};
+ghost use Rattle.debugger.specs.Marks.{mark_at, IsSpacing};
+ghost use Rattle.debugger.specs.States.{items_at, setting_of};
+ghost use Rattle.debugger.specs.Timelines.{IsAlong, IsTimeline, IsWalkOf, extent, moved, setting};
+ghost use Rattle.debugger.specs.Walks.{IsWalk};
+
+use crate::mark::{Mark, thin};
+use crate::reach::Reach;
+use crate::replay::Replay;
+use crate::walk::Walk;
+use jvms_machine::machine::ThreadId;
+use std::alloc::{AllocError, Global};
+use trace::Trace;
+
+/// The choices of a session with the machine at its position and the checkpoints.
+#[derive(Drop)]
+pub(crate) struct Timeline<'p> {
+    pub(crate) alloc: Global,
+    pub(crate) choices: Vec<ThreadId>,
+    pub(crate) position: usize,
+    /// The machine at the position.
+    pub(crate) here: Mark<'p>,
+    /// The greatest position so far.
+    pub(crate) most: usize,
+    /// The greatest position since the choices were last cut.
+    pub(crate) far: usize,
+    /// The distance between checkpoints.
+    pub(crate) spacing: usize,
+    /// The machine at each multiple of the spacing up to `far`.
+    pub(crate) checkpoints: Vec<Mark<'p>>,
+}
+
+impl<'p> Timeline<'p> {
+    /// Begins a walk along some choices at a position that is at most `far`.
+    pub(crate) fn begin(
+        &self,
+        choices: &[ThreadId],
+        mark: &Mark<'p>,
+        position: usize,
+        far: usize,
+    ) -> Result<Walk<'p>, AllocError>
+        requires position { position ≤ far }
+        requires far { far ≤ length choices.now }
+        requires most { far ≤ self.now.most }
+        requires spacing { IsSpacing self.now.most self.now.spacing }
+        requires few { length (items_at (setting self.now) choices.now far) < 2 ^ 63 }
+        requires mark { mark.now ≡ mark_at (setting self.now) choices.now position }
+        ensures walk { IfOk result (λ w. IsWalk (setting self.now) choices.now w) }
+        ensures setting { IfOk result (λ w. setting_of w.replay.mark.machine ≡ setting self.now) }
+        ensures position { IfOk result (λ w. w.replay.position ≡ position) }
+        ensures made { IfOk result (λ w. w.replay.made ≡ 0) }
+        ensures places { IfOk result (λ w. (w.reach.from ≡ far) × (w.reach.base ≡ self.now.spacing) × (w.reach.most ≡ self.now.most)) }
+    {
+        Ok(Walk {
+            replay: Replay {
+                mark: mark.copy()?,
+                position,
+                made: 0,
+            },
+            reach: Reach {
+                from: far,
+                base: self.spacing,
+                far,
+                most: self.most,
+                spacing: self.spacing,
+                ratio: 1,
+                fresh: Vec::new(self.alloc),
+            },
+            items: Trace::new(self.alloc),
+            alloc: self.alloc,
+        })
+    }
+
+    /// Begins a walk along the timeline's own choices at a position where the session has been.
+    pub(crate) fn start(&self, mark: &Mark<'p>, position: usize) -> Result<Walk<'p>, AllocError>
+        requires timeline { IsTimeline self.now }
+        requires within { position ≤ self.now.far }
+        requires mark { mark.now ≡ mark_at (setting self.now) self.now.choices.items position }
+        ensures walk { IfOk result (λ w. IsWalkOf self.now w) }
+        ensures position { IfOk result (λ w. w.replay.position ≡ position) }
+        ensures made { IfOk result (λ w. w.replay.made ≡ 0) }
+    {
+        let walk = self.begin(&self.choices, mark, position, self.far)?;
+        Ok(walk)
+    }
+
+    /// Continues a walk: at least by one turn, and to no position after an end.
+    pub(crate) fn advance(&self, walk: &mut Walk<'p>, end: usize) -> Result<(), AllocError>
+        requires walk { IsWalkOf self.now walk.old }
+        requires more { walk.old.replay.position < end }
+        requires within { end ≤ length self.now.choices.items }
+        ensures walk { OnOk result (IsWalkOf self.now walk.new) }
+        ensures some { OnOk result (walk.old.replay.position < walk.new.replay.position) }
+        ensures end { OnOk result (walk.new.replay.position ≤ end) }
+        ensures made { OnOk result (walk.new.replay.made + walk.old.replay.position ≡ walk.old.replay.made + walk.new.replay.position) }
+    {
+        walk.advance(&self.choices, end)?;
+        Ok(())
+    }
+
+    /// Moves to where a replay is, and keeps what it brings.
+    pub(crate) fn arrive(&mut self, replay: Replay<'p>, reach: Reach<'p>)
+        requires timeline { IsTimeline self.old }
+        requires along { IsAlong self.old replay reach }
+        requires few { length (items_at (setting self.old) self.old.choices.items reach.far) < 2 ^ 63 }
+        ensures timeline { IsTimeline self.new }
+        ensures extent { extent self.new ≡ moved (extent self.old) replay.entry reach.entry }
+    {
+        let Reach {
+            from: _,
+            base: _,
+            far,
+            most,
+            spacing,
+            ratio,
+            mut fresh,
+        } = reach;
+        let Replay {
+            mark,
+            position,
+            made: _,
+        } = replay;
+        thin(&mut self.checkpoints, 0, ratio);
+        let kept = self.checkpoints.append(&mut fresh).is_ok();
+        prove!(kept);
+        self.here = mark;
+        self.position = position;
+        self.most = most;
+        self.far = far;
+        self.spacing = spacing;
+    }
+}

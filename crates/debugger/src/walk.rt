@@ -1,0 +1,90 @@
+//! Walks along the choices.
+
+ghost use Rattle.std.specs.Prelude.{◌≡◌, ◌+◌, ◌<◌, ◌≤◌, length, max, OnOk};
+ghost use Rattle.debugger.specs.States.{setting_of};
+ghost use Rattle.debugger.specs.Walks.{IsWalk};
+
+use crate::reach::Reach;
+use crate::replay::Replay;
+use jvms_machine::machine::ThreadId;
+use std::alloc::{AllocError, Global};
+use trace::{Recording, Trace};
+
+/// The turns whose items, which the session has, are in memory twice at a time.
+const MOST_TURNS: usize = 4_096;
+
+/// A replay with what its session will keep of it.
+#[derive(Drop)]
+pub(crate) struct Walk<'p> {
+    pub(crate) replay: Replay<'p>,
+    pub(crate) reach: Reach<'p>,
+    /// The items of the choices after those where the session has been.
+    pub(crate) items: Trace,
+    pub(crate) alloc: Global,
+}
+
+impl<'p> Walk<'p> {
+    /// Takes turns where the session has been.
+    fn advance_within(&mut self, choices: &[ThreadId], end: usize) -> Result<(), AllocError>
+        requires walk { IsWalk (setting_of self.old.replay.mark.machine) choices.now self.old }
+        requires more { self.old.replay.position < end }
+        requires within { end ≤ length choices.now }
+        requires far { end ≤ self.old.reach.far }
+        ensures walk { OnOk result (IsWalk (setting_of self.old.replay.mark.machine) choices.now self.new) }
+        ensures setting { OnOk result (setting_of self.new.replay.mark.machine ≡ setting_of self.old.replay.mark.machine) }
+        ensures some { OnOk result (self.old.replay.position < self.new.replay.position) }
+        ensures end { OnOk result (self.new.replay.position ≤ end) }
+        ensures made { OnOk result (self.new.replay.made + self.old.replay.position ≡ self.old.replay.made + self.new.replay.position) }
+        ensures reach { self.new.reach ≡ self.old.reach }
+    {
+        let mut recording = Recording::of(Trace::new(self.alloc));
+        let most = (end - self.replay.position).min(MOST_TURNS);
+        let end = self.replay.position + most;
+        self.replay.advance(choices, end, &mut recording)?;
+        Ok(())
+    }
+
+    /// Takes turns after those of the session, up to the next position of a checkpoint.
+    fn advance_beyond(&mut self, choices: &[ThreadId], end: usize) -> Result<(), AllocError>
+        requires walk { IsWalk (setting_of self.old.replay.mark.machine) choices.now self.old }
+        requires more { self.old.replay.position < end }
+        requires within { end ≤ length choices.now }
+        requires far { self.old.reach.far ≤ self.old.replay.position }
+        ensures walk { OnOk result (IsWalk (setting_of self.old.replay.mark.machine) choices.now self.new) }
+        ensures setting { OnOk result (setting_of self.new.replay.mark.machine ≡ setting_of self.old.replay.mark.machine) }
+        ensures some { OnOk result (self.old.replay.position < self.new.replay.position) }
+        ensures end { OnOk result (self.new.replay.position ≤ end) }
+        ensures made { OnOk result (self.new.replay.made + self.old.replay.position ≡ self.old.replay.made + self.new.replay.position) }
+        ensures places { OnOk result ((self.new.reach.from ≡ self.old.reach.from) × (self.new.reach.base ≡ self.old.reach.base)) }
+        ensures most { OnOk result (self.new.reach.most ≡ max self.old.reach.most self.new.replay.position) }
+    {
+        let most = (end - self.replay.position).min(self.reach.distance());
+        let end = self.replay.position + most;
+        let mut recording = Recording::taken_from(self.alloc, &mut self.items);
+        self.replay.advance(choices, end, &mut recording)?;
+        recording.give_back(&mut self.items);
+        let _ = self.items.len();
+        self.reach.extend(choices, &self.replay)?;
+        Ok(())
+    }
+
+    /// Takes turns along the choices: at least one, and none after an end.
+    pub(crate) fn advance(&mut self, choices: &[ThreadId], end: usize) -> Result<(), AllocError>
+        requires walk { IsWalk (setting_of self.old.replay.mark.machine) choices.now self.old }
+        requires more { self.old.replay.position < end }
+        requires within { end ≤ length choices.now }
+        ensures walk { OnOk result (IsWalk (setting_of self.old.replay.mark.machine) choices.now self.new) }
+        ensures setting { OnOk result (setting_of self.new.replay.mark.machine ≡ setting_of self.old.replay.mark.machine) }
+        ensures some { OnOk result (self.old.replay.position < self.new.replay.position) }
+        ensures end { OnOk result (self.new.replay.position ≤ end) }
+        ensures made { OnOk result (self.new.replay.made + self.old.replay.position ≡ self.old.replay.made + self.new.replay.position) }
+        ensures places { OnOk result ((self.new.reach.from ≡ self.old.reach.from) × (self.new.reach.base ≡ self.old.reach.base)) }
+        ensures most { OnOk result (self.new.reach.most ≡ max self.old.reach.most self.new.replay.position) }
+    {
+        if self.replay.position < self.reach.far {
+            self.advance_within(choices, end.min(self.reach.far))
+        } else {
+            self.advance_beyond(choices, end)
+        }
+    }
+}
