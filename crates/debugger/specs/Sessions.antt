@@ -8,7 +8,8 @@ use Rattle.debugger.specs.States.{Setting, items_at}
 use Rattle.debugger.specs.Timelines.{IsTimeline, setting}
 
 -- A session with what is debugged. `far` is the greatest position since the choices were last cut, `most` the greatest
--- ever, `spacing` the distance between checkpoints, and `replayed` the number of turns that the last command took.
+-- ever, `spacing` the distance between checkpoints, and `replayed` the number of turns that the last command took that
+-- was not refused.
 pub record Debugger : Type 0 where
   pub setting : Setting
   pub session : Session

@@ -61,6 +61,7 @@ fn put_blocked(out: &mut String, program: &Program, on: BlockedOn) -> Result<(),
 }
 
 /// Appends an outcome, with what a blocked thread waits for and why a turn can't be made.
+/// Without memory the text may end in a part of it.
 pub fn put_outcome(out: &mut String, program: &Program, outcome: Outcome) -> Result<(), AllocError>
     ensures { OnOk result (string_bytes out.new ≡ string_bytes out.old
         ++ outcome_text program.now outcome) }
