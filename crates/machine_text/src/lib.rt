@@ -4,19 +4,19 @@
 mod chain;
 mod class;
 mod fields;
-mod frames;
 mod object;
 mod outcome;
 mod output;
 mod place;
+mod thread_frames;
 mod threads;
 mod value;
 
 pub use crate::class::class_text;
-pub use crate::frames::frames_text;
 pub use crate::object::object_text;
 pub use crate::outcome::{put_outcome, put_status};
 pub use crate::output::output_text;
 pub use crate::place::put_place;
+pub use crate::thread_frames::frames_text;
 pub use crate::threads::threads_text;
 pub use crate::value::put_number;

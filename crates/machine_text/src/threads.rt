@@ -8,8 +8,8 @@ ghost use Rattle.machine_text.specs.Parts.{line_of_thread};
 ghost use Rattle.machine_text.specs.Threads.{pending_text, top_text};
 ghost use Rattle.machine_text.specs.Threads.{threads_text as text_of_threads};
 
-use crate::frames::put_frame;
 use crate::outcome::put_outcome;
+use crate::thread_frames::put_frame;
 use crate::value::put_counted;
 use jvms_machine::machine::ThreadId;
 use machine::Machine;

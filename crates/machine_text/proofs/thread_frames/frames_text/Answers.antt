@@ -3,7 +3,7 @@ use Rattle.machine_text.specs.Parts.{frames_of}
 use Rattle.machine_text.specs.Threads.{frame_line}
 use Rattle.machine_text.proofs.Rests.{one_more}
 use Rattle.machine_text.proofs.Views.{frame_is}
-use Rattle.machine_text.proofs.frames.frames_text.Goals as goal
+use Rattle.machine_text.proofs.thread_frames.frames_text.Goals as goal
 
 pub loop-depth-preserved : goal.loop-depth-preserved
 loop-depth-preserved c =

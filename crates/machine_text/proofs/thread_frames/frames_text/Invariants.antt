@@ -4,7 +4,7 @@ use Rattle.std.specs.String.{string_bytes}
 use Rattle.machine.specs.Views.{thread_at}
 use Rattle.machine_text.specs.Parts.{frames_of}
 use Rattle.machine_text.specs.Threads.{frame_line, frames_text}
-use Rattle.machine_text.proofs.frames.frames_text.Given as goal
+use Rattle.machine_text.proofs.thread_frames.frames_text.Given as goal
 
 abbrev pub invariant-loop-depth : goal.invariant-loop-depth
 invariant-loop-depth l =
