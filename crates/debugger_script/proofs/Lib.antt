@@ -1,0 +1,5 @@
+pub mod Answering
+pub mod Lines
+pub mod Reading
+pub mod Results
+pub mod Taking

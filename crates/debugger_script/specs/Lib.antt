@@ -1,0 +1,5 @@
+pub mod Answers
+pub mod Carried
+pub mod Failures
+pub mod Scripts
+pub mod Taken

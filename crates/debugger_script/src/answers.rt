@@ -1,0 +1,155 @@
+//! Texts of answers.
+
+ghost use Rattle.std.specs.Prelude.{◌≡◌, ◌-◌, ◌++◌, IfOk, OnOk, codes, slice_get};
+ghost use Rattle.std.specs.Fmt.{decimal};
+ghost use Rattle.std.specs.String.{string_bytes};
+ghost use Rattle.trace_text.specs.Traces.{trace_text};
+ghost use Rattle.debugger_script.specs.Answers.{breakpoint_text, fault_text, last_text};
+ghost use Rattle.debugger_script.specs.Answers.{position_text, view_text};
+
+use debugger::{Breakpoint, DebugFault, Session, View};
+use jvms_machine::machine::{Outcome, ThreadId};
+use jvms_machine::trace::Item;
+use machine_text::{
+    class_text, frames_text, object_text, output_text, put_number, put_outcome, put_place,
+    put_status, threads_text,
+};
+use program::Program;
+use std::alloc::{AllocError, Global};
+use trace_text::put_line;
+
+/// Appends the last choice before a position. Appends nothing where there is none.
+fn put_last(
+    out: &mut String,
+    program: &Program,
+    thread: Option<ThreadId>,
+    outcome: Option<Outcome>,
+) -> Result<(), AllocError>
+    ensures { OnOk result (string_bytes out.new ≡ string_bytes out.old
+        ++ last_text program.now thread outcome) }
+{
+    let Some(thread) = thread else {
+        return Ok(());
+    };
+    let Some(outcome) = outcome else {
+        return Ok(());
+    };
+    out.push_str(", thread ")?;
+    put_number(out, u64::from(thread))?;
+    out.push_str(" ")?;
+    put_outcome(out, program, outcome)
+}
+
+/// Returns the thread of the last choice before the position.
+fn last_thread(session: &Session<'_>) -> Option<ThreadId>
+    ensures { result ≡ slice_get session.now.session.choices (session.now.session.position - 1) }
+{
+    let index = session.position().saturating_sub(1);
+    session.choices().get(index).copied()
+}
+
+/// Returns the line of the position, with the status of the machine and the last choice.
+fn position_text(alloc: Global, session: &Session<'_>) -> Result<String, AllocError>
+    ensures { IfOk result (λ s. string_bytes s
+        ≡ position_text session.now.setting session.now.session) }
+{
+    let machine = session.machine();
+    let mut text = String::new(alloc);
+    text.push_str("at ")?;
+    put_number(&mut text, session.position() as u64)?;
+    text.push_str(" of ")?;
+    put_number(&mut text, session.choices().len() as u64)?;
+    text.push_str(" ")?;
+    put_status(&mut text, machine.status())?;
+    let thread = last_thread(session);
+    put_last(&mut text, machine.program(), thread, session.last_outcome())?;
+    text.push_str("\n")?;
+    Ok(text)
+}
+
+/// Returns the line of a breakpoint that was added.
+fn breakpoint_text(
+    alloc: Global,
+    program: &Program,
+    breakpoint: Breakpoint,
+) -> Result<String, AllocError>
+    ensures { IfOk result (λ s. string_bytes s ≡ breakpoint_text program.now breakpoint) }
+{
+    let mut text = String::new(alloc);
+    text.push_str("breakpoint ")?;
+    put_number(&mut text, u64::from(breakpoint.number))?;
+    text.push_str(" at ")?;
+    put_place(
+        &mut text,
+        program,
+        breakpoint.method,
+        breakpoint.instruction as usize,
+    )?;
+    text.push_str("\n")?;
+    Ok(text)
+}
+
+/// Returns the line of a breakpoint that was removed.
+fn removed_text(alloc: Global, number: u32) -> Result<String, AllocError>
+    ensures { IfOk result (λ s. string_bytes s ≡ codes "deleted " ++ decimal number ++ codes "\n") }
+{
+    let mut text = String::new(alloc);
+    text.push_str("deleted ")?;
+    put_number(&mut text, u64::from(number))?;
+    text.push_str("\n")?;
+    Ok(text)
+}
+
+/// Returns the lines of items.
+fn items_text(alloc: Global, items: &[Item]) -> Result<String, AllocError>
+    ensures { IfOk result (λ s. string_bytes s ≡ trace_text items.now) }
+{
+    let mut text = String::new(alloc);
+    for item in items {
+        put_line(&mut text, item)?;
+    }
+    Ok(text)
+}
+
+/// Returns the text of what a session shows at its position.
+pub fn view_text(alloc: Global, session: &Session<'_>, view: View) -> Result<String, AllocError>
+    ensures { IfOk result (λ s. string_bytes s
+        ≡ view_text session.now.setting session.now.session view) }
+{
+    let machine = session.machine();
+    match view {
+        View::Position => position_text(alloc, session),
+        View::Added(breakpoint) => breakpoint_text(alloc, machine.program(), breakpoint),
+        View::Removed(number) => removed_text(alloc, number),
+        View::Threads => threads_text(alloc, machine),
+        View::Frames(t) => frames_text(alloc, machine, t),
+        View::Object(reference) => object_text(alloc, machine, reference),
+        View::Class(class) => class_text(alloc, machine, class),
+        View::Trace => items_text(alloc, session.items()),
+        View::Output => output_text(alloc, machine),
+    }
+}
+
+/// Returns the line of a fault.
+fn fault_line(fault: DebugFault) -> &'static str
+    ensures { result.now ≡ fault_text fault }
+{
+    match fault {
+        DebugFault::UnknownCommand => "fault B01 UnknownCommand\n",
+        DebugFault::Number => "fault B02 Number\n",
+        DebugFault::NoThread => "fault B03 NoThread\n",
+        DebugFault::NoObject => "fault B04 NoObject\n",
+        DebugFault::NoBreakpoint => "fault B05 NoBreakpoint\n",
+        DebugFault::NoPlace => "fault B06 NoPlace\n",
+        DebugFault::Memory => "fault B07 Memory\n",
+    }
+}
+
+/// Returns the text of a fault.
+pub fn fault_text(alloc: Global, fault: DebugFault) -> Result<String, AllocError>
+    ensures { IfOk result (λ s. string_bytes s ≡ fault_text fault) }
+{
+    let mut text = String::new(alloc);
+    text.push_str(fault_line(fault))?;
+    Ok(text)
+}

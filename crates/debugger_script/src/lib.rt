@@ -1,0 +1,11 @@
+//! Scripts for the debugger: lines of commands, and the answers that are written to them.
+#![tactic(auto)]
+
+mod answers;
+mod fault;
+mod line;
+mod script;
+
+pub use crate::answers::{fault_text, view_text};
+pub use crate::fault::ScriptFault;
+pub use crate::script::run_script;
