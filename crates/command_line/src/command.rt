@@ -2,7 +2,9 @@
 
 use crate::entry::{arguments_of, main_entry, natural_of, static_entry};
 use crate::fault::WordsFault;
-use crate::help::{ASM_HELP, CHECK_HELP, EVAL_HELP, HELP, LIST_HELP, RUN_HELP, TRACE_HELP};
+use crate::help::{
+    ASM_HELP, CHECK_HELP, DEBUG_HELP, EVAL_HELP, HELP, LIST_HELP, RUN_HELP, TRACE_HELP,
+};
 use crate::syntax::{
     ARGUMENTS, ENTRY, FILE, FILES, INPUT, MOST, OUTPUT, SCHEDULE, SERIAL, SPECIFICATION, TRACE,
     syntax,
@@ -27,6 +29,8 @@ pub enum Command<'a> {
     Run(RunWords<'a>),
     /// To run a program and print the trace of its threads. Its words name no specification.
     Trace(RunWords<'a>),
+    /// To debug a run of a program. Its words are those of `trace`.
+    Debug(RunWords<'a>),
     /// To tell whether a trace is atomic.
     Check(CheckWords<'a>),
     /// To write the class file of a source.
@@ -39,7 +43,7 @@ pub enum Command<'a> {
     Version,
 }
 
-/// The words of `eval`, and of `run` and `trace` beside their options: a program and where it begins.
+/// The words of `eval`, and of `run`, `trace` and `debug` beside their options: a program and where it begins.
 #[derive(Debug, Drop)]
 pub struct ProgramWords<'a> {
     pub entry: Entry,
@@ -49,7 +53,7 @@ pub struct ProgramWords<'a> {
     pub files: Vec<&'a str>,
 }
 
-/// The words of `run` and of `trace`.
+/// The words of `run`, of `trace` and of `debug`.
 #[derive(Debug, Drop)]
 pub struct RunWords<'a> {
     pub program: ProgramWords<'a>,
@@ -192,6 +196,7 @@ fn help_of(command: &str) -> Option<Command<'static>> {
         "eval" => Some(Command::Help(EVAL_HELP)),
         "run" => Some(Command::Help(RUN_HELP)),
         "trace" => Some(Command::Help(TRACE_HELP)),
+        "debug" => Some(Command::Help(DEBUG_HELP)),
         "check" => Some(Command::Help(CHECK_HELP)),
         "asm" => Some(Command::Help(ASM_HELP)),
         "list" => Some(Command::Help(LIST_HELP)),
@@ -233,6 +238,7 @@ fn matched<'a>(
             Ok(Command::Run(run_words(alloc, matches, spec)?))
         }
         "trace" => Ok(Command::Trace(run_words(alloc, matches, None)?)),
+        "debug" => Ok(Command::Debug(run_words(alloc, matches, None)?)),
         "check" => Ok(Command::Check(check_words(matches)?)),
         "asm" => Ok(Command::Asm(asm_words(matches)?)),
         "list" => Ok(Command::List(list_word(matches)?)),

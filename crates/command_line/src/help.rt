@@ -11,6 +11,7 @@ Usage: jvmx COMMAND WORDS
   run            runs a program and prints what it writes; with --spec, tells
                  whether methods were atomic in that run
   trace          runs a program and prints what its threads did
+  debug          goes forward and back along the turns of a run
   check          reads what threads did and tells whether methods were atomic
   asm            writes the class file of a source
   list           prints a class file as a source
@@ -148,6 +149,47 @@ Exit status: 0 where the status is Finished and no exception is uncaught, else
 1; 2 and 3 as jvmx --help says. docs/REFUSALS.md explains the codes of refusals.
 
 Example: jvmx trace --entry LostUpdate examples/threads/LostUpdate.j
+";
+
+/// `jvmx debug --help`
+pub const DEBUG_HELP: &str = "\
+jvmx debug: goes forward and back along the turns of a run
+
+Usage: jvmx debug --entry E [--args N,N] [--sched S] [--max N] FILE...
+
+Options and FILEs are those of jvmx run, as jvmx help run says, but for --spec.
+The schedule chooses a thread for each turn of a whole run, at most --max. The
+session begins before the first turn. It reads commands from standard input, a
+line each, and prints the answer to one before it reads the next. What the
+program writes isn't printed.
+
+  step N          goes forward by N turns, at most to the end
+  back N          goes back by N turns, at most to 0
+  goto N          goes to position N: after the first N turns
+  continue        goes to the next turn of a thread that is at a breakpoint
+  rcontinue       goes back to the last such turn before the position
+  pick T          drops the turns after the position and takes one of thread T
+  break C.m.D I   adds a breakpoint at instruction I of a method, from 0
+  delete K        removes breakpoint K
+  threads         shows the outcome of each thread's next turn, and where it is
+  frames T        shows the frames of thread T: local variables and operands
+  object R        shows the object of reference R
+  class C         shows how far the class is initialised, and its static fields
+  trace           shows what the threads did so far, as jvmx trace prints it
+  output          shows what the program wrote so far: how many bytes, and these
+
+step, back, goto, continue, rcontinue and pick answer 'at P of N STATUS, thread
+T OUTCOME': the position, the number of turns, the machine's status, and what
+the last turn before the position came to. A line that can't be carried out is
+answered by 'fault CODE NAME' and changes nothing. docs/REFUSALS.md explains the
+codes.
+
+Exit status: 0, whatever the session shows; 2 and 3 as jvmx --help says.
+
+Example: echo 'step 8
+threads
+back 1
+threads' | jvmx debug --entry LostUpdate examples/threads/LostUpdate.j
 ";
 
 /// `jvmx check --help`

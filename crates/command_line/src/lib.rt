@@ -9,4 +9,6 @@ mod syntax;
 
 pub use command::{AsmWords, CheckWords, Command, ProgramWords, RunWords, command_of};
 pub use fault::WordsFault;
-pub use help::{ASM_HELP, CHECK_HELP, EVAL_HELP, HELP, LIST_HELP, RUN_HELP, TRACE_HELP, VERSION};
+pub use help::{
+    ASM_HELP, CHECK_HELP, DEBUG_HELP, EVAL_HELP, HELP, LIST_HELP, RUN_HELP, TRACE_HELP, VERSION,
+};

@@ -115,7 +115,8 @@ fn with_runs<'a>(alloc: Global, command: Command<'a>) -> Result<Command<'a>, All
     command
         .subcommand(program_syntax(alloc, "eval")?)?
         .subcommand(run_syntax(alloc)?)?
-        .subcommand(scheduled_syntax(alloc, "trace")?)
+        .subcommand(scheduled_syntax(alloc, "trace")?)?
+        .subcommand(scheduled_syntax(alloc, "debug")?)
 }
 
 /// The commands that read or write other texts, beside others.

@@ -2,6 +2,7 @@
 //! what is written and the exit status.
 #![tactic(auto)]
 
+pub mod debugging;
 mod ending;
 pub mod eval;
 mod fault;

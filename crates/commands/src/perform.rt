@@ -1,5 +1,6 @@
 //! All of the program, over named files, a reader and two writers.
 
+use crate::debugging::debug;
 use crate::ending::Ending;
 use crate::eval::eval;
 use crate::files::Files;
@@ -189,6 +190,35 @@ fn perform_trace<'w, F: Files, W: ByteOut>(
     Ok(u8::from(!whole))
 }
 
+/// `debug`: carries out the commands that are read.
+fn perform_debug<'w, F: Files, I: ByteIn, W: ByteOut>(
+    alloc: Global,
+    words: &RunWords<'w>,
+    files: &mut F,
+    input: &mut I,
+    output: &mut W,
+) -> Result<u8, Refusal<'w>> {
+    let RunParts {
+        mut chooser,
+        spec: _,
+        inputs,
+    } = read_parts(alloc, words, files)?;
+    let entry = &words.program.entry;
+    let inputs = inputs.as_slice();
+    match debug(
+        alloc,
+        inputs,
+        entry,
+        &mut chooser,
+        words.most,
+        input,
+        output,
+    ) {
+        Ok(()) => Ok(0),
+        Err(stop) => Err(Refusal::of_debug(&words.program, stop)),
+    }
+}
+
 /// Prints whether the trace of a text is atomic.
 fn check_text<'w, W: ByteOut>(
     alloc: Global,
@@ -260,10 +290,11 @@ fn print<'w, W: ByteOut>(output: &mut W, text: &str) -> Result<u8, Refusal<'w>> 
 }
 
 /// Does what the words ask for.
-fn command<'w, F: Files, W: ByteOut, E: ByteOut>(
+fn command<'w, F: Files, I: ByteIn, W: ByteOut, E: ByteOut>(
     alloc: Global,
     words: &'w [String],
     files: &mut F,
+    input: &mut I,
     output: &mut W,
     errors: &mut E,
 ) -> Result<u8, Refusal<'w>> {
@@ -271,6 +302,7 @@ fn command<'w, F: Files, W: ByteOut, E: ByteOut>(
         Command::Eval(words) => perform_eval(alloc, &words, files, output, errors),
         Command::Run(words) => perform_run(alloc, &words, files, output, errors),
         Command::Trace(words) => perform_trace(alloc, &words, files, output),
+        Command::Debug(words) => perform_debug(alloc, &words, files, input, output),
         Command::Check(words) => perform_check(alloc, &words, files, output),
         Command::Asm(words) => perform_asm(alloc, words, files),
         Command::List(file) => perform_list(alloc, file, files, output),
@@ -295,11 +327,11 @@ pub fn perform<F: Files, I: ByteIn, W: ByteOut, E: ByteOut>(
     alloc: Global,
     words: &[String],
     files: &mut F,
-    _input: &mut I,
+    input: &mut I,
     output: &mut W,
     errors: &mut E,
 ) -> u8 {
-    match command(alloc, words, files, output, errors) {
+    match command(alloc, words, files, input, output, errors) {
         Ok(status) => status,
         Err(refusal) => refuse(alloc, &refusal, errors),
     }

@@ -1,9 +1,11 @@
 //! Why a command was refused: the line on standard error, and the exit status.
 
+use crate::debugging::DebugStop;
 use crate::fault::RunFault;
 use crate::files::FileFault;
 use atom_spec::SpecFault;
 use command_line::{ProgramWords, WordsFault};
+use debugger_script::ScriptFault;
 use inputs::InputFault;
 use judge::JudgeFault;
 use linker::LinkFault;
@@ -42,6 +44,8 @@ pub(crate) enum Refusal<'w> {
     LinkMemory,
     /// M01 to M03: there is no machine for the entry.
     Machine { entry: &'w str, fault: MachineFault },
+    /// S01 to S03: the script of the debugger ended early.
+    Script { fault: ScriptFault },
     /// P05: standard output or standard error failed.
     Output,
     /// There was no memory for anything else.
@@ -141,10 +145,19 @@ impl<'w> Refusal<'w> {
         }
     }
 
+    /// A program that wasn't debugged, or a script that ended early.
+    pub(crate) fn of_debug(words: &ProgramWords<'w>, stop: DebugStop) -> Self {
+        match stop {
+            DebugStop::Judge(fault) => Refusal::of_judge(words, fault),
+            DebugStop::Script(fault) => Refusal::Script { fault },
+        }
+    }
+
     /// 3 where memory ran out or a device failed, else 2.
     pub(crate) fn status(&self) -> u8 {
         match self {
             Refusal::File { .. } | Refusal::LinkMemory | Refusal::Output | Refusal::Memory => 3,
+            Refusal::Script { .. } => 3,
             Refusal::Spec { fault, .. } if *fault == SpecFault::Memory => 3,
             Refusal::Check { fault, .. } if fault.is_memory() => 3,
             Refusal::Input { fault, .. } if fault.is_memory() => 3,
@@ -170,6 +183,7 @@ impl fmt::Display for Refusal<'_> {
             Refusal::Link { file, fault } => write!(f, "{file}: {fault}"),
             Refusal::LinkMemory => write!(f, "{}", LinkFault::Memory),
             Refusal::Machine { entry, fault } => write!(f, "{entry}: {fault}"),
+            Refusal::Script { fault } => write!(f, "{fault}"),
             Refusal::Output => write!(f, "{}", RunFault::Output),
             Refusal::Memory => f.write_str("Memory"),
         }
