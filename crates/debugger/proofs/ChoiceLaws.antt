@@ -20,7 +20,7 @@ one_more cs p n t within is same =
 pub take_less : (xs ys : List ℕ) (n k : ℕ) → k ≤ n → take n xs ≡ take n ys → take k xs ≡ take k ys
 take_less xs ys n k less same = sym (take-take k n xs less) ∙ ap (take k) same ∙ take-take k n ys less
 
--- A list that is cut and goes on otherwise is the same up to there.
+-- A list that keeps the first n elements of another begins as that does.
 pub take_front : (xs ys more : List ℕ) (n : ℕ) → n ≤ length xs → ys ≡ take n xs ++ more → take n xs ≡ take n ys
 take_front xs ys more n h is =
     let seam : take (length (take n xs)) (take n xs ++ more) ≡ take n xs = take-append_seam (take n xs) more in

@@ -97,7 +97,7 @@ pub at_none : (breakpoints : List Breakpoint) (thread : Option Thread) (f : Opti
 at_none breakpoints None f is none = refl
 at_none breakpoints (Some thread) f is none = at_none_by breakpoints thread f is none
 
--- Whether a position is a hit is told by the thread of the next choice.
+-- Whether a position is a hit depends on the thread of the next choice.
 pub hit_of_choice : (g : Setting) (choices : List ℕ) (breakpoints : List Breakpoint) (n : ℕ) (t : Option ℕ) → slice_get choices n ≡ t → hits g choices breakpoints n ≡ is_hit_by breakpoints (state_after g.program g.limits g.start choices n) t
 unfolding is_hit
 hit_of_choice g choices breakpoints n t is = ap (is_hit_by breakpoints (state_after g.program g.limits g.start choices n)) is

@@ -1,3 +1,4 @@
+mod AimLaws
 mod ChoiceLaws
 mod HitLaws
 mod MarkLaws

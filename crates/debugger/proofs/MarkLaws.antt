@@ -79,7 +79,7 @@ marks_one_more at d first last next ms m h up near r is_at is =
 pub marks_more : (at : ℕ → Mark) (d first last next : ℕ) (ms ns : List Mark) (m : Mark) → 0 < d → last < next → next ≤ last + (d - last % d) → next % d ≡ 0 → ns ≡ ms ++ m ∷ [] → m ≡ at next → AreMarks at d first last ms → AreMarks at d first next ns
 marks_more at d first last next ms ns m h up near r more is_at is = subst (λ l. AreMarks at d first next l) (sym more) (marks_one_more at d first last next ms m h up near r is_at is)
 
--- So many are kept as are multiples of the wider spacing.
+-- The number of marks that are kept is that of the multiples of the wider spacing.
 thin_count : (q first skip ratio next all kept : ℕ) → 0 < ratio → first + skip ≡ next * ratio → next ≤ q / ratio + 1 → first + all ≡ q + 1
     → ((j : ℕ) → j < kept → skip + j * ratio < all)
     → ((j : ℕ) → skip + j * ratio < all → j < kept)
@@ -104,7 +104,7 @@ thin_count q first skip ratio next all kept k seam small many in_all in_kept =
       ]
     ]
 
--- One of so many is kept.
+-- Where every nth mark is kept, these are the marks of a spacing n times as wide.
 pub marks_thin : (at : ℕ → Mark) (d first last : ℕ) (ms ns : List Mark) (skip ratio next : ℕ) → 0 < ratio → first + skip ≡ next * ratio → next ≤ last / (ratio * d) + 1
     → ((j : ℕ) (x : Mark) → j < length ns → get_or ns j x ≡ get_or ms (skip + j * ratio) x)
     → ((j : ℕ) → j < length ns → skip + j * ratio < length ms)

@@ -1,4 +1,4 @@
--- The items after another choice in place of those behind the position.
+-- The items after another choice in place of those that follow the position.
 use Rattle.std.proofs.Common.{◌≡◌, ℕ, ◌≤◌, List, [], ◌∷◌, ◌++◌, length, take, ap, arith, ◌∙◌, subst}
 use Rattle.jvms_machine.specs.declared.trace.Item.{Item}
 use Rattle.debugger.specs.declared.mark.Mark.{Mark}

@@ -133,7 +133,7 @@ pub items_same : (g : Setting) (cs ds : List ℕ) (n : ℕ) → take n cs ≡ ta
 unfolding items_at
 items_same g cs ds n h = ap (λ (r : RunResult). r.items) (result_same g cs ds n h)
 
--- The items of a beginning, followed by those of other choices behind it.
+-- The items of a beginning, followed by those of other choices after it.
 pub items_joined : (g : Setting) (old new : List ℕ) (position far reach count : ℕ) (trace items all : List Item) → position ≤ far → count ≡ length (items_at g old position) → take position old ≡ take position new
     → trace ≡ items_at g old far → items_at g new reach ≡ items_at g new position ++ items → all ≡ take count trace ++ items
     → all ≡ items_at g new reach

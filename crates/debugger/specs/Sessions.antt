@@ -1,5 +1,13 @@
 -- Sessions of the debugger: what contracts see of one, and what holds of its parts.
-use Rattle.std.specs.Prelude.{◌≡◌, ℕ, List}
+use Rattle.std.specs.Prelude.{◌≡◌, ℕ, List, MatchResult, Result, Ok}
+use Rattle.jvms_program.specs.declared.program.Class.{Class}
+use Rattle.jvms_machine.specs.declared.machine.Entry.{Entry}
+use Rattle.jvms_machine.specs.declared.machine.Limits.{Limits}
+use Rattle.jvms_machine.specs.Opening.{made}
+use Rattle.jvms_machine.specs.Start.{Start}
+use Rattle.machine.specs.declared.fault.MachineFault.{MachineFault}
+use Rattle.machine.specs.Started.{IsNotMade}
+use Rattle.debugger_commands.specs.declared.breakpoint.Breakpoint.{Breakpoint}
 use Rattle.debugger_commands.specs.Sessions.{Session, opened}
 use Rattle.debugger.specs.declared.body.Body.{Body}
 use Rattle.debugger.specs.declared.reach.Reach.{Reach}
@@ -21,6 +29,12 @@ pub record Debugger : Type 0 where
 -- A session that begins.
 abbrev pub begun : Setting → List ℕ → Debugger
 begun g choices = record { setting = g; session = opened choices; most = 0; far = 0; spacing = 1; replayed = 0 }
+
+-- A session is begun where there is a machine for the entry.
+abbrev pub IsBegun : List Class → Limits → Entry → List ℕ → Result Debugger MachineFault → Type 0
+IsBegun program limits e choices result =
+    MatchResult result (λ d. (start : Start) × (made program limits e ≡ Ok start) × (d ≡ begun (record { program = program; limits = limits; start = start }) choices))
+    (IsNotMade program limits e)
 
 abbrev pub session_of : Body → Session
 session_of b = record {
@@ -44,6 +58,10 @@ seen b = record {
 pub record IsBody (b : Body) : Type 0 where
   pub timeline : IsTimeline b.timeline
   pub trace : b.trace ≡ items_at (setting b.timeline) b.timeline.choices.items b.timeline.far
+
+-- A session with other breakpoints, and the number of the next one. No turn is taken for that.
+abbrev pub with_breakpoints : Debugger → List Breakpoint → ℕ → Debugger
+with_breakpoints d breakpoints next = record d { session = record d.session { breakpoints = breakpoints; next = next }; replayed = 0 }
 
 -- A session that has moved to where a replay is.
 abbrev pub moved_by : Debugger → Replay → Reach → Debugger

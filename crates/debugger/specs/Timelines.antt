@@ -13,7 +13,7 @@ use Rattle.debugger.specs.Walks.{IsReach, IsReplay, IsWalk}
 abbrev pub setting : Timeline → Setting
 setting t = setting_of t.here.machine
 
--- Where a timeline stands: `far` is the greatest position since the choices were last cut, `most` the greatest ever, and
+-- The positions of a timeline: `far` is the greatest position since the choices were last cut, `most` the greatest ever, and
 -- `spacing` the distance between checkpoints.
 pub record Extent : Type 0 where
   pub setting : Setting
@@ -32,6 +32,10 @@ extent t = record {
   far = t.far;
   spacing = t.spacing;
 }
+
+-- The extent of a timeline before its first choice.
+abbrev pub opening_extent : Setting → List ℕ → Extent
+opening_extent g choices = record { setting = g; choices = choices; position = 0; most = 0; far = 0; spacing = 1 }
 
 -- The machine is the one at the position, and each checkpoint the one at its own.
 pub record IsTimeline (t : Timeline) : Type 0 where
@@ -53,7 +57,8 @@ pub record IsAlong (t : Timeline) (r : Replay) (x : Reach) : Type 0 where
   pub far : x.far ≡ max x.from r.position
   pub from : x.from ≡ t.far
   pub base : x.base ≡ t.spacing
-  pub most : x.most ≡ max t.most r.position
+  pub most : t.most ≤ x.most
+  pub bound : x.most ≤ max t.most (length t.choices.items)
 
 -- A walk along a timeline's choices.
 pub record IsWalkOf (t : Timeline) (w : Walk) : Type 0 where

@@ -32,6 +32,24 @@ pub record IsReach (g : Setting) (choices : List ℕ) (r : Reach) : Type 0 where
   pub base_small : r.base ≤ r.spacing
   pub fresh : AreMarks (mark_at g choices) r.spacing (r.from / r.spacing + 1) r.far r.fresh.items
 
+-- A reach whose spacing grows for a position that a walk leads to. It may not be large enough yet.
+pub record IsAiming (g : Setting) (choices : List ℕ) (place : ℕ) (old r : Reach) : Type 0 where
+  pub from : r.from ≡ old.from
+  pub far : r.far ≡ old.far
+  pub base : r.base ≡ old.base
+  pub most : r.most ≡ place
+  pub places : r.from ≤ r.far
+  pub within : r.far ≤ length choices
+  pub up : r.far ≤ place
+  pub power : (k : ℕ) × (r.spacing ≡ 2 ^ k)
+  pub positive : 0 < r.spacing
+  pub least : 1 < r.spacing → 32 * r.spacing ≤ place
+  pub ratio : r.spacing ≡ r.ratio * r.base
+  pub ratio_positive : 0 < r.ratio
+  pub ratio_small : r.ratio ≤ r.spacing
+  pub base_small : r.base ≤ r.spacing
+  pub fresh : AreMarks (mark_at g choices) r.spacing (r.from / r.spacing + 1) r.far r.fresh.items
+
 -- The items of the choices between two positions.
 abbrev pub items_between : Setting → List ℕ → ℕ → ℕ → List Item
 items_between g choices n m = drop (length (items_at g choices n)) (items_at g choices m)

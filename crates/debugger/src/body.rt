@@ -31,7 +31,8 @@ impl<'p> Body<'p> {
         requires body { IsBody self.old }
         requires walk { IsWalkOf self.old.timeline walk }
         ensures body { IsBody self.new }
-        ensures seen { OnOk result (seen self.new ≡ moved_by (seen self.old) walk.entry.replay walk.entry.reach) }
+        ensures seen { OnOk result (seen self.new ≡ moved_by (seen self.old) walk.entry.replay
+            walk.entry.reach) }
         ensures kept { OnErr result (seen self.new ≡ seen self.old) }
     {
         let replay = walk.replay;
@@ -49,10 +50,12 @@ impl<'p> Body<'p> {
         requires within { place ≤ length self.old.timeline.choices.items }
         ensures body { IsBody self.new }
         ensures setting { setting self.new.timeline ≡ setting self.old.timeline }
-        ensures session { OnOk result (session_of self.new ≡ record (session_of self.old) { position = place }) }
+        ensures session { OnOk result (session_of self.new
+            ≡ record (session_of self.old) { position = place }) }
         ensures most { OnOk result (self.new.timeline.most ≡ max self.old.timeline.most place) }
         ensures far { OnOk result (self.new.timeline.far ≡ max self.old.timeline.far place) }
-        ensures replayed { OnOk result (self.new.replayed + min place self.old.timeline.far < place + self.new.timeline.spacing) }
+        ensures replayed { OnOk result (self.new.replayed + min place self.old.timeline.far
+            < place + self.new.timeline.spacing) }
         ensures kept { OnErr result (seen self.new ≡ seen self.old) }
     {
         let walk = self.timeline.walk_to(place)?;
@@ -65,10 +68,15 @@ impl<'p> Body<'p> {
         requires body { IsBody self.old }
         ensures body { IsBody self.new }
         ensures setting { setting self.new.timeline ≡ setting self.old.timeline }
-        ensures session { OnOk result (session_of self.new ≡ continued (setting self.old.timeline).program (setting self.old.timeline).limits (setting self.old.timeline).start (session_of self.old)) }
-        ensures most { OnOk result (self.new.timeline.most ≡ max self.old.timeline.most self.new.timeline.position) }
-        ensures far { OnOk result (self.new.timeline.far ≡ max self.old.timeline.far self.new.timeline.position) }
-        ensures replayed { OnOk result (self.new.replayed + self.old.timeline.position ≤ self.new.timeline.position) }
+        ensures session { OnOk result (session_of self.new
+            ≡ continued (setting self.old.timeline).program (setting self.old.timeline).limits
+            (setting self.old.timeline).start (session_of self.old)) }
+        ensures most { OnOk result (self.new.timeline.most
+            ≡ max self.old.timeline.most self.new.timeline.position) }
+        ensures far { OnOk result (self.new.timeline.far
+            ≡ max self.old.timeline.far self.new.timeline.position) }
+        ensures replayed { OnOk result (self.new.replayed + self.old.timeline.position
+            ≤ self.new.timeline.position) }
         ensures kept { OnErr result (seen self.new ≡ seen self.old) }
     {
         let walk = self.timeline.walk_to_hit(&self.breakpoints)?;
@@ -81,10 +89,13 @@ impl<'p> Body<'p> {
         requires body { IsBody self.old }
         ensures body { IsBody self.new }
         ensures setting { setting self.new.timeline ≡ setting self.old.timeline }
-        ensures session { OnOk result (session_of self.new ≡ continued_back (setting self.old.timeline).program (setting self.old.timeline).limits (setting self.old.timeline).start (session_of self.old)) }
+        ensures session { OnOk result (session_of self.new ≡ continued_back
+            (setting self.old.timeline).program (setting self.old.timeline).limits
+            (setting self.old.timeline).start (session_of self.old)) }
         ensures most { OnOk result (self.new.timeline.most ≡ self.old.timeline.most) }
         ensures far { OnOk result (self.new.timeline.far ≡ self.old.timeline.far) }
-        ensures replayed { OnOk result (self.new.replayed < self.old.timeline.position + self.new.timeline.spacing) }
+        ensures replayed { OnOk result (self.new.replayed
+            < self.old.timeline.position + self.new.timeline.spacing) }
         ensures kept { OnErr result (seen self.new ≡ seen self.old) }
     {
         let hit = self.timeline.hit_before(&self.breakpoints)?;
@@ -99,7 +110,8 @@ impl<'p> Body<'p> {
         ensures body { IsBody self.new }
         ensures setting { setting self.new.timeline ≡ setting self.old.timeline }
         ensures session { OnOk result (session_of self.new ≡ picked (session_of self.old) t) }
-        ensures most { OnOk result (self.new.timeline.most ≡ max self.old.timeline.most (self.old.timeline.position + 1)) }
+        ensures most { OnOk result (self.new.timeline.most ≡ max self.old.timeline.most
+            (self.old.timeline.position + 1)) }
         ensures far { OnOk result (self.new.timeline.far ≡ self.old.timeline.position + 1) }
         ensures replayed { OnOk result (self.new.replayed ≡ 1) }
         ensures kept { OnErr result (seen self.new ≡ seen self.old) }

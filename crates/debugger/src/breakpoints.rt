@@ -2,7 +2,7 @@
 
 ghost use Rattle.std.specs.Prelude.{◌≡◌, ◌+◌, ◌^◌, ◌<◌, ◌++◌, ◌∷◌, [], length, IfSome, IfOk, OnErr};
 ghost use Rattle.std.specs.List.{remove};
-ghost use Rattle.debugger.specs.Sessions.{IsBody, seen, session_of};
+ghost use Rattle.debugger.specs.Sessions.{IsBody, seen, with_breakpoints};
 ghost use Rattle.debugger_commands.specs.Sessions.{breakpoint_index};
 
 use crate::body::Body;
@@ -20,8 +20,10 @@ impl Body<'_> {
         requires body { IsBody self.old }
         requires number { self.old.next < 2 ^ 32 }
         ensures body { IsBody self.new }
-        ensures breakpoint { IfOk result (λ b. b ≡ record { number = self.old.next; method = method; instruction = instruction }) }
-        ensures seen { IfOk result (λ b. seen self.new ≡ record (seen self.old) { session = record (session_of self.old) { breakpoints = self.old.breakpoints.items ++ b ∷ []; next = self.old.next + 1 }; replayed = 0 }) }
+        ensures breakpoint { IfOk result (λ b. b
+            ≡ record { number = self.old.next; method = method; instruction = instruction }) }
+        ensures seen { IfOk result (λ b. seen self.new ≡ with_breakpoints (seen self.old)
+            (self.old.breakpoints.items ++ b ∷ []) (self.old.next + 1)) }
         ensures kept { OnErr result (seen self.new ≡ seen self.old) }
     {
         let breakpoint = Breakpoint {
@@ -48,7 +50,8 @@ impl Body<'_> {
         requires body { IsBody self.old }
         requires within { i < length self.old.breakpoints.items }
         ensures body { IsBody self.new }
-        ensures seen { seen self.new ≡ record (seen self.old) { session = record (session_of self.old) { breakpoints = remove self.old.breakpoints.items i }; replayed = 0 } }
+        ensures seen { seen self.new ≡ with_breakpoints (seen self.old)
+            (remove self.old.breakpoints.items i) self.old.next }
     {
         self.breakpoints.remove(i);
         self.replayed = 0;

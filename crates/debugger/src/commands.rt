@@ -17,8 +17,10 @@ impl Body<'_> {
     fn break_at(&mut self, place: Place) -> Result<View, DebugFault>
         requires { IsBody self.old }
         ensures body { IsBody self.new }
-        ensures did { IfOk result (λ view. Did (command.Break place) (seen self.old) (seen self.new) view) }
-        ensures refused { IfErr result (λ fault. IsRefused (command.Break place) (seen self.old) fault) }
+        ensures did { IfOk result (λ view. Did (command.Break place) (seen self.old)
+            (seen self.new) view) }
+        ensures refused { IfErr result (λ fault. IsRefused (command.Break place)
+            (seen self.old) fault) }
         ensures kept { OnErr result (seen self.new ≡ seen self.old) }
     {
         let program = self.timeline.here.machine.program();
@@ -38,8 +40,10 @@ impl Body<'_> {
     fn delete(&mut self, k: u32) -> Result<View, DebugFault>
         requires { IsBody self.old }
         ensures body { IsBody self.new }
-        ensures did { IfOk result (λ view. Did (command.Delete k) (seen self.old) (seen self.new) view) }
-        ensures refused { IfErr result (λ fault. IsRefused (command.Delete k) (seen self.old) fault) }
+        ensures did { IfOk result (λ view. Did (command.Delete k) (seen self.old)
+            (seen self.new) view) }
+        ensures refused { IfErr result (λ fault. IsRefused (command.Delete k)
+            (seen self.old) fault) }
         ensures kept { OnErr result (seen self.new ≡ seen self.old) }
     {
         let Some(index) = self.breakpoint_index(k) else {
@@ -64,8 +68,10 @@ impl Body<'_> {
     fn show_frames(&mut self, t: ThreadId) -> Result<View, DebugFault>
         requires { IsBody self.old }
         ensures body { IsBody self.new }
-        ensures did { IfOk result (λ view. Did (command.Frames t) (seen self.old) (seen self.new) view) }
-        ensures refused { IfErr result (λ fault. IsRefused (command.Frames t) (seen self.old) fault) }
+        ensures did { IfOk result (λ view. Did (command.Frames t) (seen self.old)
+            (seen self.new) view) }
+        ensures refused { IfErr result (λ fault. IsRefused (command.Frames t)
+            (seen self.old) fault) }
         ensures kept { OnErr result (seen self.new ≡ seen self.old) }
     {
         match self.timeline.here.machine.has_ended(t) {
@@ -78,8 +84,10 @@ impl Body<'_> {
     fn show_object(&mut self, r: u32) -> Result<View, DebugFault>
         requires { IsBody self.old }
         ensures body { IsBody self.new }
-        ensures did { IfOk result (λ view. Did (command.Object r) (seen self.old) (seen self.new) view) }
-        ensures refused { IfErr result (λ fault. IsRefused (command.Object r) (seen self.old) fault) }
+        ensures did { IfOk result (λ view. Did (command.Object r) (seen self.old)
+            (seen self.new) view) }
+        ensures refused { IfErr result (λ fault. IsRefused (command.Object r)
+            (seen self.old) fault) }
         ensures kept { OnErr result (seen self.new ≡ seen self.old) }
     {
         match self.timeline.here.machine.class_of(r) {
@@ -92,8 +100,10 @@ impl Body<'_> {
     fn show_class(&mut self, name: Option<Text>) -> Result<View, DebugFault>
         requires { IsBody self.old }
         ensures body { IsBody self.new }
-        ensures did { IfOk result (λ view. Did (command.Class name) (seen self.old) (seen self.new) view) }
-        ensures refused { IfErr result (λ fault. IsRefused (command.Class name) (seen self.old) fault) }
+        ensures did { IfOk result (λ view. Did (command.Class name) (seen self.old)
+            (seen self.new) view) }
+        ensures refused { IfErr result (λ fault. IsRefused (command.Class name)
+            (seen self.old) fault) }
         ensures kept { OnErr result (seen self.new ≡ seen self.old) }
     {
         let Some(name) = name else {

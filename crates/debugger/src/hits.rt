@@ -50,8 +50,10 @@ fn is_thread_at(machine: &Machine<'_>, t: ThreadId, breakpoints: &[Breakpoint]) 
 impl<'p> Timeline<'p> {
     /// Returns whether a replay's position is a hit.
     pub(crate) fn is_hit(&self, replay: &Replay<'p>, breakpoints: &[Breakpoint]) -> bool
-        requires { replay.now.mark ≡ mark_at (setting self.now) self.now.choices.items replay.now.position }
-        ensures { result ≡ hits (setting self.now) self.now.choices.items breakpoints.now replay.now.position }
+        requires { replay.now.mark ≡ mark_at (setting self.now) self.now.choices.items
+            replay.now.position }
+        ensures { result ≡ hits (setting self.now) self.now.choices.items breakpoints.now
+            replay.now.position }
     {
         match self.choices.get(replay.position) {
             None => false,

@@ -35,9 +35,13 @@ impl<'p> Mark<'p> {
 pub(crate) fn thin(marks: &mut Vec<Mark<'_>>, first: usize, ratio: usize)
     requires positive { 0 < ratio }
     requires small { ratio < 2 ^ 63 }
-    ensures each { (j : ℕ) (x : Seen) → j < length marks.new.items → slice_index_or marks.new.items j x ≡ slice_index_or marks.old.items (first + j * ratio) x }
-    ensures kept { (j : ℕ) → j < length marks.new.items → first + j * ratio < length marks.old.items }
-    ensures all { (j : ℕ) → first + j * ratio < length marks.old.items → j < length marks.new.items }
+    ensures each { (j : ℕ) (x : Seen) → j < length marks.new.items
+        → slice_index_or marks.new.items j x
+        ≡ slice_index_or marks.old.items (first + j * ratio) x }
+    ensures kept { (j : ℕ) → j < length marks.new.items
+        → first + j * ratio < length marks.old.items }
+    ensures all { (j : ℕ) → first + j * ratio < length marks.old.items
+        → j < length marks.new.items }
     ensures room { vec_capacity marks.new ≡ vec_capacity marks.old }
 {
     let mut kept = 0;

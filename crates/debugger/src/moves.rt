@@ -1,6 +1,7 @@
 //! Walks to positions.
 
-ghost use Rattle.std.specs.Prelude.{◌≡◌, ◌+◌, ◌*◌, ◌<◌, ◌≤◌, min, length, unwrap_or, IfOk, IfSome};
+ghost use Rattle.std.specs.Prelude.{◌≡◌, ◌+◌, ◌*◌, ◌<◌, ◌≤◌, max, min, length, unwrap_or};
+ghost use Rattle.std.specs.Prelude.{IfOk, IfSome};
 ghost use Rattle.debugger.specs.Hits.{hit_after, hits, nearest_before};
 ghost use Rattle.debugger.specs.Timelines.{IsTimeline, IsWalkOf, setting};
 
@@ -29,10 +30,13 @@ impl<'p> Timeline<'p> {
         requires timeline { IsTimeline self.now }
         ensures walk { IfOk result (λ w. IsWalkOf self.now w) }
         ensures before { IfOk result (λ w. w.replay.position ≤ place) }
-        ensures near { IfOk result (λ w. min place self.now.far < w.replay.position + self.now.spacing) }
+        ensures near { IfOk result (λ w. min place self.now.far
+            < w.replay.position + self.now.spacing) }
         // A walk forward begins at the session's position or after it.
-        ensures forward { IfOk result (λ w. self.now.position ≤ place → self.now.position ≤ w.replay.position) }
+        ensures forward { IfOk result (λ w. self.now.position ≤ place → self.now.position
+            ≤ w.replay.position) }
         ensures made { IfOk result (λ w. w.replay.made ≡ 0) }
+        ensures most { IfOk result (λ w. w.reach.most ≡ self.now.most) }
     {
         let number = place.min(self.far) / self.spacing;
         let before = number * self.spacing;
@@ -48,10 +52,14 @@ impl<'p> Timeline<'p> {
         requires within { place ≤ length self.now.choices.items }
         ensures walk { IfOk result (λ w. IsWalkOf self.now w) }
         ensures position { IfOk result (λ w. w.replay.position ≡ place) }
-        ensures made { IfOk result (λ w. w.replay.made + min place self.now.far < place + self.now.spacing) }
-        ensures forward { IfOk result (λ w. self.now.position ≤ place → w.replay.made + self.now.position ≤ place) }
+        ensures most { IfOk result (λ w. w.reach.most ≡ max self.now.most place) }
+        ensures made { IfOk result (λ w. w.replay.made + min place self.now.far
+            < place + self.now.spacing) }
+        ensures forward { IfOk result (λ w. self.now.position ≤ place
+            → w.replay.made + self.now.position ≤ place) }
     {
         let mut walk = self.nearest(place)?;
+        self.aim(&mut walk, place);
         while walk.replay.position < place {
             self.advance(&mut walk, place)?;
         }
@@ -62,7 +70,11 @@ impl<'p> Timeline<'p> {
     fn walk_by_turns(&self, breakpoints: &[Breakpoint]) -> Result<Walk<'p>, AllocError>
         requires timeline { IsTimeline self.now }
         ensures walk { IfOk result (λ w. IsWalkOf self.now w) }
-        ensures position { IfOk result (λ w. w.replay.position ≡ hit_after (setting self.now) self.now.choices.items breakpoints.now self.now.position) }
+        ensures position { IfOk result (λ w. w.replay.position
+            ≡ hit_after (setting self.now) self.now.choices.items breakpoints.now
+            self.now.position) }
+        ensures most { IfOk result (λ w. w.reach.most
+            ≡ max self.now.most w.replay.position) }
         ensures made { IfOk result (λ w. w.replay.made + self.now.position ≤ w.replay.position) }
     {
         let mut walk = self.start(&self.here, self.position)?;
@@ -79,7 +91,11 @@ impl<'p> Timeline<'p> {
     pub(crate) fn walk_to_hit(&self, breakpoints: &[Breakpoint]) -> Result<Walk<'p>, AllocError>
         requires timeline { IsTimeline self.now }
         ensures walk { IfOk result (λ w. IsWalkOf self.now w) }
-        ensures position { IfOk result (λ w. w.replay.position ≡ hit_after (setting self.now) self.now.choices.items breakpoints.now self.now.position) }
+        ensures position { IfOk result (λ w. w.replay.position
+            ≡ hit_after (setting self.now) self.now.choices.items breakpoints.now
+            self.now.position) }
+        ensures most { IfOk result (λ w. w.reach.most
+            ≡ max self.now.most w.replay.position) }
         ensures made { IfOk result (λ w. w.replay.made + self.now.position ≤ w.replay.position) }
     {
         if breakpoints.is_empty() {
@@ -99,7 +115,10 @@ impl<'p> Timeline<'p> {
         requires timeline { IsTimeline self.now }
         requires within { end ≤ self.now.position }
         requires start { number * self.now.spacing < end }
-        ensures hit { IfOk result (λ h. nearest_before (setting self.now) self.now.choices.items breakpoints.now end ≡ unwrap_or h.position (nearest_before (setting self.now) self.now.choices.items breakpoints.now (number * self.now.spacing))) }
+        ensures hit { IfOk result (λ h. nearest_before (setting self.now) self.now.choices.items
+            breakpoints.now end ≡ unwrap_or h.position
+            (nearest_before (setting self.now) self.now.choices.items breakpoints.now
+            (number * self.now.spacing))) }
         ensures within { IfOk result (λ h. IfSome h.position (λ p. p < end)) }
         ensures made { IfOk result (λ h. h.made + number * self.now.spacing ≡ end) }
     {
@@ -122,7 +141,8 @@ impl<'p> Timeline<'p> {
     /// to the first, from each up to the next.
     pub(crate) fn hit_before(&self, breakpoints: &[Breakpoint]) -> Result<HitBefore, AllocError>
         requires timeline { IsTimeline self.now }
-        ensures position { IfOk result (λ h. h.position ≡ nearest_before (setting self.now) self.now.choices.items breakpoints.now self.now.position) }
+        ensures position { IfOk result (λ h. h.position ≡ nearest_before
+            (setting self.now) self.now.choices.items breakpoints.now self.now.position) }
         ensures within { IfOk result (λ h. h.position ≤ self.now.position) }
         ensures made { IfOk result (λ h. h.made ≤ self.now.position) }
     {

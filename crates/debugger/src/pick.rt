@@ -1,6 +1,7 @@
 //! Another choice in place of those after the position.
 
-ghost use Rattle.std.specs.Prelude.{◌≡◌, ◌+◌, ◌^◌, ◌<◌, ◌≤◌, [], ◌∷◌, ◌++◌, max, length, take, IfOk, OnOk};
+ghost use Rattle.std.specs.Prelude.{◌≡◌, ◌+◌, ◌^◌, ◌<◌, ◌≤◌, [], ◌∷◌, ◌++◌, max, length, take};
+ghost use Rattle.std.specs.Prelude.{IfOk, OnOk};
 ghost use Rattle.debugger.specs.States.{items_at};
 ghost use Rattle.debugger.specs.Timelines.{IsTimeline, extent, setting};
 
@@ -13,7 +14,8 @@ impl<'p> Timeline<'p> {
     /// Returns the choices up to the position, followed by another.
     pub(crate) fn choices_with(&self, t: ThreadId) -> Result<Vec<ThreadId>, AllocError>
         requires { IsTimeline self.now }
-        ensures { IfOk result (λ v. v.items ≡ take self.now.position self.now.choices.items ++ t ∷ []) }
+        ensures { IfOk result (λ v. v.items
+            ≡ take self.now.position self.now.choices.items ++ t ∷ []) }
     {
         let mut choices = Vec::with_capacity(self.alloc, self.position + 1)?;
         choices.extend_from_slice(&self.choices[..self.position])?;
@@ -24,10 +26,12 @@ impl<'p> Timeline<'p> {
     /// Takes other choices, which begin with those up to the position. Checkpoints after it are dropped.
     pub(crate) fn cut(&mut self, choices: Vec<ThreadId>)
         requires timeline { IsTimeline self.old }
-        requires same { take self.old.position choices.items ≡ take self.old.position self.old.choices.items }
+        requires same { take self.old.position choices.items
+            ≡ take self.old.position self.old.choices.items }
         requires within { self.old.position ≤ length choices.items }
         ensures timeline { IsTimeline self.new }
-        ensures extent { extent self.new ≡ record (extent self.old) { choices = choices.items; far = self.old.position } }
+        ensures extent { extent self.new
+            ≡ record (extent self.old) { choices = choices.items; far = self.old.position } }
     {
         self.checkpoints.truncate(self.position / self.spacing + 1);
         self.far = self.position;

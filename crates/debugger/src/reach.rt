@@ -1,6 +1,7 @@
 //! The positions after those where a session has been.
 
-ghost use Rattle.std.specs.Prelude.{◌≡◌, ℕ, ◌+◌, ◌-◌, ◌*◌, ◌/◌, ◌%◌, ◌^◌, ◌<◌, ◌≤◌, max, length, OnOk};
+ghost use Rattle.std.specs.Prelude.{◌≡◌, ℕ, ◌+◌, ◌-◌, ◌*◌, ◌/◌, ◌%◌, ◌^◌, ◌<◌, ◌≤◌, max, length};
+ghost use Rattle.std.specs.Prelude.{OnOk};
 ghost use Rattle.debugger.specs.declared.mark.Mark.{Mark as Seen};
 ghost use Rattle.debugger.specs.Marks.{mark_at, AreMarks};
 ghost use Rattle.debugger.specs.States.{setting_of};
@@ -47,10 +48,14 @@ impl<'p> Reach<'p> {
         requires ratio { self.old.ratio ≤ self.old.spacing }
         requires from { self.old.from ≤ self.old.far }
         requires far { self.old.far < 2 ^ 64 - 1 }
-        ensures fresh { (at : ℕ → Seen) → AreMarks at self.old.spacing (self.old.from / self.old.spacing + 1) self.old.far self.old.fresh.items → AreMarks at self.new.spacing (self.new.from / self.new.spacing + 1) self.new.far self.new.fresh.items }
+        ensures fresh { (at : ℕ → Seen) → AreMarks at self.old.spacing
+            (self.old.from / self.old.spacing + 1) self.old.far self.old.fresh.items
+            → AreMarks at self.new.spacing (self.new.from / self.new.spacing + 1) self.new.far
+            self.new.fresh.items }
         ensures spacing { self.new.spacing ≡ 2 * self.old.spacing }
         ensures ratio { self.new.ratio ≡ 2 * self.old.ratio }
-        ensures places { (self.new.from ≡ self.old.from) × (self.new.far ≡ self.old.far) × (self.new.most ≡ self.old.most) × (self.new.base ≡ self.old.base) }
+        ensures places { (self.new.from ≡ self.old.from) × (self.new.far ≡ self.old.far)
+            × (self.new.most ≡ self.old.most) × (self.new.base ≡ self.old.base) }
     {
         let first = (self.from / self.spacing + 1) % 2;
         thin(&mut self.fresh, first, 2);
@@ -66,7 +71,8 @@ impl<'p> Reach<'p> {
         requires near { far ≤ self.old.far + (self.old.spacing - self.old.far % self.old.spacing) }
         ensures reach { IsReach (setting_of mark.now.machine) choices.now self.new }
         ensures near { far ≤ self.new.far + (self.new.spacing - self.new.far % self.new.spacing) }
-        ensures places { (self.new.from ≡ self.old.from) × (self.new.far ≡ self.old.far) × (self.new.most ≡ max self.old.most far) × (self.new.base ≡ self.old.base) }
+        ensures places { (self.new.from ≡ self.old.from) × (self.new.far ≡ self.old.far)
+            × (self.new.most ≡ max self.old.most far) × (self.new.base ≡ self.old.base) }
     {
         if far > self.most {
             self.most = far;
@@ -76,7 +82,23 @@ impl<'p> Reach<'p> {
         }
     }
 
-    /// Goes on to a position, up to the next one of a checkpoint.
+    /// Chooses the spacing for a position that a walk leads to, before the walk keeps a checkpoint.
+    pub(crate) fn aim(&mut self, choices: &[ThreadId], mark: &Mark<'p>, place: usize)
+        requires reach { IsReach (setting_of mark.now.machine) choices.now self.old }
+        requires within { place ≤ length choices.now }
+        ensures reach { IsReach (setting_of mark.now.machine) choices.now self.new }
+        ensures places { (self.new.from ≡ self.old.from) × (self.new.far ≡ self.old.far)
+            × (self.new.most ≡ max self.old.most place) × (self.new.base ≡ self.old.base) }
+    {
+        if place > self.most {
+            self.most = place;
+            while self.spacing <= place / 64 {
+                self.widen();
+            }
+        }
+    }
+
+    /// Extends to a position, up to the next one of a checkpoint.
     pub(crate) fn extend(
         &mut self,
         choices: &[ThreadId],
@@ -85,10 +107,16 @@ impl<'p> Reach<'p> {
         requires reach { IsReach (setting_of replay.now.mark.machine) choices.now self.old }
         requires more { self.old.far < replay.now.position }
         requires within { replay.now.position ≤ length choices.now }
-        requires near { replay.now.position ≤ self.old.far + (self.old.spacing - self.old.far % self.old.spacing) }
-        requires mark { replay.now.mark ≡ mark_at (setting_of replay.now.mark.machine) choices.now replay.now.position }
-        ensures reach { OnOk result (IsReach (setting_of replay.now.mark.machine) choices.now self.new) }
-        ensures places { OnOk result ((self.new.from ≡ self.old.from) × (self.new.far ≡ replay.now.position) × (self.new.most ≡ max self.old.most replay.now.position) × (self.new.base ≡ self.old.base)) }
+        requires near { replay.now.position
+            ≤ self.old.far + (self.old.spacing - self.old.far % self.old.spacing) }
+        requires mark { replay.now.mark ≡ mark_at (setting_of replay.now.mark.machine) choices.now
+            replay.now.position }
+        ensures reach { OnOk result (IsReach (setting_of replay.now.mark.machine) choices.now
+            self.new) }
+        ensures places { OnOk result ((self.new.from ≡ self.old.from)
+            × (self.new.far ≡ replay.now.position)
+            × (self.new.most ≡ max self.old.most replay.now.position)
+            × (self.new.base ≡ self.old.base)) }
     {
         self.grow(choices, &replay.mark, replay.position);
         self.far = replay.position;

@@ -1,6 +1,7 @@
 //! A machine that takes the turns of choices.
 
-ghost use Rattle.std.specs.Prelude.{◌≡◌, ℕ, ◌+◌, ◌^◌, ◌<◌, ◌≤◌, ◌++◌, length, replicate, take, slice_index, IfOk, IsSome, OnOk, Some};
+ghost use Rattle.std.specs.Prelude.{◌≡◌, ℕ, ◌+◌, ◌^◌, ◌<◌, ◌≤◌, ◌++◌, length, replicate, take};
+ghost use Rattle.std.specs.Prelude.{slice_index, IfOk, IsSome, OnOk, Some};
 ghost use Rattle.machine.specs.Machine.{with_state};
 ghost use Rattle.trace.specs.Recording.{recorded};
 ghost use Rattle.debugger.specs.States.{items_at, last_outcome, setting_of};
@@ -20,7 +21,8 @@ struct Turns {
     outcome: Outcome,
 }
 
-/// Takes consecutive turns of a thread: at least one, and at most so many. No other function of the debugger takes turns.
+/// Takes consecutive turns of a thread: at least one, and no more than `most`. No other function of
+/// the debugger takes turns.
 fn take_turns(
     machine: &mut Machine<'_>,
     t: ThreadId,
@@ -30,9 +32,12 @@ fn take_turns(
     requires { 0 < most }
     ensures some { IfOk result (λ turns. 0 < turns.count) }
     ensures most { IfOk result (λ turns. turns.count ≤ most) }
-    ensures outcome { IfOk result (λ turns. last_outcome (turns_of machine.old t turns.count).outcomes ≡ Some turns.outcome) }
-    ensures state { IfOk result (λ turns. machine.new ≡ with_state machine.old (turns_of machine.old t turns.count).state) }
-    ensures items { IfOk result (λ turns. recording.new ≡ recorded recording.old (turns_of machine.old t turns.count).items) }
+    ensures outcome { IfOk result (λ turns. last_outcome
+        (turns_of machine.old t turns.count).outcomes ≡ Some turns.outcome) }
+    ensures state { IfOk result (λ turns. machine.new ≡ with_state machine.old
+        (turns_of machine.old t turns.count).state) }
+    ensures items { IfOk result (λ turns. recording.new ≡ recorded recording.old
+        (turns_of machine.old t turns.count).items) }
 {
     let count = machine.step_on(t, most, recording);
     if count > 0 {
@@ -51,7 +56,8 @@ fn consecutive(choices: &[ThreadId], position: usize, end: usize) -> usize
     requires within { end ≤ length choices.now }
     ensures some { 0 < result }
     ensures within { position + result ≤ end }
-    ensures same { (n : ℕ) → n ≤ result → take (position + n) choices.now ≡ take position choices.now ++ replicate n (slice_index choices.now position) }
+    ensures same { (n : ℕ) → n ≤ result → take (position + n) choices.now
+        ≡ take position choices.now ++ replicate n (slice_index choices.now position) }
 {
     let t = choices[position];
     let mut next = position + 1;
@@ -83,12 +89,18 @@ impl<'p> Replay<'p> {
         requires more { self.old.position < end }
         requires within { end ≤ length choices.now }
         requires kept { IsSome recording.old }
-        ensures replay { OnOk result (length (items_at (setting_of self.old.mark.machine) choices.now self.new.position) < 2 ^ 64 → IsReplay (setting_of self.old.mark.machine) choices.now self.new) }
-        ensures setting { OnOk result (setting_of self.new.mark.machine ≡ setting_of self.old.mark.machine) }
+        ensures replay { OnOk result (length
+            (items_at (setting_of self.old.mark.machine) choices.now self.new.position) < 2 ^ 64
+            → IsReplay (setting_of self.old.mark.machine) choices.now self.new) }
+        ensures setting { OnOk result (setting_of self.new.mark.machine
+            ≡ setting_of self.old.mark.machine) }
         ensures some { OnOk result (self.old.position < self.new.position) }
         ensures end { OnOk result (self.new.position ≤ end) }
-        ensures made { OnOk result (self.new.made + self.old.position ≡ self.old.made + self.new.position) }
-        ensures items { OnOk result (recording.new ≡ recorded recording.old (items_between (setting_of self.old.mark.machine) choices.now self.old.position self.new.position)) }
+        ensures made { OnOk result (self.new.made + self.old.position
+            ≡ self.old.made + self.new.position) }
+        ensures items { OnOk result (recording.new ≡ recorded recording.old
+            (items_between (setting_of self.old.mark.machine) choices.now self.old.position
+            self.new.position)) }
     {
         let t = choices[self.position];
         let most = consecutive(choices, self.position, end);

@@ -1,14 +1,12 @@
 //! Sessions.
 
-ghost use Rattle.std.specs.Prelude.{◌≡◌, ◌+◌, ◌/◌, ◌≤◌, MatchResult, List, IfErr, IfOk, Ok, OnErr};
-ghost use Rattle.jvms_machine.specs.Opening.{made};
-ghost use Rattle.jvms_machine.specs.Start.{Start};
-ghost use Rattle.machine.specs.Started.{IsNotMade, opened};
+ghost use Rattle.std.specs.Prelude.{◌≡◌, ◌+◌, ◌/◌, ◌≤◌, IfErr, IfOk, OnErr};
+ghost use Rattle.machine.specs.Started.{opened};
 ghost use Rattle.debugger.specs.Commands.{Did, IsRefused};
 ghost use Rattle.debugger.specs.Marks.{IsSpacing};
-ghost use Rattle.debugger.specs.Sessions.{begun};
+ghost use Rattle.debugger.specs.Sessions.{IsBegun};
 ghost use Rattle.debugger.specs.States.{items_at, machine_at, outcome_at, setting_of};
-ghost use Rattle.debugger.specs.Timelines.{IsTimeline, extent};
+ghost use Rattle.debugger.specs.Timelines.{IsTimeline, extent, opening_extent};
 
 use crate::body::Body;
 use crate::mark::Mark;
@@ -51,7 +49,8 @@ fn timeline_of<'p>(
 ) -> Result<Timeline<'p>, AllocError>
     requires { machine ≡ opened machine.program machine.limits machine.start }
     ensures timeline { IfOk result (λ t. IsTimeline t) }
-    ensures extent { IfOk result (λ t. extent t ≡ record { setting = setting_of machine.entry; choices = choices.items; position = 0; most = 0; far = 0; spacing = 1 }) }
+    ensures extent { IfOk result (λ t. extent t
+        ≡ opening_extent (setting_of machine.entry) choices.items) }
 {
     let here = Mark {
         machine,
@@ -86,7 +85,7 @@ impl<'p> Session<'p> {
         entry: &Entry,
         choices: Vec<ThreadId>,
     ) -> Result<Session<'p>, MachineFault>
-        ensures { MatchResult result (λ s. (start : Start) × (made program.now limits entry.now ≡ Ok start) × (s ≡ begun (record { program = program.now; limits = limits; start = start }) choices.items)) (IsNotMade program.now limits entry.now) }
+        ensures { IsBegun program.now limits entry.now choices.items result }
     {
         let machine = Machine::new(alloc, program, limits, entry)?;
         Ok(Session {
@@ -139,21 +138,24 @@ impl<'p> Session<'p> {
 
     /// Returns the machine after the choices before the position.
     pub fn machine(&self) -> &Machine<'p>
-        ensures { result.now ≡ machine_at self.now.setting self.now.session.choices self.now.session.position }
+        ensures { result.now ≡ machine_at self.now.setting self.now.session.choices
+            self.now.session.position }
     {
         &self.body.timeline.here.machine
     }
 
     /// Returns the items of the choices before the position.
     pub fn items(&self) -> &[Item]
-        ensures { result.now ≡ items_at self.now.setting self.now.session.choices self.now.session.position }
+        ensures { result.now ≡ items_at self.now.setting self.now.session.choices
+            self.now.session.position }
     {
         &self.body.trace.items()[..self.body.timeline.here.items]
     }
 
     /// Returns the outcome of the last choice before the position, if there is one.
     pub fn last_outcome(&self) -> Option<Outcome>
-        ensures { result ≡ outcome_at self.now.setting self.now.session.choices self.now.session.position }
+        ensures { result ≡ outcome_at self.now.setting self.now.session.choices
+            self.now.session.position }
     {
         self.body.timeline.here.outcome
     }

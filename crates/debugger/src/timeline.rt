@@ -1,6 +1,6 @@
 //! The choices of a session with the machine at its position and the checkpoints.
 
-ghost use Rattle.std.specs.Prelude.{◌≡◌, ◌+◌, ◌^◌, ◌<◌, ◌≤◌, length, IfOk, OnOk};
+ghost use Rattle.std.specs.Prelude.{◌≡◌, ◌+◌, ◌^◌, ◌<◌, ◌≤◌, length, max, IfOk, OnOk};
 ghost use Rattle.debugger.specs.Marks.{mark_at, IsSpacing};
 ghost use Rattle.debugger.specs.States.{items_at, setting_of};
 ghost use Rattle.debugger.specs.Timelines.{IsAlong, IsTimeline, IsWalkOf, extent, moved, setting};
@@ -51,7 +51,8 @@ impl<'p> Timeline<'p> {
         ensures setting { IfOk result (λ w. setting_of w.replay.mark.machine ≡ setting self.now) }
         ensures position { IfOk result (λ w. w.replay.position ≡ position) }
         ensures made { IfOk result (λ w. w.replay.made ≡ 0) }
-        ensures places { IfOk result (λ w. (w.reach.from ≡ far) × (w.reach.base ≡ self.now.spacing) × (w.reach.most ≡ self.now.most)) }
+        ensures places { IfOk result (λ w. (w.reach.from ≡ far)
+            × (w.reach.base ≡ self.now.spacing) × (w.reach.most ≡ self.now.most)) }
     {
         Ok(Walk {
             replay: Replay {
@@ -81,9 +82,21 @@ impl<'p> Timeline<'p> {
         ensures walk { IfOk result (λ w. IsWalkOf self.now w) }
         ensures position { IfOk result (λ w. w.replay.position ≡ position) }
         ensures made { IfOk result (λ w. w.replay.made ≡ 0) }
+        ensures most { IfOk result (λ w. w.reach.most ≡ self.now.most) }
     {
         let walk = self.begin(&self.choices, mark, position, self.far)?;
         Ok(walk)
+    }
+
+    /// Chooses the spacing of checkpoints for a position that a walk leads to.
+    pub(crate) fn aim(&self, walk: &mut Walk<'p>, place: usize)
+        requires walk { IsWalkOf self.now walk.old }
+        requires within { place ≤ length self.now.choices.items }
+        ensures walk { IsWalkOf self.now walk.new }
+        ensures replay { walk.new.replay ≡ walk.old.replay }
+        ensures most { walk.new.reach.most ≡ max walk.old.reach.most place }
+    {
+        walk.reach.aim(&self.choices, &walk.replay.mark, place);
     }
 
     /// Continues a walk: at least by one turn, and to no position after an end.
@@ -94,7 +107,10 @@ impl<'p> Timeline<'p> {
         ensures walk { OnOk result (IsWalkOf self.now walk.new) }
         ensures some { OnOk result (walk.old.replay.position < walk.new.replay.position) }
         ensures end { OnOk result (walk.new.replay.position ≤ end) }
-        ensures made { OnOk result (walk.new.replay.made + walk.old.replay.position ≡ walk.old.replay.made + walk.new.replay.position) }
+        ensures made { OnOk result (walk.new.replay.made + walk.old.replay.position
+            ≡ walk.old.replay.made + walk.new.replay.position) }
+        ensures most { OnOk result (walk.new.reach.most
+            ≡ max walk.old.reach.most walk.new.replay.position) }
     {
         walk.advance(&self.choices, end)?;
         Ok(())
@@ -104,7 +120,8 @@ impl<'p> Timeline<'p> {
     pub(crate) fn arrive(&mut self, replay: Replay<'p>, reach: Reach<'p>)
         requires timeline { IsTimeline self.old }
         requires along { IsAlong self.old replay reach }
-        requires few { length (items_at (setting self.old) self.old.choices.items reach.far) < 2 ^ 63 }
+        requires few { length (items_at (setting self.old) self.old.choices.items reach.far)
+            < 2 ^ 63 }
         ensures timeline { IsTimeline self.new }
         ensures extent { extent self.new ≡ moved (extent self.old) replay.entry reach.entry }
     {

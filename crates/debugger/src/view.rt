@@ -20,8 +20,8 @@ pub enum View {
     Object(u32),
     /// The class of a number.
     Class(usize),
-    /// The trace so far.
+    /// The trace up to the position.
     Trace,
-    /// The output so far.
+    /// The output up to the position.
     Output,
 }

@@ -30,11 +30,14 @@ impl<'p> Walk<'p> {
         requires more { self.old.replay.position < end }
         requires within { end ≤ length choices.now }
         requires far { end ≤ self.old.reach.far }
-        ensures walk { OnOk result (IsWalk (setting_of self.old.replay.mark.machine) choices.now self.new) }
-        ensures setting { OnOk result (setting_of self.new.replay.mark.machine ≡ setting_of self.old.replay.mark.machine) }
+        ensures walk { OnOk result (IsWalk (setting_of self.old.replay.mark.machine) choices.now
+            self.new) }
+        ensures setting { OnOk result (setting_of self.new.replay.mark.machine
+            ≡ setting_of self.old.replay.mark.machine) }
         ensures some { OnOk result (self.old.replay.position < self.new.replay.position) }
         ensures end { OnOk result (self.new.replay.position ≤ end) }
-        ensures made { OnOk result (self.new.replay.made + self.old.replay.position ≡ self.old.replay.made + self.new.replay.position) }
+        ensures made { OnOk result (self.new.replay.made + self.old.replay.position
+            ≡ self.old.replay.made + self.new.replay.position) }
         ensures reach { self.new.reach ≡ self.old.reach }
     {
         let mut recording = Recording::of(Trace::new(self.alloc));
@@ -50,13 +53,18 @@ impl<'p> Walk<'p> {
         requires more { self.old.replay.position < end }
         requires within { end ≤ length choices.now }
         requires far { self.old.reach.far ≤ self.old.replay.position }
-        ensures walk { OnOk result (IsWalk (setting_of self.old.replay.mark.machine) choices.now self.new) }
-        ensures setting { OnOk result (setting_of self.new.replay.mark.machine ≡ setting_of self.old.replay.mark.machine) }
+        ensures walk { OnOk result (IsWalk (setting_of self.old.replay.mark.machine) choices.now
+            self.new) }
+        ensures setting { OnOk result (setting_of self.new.replay.mark.machine
+            ≡ setting_of self.old.replay.mark.machine) }
         ensures some { OnOk result (self.old.replay.position < self.new.replay.position) }
         ensures end { OnOk result (self.new.replay.position ≤ end) }
-        ensures made { OnOk result (self.new.replay.made + self.old.replay.position ≡ self.old.replay.made + self.new.replay.position) }
-        ensures places { OnOk result ((self.new.reach.from ≡ self.old.reach.from) × (self.new.reach.base ≡ self.old.reach.base)) }
-        ensures most { OnOk result (self.new.reach.most ≡ max self.old.reach.most self.new.replay.position) }
+        ensures made { OnOk result (self.new.replay.made + self.old.replay.position
+            ≡ self.old.replay.made + self.new.replay.position) }
+        ensures places { OnOk result ((self.new.reach.from ≡ self.old.reach.from)
+            × (self.new.reach.base ≡ self.old.reach.base)) }
+        ensures most { OnOk result (self.new.reach.most
+            ≡ max self.old.reach.most self.new.replay.position) }
     {
         let most = (end - self.replay.position).min(self.reach.distance());
         let end = self.replay.position + most;
@@ -73,13 +81,18 @@ impl<'p> Walk<'p> {
         requires walk { IsWalk (setting_of self.old.replay.mark.machine) choices.now self.old }
         requires more { self.old.replay.position < end }
         requires within { end ≤ length choices.now }
-        ensures walk { OnOk result (IsWalk (setting_of self.old.replay.mark.machine) choices.now self.new) }
-        ensures setting { OnOk result (setting_of self.new.replay.mark.machine ≡ setting_of self.old.replay.mark.machine) }
+        ensures walk { OnOk result (IsWalk (setting_of self.old.replay.mark.machine) choices.now
+            self.new) }
+        ensures setting { OnOk result (setting_of self.new.replay.mark.machine
+            ≡ setting_of self.old.replay.mark.machine) }
         ensures some { OnOk result (self.old.replay.position < self.new.replay.position) }
         ensures end { OnOk result (self.new.replay.position ≤ end) }
-        ensures made { OnOk result (self.new.replay.made + self.old.replay.position ≡ self.old.replay.made + self.new.replay.position) }
-        ensures places { OnOk result ((self.new.reach.from ≡ self.old.reach.from) × (self.new.reach.base ≡ self.old.reach.base)) }
-        ensures most { OnOk result (self.new.reach.most ≡ max self.old.reach.most self.new.replay.position) }
+        ensures made { OnOk result (self.new.replay.made + self.old.replay.position
+            ≡ self.old.replay.made + self.new.replay.position) }
+        ensures places { OnOk result ((self.new.reach.from ≡ self.old.reach.from)
+            × (self.new.reach.base ≡ self.old.reach.base)) }
+        ensures most { OnOk result (self.new.reach.most
+            ≡ max self.old.reach.most self.new.replay.position) }
     {
         if self.replay.position < self.reach.far {
             self.advance_within(choices, end.min(self.reach.far))

@@ -30,6 +30,7 @@ loop-position-preserved c =
     record {
       walk = gone.walk;
       position = place;
+      most = omega (arith, gone.most, place, is.most, is.position);
       made = omega (arith, place, gone.made, is.position, is.made);
       hit = is.hit ∙ next_hit_later test n many within (ap test (sym place) ∙ sym c.if-is_hit.ensures);
     }

@@ -1,4 +1,4 @@
-use Rattle.std.proofs.Common.{◌≡◌, ◌+◌}
+use Rattle.std.proofs.Common.{◌≡◌, ◌+◌, max}
 use Rattle.debugger.specs.Hits.{hit_after}
 use Rattle.debugger.specs.Timelines.{IsWalkOf, setting}
 use Rattle.debugger.proofs.timeline.Timeline.walk_by_turns.Given as goal
@@ -9,6 +9,7 @@ invariant-loop-position l =
     record {
       walk : IsWalkOf l.self l.walk;
       position : l.walk.replay.position ≡ l.position;
+      most : l.walk.reach.most ≡ max l.self.most l.position;
       made : l.walk.replay.made + l.self.position ≡ l.position;
       hit : after l.self.position ≡ after l.position;
     }

@@ -1,4 +1,4 @@
-use Rattle.std.proofs.Common.{◌≡◌, ◌+◌, ◌-◌, ◌≤◌}
+use Rattle.std.proofs.Common.{◌≡◌, ◌+◌, ◌-◌, ◌≤◌, max}
 use Rattle.debugger.specs.Timelines.{IsWalkOf}
 use Rattle.debugger.proofs.timeline.Timeline.walk_to.Given as goal
 
@@ -6,6 +6,7 @@ abbrev pub invariant-loop-walk : goal.invariant-loop-walk
 invariant-loop-walk l = record {
   walk : IsWalkOf l.self l.walk;
   within : l.walk.replay.position ≤ l.place;
+  most : l.walk.reach.most ≡ max l.self.most l.place;
   made : l.walk.replay.made + l.initial.walk.replay.position ≡ l.walk.replay.position;
 }
 
