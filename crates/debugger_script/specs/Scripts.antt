@@ -27,7 +27,7 @@ abbrev pub with_rest : List (List ℕ) → List ℕ → List (List ℕ)
 with_rest lines [] = lines
 with_rest lines (b ∷ rest) = lines ++ (b ∷ rest) ∷ []
 
--- ---- How far a script was carried out. Known bytes are told by reader and writer.
+-- ---- How far a script was carried out. A reader or a writer may know its bytes.
 
 -- All of it: the answers to all lines that were read were written.
 pub record HasRun (left left_after written written_after : Option (List ℕ)) (old new : Debugger) : Type 0 where
@@ -59,7 +59,7 @@ abbrev pub IsWhole : List ℕ → List ℕ → Option (List ℕ) → Type 0
 IsWhole line [] left_after = IsAtEnd left_after × (line ≢ [])
 IsWhole line (b ∷ more) left_after = b ≡ 10
 
--- What a line came to whose answer was not written whole.
+-- The effect of a line whose answer was not written whole.
 pub data IsPartial (can : Type 0) (whole : Type 0) (d : Debugger) (next : Session) (line shown : List ℕ) (new : Session) : Type 0 where
   -- where that can be, it was not carried out
   refused : can → new ≡ next → shown ≡ [] → IsPartial can whole d next line shown new

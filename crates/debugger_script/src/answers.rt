@@ -1,6 +1,6 @@
 //! Texts of answers.
 
-ghost use Rattle.std.specs.Prelude.{◌≡◌, ◌-◌, ◌++◌, IfOk, OnOk, codes, slice_get};
+ghost use Rattle.std.specs.Prelude.{◌≡◌, ◌-◌, ◌++◌, IfOk, codes, slice_get};
 ghost use Rattle.std.specs.Fmt.{decimal};
 ghost use Rattle.std.specs.String.{string_bytes};
 ghost use Rattle.trace_text.specs.Traces.{trace_text};
@@ -11,33 +11,32 @@ use debugger::{Breakpoint, DebugFault, Session, View};
 use jvms_machine::machine::{Outcome, ThreadId};
 use jvms_machine::trace::Item;
 use machine_text::{
-    class_text, frames_text, object_text, output_text, put_number, put_outcome, put_place,
-    put_status, threads_text,
+    class_text, frames_text, object_text, outcome_text, output_text, place_text, status_name,
+    threads_text,
 };
 use program::Program;
 use std::alloc::{AllocError, Global};
 use trace_text::put_line;
 
-/// Appends the last choice before a position. Appends nothing where there is none.
-fn put_last(
-    out: &mut String,
+/// Returns the last choice before a position. The text is empty where there is none.
+fn last_text(
+    alloc: Global,
     program: &Program,
     thread: Option<ThreadId>,
     outcome: Option<Outcome>,
-) -> Result<(), AllocError>
-    ensures { OnOk result (string_bytes out.new ≡ string_bytes out.old
-        ++ last_text program.now thread outcome) }
+) -> Result<String, AllocError>
+    ensures { IfOk result (λ s. string_bytes s ≡ last_text program.now thread outcome) }
 {
     let Some(thread) = thread else {
-        return Ok(());
+        return Ok(String::new(alloc));
     };
     let Some(outcome) = outcome else {
-        return Ok(());
+        return Ok(String::new(alloc));
     };
-    out.push_str(", thread ")?;
-    put_number(out, u64::from(thread))?;
-    out.push_str(" ")?;
-    put_outcome(out, program, outcome)
+    let outcome = outcome_text(alloc, program, outcome)?;
+    let mut text = format!(in alloc; ", thread {thread} ")?;
+    text.push_str(outcome.as_str())?;
+    Ok(text)
 }
 
 /// Returns the thread of the last choice before the position.
@@ -54,16 +53,12 @@ fn position_text(alloc: Global, session: &Session<'_>) -> Result<String, AllocEr
         ≡ position_text session.now.setting session.now.session) }
 {
     let machine = session.machine();
-    let mut text = String::new(alloc);
-    text.push_str("at ")?;
-    put_number(&mut text, session.position() as u64)?;
-    text.push_str(" of ")?;
-    put_number(&mut text, session.choices().len() as u64)?;
-    text.push_str(" ")?;
-    put_status(&mut text, machine.status())?;
+    let position = session.position();
+    let count = session.choices().len();
+    let status = status_name(machine.status());
     let thread = last_thread(session);
-    put_last(&mut text, machine.program(), thread, session.last_outcome())?;
-    text.push_str("\n")?;
+    let last = last_text(alloc, machine.program(), thread, session.last_outcome())?;
+    let text = format!(in alloc; "at {position} of {count} {status}{last}\n")?;
     Ok(text)
 }
 
@@ -75,16 +70,14 @@ fn breakpoint_text(
 ) -> Result<String, AllocError>
     ensures { IfOk result (λ s. string_bytes s ≡ breakpoint_text program.now breakpoint) }
 {
-    let mut text = String::new(alloc);
-    text.push_str("breakpoint ")?;
-    put_number(&mut text, u64::from(breakpoint.number))?;
-    text.push_str(" at ")?;
-    put_place(
-        &mut text,
-        program,
-        breakpoint.method,
-        breakpoint.instruction as usize,
-    )?;
+    let Breakpoint {
+        number,
+        method,
+        instruction,
+    } = breakpoint;
+    let place = place_text(alloc, program, method, instruction as usize)?;
+    let mut text = format!(in alloc; "breakpoint {number} at ")?;
+    text.push_str(place.as_str())?;
     text.push_str("\n")?;
     Ok(text)
 }
@@ -93,10 +86,7 @@ fn breakpoint_text(
 fn removed_text(alloc: Global, number: u32) -> Result<String, AllocError>
     ensures { IfOk result (λ s. string_bytes s ≡ codes "deleted " ++ decimal number ++ codes "\n") }
 {
-    let mut text = String::new(alloc);
-    text.push_str("deleted ")?;
-    put_number(&mut text, u64::from(number))?;
-    text.push_str("\n")?;
+    let text = format!(in alloc; "deleted {number}\n")?;
     Ok(text)
 }
 

@@ -4,8 +4,10 @@
 mod answers;
 mod fault;
 mod line;
+mod prompt;
 mod script;
 
 pub use crate::answers::{fault_text, view_text};
 pub use crate::fault::ScriptFault;
-pub use crate::script::run_script;
+pub use crate::prompt::{NoPrompt, Prompt};
+pub use crate::script::{run_prompted, run_script};

@@ -10,6 +10,7 @@ ghost use Rattle.debugger_script.specs.Taken.{IsUnderWay, MayBeRefused};
 
 use crate::fault::ScriptFault;
 use crate::line::answer;
+use crate::prompt::{NoPrompt, Prompt};
 use debugger::Session;
 use std::alloc::{AllocError, Global};
 use trace::{ByteIn, ByteOut};
@@ -21,10 +22,11 @@ const BUFFER: usize = 4096;
 const LF: u8 = b'\n';
 
 /// Carries out the command of a line and writes the answer.
-fn put_answer<W: ByteOut>(
+fn put_answer<W: ByteOut, P: Prompt>(
     alloc: Global,
     session: &mut Session<'_>,
     output: &mut W,
+    prompt: &mut P,
     line: &[u8],
 ) -> Result<(), ScriptFault>
     ensures answered { OnOk result (HasAnswered line.now
@@ -38,7 +40,10 @@ fn put_answer<W: ByteOut>(
         return Err(ScriptFault::Memory);
     };
     match output.write_all(text.as_bytes()) {
-        Ok(()) => Ok(()),
+        Ok(()) => {
+            prompt.explain(text.as_str());
+            Ok(())
+        }
         Err(_) => Err(ScriptFault::Write),
     }
 }
@@ -52,10 +57,11 @@ fn append(line: &mut Vec<u8>, byte: u8) -> Result<(), AllocError>
 }
 
 /// Takes a byte: appends it to the line, or answers the line that it ends.
-fn take_byte<W: ByteOut>(
+fn take_byte<W: ByteOut, P: Prompt>(
     alloc: Global,
     session: &mut Session<'_>,
     output: &mut W,
+    prompt: &mut P,
     line: &mut Vec<u8>,
     byte: u8,
 ) -> Result<(), ScriptFault>
@@ -73,7 +79,7 @@ fn take_byte<W: ByteOut>(
             Err(_) => Err(ScriptFault::Memory),
         };
     }
-    match put_answer(alloc, session, output, line.as_slice()) {
+    match put_answer(alloc, session, output, prompt, line.as_slice()) {
         Ok(()) => {
             line.clear();
             Ok(())
@@ -83,10 +89,11 @@ fn take_byte<W: ByteOut>(
 }
 
 /// Takes bytes one by one.
-fn take_bytes<W: ByteOut>(
+fn take_bytes<W: ByteOut, P: Prompt>(
     alloc: Global,
     session: &mut Session<'_>,
     output: &mut W,
+    prompt: &mut P,
     line: &mut Vec<u8>,
     bytes: &[u8],
 ) -> Result<(), ScriptFault>
@@ -99,7 +106,7 @@ fn take_bytes<W: ByteOut>(
     ensures writes { W.failures output.new ≡ W.failures output.old + failed_writes result }
 {
     for byte in bytes {
-        match take_byte(alloc, session, output, line, *byte) {
+        match take_byte(alloc, session, output, prompt, line, *byte) {
             Ok(()) => {}
             Err(fault) => return Err(fault),
         }
@@ -124,11 +131,12 @@ fn read_some<R: ByteIn>(input: &mut R, buffer: &mut [u8]) -> Result<usize, Scrip
 }
 
 /// Answers all lines that LF ends, and returns the last line, which may lack it.
-fn answer_lines<R: ByteIn, W: ByteOut>(
+fn answer_lines<R: ByteIn, W: ByteOut, P: Prompt>(
     alloc: Global,
     session: &mut Session<'_>,
     input: &mut R,
     output: &mut W,
+    prompt: &mut P,
 ) -> Result<Vec<u8>, ScriptFault>
     ensures taken { IfOk result (λ rest. IsUnderWay (R.left input.old) (R.left input.new) rest.items
         (W.written output.old) (W.written output.new) session.old session.new) }
@@ -145,17 +153,54 @@ fn answer_lines<R: ByteIn, W: ByteOut>(
     let mut line = Vec::new(alloc);
     let mut buffer = [0; BUFFER];
     for _ in 0..u64::MAX {
+        prompt.ask(session);
         let count = read_some(input, &mut buffer)?;
         if count == 0 {
             return Ok(line);
         }
-        match take_bytes(alloc, session, output, &mut line, &buffer[..count]) {
+        match take_bytes(alloc, session, output, prompt, &mut line, &buffer[..count]) {
             Ok(()) => {}
             Err(fault) => return Err(fault),
         }
     }
     // It takes 2 ^ 64 reads to get here.
     Err(ScriptFault::Memory)
+}
+
+/// Carries out the commands of a script as `run_script` does. The prompt asks before each read, and
+/// explains each answer that was written.
+///
+/// # Errors
+///
+/// Those of `run_script`.
+pub fn run_prompted<R: ByteIn, W: ByteOut, P: Prompt>(
+    alloc: Global,
+    session: &mut Session<'_>,
+    input: &mut R,
+    output: &mut W,
+    prompt: &mut P,
+) -> Result<(), ScriptFault>
+    ensures ran { OnOk result (HasRun (R.left input.old) (R.left input.new)
+        (W.written output.old) (W.written output.new) session.old session.new) }
+    ensures stopped { IsErrOf result ScriptFault.Read
+        → HasStopped (R.left input.old) (R.left input.new)
+        (W.written output.old) (W.written output.new) session.old session.new }
+    // Without memory the answers to all lines before one were written, and a beginning of its own, if it was carried out.
+    ensures memory { IsErrOf result ScriptFault.Memory
+        → HasRunOut (R.left input.old) (R.left input.new)
+        (W.written output.old) (W.written output.new) session.old session.new }
+    // Where a write fails the same, and the line was carried out.
+    ensures failed { IsErrOf result ScriptFault.Write
+        → HasFailed (R.left input.old) (R.left input.new)
+        (W.written output.old) (W.written output.new) session.old session.new }
+    ensures reads { R.failures input.new ≡ R.failures input.old + failed_reads result }
+    ensures writes { W.failures output.new ≡ W.failures output.old + failed_writes result }
+{
+    let line = answer_lines(alloc, session, input, output, prompt)?;
+    if line.is_empty() {
+        return Ok(());
+    }
+    put_answer(alloc, session, output, prompt, line.as_slice())
 }
 
 /// Carries out the commands of a script, one a line, and writes the answer to each line before it
@@ -188,9 +233,5 @@ pub fn run_script<R: ByteIn, W: ByteOut>(
     ensures reads { R.failures input.new ≡ R.failures input.old + failed_reads result }
     ensures writes { W.failures output.new ≡ W.failures output.old + failed_writes result }
 {
-    let line = answer_lines(alloc, session, input, output)?;
-    if line.is_empty() {
-        return Ok(());
-    }
-    put_answer(alloc, session, output, line.as_slice())
+    run_prompted(alloc, session, input, output, &mut NoPrompt)
 }

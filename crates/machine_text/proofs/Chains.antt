@@ -10,7 +10,7 @@ use Rattle.jvms_program.specs.Resolution.{chain_within}
 abbrev pub superclass_of : List Class → Class → Option Class
 superclass_of program c = option_and_then (class_named program) c.superclass
 
--- A class, if it is there, its superclass, and so on, at most so many.
+-- A class, if it is there, its superclass, and so on, up to n classes.
 abbrev pub chain_from : List Class → ℕ → Option Class → List Class
 chain_from program zero o = []
 chain_from program (suc most) None = []
@@ -27,7 +27,7 @@ pub of_some : (program : List Class) (most less : ℕ) (o : Option Class) (c : C
 of_some program zero less o c m e = absurd (omega arith)
 of_some program (suc most) less o c m e = let same : most ≡ less = omega arith in rw (e, same) refl
 
--- What holds of chains of at most so many classes.
+-- Properties of chains of up to n classes.
 abbrev IsSo : List Class → ℕ → Type 0
 IsSo program most = (name : List ℕ) → chain_within most program name ≡ chain_from program most (class_named program name)
 

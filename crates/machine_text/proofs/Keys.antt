@@ -16,7 +16,7 @@ use Rattle.machine_text.specs.declared.fields.Keeper.TheVariants as keeper
 use Rattle.machine_text.specs.Objects.{field_line}
 use Rattle.machine_text.specs.Parts.{fields_at, fields_of, fields_text}
 
--- The lines of keys, told class by class.
+-- The lines of keys, class by class.
 pub lines_by_class : (line : FieldKey → List ℕ) (test : Field → Bool) (classes : List Class) →
     flat_map line (flat_map (keys_where test) classes)
     ≡ flat_map (λ c. flat_map (λ f. line (field_key c f)) (filter test c.fields)) classes
@@ -43,7 +43,7 @@ pub has_its_keys : (program : List Class) (heap : List Object) (r : ℕ) (class 
 has_its_keys program heap zero class fields all h = absurd cc
 has_its_keys program heap (suc i) class fields all h = (at_place (IsObject program heap) heap i (instance class fields) h all).0
 
--- The lines of an instance's fields, told class by class.
+-- The lines of an instance's fields, class by class.
 pub fields_by_class : (m : Machine) (r : ℕ) (class : List ℕ) (fields : List (FieldKey × Value)) →
     AllByRecursion (IsObject m.program m.state.heap) m.state.heap →
     keys (instance_fields m.program class) ≡ instance_keys m.program class →

@@ -20,7 +20,7 @@ there [] i h = absurd (omega arith)
 there (x ∷ xs) zero h = (x, refl)
 there (x ∷ xs) (suc i) h = there xs i (omega arith)
 
--- The line of a thread that was started is told from its parts.
+-- The line of a thread that was started, from its parts.
 pub line_is : (m : Machine) (t : ℕ) → t < length m.state.threads →
     line_of_thread m t ≡ if_there (thread_line m t) (thread_at m t)
 line_is m t h = let found = there m.state.threads t h in rw found.1 refl

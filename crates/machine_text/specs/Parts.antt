@@ -1,4 +1,4 @@
--- What the functions of this crate append, told from what they ask of a machine.
+-- The texts that the functions of this crate append, from what they ask of a machine.
 use Rattle.std.specs.Prelude.{◌≡◌, ℕ, Bool, not, List, [], ◌++◌, codes, length, Option, Some, None}
 use Rattle.std.specs.Fmt.{decimal}
 use Rattle.std.specs.List.{filter, flat_map}
@@ -26,7 +26,7 @@ if_there text_of (Some x) = text_of x
 
 -- ---- Threads
 
--- The line of a thread, told from its parts.
+-- The line of a thread, from its parts.
 abbrev pub line_of_thread : Machine → ℕ → List ℕ
 line_of_thread m t =
     codes "thread " ++ decimal t ++ codes " " ++ outcome_text m.program (row_of m t).outcome

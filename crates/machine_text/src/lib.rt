@@ -14,9 +14,8 @@ mod value;
 
 pub use crate::class::class_text;
 pub use crate::object::object_text;
-pub use crate::outcome::{put_outcome, put_status};
+pub use crate::outcome::{outcome_text, status_name};
 pub use crate::output::output_text;
-pub use crate::place::put_place;
+pub use crate::place::place_text;
 pub use crate::thread_frames::frames_text;
 pub use crate::threads::threads_text;
-pub use crate::value::put_number;

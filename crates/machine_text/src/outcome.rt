@@ -1,6 +1,6 @@
 //! Outcomes of turns and the status of a machine, as the debugger writes them.
 
-ghost use Rattle.std.specs.Prelude.{◌≡◌, ◌++◌, OnOk};
+ghost use Rattle.std.specs.Prelude.{◌≡◌, ◌++◌, IfOk, OnOk};
 ghost use Rattle.std.specs.String.{string_bytes};
 ghost use Rattle.machine_text.specs.Outcomes.{blocked_text, cause_text, outcome_text, status_text};
 
@@ -8,10 +8,10 @@ use crate::place::put_initialisation;
 use crate::value::put_counted;
 use jvms_machine::machine::{BadCause, BlockedOn, Outcome, Status};
 use program::Program;
-use std::alloc::AllocError;
+use std::alloc::{AllocError, Global};
 
 /// Returns the name of a status.
-fn status_name(status: Status) -> &'static str
+pub fn status_name(status: Status) -> &'static str
     ensures { result.now ≡ status_text status }
 {
     match status {
@@ -20,13 +20,6 @@ fn status_name(status: Status) -> &'static str
         Status::Stalled => "Stalled",
         Status::Deadlocked => "Deadlocked",
     }
-}
-
-/// Appends the name of a status.
-pub fn put_status(out: &mut String, status: Status) -> Result<(), AllocError>
-    ensures { OnOk result (string_bytes out.new ≡ string_bytes out.old ++ status_text status) }
-{
-    out.push_str(status_name(status))
 }
 
 /// Returns the name of a cause.
@@ -62,7 +55,11 @@ fn put_blocked(out: &mut String, program: &Program, on: BlockedOn) -> Result<(),
 
 /// Appends an outcome, with what a blocked thread waits for and why a turn can't be made.
 /// Without memory the text may end in a part of it.
-pub fn put_outcome(out: &mut String, program: &Program, outcome: Outcome) -> Result<(), AllocError>
+pub(crate) fn put_outcome(
+    out: &mut String,
+    program: &Program,
+    outcome: Outcome,
+) -> Result<(), AllocError>
     ensures { OnOk result (string_bytes out.new ≡ string_bytes out.old
         ++ outcome_text program.now outcome) }
 {
@@ -80,4 +77,17 @@ pub fn put_outcome(out: &mut String, program: &Program, outcome: Outcome) -> Res
             out.push_str(cause_name(cause))
         }
     }
+}
+
+/// Returns the text of an outcome, with what a blocked thread waits for and why a turn can't be made.
+pub fn outcome_text(
+    alloc: Global,
+    program: &Program,
+    outcome: Outcome,
+) -> Result<String, AllocError>
+    ensures { IfOk result (λ s. string_bytes s ≡ outcome_text program.now outcome) }
+{
+    let mut text = String::new(alloc);
+    put_outcome(&mut text, program, outcome)?;
+    Ok(text)
 }

@@ -1,6 +1,6 @@
 //! Classes and places in methods, as the debugger writes them.
 
-ghost use Rattle.std.specs.Prelude.{◌≡◌, ◌++◌, [], OnOk, codes, unwrap_or};
+ghost use Rattle.std.specs.Prelude.{◌≡◌, ◌++◌, [], IfOk, OnOk, codes, unwrap_or};
 ghost use Rattle.std.specs.Option.{option_map};
 ghost use Rattle.std.specs.String.{string_bytes};
 ghost use Rattle.jvms_program.specs.Program.{key_of};
@@ -11,7 +11,7 @@ use crate::value::put_counted;
 use escapes::{put_method, put_name};
 use jvms_program::number::MethodNumber;
 use program::Program;
-use std::alloc::AllocError;
+use std::alloc::{AllocError, Global};
 
 /// Appends the name of the class of a number. Appends nothing where there is no such class.
 fn put_class_name(out: &mut String, program: &Program, class: usize) -> Result<(), AllocError>
@@ -50,7 +50,7 @@ fn put_key(out: &mut String, program: &Program, method: MethodNumber) -> Result<
 
 /// Appends an instruction of a method: `C.m.D @i`.
 /// Without memory the text may end in a part of it.
-pub fn put_place(
+pub(crate) fn put_place(
     out: &mut String,
     program: &Program,
     method: MethodNumber,
@@ -61,4 +61,18 @@ pub fn put_place(
 {
     put_key(out, program, method)?;
     put_counted(out, " @", instruction as u64)
+}
+
+/// Returns the text of an instruction of a method: `C.m.D @i`.
+pub fn place_text(
+    alloc: Global,
+    program: &Program,
+    method: MethodNumber,
+    instruction: usize,
+) -> Result<String, AllocError>
+    ensures { IfOk result (λ s. string_bytes s ≡ place_text program.now method instruction) }
+{
+    let mut text = String::new(alloc);
+    put_place(&mut text, program, method, instruction)?;
+    Ok(text)
 }

@@ -10,7 +10,7 @@ use jvms_machine::value::Value;
 use std::alloc::AllocError;
 
 /// Appends a number in decimal.
-pub fn put_number(out: &mut String, number: u64) -> Result<(), AllocError>
+fn put_number(out: &mut String, number: u64) -> Result<(), AllocError>
     ensures { OnOk result (string_bytes out.new ≡ string_bytes out.old ++ decimal number) }
 {
     let mut buffer = Buffer::new();

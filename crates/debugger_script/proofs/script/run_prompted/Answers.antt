@@ -4,7 +4,7 @@ use Rattle.debugger_script.specs.Taken.{HasAnswered, IsLineCut, MayBeRefused}
 use Rattle.debugger_script.proofs.Lines.{not_empty}
 use Rattle.debugger_script.proofs.Reading.{cut_at_rest, run_with_rest}
 use Rattle.debugger_script.proofs.Results.{err_of, on_ok_then}
-use Rattle.debugger_script.proofs.script.run_script.Goals as goal
+use Rattle.debugger_script.proofs.script.run_prompted.Goals as goal
 
 pub returns-clause-ran : goal.returns-clause-ran
 returns-clause-ran g c =
