@@ -1,0 +1,4 @@
+mod Answers
+mod Lines
+mod Readings
+mod Scripts
