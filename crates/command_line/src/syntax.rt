@@ -110,24 +110,31 @@ fn list_syntax<'a>(alloc: Global) -> Result<Command<'a>, AllocError> {
     bare(alloc, "list").arg(file(alloc, FILE))
 }
 
-/// The commands that run a program, beside others.
-fn with_runs<'a>(alloc: Global, command: Command<'a>) -> Result<Command<'a>, AllocError> {
-    command
-        .subcommand(program_syntax(alloc, "eval")?)?
-        .subcommand(run_syntax(alloc)?)?
-        .subcommand(scheduled_syntax(alloc, "trace")?)?
-        .subcommand(scheduled_syntax(alloc, "debug")?)
+/// Adds a command to others, if there was memory for it.
+fn with<'a>(
+    commands: Command<'a>,
+    command: Result<Command<'a>, AllocError>,
+) -> Result<Command<'a>, AllocError> {
+    commands.subcommand(command?)
 }
 
-/// The commands that read or write other texts, beside others.
-fn with_texts<'a>(alloc: Global, command: Command<'a>) -> Result<Command<'a>, AllocError> {
-    command
-        .subcommand(check_syntax(alloc)?)?
-        .subcommand(asm_syntax(alloc)?)?
-        .subcommand(list_syntax(alloc)?)
+/// Adds the commands that run a program.
+fn with_runs<'a>(alloc: Global, commands: Command<'a>) -> Result<Command<'a>, AllocError> {
+    let commands = with(commands, program_syntax(alloc, "eval"))?;
+    let commands = with(commands, run_syntax(alloc))?;
+    let commands = with(commands, scheduled_syntax(alloc, "trace"))?;
+    with(commands, scheduled_syntax(alloc, "debug"))
+}
+
+/// Adds the commands that read or write other texts.
+fn with_texts<'a>(alloc: Global, commands: Command<'a>) -> Result<Command<'a>, AllocError> {
+    let commands = with(commands, check_syntax(alloc))?;
+    let commands = with(commands, asm_syntax(alloc))?;
+    with(commands, list_syntax(alloc))
 }
 
 /// All commands.
 pub(crate) fn syntax<'a>(alloc: Global) -> Result<Command<'a>, AllocError> {
-    with_texts(alloc, with_runs(alloc, bare(alloc, "jvmx"))?)
+    let commands = with_runs(alloc, bare(alloc, "jvmx"))?;
+    with_texts(alloc, commands)
 }

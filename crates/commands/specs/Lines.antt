@@ -3,14 +3,8 @@ use Rattle.std.specs.Prelude.{ℕ, List, [], ◌∷◌, ◌++◌, codes}
 use Rattle.std.specs.List.{flat_map}
 use Rattle.std.specs.Fmt.{decimal}
 use Rattle.jvms_machine.specs.declared.machine.Status.{Status}
-use Rattle.jvms_machine.specs.declared.machine.Status.TheVariants as status
 use Rattle.escapes.specs.Escapes.{spelled}
-
-abbrev pub status_text : Status → List ℕ
-status_text status.Finished = codes "Finished"
-status_text status.Running = codes "Running"
-status_text status.Stalled = codes "Stalled"
-status_text status.Deadlocked = codes "Deadlocked"
+use Rattle.machine_text.specs.Outcomes.{status_text}
 
 -- Of a thread that ended with an exception, of this class.
 abbrev pub uncaught_line : ℕ × List ℕ → List ℕ

@@ -2,7 +2,6 @@
 //! what is written and the exit status.
 #![tactic(auto)]
 
-pub mod debugging;
 mod ending;
 pub mod eval;
 mod fault;
@@ -12,6 +11,7 @@ pub mod perform;
 mod reading;
 mod refusal;
 pub mod run;
+mod terminal;
 pub mod tracing;
 
 pub use ending::Ending;

@@ -1,24 +1,13 @@
 //! The lines that tell how a run ended.
 
 ghost use Rattle.std.specs.Prelude.{◌≡◌, ◌++◌, IfOk, OnOk};
-ghost use Rattle.commands.specs.Lines.{ending_lines as lines_of, status_line, status_text, uncaught_line};
+ghost use Rattle.commands.specs.Lines.{ending_lines as lines_of, status_line, uncaught_line};
 
 use escapes::put_name;
 use judge::Uncaught;
 use jvms_machine::machine::Status;
+use machine_text::status_name;
 use std::alloc::{AllocError, Global};
-
-/// A status by its name.
-fn status_name(status: Status) -> &'static str
-    ensures { result.now ≡ status_text status }
-{
-    match status {
-        Status::Finished => "Finished",
-        Status::Running => "Running",
-        Status::Stalled => "Stalled",
-        Status::Deadlocked => "Deadlocked",
-    }
-}
 
 /// Puts the line of a thread that ended with an exception behind the bytes.
 fn put_uncaught(alloc: Global, out: &mut Vec<u8>, uncaught: &Uncaught) -> Result<(), AllocError>

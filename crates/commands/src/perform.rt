@@ -1,16 +1,18 @@
 //! All of the program, over named files, a reader and two writers.
 
-use crate::debugging::debug;
-use crate::ending::Ending;
+use crate::ending::{DEFAULT_LIMITS, Ending};
 use crate::eval::eval;
 use crate::files::Files;
 use crate::lines::ending_lines;
 use crate::reading::{read_input, read_inputs, read_source, read_spec, read_text};
 use crate::refusal::Refusal;
 use crate::run::run;
+use crate::terminal::{Prompts, TerminalPrompt};
 use crate::tracing::write_trace;
 use atom_spec::Spec;
 use command_line::{AsmWords, CheckWords, Command, ProgramWords, RunWords, VERSION, command_of};
+use debugger_script::{NoPrompt, Prompt};
+use debugging::debug;
 use inputs::{Input, class_of};
 use judge::{Judged, Judgement, Told, Uncaught};
 use jvms_machine::machine::Status;
@@ -121,17 +123,14 @@ fn run_lines(alloc: Global, told: &Told) -> Result<Vec<u8>, AllocError> {
 fn run_parts<'w, W: ByteOut>(
     alloc: Global,
     words: &RunWords<'w>,
-    parts: RunParts,
+    parts: &mut RunParts,
     output: &mut W,
 ) -> Result<Told, Refusal<'w>> {
-    let RunParts {
-        mut chooser,
-        spec,
-        inputs,
-    } = parts;
+    let spec = parts.spec.take();
+    let inputs = parts.inputs.as_slice();
+    let chooser = &mut parts.chooser;
     let entry = &words.program.entry;
-    let inputs = inputs.as_slice();
-    match run(alloc, inputs, entry, &mut chooser, words.most, spec, output) {
+    match run(alloc, inputs, entry, chooser, words.most, spec, output) {
         Ok(told) => Ok(told),
         Err(fault) => Err(Refusal::of_run(&words.program, fault)),
     }
@@ -152,8 +151,8 @@ fn perform_run<'w, F: Files, W: ByteOut, E: ByteOut>(
     output: &mut W,
     errors: &mut E,
 ) -> Result<u8, Refusal<'w>> {
-    let parts = read_parts(alloc, words, files)?;
-    let told = run_parts(alloc, words, parts, output)?;
+    let mut parts = read_parts(alloc, words, files)?;
+    let told = run_parts(alloc, words, &mut parts, output)?;
     tell_run(alloc, &told, errors)
 }
 
@@ -161,17 +160,13 @@ fn perform_run<'w, F: Files, W: ByteOut, E: ByteOut>(
 fn trace_parts<'w, W: ByteOut>(
     alloc: Global,
     words: &RunWords<'w>,
-    parts: RunParts,
+    parts: &mut RunParts,
     output: &mut W,
 ) -> Result<Judged, Refusal<'w>> {
-    let RunParts {
-        mut chooser,
-        spec: _,
-        inputs,
-    } = parts;
+    let inputs = parts.inputs.as_slice();
+    let chooser = &mut parts.chooser;
     let entry = &words.program.entry;
-    let inputs = inputs.as_slice();
-    match write_trace(alloc, inputs, entry, &mut chooser, words.most, output) {
+    match write_trace(alloc, inputs, entry, chooser, words.most, output) {
         Ok(judged) => Ok(judged),
         Err(fault) => Err(Refusal::of_run(&words.program, fault)),
     }
@@ -184,38 +179,54 @@ fn perform_trace<'w, F: Files, W: ByteOut>(
     files: &mut F,
     output: &mut W,
 ) -> Result<u8, Refusal<'w>> {
-    let parts = read_parts(alloc, words, files)?;
-    let judged = trace_parts(alloc, words, parts, output)?;
+    let mut parts = read_parts(alloc, words, files)?;
+    let judged = trace_parts(alloc, words, &mut parts, output)?;
     let whole = is_whole(judged.status, judged.uncaught.as_slice());
     Ok(u8::from(!whole))
 }
 
-/// `debug`: carries out the commands that are read.
-fn perform_debug<'w, F: Files, I: ByteIn, W: ByteOut>(
+/// Carries out the commands of `debug`.
+fn debug_parts<'w, I: ByteIn, W: ByteOut, P: Prompt>(
+    alloc: Global,
+    words: &RunWords<'w>,
+    parts: RunParts,
+    input: &mut I,
+    output: &mut W,
+    prompt: &mut P,
+) -> Result<u8, Refusal<'w>> {
+    let RunParts {
+        chooser,
+        spec: _,
+        inputs,
+    } = parts;
+    let limits = DEFAULT_LIMITS;
+    let entry = &words.program.entry;
+    let inputs = inputs.as_slice();
+    match debug(
+        alloc, inputs, limits, entry, chooser, words.most, input, output, prompt,
+    ) {
+        Ok(()) => Ok(0),
+        Err(stop) => Err(Refusal::of_debug(&words.program, stop)),
+    }
+}
+
+/// `debug`: carries out the commands that are read. Its words name no specification.
+fn perform_debug<'w, F: Files, I: ByteIn, W: ByteOut, E: ByteOut>(
     alloc: Global,
     words: &RunWords<'w>,
     files: &mut F,
     input: &mut I,
     output: &mut W,
+    errors: &mut E,
+    prompts: Prompts,
 ) -> Result<u8, Refusal<'w>> {
-    let RunParts {
-        mut chooser,
-        spec: _,
-        inputs,
-    } = read_parts(alloc, words, files)?;
-    let entry = &words.program.entry;
-    let inputs = inputs.as_slice();
-    match debug(
-        alloc,
-        inputs,
-        entry,
-        &mut chooser,
-        words.most,
-        input,
-        output,
-    ) {
-        Ok(()) => Ok(0),
-        Err(stop) => Err(Refusal::of_debug(&words.program, stop)),
+    let parts = read_parts(alloc, words, files)?;
+    match prompts {
+        Prompts::Shown => {
+            let mut prompt = TerminalPrompt::new(alloc, errors, words.schedule);
+            debug_parts(alloc, words, parts, input, output, &mut prompt)
+        }
+        Prompts::Hidden => debug_parts(alloc, words, parts, input, output, &mut NoPrompt),
     }
 }
 
@@ -297,12 +308,15 @@ fn command<'w, F: Files, I: ByteIn, W: ByteOut, E: ByteOut>(
     input: &mut I,
     output: &mut W,
     errors: &mut E,
+    prompts: Prompts,
 ) -> Result<u8, Refusal<'w>> {
     match command_of(alloc, words)? {
         Command::Eval(words) => perform_eval(alloc, &words, files, output, errors),
         Command::Run(words) => perform_run(alloc, &words, files, output, errors),
         Command::Trace(words) => perform_trace(alloc, &words, files, output),
-        Command::Debug(words) => perform_debug(alloc, &words, files, input, output),
+        Command::Debug(words) => {
+            perform_debug(alloc, &words, files, input, output, errors, prompts)
+        }
         Command::Check(words) => perform_check(alloc, &words, files, output),
         Command::Asm(words) => perform_asm(alloc, words, files),
         Command::List(file) => perform_list(alloc, file, files, output),
@@ -320,7 +334,23 @@ fn refuse<E: ByteOut>(alloc: Global, refusal: &Refusal<'_>, errors: &mut E) -> u
     if written.is_ok() { status } else { 3 }
 }
 
-/// Does all of the program, on the words behind its name. The answer is its exit status: 0; 1 where a run
+/// Does all of the program, with or without prompts.
+fn perform_with<F: Files, I: ByteIn, W: ByteOut, E: ByteOut>(
+    alloc: Global,
+    words: &[String],
+    files: &mut F,
+    input: &mut I,
+    output: &mut W,
+    errors: &mut E,
+    prompts: Prompts,
+) -> u8 {
+    match command(alloc, words, files, input, output, errors, prompts) {
+        Ok(status) => status,
+        Err(refusal) => refuse(alloc, &refusal, errors),
+    }
+}
+
+/// Does all of the program, on the words after its name. The answer is its exit status: 0; 1 where a run
 /// didn't finish, an exception is uncaught or a cycle was found; 2 where words or inputs are refused; 3 where memory ran
 /// out or a device failed.
 pub fn perform<F: Files, I: ByteIn, W: ByteOut, E: ByteOut>(
@@ -331,8 +361,18 @@ pub fn perform<F: Files, I: ByteIn, W: ByteOut, E: ByteOut>(
     output: &mut W,
     errors: &mut E,
 ) -> u8 {
-    match command(alloc, words, files, input, output, errors) {
-        Ok(status) => status,
-        Err(refusal) => refuse(alloc, &refusal, errors),
-    }
+    perform_with(alloc, words, files, input, output, errors, Prompts::Hidden)
+}
+
+/// Does all of the program, as `perform` does, for a person at a terminal: `debug` also shows a prompt and hints on
+/// standard error.
+pub fn perform_at_terminal<F: Files, I: ByteIn, W: ByteOut, E: ByteOut>(
+    alloc: Global,
+    words: &[String],
+    files: &mut F,
+    input: &mut I,
+    output: &mut W,
+    errors: &mut E,
+) -> u8 {
+    perform_with(alloc, words, files, input, output, errors, Prompts::Shown)
 }

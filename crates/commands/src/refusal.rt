@@ -1,11 +1,11 @@
 //! Why a command was refused: the line on standard error, and the exit status.
 
-use crate::debugging::DebugStop;
 use crate::fault::RunFault;
 use crate::files::FileFault;
 use atom_spec::SpecFault;
 use command_line::{ProgramWords, WordsFault};
 use debugger_script::ScriptFault;
+use debugging::DebugStop;
 use inputs::InputFault;
 use judge::JudgeFault;
 use linker::LinkFault;

@@ -5,8 +5,9 @@ ghost use Rattle.std.specs.Prelude.{◌≡◌, ◌<◌};
 
 use command_line::WordsFault;
 use commands::SystemFiles;
-use commands::perform::perform;
+use commands::perform::{perform, perform_at_terminal};
 use std::env;
+use std::io::IsTerminal;
 use std::marker::Brand;
 use std::process::ExitCode;
 use std::sync::ledger::{Blank, Ledger};
@@ -16,6 +17,11 @@ use trace::{Counted, Failures};
 fn words_of(rt: &HostRuntime) -> Result<Vec<String>, WordsFault> {
     let words = env::args(rt)?.skip(1).collect(rt.alloc())?;
     Ok(words)
+}
+
+/// Returns whether a person types: standard input and standard error are terminals.
+fn is_terminal(rt: &HostRuntime) -> bool {
+    rt.stdin().is_terminal() && rt.stderr().is_terminal()
 }
 
 /// The program over the system's files, standard input, standard output and standard error, whose failures
@@ -31,14 +37,30 @@ fn counted<I: Ledger, O: Ledger, E: Ledger>(
     requires output { (output.name ≡ O.name) × (output.parts ≡ O.parts) × (0 < O.parts) }
     requires errors { (errors.name ≡ E.name) × (errors.parts ≡ E.parts) × (0 < E.parts) }
 {
-    perform(
-        rt.alloc(),
-        words,
-        &mut SystemFiles { rt },
-        &mut Counted::new(rt.stdin(), Failures::<I>::none(input)),
-        &mut Counted::new(rt.stdout(), Failures::<O>::none(output)),
-        &mut Counted::new(rt.stderr(), Failures::<E>::none(errors)),
-    )
+    let alloc = rt.alloc();
+    let mut files = SystemFiles { rt };
+    let mut input = Counted::new(rt.stdin(), Failures::<I>::none(input));
+    let mut output = Counted::new(rt.stdout(), Failures::<O>::none(output));
+    let mut errors = Counted::new(rt.stderr(), Failures::<E>::none(errors));
+    if is_terminal(rt) {
+        perform_at_terminal(
+            alloc,
+            words,
+            &mut files,
+            &mut input,
+            &mut output,
+            &mut errors,
+        )
+    } else {
+        perform(
+            alloc,
+            words,
+            &mut files,
+            &mut input,
+            &mut output,
+            &mut errors,
+        )
+    }
 }
 
 /// The exit status of the program on these words.
