@@ -1,4 +1,4 @@
-//! A command over a case's files, and over writers that can fail.
+//! A command over a case's files, and over a reader and writers that can fail.
 
 ghost use Rattle.std.specs.Prelude.{◌≡◌, ◌<◌};
 
@@ -7,24 +7,53 @@ use crate::wanted::Outcome;
 use commands::Files;
 use commands::perform::perform;
 use std::alloc::{AllocError, Global};
-use std::io::{self, ErrorKind, Write};
+use std::io::{self, ErrorKind, Read, Write};
 use std::marker::Brand;
 use std::sync::ledger::{Blank, Ledger};
 use trace::{Counted, Failures};
 
-/// How many bytes standard output and standard error take before they fail.
+/// How many bytes standard input gives, and how many standard output and standard error take, before they fail.
 #[derive(Clone, Copy)]
 pub(crate) struct Room {
+    pub(crate) input: usize,
     pub(crate) output: usize,
     pub(crate) errors: usize,
 }
 
 impl Room {
-    /// Room for whatever is written.
+    /// Room for whatever is read and written.
     pub(crate) const AMPLE: Room = Room {
+        input: usize::MAX,
         output: usize::MAX,
         errors: usize::MAX,
     };
+}
+
+/// The standard devices of a command.
+#[derive(Clone, Copy)]
+pub(crate) struct Devices<'b> {
+    /// The bytes of standard input.
+    pub(crate) script: &'b [u8],
+    pub(crate) room: Room,
+}
+
+/// A reader that gives `room` bytes, and then fails.
+#[derive(Drop)]
+struct Cut<'b> {
+    bytes: &'b [u8],
+    room: usize,
+}
+
+impl Read for Cut<'_> {
+    fn read(&mut self, buffer: &mut [u8]) -> io::Result<usize> {
+        if self.room == 0 {
+            return Err(ErrorKind::UnexpectedEof.into());
+        }
+        let most = buffer.len().min(self.room);
+        let count = self.bytes.read(&mut buffer[..most])?;
+        self.room = self.room.saturating_sub(count);
+        Ok(count)
+    }
 }
 
 /// A writer that takes so many bytes, and then fails.
@@ -77,7 +106,7 @@ fn counted<F: Files, I: Ledger, O: Ledger, E: Ledger>(
     alloc: Global,
     words: &[String],
     files: &mut F,
-    room: Room,
+    devices: Devices<'_>,
     input: Blank,
     output: Blank,
     errors: Blank,
@@ -86,7 +115,12 @@ fn counted<F: Files, I: Ledger, O: Ledger, E: Ledger>(
     requires output { (output.name ≡ O.name) × (output.parts ≡ O.parts) × (0 < O.parts) }
     requires errors { (errors.name ≡ E.name) × (errors.parts ≡ E.parts) × (0 < E.parts) }
 {
-    let mut input = Counted::new(io::empty(), Failures::<I>::none(input));
+    let Devices { script, room } = devices;
+    let reader = Cut {
+        bytes: script,
+        room: room.input,
+    };
+    let mut input = Counted::new(reader, Failures::<I>::none(input));
     let mut output = Counted::new(Short::new(alloc, room.output), Failures::<O>::none(output));
     let mut errors = Counted::new(Short::new(alloc, room.errors), Failures::<E>::none(errors));
     let status = perform(alloc, words, files, &mut input, &mut output, &mut errors);
@@ -97,15 +131,15 @@ fn counted<F: Files, I: Ledger, O: Ledger, E: Ledger>(
     })
 }
 
-/// What a command comes to, where its devices have so much room.
+/// Runs a command over these devices, and returns its outcome.
 pub(crate) fn outcome_of<F: Files>(
     alloc: Global,
     words: &str,
     files: &mut F,
-    room: Room,
+    devices: Devices<'_>,
 ) -> Result<Outcome, CaseFault> {
     let words = words_of(alloc, words)?;
     let words = words.as_slice();
     let (input, output, errors) = (Blank::new(1), Blank::new(1), Blank::new(1));
-    counted::<F, Brand, Brand, Brand>(alloc, words, files, room, input, output, errors)
+    counted::<F, Brand, Brand, Brand>(alloc, words, files, devices, input, output, errors)
 }

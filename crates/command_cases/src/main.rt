@@ -11,11 +11,19 @@
 //! | `hex F` | the file F holds these bytes, in hexadecimal digits |
 //! | `splice F B N M` | F holds the bytes of the file B, but these in place of M at place N |
 //! | `fault F NAME` | F can't be read or written: File, TooLarge or Memory |
+//! | `input` | these lines are the standard input of the next command, which is empty otherwise |
+//! | `input open`, `input hex` | the same, but the last line has no line end, or the bytes are in hexadecimal digits |
+//! | `input-room N` | of the next command, standard input gives N bytes and then fails |
 //! | `room N`, `error-room N` | of the next command, standard output or standard error takes N bytes and then fails |
 //! | `command WORDS` | a command is given; `''` is the empty word |
-//! | `short WORDS` | the same; and also with room for each smaller number of bytes on either device |
+//! | `short WORDS` | the same; and also with room for each smaller number of bytes on either output device |
+//! | `cut WORDS` | as `short`; and also with standard input that fails after each number of bytes, all of them too |
 //!
 //! What a command has to come to stands behind it. Without such a section it writes nothing, with the status 0.
+//!
+//! A script of the debugger is given by `line` sections. Where standard input fails, a `cut` command has to write the
+//! answers to the whole lines before, and to report S01. Where standard output fails, a command with an input has to
+//! report S02, and any other P05.
 //!
 //! | Section | What it says |
 //! |---|---|
@@ -23,11 +31,12 @@
 //! | `output`, `errors` | these lines are written to standard output, or to standard error |
 //! | `output open`, `errors open` | the same, but the last line has no line end |
 //! | `output hex`, `errors hex` | these bytes are written, in hexadecimal digits |
+//! | `line LINE` | this is the next line of standard input, and the section's lines, maybe none, are the answer to it |
 //! | `prints LINE` | this line is written to standard output, and nothing else, with the status 0 |
 //! | `ends LINE` | this line is written to standard error, with the status 1 |
 //! | `refused LINE` | `jvmx: LINE` is written to standard error, and nothing else, with the status 2 |
 //! | `failed LINE` | the same, with the status 3 |
-//! | `like WORDS` | what another command comes to |
+//! | `like WORDS` | the outcome of another command with the same standard input |
 //! | `written F` | then the file F holds these bytes, in hexadecimal digits |
 //! | `same F B` | then the file F holds what the file B holds |
 //!

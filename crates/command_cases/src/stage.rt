@@ -1,10 +1,10 @@
-//! Where a case is walked: its files, the command that was given last, and what that has to come to.
+//! Where a case is walked: its files, the command that was given last, its input, and what it has to come to.
 
 use crate::bytes::{hex_of, lines_of, number_of, open_lines_of, spliced};
-use crate::devices::{Room, outcome_of};
+use crate::devices::{Devices, Room, outcome_of};
 use crate::fault::CaseFault;
 use crate::files::HeldFiles;
-use crate::wanted::Outcome;
+use crate::wanted::{Failure, Outcome, bytes_of};
 use cases::Section;
 use commands::{FileFault, Files};
 use std::alloc::{AllocError, Global};
@@ -50,13 +50,30 @@ impl Tally {
     }
 }
 
+/// How a command is given.
+#[derive(Clone, Copy)]
+enum Manner {
+    /// Once.
+    Once,
+    /// Also with output devices that fail early.
+    Short,
+    /// Also with devices that fail early, standard input among them.
+    Cut,
+}
+
 /// A command that was given.
 #[derive(Clone, Copy)]
 struct Given<'c> {
     words: &'c str,
     room: Room,
-    /// Whether it is also given with devices that fail early.
-    is_short: bool,
+    manner: Manner,
+}
+
+/// Where a line of the input ends, and where the answer to it ends in the output.
+#[derive(Clone, Copy)]
+struct Answered {
+    input: usize,
+    output: usize,
 }
 
 /// A case that is walked.
@@ -67,8 +84,12 @@ pub(crate) struct Stage<'c, 't, F> {
     files: HeldFiles<F>,
     /// The room that the next command has.
     room: Room,
+    /// The standard input of the next command, or of the one that was given last.
+    input: Vec<u8>,
     given: Option<Given<'c>>,
     wanted: Outcome,
+    /// The lines of the input whose answers are known.
+    answered: Vec<Answered>,
     tally: &'t mut Tally,
 }
 
@@ -80,25 +101,26 @@ impl<'c, 't, F: Files + Drop> Stage<'c, 't, F> {
             name,
             files: HeldFiles::new(alloc, beneath),
             room: Room::AMPLE,
+            input: Vec::new(alloc),
             given: None,
             wanted: Outcome::nothing(alloc),
+            answered: Vec::new(alloc),
             tally,
         }
     }
 
     /// Takes the next section.
     pub(crate) fn take(&mut self, section: &Section<'c>) -> Result<(), CaseFault> {
-        if section.kind == "like" {
-            self.wanted = outcome_of(self.alloc, section.words, &mut self.files, Room::AMPLE)?;
-            return Ok(());
-        }
-        if self.wanted.take(self.alloc, section)? {
+        if self.take_wanted(section)? {
             return Ok(());
         }
         self.finish()?;
         match section.kind {
-            "command" => self.give(section.words, false),
-            "short" => self.give(section.words, true),
+            "command" => self.give(section.words, Manner::Once),
+            "short" => self.give(section.words, Manner::Short),
+            "cut" => self.give(section.words, Manner::Cut),
+            "input" => self.input = bytes_of(self.alloc, section)?,
+            "input-room" => self.room.input = number_of(section.words)?,
             "room" => self.room.output = number_of(section.words)?,
             "error-room" => self.room.errors = number_of(section.words)?,
             "written" => self.compare_file(section.words, hex_of(self.alloc, section.lines)?)?,
@@ -108,14 +130,46 @@ impl<'c, 't, F: Files + Drop> Stage<'c, 't, F> {
         Ok(())
     }
 
+    /// Takes what a section says of the command that was given last. Returns whether it says anything of it.
+    fn take_wanted(&mut self, section: &Section<'c>) -> Result<bool, CaseFault> {
+        match section.kind {
+            "like" => self.wanted = self.outcome(section.words, Room::AMPLE)?,
+            "line" => self.take_line(section)?,
+            _ => return self.wanted.take(self.alloc, section),
+        }
+        Ok(true)
+    }
+
+    /// Takes a line of the input, and the answer to it.
+    fn take_line(&mut self, section: &Section<'c>) -> Result<(), CaseFault> {
+        let answer = lines_of(self.alloc, section.lines)?;
+        self.input.extend_from_slice(section.words.as_bytes())?;
+        self.input.push(b'\n')?;
+        self.wanted.output.extend_from_slice(answer.as_slice())?;
+        self.answered.push(Answered {
+            input: self.input.len(),
+            output: self.wanted.output.len(),
+        })?;
+        Ok(())
+    }
+
     /// A command is given.
-    fn give(&mut self, words: &'c str, is_short: bool) {
+    fn give(&mut self, words: &'c str, manner: Manner) {
         self.given = Some(Given {
             words,
             room: self.room,
-            is_short,
+            manner,
         });
         self.room = Room::AMPLE;
+    }
+
+    /// Runs a command on the input, and returns its outcome.
+    fn outcome(&mut self, words: &str, room: Room) -> Result<Outcome, CaseFault> {
+        let devices = Devices {
+            script: self.input.as_slice(),
+            room,
+        };
+        outcome_of(self.alloc, words, &mut self.files, devices)
     }
 
     /// Takes the section of a file.
@@ -197,17 +251,29 @@ impl<'c, 't, F: Files + Drop> Stage<'c, 't, F> {
             return Ok(());
         };
         let wanted = mem::replace(&mut self.wanted, Outcome::nothing(self.alloc));
-        self.compare(given.words, given.room, &wanted)?;
-        if given.is_short {
-            self.shorten(given.words, &wanted)?;
-        }
+        self.compare_given(given, &wanted)?;
+        self.input.clear();
+        self.answered.clear();
         Ok(())
     }
 
-    /// Compares what a command comes to with what is wanted, where a device fails early.
+    /// Compares all outcomes of a command with the wanted ones.
+    fn compare_given(&mut self, given: Given<'c>, wanted: &Outcome) -> Result<(), CaseFault> {
+        self.compare(given.words, given.room, wanted)?;
+        match given.manner {
+            Manner::Once => Ok(()),
+            Manner::Short => self.shorten(given.words, wanted),
+            Manner::Cut => {
+                self.shorten(given.words, wanted)?;
+                self.cut(given.words, wanted)
+            }
+        }
+    }
+
+    /// Compares the outcomes of a command where an output device fails early.
     fn shorten(&mut self, words: &str, wanted: &Outcome) -> Result<(), CaseFault> {
         for output in 0..wanted.output.len() {
-            let wanted = wanted.without_output(self.alloc, output)?;
+            let wanted = wanted.failed(self.alloc, output, self.output_failure())?;
             let room = Room {
                 output,
                 ..Room::AMPLE
@@ -225,9 +291,46 @@ impl<'c, 't, F: Files + Drop> Stage<'c, 't, F> {
         Ok(())
     }
 
+    /// Returns the failure of a command whose standard output fails. Only a script has an input.
+    fn output_failure(&self) -> Failure {
+        if self.input.is_empty() {
+            Failure::Output
+        } else {
+            Failure::ScriptOutput
+        }
+    }
+
+    /// Compares the outcomes of a command where standard input fails after each number of bytes.
+    fn cut(&mut self, words: &str, wanted: &Outcome) -> Result<(), CaseFault> {
+        for input in 0..=self.input.len() {
+            let wanted = wanted.failed(
+                self.alloc,
+                self.answers_within(input),
+                Failure::ScriptInput,
+            )?;
+            let room = Room {
+                input,
+                ..Room::AMPLE
+            };
+            self.compare(words, room, &wanted)?;
+        }
+        Ok(())
+    }
+
+    /// Returns the number of bytes that answer the lines within the first `input` bytes.
+    fn answers_within(&self, input: usize) -> usize {
+        let mut output = 0;
+        for line in self.answered.as_slice() {
+            if line.input <= input {
+                output = line.output;
+            }
+        }
+        output
+    }
+
     /// Compares what a command comes to with what is wanted.
     fn compare(&mut self, words: &str, room: Room, wanted: &Outcome) -> Result<(), CaseFault> {
-        let given = outcome_of(self.alloc, words, &mut self.files, room)?;
+        let given = self.outcome(words, room)?;
         if given.is(wanted) {
             self.tally.count();
         } else {

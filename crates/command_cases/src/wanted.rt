@@ -16,6 +16,28 @@ pub(crate) struct Outcome {
     pub(crate) errors: Vec<u8>,
 }
 
+/// A standard device that fails.
+#[derive(Clone, Copy)]
+pub(crate) enum Failure {
+    /// Standard input, of a script.
+    ScriptInput,
+    /// Standard output, of the answers to a script.
+    ScriptOutput,
+    /// Standard output, of any other command.
+    Output,
+}
+
+impl Failure {
+    /// Returns the line that reports it.
+    fn line(self) -> &'static str {
+        match self {
+            Failure::ScriptInput => "jvmx: S01 Read\n",
+            Failure::ScriptOutput => "jvmx: S02 Write\n",
+            Failure::Output => "jvmx: P05 Output\n",
+        }
+    }
+}
+
 /// Bytes as they are shown where they differ.
 fn shown(bytes: &[u8]) -> &str {
     std::str::from_utf8(bytes).unwrap_or("no text")
@@ -30,8 +52,8 @@ impl fmt::Display for Outcome {
     }
 }
 
-/// The bytes that a section asks for: lines, lines without the last line end, or bytes.
-fn bytes_of(alloc: Global, section: &Section<'_>) -> Result<Vec<u8>, CaseFault> {
+/// Returns the bytes that a section says: lines, lines without the last line end, or bytes.
+pub(crate) fn bytes_of(alloc: Global, section: &Section<'_>) -> Result<Vec<u8>, CaseFault> {
     match section.words {
         "" => lines_of(alloc, section.lines),
         "open" => open_lines_of(alloc, section.lines),
@@ -50,12 +72,17 @@ impl Outcome {
         }
     }
 
-    /// Where standard output takes so many bytes and then fails.
-    pub(crate) fn without_output(&self, alloc: Global, room: usize) -> Result<Self, AllocError> {
+    /// Returns the outcome where a device fails after `count` bytes of output.
+    pub(crate) fn failed(
+        &self,
+        alloc: Global,
+        count: usize,
+        failure: Failure,
+    ) -> Result<Self, AllocError> {
         Ok(Outcome {
             status: 3,
-            output: self.output[..room.min(self.output.len())].to_vec(alloc)?,
-            errors: b"jvmx: P05 Output\n".to_vec(alloc)?,
+            output: self.output[..count.min(self.output.len())].to_vec(alloc)?,
+            errors: failure.line().as_bytes().to_vec(alloc)?,
         })
     }
 
