@@ -42,6 +42,20 @@ exit 1 LostUpdate.inc.()V
 wr 2 LostUpdate.count.I
 exit 2 LostUpdate.inc.()V
 """
+# What `debug` reads from standard input.
+SCRIPT = """break LostUpdate.inc.()V 3
+continue
+threads
+frames 2
+class LostUpdate
+object 0
+back 5
+pick 2
+goto 40
+rcontinue
+trace
+output
+"""
 
 
 def commands(folder):
@@ -52,6 +66,7 @@ def commands(folder):
         "run --spec, a cycle": ["run", "--entry", "LostUpdate", "--spec", spec, source],
         "run --spec, atomic": ["run", "--entry", "LostUpdate", "--sched", "rr:99", "--spec", spec, source],
         "trace": ["trace", "--entry", "LostUpdate", "--sched", "seed:1:2", source],
+        "debug": ["debug", "--entry", "LostUpdate", source],
         "eval": ["eval", "--entry", "G.gcd.(II)I", "--args", "48,36", ROOT / "examples/G.class"],
         "asm": ["asm", ROOT / "examples/G.j", folder / "G.class"],
         "list": ["list", ROOT / "examples/G.class"],
@@ -60,7 +75,9 @@ def commands(folder):
 
 def ended(words, refused):
     variables = {"LD_PRELOAD": words.library, COUNT: str(refused)}
-    ran = subprocess.run([words.jvmx, *words.command], capture_output=True, text=True, env={**os.environ, **variables})
+    environment = {**os.environ, **variables}
+    command = [words.jvmx, *words.command]
+    ran = subprocess.run(command, input=SCRIPT, capture_output=True, text=True, env=environment)
     return ran.returncode, ran.stdout, ran.stderr
 
 
