@@ -2,7 +2,7 @@
 
 ghost use Rattle.std.specs.Prelude.{◌≡◌, ◌+◌, length, IfErr, IsErrOf, OnOk};
 ghost use Rattle.debugger_script.specs.Scripts.{HasFailed, HasRun, HasRunOut, HasStopped};
-ghost use Rattle.debugging.specs.Sessions.{HasDebugged, session_of_inputs};
+ghost use Rattle.debugging.specs.Sessions.{HasDebugged, session_of_inputs, session_on};
 ghost use Rattle.debugging.specs.Stops.{IsBefore, IsStop, NamesFile, failed_reads, failed_writes};
 
 use crate::opening::session_on;
@@ -11,10 +11,54 @@ use debugger_script::{Prompt, ScriptFault, run_prompted};
 use inputs::Input;
 use judge::program_of;
 use jvms_machine::machine::{Entry, Limits};
+use program::Program;
 use schedule::Chooser;
 use std::alloc::Global;
 use trace::{ByteIn, ByteOut};
 use turn_limit::TurnLimit;
+
+/// Debugs a program from an entry on, as `debug` does.
+fn debug_program<R: ByteIn, W: ByteOut, P: Prompt>(
+    alloc: Global,
+    program: &Program,
+    limits: Limits,
+    entry: &Entry,
+    chooser: Chooser,
+    most: u64,
+    input: &mut R,
+    output: &mut W,
+    prompt: &mut P,
+) -> Result<(), DebugStop>
+    ensures ran { OnOk result (HasDebugged
+        (session_on most chooser limits program.now entry.now)
+        (HasRun (R.left input.old) (R.left input.new)
+        (W.written output.old) (W.written output.new))) }
+    ensures stopped { IsErrOf result (DebugStop.Script ScriptFault.Read) → HasDebugged
+        (session_on most chooser limits program.now entry.now)
+        (HasStopped (R.left input.old) (R.left input.new)
+        (W.written output.old) (W.written output.new)) }
+    ensures memory { IsErrOf result (DebugStop.Script ScriptFault.Memory) → HasDebugged
+        (session_on most chooser limits program.now entry.now)
+        (HasRunOut (R.left input.old) (R.left input.new)
+        (W.written output.old) (W.written output.new)) }
+    ensures failed { IsErrOf result (DebugStop.Script ScriptFault.Write) → HasDebugged
+        (session_on most chooser limits program.now entry.now)
+        (HasFailed (R.left input.old) (R.left input.new)
+        (W.written output.old) (W.written output.new)) }
+    ensures fault { IfErr result (λ stop. IsStop stop
+        (session_on most chooser limits program.now entry.now)) }
+    ensures named { IfErr result (λ stop. NamesFile 0 stop) }
+    ensures unread { IfErr result (λ stop. IsBefore stop → input.new ≡ input.old) }
+    ensures unwritten { IfErr result (λ stop. IsBefore stop → output.new ≡ output.old) }
+    ensures reads { R.failures input.new ≡ R.failures input.old + failed_reads result }
+    ensures writes { W.failures output.new ≡ W.failures output.old + failed_writes result }
+{
+    let mut session = session_on(alloc, program, limits, entry, chooser, most)?;
+    match run_prompted(alloc, &mut session, input, output, prompt) {
+        Ok(()) => Ok(()),
+        Err(fault) => Err(DebugStop::Script(fault)),
+    }
+}
 
 /// Debugs the program that class files and sources make. Begins a session before the first of the choices that a chooser
 /// gives, at most this number of them. Carries out the commands that are read, one a line, and writes the answer to each
@@ -66,9 +110,8 @@ pub fn debug<R: ByteIn, W: ByteOut, P: Prompt>(
     ensures writes { W.failures output.new ≡ W.failures output.old + failed_writes result }
 {
     let program = program_of(alloc, inputs)?;
-    let mut session = session_on(alloc, &program, limits, entry, chooser, most.turns())?;
-    match run_prompted(alloc, &mut session, input, output, prompt) {
-        Ok(()) => Ok(()),
-        Err(fault) => Err(DebugStop::Script(fault)),
-    }
+    let most = most.turns();
+    debug_program(
+        alloc, &program, limits, entry, chooser, most, input, output, prompt,
+    )
 }
