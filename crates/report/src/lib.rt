@@ -1,9 +1,12 @@
-//! The texts that tell what was found of a trace.
+//! Texts for readers: of what was found of a trace, and of the debugger's answers to a script.
 #![tactic(auto)]
 
 mod number;
 mod serial;
 mod verdict;
 
+pub use debugger_script::{
+    NoPrompt, Prompt, ScriptFault, fault_text, run_prompted, run_script, view_text,
+};
 pub use serial::serial_lines;
 pub use verdict::verdict_line;
