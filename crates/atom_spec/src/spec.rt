@@ -11,16 +11,23 @@ use crate::table::Table;
 use built_in::is_built_in;
 use descriptor::is_initializer_name;
 use held::items::Items;
+use held::shared::Shared;
 use jvms_program::key::MethodKey;
 use std::alloc::{AllocError, Global};
 use std::marker::Model;
 use velodrome::specification::SpecificationLine;
 
-/// Which methods are to be atomic. Contracts see the list of its lines.
+/// Lines, and the table of what they say.
 #[derive(Drop)]
-pub struct Spec {
+struct Parts {
     lines: Items<SpecificationLine>,
     table: Table,
+}
+
+/// Which methods are to be atomic. Contracts see the list of its lines. Copies share it.
+#[derive(Drop)]
+pub struct Spec {
+    parts: Shared<Parts>,
 }
 
 impl Model for Spec {
@@ -30,9 +37,9 @@ impl Model for Spec {
 
     ghost Value = { List SpecificationLine };
 
-    ghost view = { λ s. s.lines };
+    ghost view = { λ s. s.parts.lines };
 
-    ghost invariant = { λ s. Says s.table s.lines };
+    ghost invariant = { λ s. Says s.parts.table s.parts.lines };
 }
 
 /// What lines say.
@@ -59,14 +66,25 @@ impl Spec {
     {
         let lines = lines_of(alloc, text.as_bytes())?;
         let table = table_of(alloc, lines.as_slice())?;
-        Ok(Spec { lines, table })
+        Ok(Spec {
+            parts: Shared::new(alloc, Parts { lines, table })?,
+        })
+    }
+
+    /// Returns the same specification once more. It takes no memory, however many lines there are.
+    pub fn copy(&self) -> Result<Spec, AllocError>
+        ensures { IfOk result (λ spec. spec ≡ self.now) }
+    {
+        Ok(Spec {
+            parts: self.parts.share()?,
+        })
     }
 
     /// The lines in order.
     pub fn lines(&self) -> &[SpecificationLine]
         ensures { result.now ≡ self.now }
     {
-        self.lines.as_slice()
+        self.parts.get().lines.as_slice()
     }
 
     /// Whether a method is to be atomic: the last line that speaks of it decides, and without one it isn't. `<clinit>`
@@ -75,7 +93,7 @@ impl Spec {
     pub fn is_atomic(&self, method: &MethodKey) -> bool
         ensures { result ≡ atomic_by self.now method.now }
     {
-        self.table.said(method)
+        self.parts.get().table.said(method)
             && !is_initializer_name(method.name.as_slice())
             && !is_built_in(method.class.as_slice())
     }

@@ -5,12 +5,15 @@ use Rattle.jvms_machine.specs.declared.machine.Entry.{Entry}
 use Rattle.jvms_machine.specs.declared.value.Value.{Value}
 use Rattle.jvms_machine.specs.declared.value.Value.TheVariants as value
 use Rattle.inputs.specs.declared.input.Input.{Input}
-use Rattle.commands.specs.declared.ending.Ending.{Ending}
+use Rattle.program_runs.specs.Shown.{Shown}
+use Rattle.schedule.specs.Choosers.{Alone}
 use Rattle.judge.specs.Programs.{NotRun}
-use Rattle.commands.specs.Ending.{ended}
+use Rattle.judge.specs.Shown.{run_judged}
+use Rattle.commands.specs.Limits.{default_limits}
 
-unfoldable pub evaluated : List Input → Entry → Result Ending NotRun
-evaluated files entry = ended 1000000 files entry
+-- The run by thread 0 alone, of at most 1,000,000 turns.
+abbrev pub evaluated : List Input → Entry → Result Shown NotRun
+evaluated inputs entry = run_judged 1000000 Alone default_limits inputs entry
 
 -- A value: an int in decimal, a reference as null or R:n.
 abbrev pub value_text : Value → List ℕ

@@ -1,4 +1,4 @@
-pub mod Ending
 pub mod Evaluation
 pub mod Faults
+pub mod Limits
 pub mod Lines

@@ -5,6 +5,7 @@ use Rattle.std.specs.Fmt.{decimal}
 use Rattle.jvms_machine.specs.declared.machine.Status.{Status}
 use Rattle.escapes.specs.Escapes.{spelled}
 use Rattle.machine_text.specs.Outcomes.{status_text}
+use Rattle.runs.specs.declared.ending.Ending.{Ending}
 
 -- Of a thread that ended with an exception, of this class.
 abbrev pub uncaught_line : ℕ × List ℕ → List ℕ
@@ -15,5 +16,5 @@ abbrev pub status_line : Status → ℕ → List ℕ
 status_line s turns = codes "status " ++ status_text s ++ codes " turns " ++ decimal turns ++ codes "\n"
 
 -- The uncaught exceptions, by rising thread, then the status.
-abbrev pub ending_lines : List (ℕ × List ℕ) → Status → ℕ → List ℕ
-ending_lines uncaught s turns = flat_map uncaught_line uncaught ++ status_line s turns
+abbrev pub ending_lines : Ending → List ℕ
+ending_lines ending = flat_map uncaught_line ending.uncaught ++ status_line ending.status ending.turns

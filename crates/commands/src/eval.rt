@@ -3,20 +3,34 @@
 ghost use Rattle.std.specs.Prelude.{◌≡◌, ◌≢◌, ◌+◌, ◌++◌, ◌∷◌, [], IfOk, IfErr, OnOk, IsErrOf, length, string_bytes};
 ghost use Rattle.std.specs.Io.KnownBytes.{Appends};
 ghost use Rattle.trace.specs.Bytes.{AppendsBeginning};
+ghost use Rattle.program_runs.specs.Shown.{EndsAs};
 ghost use Rattle.commands.specs.Faults.{IsFault, NamesFile, WroteBeginning};
 ghost use Rattle.commands.specs.Evaluation.{evaluated, result_text, value_text};
 
-use crate::ending::{Ending, run_inputs};
 use crate::fault::RunFault;
+use crate::limits::DEFAULT_LIMITS;
 use inputs::Input;
 use judge::JudgeFault;
 use jvms_machine::machine::Entry;
 use jvms_machine::value::Value;
+use runs::Ending;
+use schedule::Chooser;
 use std::alloc::{AllocError, Global};
 use trace::ByteOut;
+use turn_limit::TurnLimit;
 
 /// How many turns thread 0 may take.
 const MOST_TURNS: u64 = 1_000_000;
+
+/// Returns how many turns thread 0 may take.
+fn most_turns() -> TurnLimit
+    ensures { result ≡ 1000000 }
+{
+    match TurnLimit::new(MOST_TURNS) {
+        Some(most) => most,
+        None => unreachable!(),
+    }
+}
 
 /// The line of a value.
 fn value_line(alloc: Global, value: Value) -> Result<String, AllocError>
@@ -54,7 +68,6 @@ fn write_result<W: ByteOut>(
 
 /// Runs a static method of the program that class files and sources make, by choices of thread 0 while it is
 /// enabled, at most 1,000,000, and writes its result's line.
-#[tactic(auto, unfolding(crate::specs::Evaluation::evaluated))]
 pub fn eval<W: ByteOut>(
     alloc: Global,
     inputs: &[Input],
@@ -62,7 +75,7 @@ pub fn eval<W: ByteOut>(
     output: &mut W,
 ) -> Result<Ending, RunFault>
     // The result, the status, the turns and the uncaught exceptions are those of the run by the instruction table.
-    ensures exact { IfOk result (λ e. evaluated inputs.now entry.now ≡ Ok e) }
+    ensures exact { IfOk result (λ e. EndsAs (evaluated inputs.now entry.now) e) }
     // The result's line was written, or nothing where there is none.
     ensures written { IfOk result (λ e. Appends (W.written output.old) (W.written output.new) (result_text e.result)) }
     ensures count { OnOk result (W.failures output.new ≡ W.failures output.old) }
@@ -72,9 +85,21 @@ pub fn eval<W: ByteOut>(
     ensures untouched { IfErr result (λ fault. fault ≢ RunFault.Output → output.new ≡ output.old) }
     // Output comes only where the writer failed; then a beginning of the line was written.
     ensures failed { IsErrOf result RunFault.Output → W.failures output.new ≡ W.failures output.old + 1 }
-    ensures beginning { IsErrOf result RunFault.Output → WroteBeginning (evaluated inputs.now entry.now) (λ e. result_text e.result) (W.written output.old) (W.written output.new) }
+    ensures beginning { IsErrOf result RunFault.Output → WroteBeginning
+        (evaluated inputs.now entry.now) (λ shown. result_text shown.result)
+        (W.written output.old) (W.written output.new) }
 {
-    let ending = run_inputs(alloc, inputs, entry, MOST_TURNS)?;
-    write_result(alloc, ending.result, output)?;
-    Ok(ending)
+    let mut chooser = Chooser::alone();
+    let most = most_turns();
+    let run = judge::run(
+        alloc,
+        inputs,
+        DEFAULT_LIMITS,
+        entry,
+        &mut chooser,
+        most,
+        None,
+    )?;
+    write_result(alloc, run.ending.result, output)?;
+    Ok(run.ending)
 }

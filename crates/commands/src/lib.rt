@@ -2,10 +2,10 @@
 //! what is written and the exit status.
 #![tactic(auto)]
 
-mod ending;
 pub mod eval;
 mod fault;
 mod files;
+mod limits;
 mod lines;
 pub mod perform;
 mod reading;
@@ -14,6 +14,5 @@ pub mod run;
 mod terminal;
 pub mod tracing;
 
-pub use ending::Ending;
 pub use fault::RunFault;
 pub use files::{FileFault, Files, MOST_BYTES, SystemFiles};

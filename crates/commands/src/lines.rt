@@ -4,12 +4,12 @@ ghost use Rattle.std.specs.Prelude.{◌≡◌, ◌++◌, IfOk, OnOk};
 ghost use Rattle.commands.specs.Lines.{ending_lines as lines_of, status_line, uncaught_line};
 
 use escapes::put_name;
-use judge::Uncaught;
 use jvms_machine::machine::Status;
 use machine_text::status_name;
+use runs::{Ending, Uncaught};
 use std::alloc::{AllocError, Global};
 
-/// Puts the line of a thread that ended with an exception behind the bytes.
+/// Appends the line of a thread that ended with an exception.
 fn put_uncaught(alloc: Global, out: &mut Vec<u8>, uncaught: &Uncaught) -> Result<(), AllocError>
     ensures { OnOk result (out.new.items ≡ out.old.items ++ uncaught_line uncaught.now) }
 {
@@ -21,7 +21,7 @@ fn put_uncaught(alloc: Global, out: &mut Vec<u8>, uncaught: &Uncaught) -> Result
     Ok(())
 }
 
-/// Puts the line of the status behind the bytes.
+/// Appends the line of the status.
 fn put_status(
     alloc: Global,
     out: &mut Vec<u8>,
@@ -36,20 +36,15 @@ fn put_status(
     Ok(())
 }
 
-/// The lines of a run that ended so: a line for each thread that ended with an exception, by rising number, then how
-/// the machine stands and how many turns were made.
-pub(crate) fn ending_lines(
-    alloc: Global,
-    uncaught: &[Uncaught],
-    status: Status,
-    turns: u64,
-) -> Result<Vec<u8>, AllocError>
-    ensures { IfOk result (λ lines. lines.items ≡ lines_of uncaught.now status turns) }
+/// Returns the lines of a run that ended so: a line for each thread that ended with an exception, by rising number, then
+/// the status and the number of turns.
+pub(crate) fn ending_lines(alloc: Global, ending: &Ending) -> Result<Vec<u8>, AllocError>
+    ensures { IfOk result (λ lines. lines.items ≡ lines_of ending.now) }
 {
     let mut lines = Vec::new(alloc);
-    for thread in uncaught {
+    for thread in ending.uncaught.as_slice() {
         put_uncaught(alloc, &mut lines, thread)?;
     }
-    put_status(alloc, &mut lines, status, turns)?;
+    put_status(alloc, &mut lines, ending.status, ending.turns)?;
     Ok(lines)
 }

@@ -1,8 +1,8 @@
 //! All of the program, over named files, a reader and two writers.
 
-use crate::ending::{DEFAULT_LIMITS, Ending};
 use crate::eval::eval;
 use crate::files::Files;
+use crate::limits::DEFAULT_LIMITS;
 use crate::lines::ending_lines;
 use crate::reading::{read_input, read_inputs, read_source, read_spec, read_text};
 use crate::refusal::Refusal;
@@ -14,36 +14,36 @@ use command_line::{AsmWords, CheckWords, Command, ProgramWords, RunWords, VERSIO
 use debugger_script::{NoPrompt, Prompt};
 use debugging::debug;
 use inputs::{Input, class_of};
-use judge::{Judged, Judgement, Told, Uncaught};
+use judge::{Judged, RunSummary};
 use jvms_machine::machine::Status;
 use listing::{ClassFile, list};
+use program_runs::Judgement;
 use report::verdict_line;
+use runs::Ending;
 use schedule::Chooser;
 use std::alloc::{AllocError, Global};
 use trace::{ByteIn, ByteOut};
 use trace_check::check;
 use velodrome::verdict::Verdict;
 
-/// Whether a run finished, and no exception is uncaught.
-fn is_whole(status: Status, uncaught: &[Uncaught]) -> bool {
-    status == Status::Finished && uncaught.is_empty()
+/// Returns whether a run finished, and no exception is uncaught.
+fn is_whole(ending: &Ending) -> bool {
+    ending.status == Status::Finished && ending.uncaught.as_slice().is_empty()
 }
 
-/// Tells how a run of `eval` ended where there is no result.
-fn tell_ending<'w, E: ByteOut>(
+/// Prints how a run of `eval` ended, if there is no result.
+fn print_ending<'w, E: ByteOut>(
     alloc: Global,
     ending: &Ending,
     errors: &mut E,
 ) -> Result<u8, Refusal<'w>> {
-    let uncaught = ending.uncaught.as_slice();
     if ending.result.is_none() {
-        let lines = ending_lines(alloc, uncaught, ending.status, ending.turns)?;
-        errors.write_all(lines.as_slice())?;
+        errors.write_all(ending_lines(alloc, ending)?.as_slice())?;
     }
-    Ok(u8::from(!is_whole(ending.status, uncaught)))
+    Ok(u8::from(!is_whole(ending)))
 }
 
-/// `eval`: prints the result, or tells how the run ended where there is none.
+/// `eval`: prints the result, or how the run ended if there is none.
 fn perform_eval<'w, F: Files, W: ByteOut, E: ByteOut>(
     alloc: Global,
     words: &ProgramWords<'w>,
@@ -53,7 +53,7 @@ fn perform_eval<'w, F: Files, W: ByteOut, E: ByteOut>(
 ) -> Result<u8, Refusal<'w>> {
     let inputs = read_inputs(alloc, files, words.files.as_slice())?;
     match eval(alloc, inputs.as_slice(), &words.entry, output) {
-        Ok(ending) => tell_ending(alloc, &ending, errors),
+        Ok(ending) => print_ending(alloc, &ending, errors),
         Err(fault) => Err(Refusal::of_run(words, fault)),
     }
 }
@@ -108,11 +108,10 @@ fn is_cycle(verdict: &Verdict) -> bool {
     matches!(verdict, Verdict::Cycle { .. })
 }
 
-/// What is told of a run: how it ended, and its verdict.
-fn run_lines(alloc: Global, told: &Told) -> Result<Vec<u8>, AllocError> {
-    let ran = &told.ran;
-    let mut lines = ending_lines(alloc, ran.uncaught.as_slice(), ran.status, ran.turns)?;
-    if let Some(judgement) = &told.judgement {
+/// Returns the lines of a run: how it ended, and its verdict.
+fn run_lines(alloc: Global, run: &RunSummary) -> Result<Vec<u8>, AllocError> {
+    let mut lines = ending_lines(alloc, &run.ending)?;
+    if let Some(judgement) = &run.judgement {
         let line = verdict_line(alloc, &judgement.verdict, judgement.counts)?;
         lines.extend_from_slice(line.as_bytes())?;
     }
@@ -125,25 +124,29 @@ fn run_parts<'w, W: ByteOut>(
     words: &RunWords<'w>,
     parts: &mut RunParts,
     output: &mut W,
-) -> Result<Told, Refusal<'w>> {
+) -> Result<RunSummary, Refusal<'w>> {
     let spec = parts.spec.take();
     let inputs = parts.inputs.as_slice();
     let chooser = &mut parts.chooser;
     let entry = &words.program.entry;
     match run(alloc, inputs, entry, chooser, words.most, spec, output) {
-        Ok(told) => Ok(told),
+        Ok(run) => Ok(run),
         Err(fault) => Err(Refusal::of_run(&words.program, fault)),
     }
 }
 
-/// Tells how a run ended and, with a specification, whether it is atomic.
-fn tell_run<'w, E: ByteOut>(alloc: Global, told: &Told, errors: &mut E) -> Result<u8, Refusal<'w>> {
-    errors.write_all(run_lines(alloc, told)?.as_slice())?;
-    let whole = is_whole(told.ran.status, told.ran.uncaught.as_slice());
-    Ok(u8::from(!(whole && is_without_cycle(&told.judgement))))
+/// Prints how a run ended and, with a specification, whether it is atomic.
+fn print_run<'w, E: ByteOut>(
+    alloc: Global,
+    run: &RunSummary,
+    errors: &mut E,
+) -> Result<u8, Refusal<'w>> {
+    errors.write_all(run_lines(alloc, run)?.as_slice())?;
+    let is_good = is_whole(&run.ending) && is_without_cycle(&run.judgement);
+    Ok(u8::from(!is_good))
 }
 
-/// `run`: prints what the program writes, and tells how the run ended and, with a specification, whether it is atomic.
+/// `run`: prints what the program writes, how the run ended and, with a specification, whether it is atomic.
 fn perform_run<'w, F: Files, W: ByteOut, E: ByteOut>(
     alloc: Global,
     words: &RunWords<'w>,
@@ -152,8 +155,8 @@ fn perform_run<'w, F: Files, W: ByteOut, E: ByteOut>(
     errors: &mut E,
 ) -> Result<u8, Refusal<'w>> {
     let mut parts = read_parts(alloc, words, files)?;
-    let told = run_parts(alloc, words, &mut parts, output)?;
-    tell_run(alloc, &told, errors)
+    let run = run_parts(alloc, words, &mut parts, output)?;
+    print_run(alloc, &run, errors)
 }
 
 /// Runs a program, and prints what its threads did.
@@ -181,8 +184,7 @@ fn perform_trace<'w, F: Files, W: ByteOut>(
 ) -> Result<u8, Refusal<'w>> {
     let mut parts = read_parts(alloc, words, files)?;
     let judged = trace_parts(alloc, words, &mut parts, output)?;
-    let whole = is_whole(judged.status, judged.uncaught.as_slice());
-    Ok(u8::from(!whole))
+    Ok(u8::from(!is_whole(&judged.run.ending)))
 }
 
 /// Carries out the commands of `debug`.

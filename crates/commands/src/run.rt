@@ -3,23 +3,24 @@
 ghost use Rattle.std.specs.Prelude.{◌≡◌, ◌≢◌, ◌+◌, IfOk, IfErr, OnOk, IsErrOf, length};
 ghost use Rattle.std.specs.Io.KnownBytes.{Appends};
 ghost use Rattle.judge.specs.Judgement.{IsJudgementOn};
-ghost use Rattle.judge.specs.Shown.{CameTo, run_judged};
-ghost use Rattle.commands.specs.Ending.{default_limits};
+ghost use Rattle.judge.specs.Shown.{run_judged};
+ghost use Rattle.program_runs.specs.Shown.{EndsAs};
 ghost use Rattle.commands.specs.Faults.{IsFault, NamesFile, WroteBeginning};
+ghost use Rattle.commands.specs.Limits.{default_limits};
 
-use crate::ending::DEFAULT_LIMITS;
 use crate::fault::RunFault;
+use crate::limits::DEFAULT_LIMITS;
 use atom_spec::Spec;
 use inputs::Input;
-use judge::Told;
+use judge::RunSummary;
 use jvms_machine::machine::Entry;
 use schedule::Chooser;
 use std::alloc::Global;
 use trace::ByteOut;
 use turn_limit::TurnLimit;
 
-/// Runs the program that class files and sources make, by the choices of a chooser, at most so many, and writes the bytes
-/// that it wrote. With a specification it is judged too.
+/// Runs the program that class files and sources make, by the choices of a chooser, at most this number of them, and
+/// writes the bytes that it wrote. With a specification the run is judged too.
 pub fn run<W: ByteOut>(
     alloc: Global,
     inputs: &[Input],
@@ -28,14 +29,17 @@ pub fn run<W: ByteOut>(
     most: TurnLimit,
     spec: Option<Spec>,
     output: &mut W,
-) -> Result<Told, RunFault>
+) -> Result<RunSummary, RunFault>
     // The number of turns, the status, the uncaught exceptions and the output are those of the run by the instruction
     // table.
-    ensures came { IfOk result (λ t. CameTo (run_judged most chooser.old default_limits inputs.now entry.now) t.ran) }
+    ensures ending { IfOk result (λ run.
+        EndsAs (run_judged most chooser.old default_limits inputs.now entry.now) run.ending) }
     // The verdict is that on the run's items.
-    ensures judged { IfOk result (λ t. IsJudgementOn spec (run_judged most chooser.old default_limits inputs.now entry.now) t.judgement) }
+    ensures judged { IfOk result (λ run. IsJudgementOn spec
+        (run_judged most chooser.old default_limits inputs.now entry.now) run.judgement) }
     // Exactly the output's bytes were written.
-    ensures written { IfOk result (λ t. Appends (W.written output.old) (W.written output.new) t.ran.output) }
+    ensures written { IfOk result (λ run.
+        Appends (W.written output.old) (W.written output.new) run.ending.output) }
     ensures count { OnOk result (W.failures output.new ≡ W.failures output.old) }
     // A fault comes only where its condition stands, and that of a file names one of these.
     ensures fault { IfErr result (λ fault. IsFault fault (run_judged most chooser.old default_limits inputs.now entry.now)) }
@@ -45,7 +49,7 @@ pub fn run<W: ByteOut>(
     ensures failed { IsErrOf result RunFault.Output → W.failures output.new ≡ W.failures output.old + 1 }
     ensures beginning { IsErrOf result RunFault.Output → WroteBeginning (run_judged most chooser.old default_limits inputs.now entry.now) (λ shown. shown.output) (W.written output.old) (W.written output.new) }
 {
-    let told = judge::run(alloc, inputs, DEFAULT_LIMITS, entry, chooser, most, spec)?;
-    output.write_all(told.ran.output.as_slice())?;
-    Ok(told)
+    let run = judge::run(alloc, inputs, DEFAULT_LIMITS, entry, chooser, most, spec)?;
+    output.write_all(run.ending.output.as_slice())?;
+    Ok(run)
 }

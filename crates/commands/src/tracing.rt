@@ -3,12 +3,13 @@
 ghost use Rattle.std.specs.Prelude.{◌≡◌, ◌≢◌, ◌+◌, IfOk, IfErr, OnOk, IsErrOf, length};
 ghost use Rattle.std.specs.Io.KnownBytes.{Appends};
 ghost use Rattle.trace_text.specs.Traces.{trace_text};
-ghost use Rattle.judge.specs.Shown.{run_judged, run_shown};
-ghost use Rattle.commands.specs.Ending.{default_limits};
+ghost use Rattle.judge.specs.Shown.{run_judged};
+ghost use Rattle.program_runs.specs.Shown.{shown_in};
 ghost use Rattle.commands.specs.Faults.{IsFault, NamesFile, WroteBeginning};
+ghost use Rattle.commands.specs.Limits.{default_limits};
 
-use crate::ending::DEFAULT_LIMITS;
 use crate::fault::RunFault;
+use crate::limits::DEFAULT_LIMITS;
 use inputs::Input;
 use judge::{Judged, judge};
 use jvms_machine::machine::Entry;
@@ -17,8 +18,8 @@ use std::alloc::Global;
 use trace::ByteOut;
 use turn_limit::TurnLimit;
 
-/// Runs the program that class files and sources make, by the choices of a chooser, at most so many, and writes the text
-/// of its trace: one item a line.
+/// Runs the program that class files and sources make, by the choices of a chooser, at most this number of them, and
+/// writes the text of its trace: one item a line.
 pub fn write_trace<W: ByteOut>(
     alloc: Global,
     inputs: &[Input],
@@ -28,9 +29,10 @@ pub fn write_trace<W: ByteOut>(
     output: &mut W,
 ) -> Result<Judged, RunFault>
     // The turns, the status, the uncaught exceptions and the items are those of the run by the instruction table.
-    ensures exact { IfOk result (λ j. run_judged most chooser.old default_limits inputs.now entry.now ≡ Ok (run_shown j)) }
+    ensures exact { IfOk result (λ j.
+        run_judged most chooser.old default_limits inputs.now entry.now ≡ Ok (shown_in j.run)) }
     // Exactly the text of the items was written.
-    ensures written { IfOk result (λ j. Appends (W.written output.old) (W.written output.new) (trace_text j.trace)) }
+    ensures written { IfOk result (λ j. Appends (W.written output.old) (W.written output.new) (trace_text j.run.trace)) }
     ensures count { OnOk result (W.failures output.new ≡ W.failures output.old) }
     // A fault comes only where its condition stands, and that of a file names one of these.
     ensures fault { IfErr result (λ fault. IsFault fault (run_judged most chooser.old default_limits inputs.now entry.now)) }
@@ -41,7 +43,7 @@ pub fn write_trace<W: ByteOut>(
     ensures beginning { IsErrOf result RunFault.Output → WroteBeginning (run_judged most chooser.old default_limits inputs.now entry.now) (λ shown. trace_text shown.items) (W.written output.old) (W.written output.new) }
 {
     let judged = judge(alloc, inputs, DEFAULT_LIMITS, entry, chooser, most, None)?;
-    let text = trace_text::write(alloc, &judged.trace)?;
+    let text = trace_text::write(alloc, &judged.run.trace)?;
     output.write_all(text.as_bytes())?;
     Ok(judged)
 }

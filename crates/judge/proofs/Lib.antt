@@ -1,4 +1,2 @@
 mod Classes
-mod Fed
-mod ShownRuns
-mod Uncaught
+mod Faults

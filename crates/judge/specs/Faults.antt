@@ -8,9 +8,16 @@ use Rattle.linker.specs.declared.fault.LinkFault.{LinkFault}
 use Rattle.linker.specs.declared.fault.LinkFault.TheVariants as link_fault
 use Rattle.machine.specs.declared.fault.MachineFault.{MachineFault}
 use Rattle.machine.specs.declared.fault.MachineFault.TheVariants as machine_fault
+use Rattle.program_runs.specs.declared.fault.ProgramFault.{ProgramFault}
+use Rattle.program_runs.specs.declared.fault.ProgramFault.TheVariants as program_fault
 use Rattle.judge.specs.declared.fault.JudgeFault.{JudgeFault}
 use Rattle.judge.specs.declared.fault.JudgeFault.TheVariants as judge_fault
 use Rattle.judge.specs.Programs.{NotRun, no_class, not_linked, not_made}
+
+-- Why a program wasn't run, as a fault of all of it.
+abbrev pub judge_fault_of : ProgramFault → JudgeFault
+judge_fault_of (program_fault.Machine fault) = judge_fault.Machine fault
+judge_fault_of program_fault.Memory = judge_fault.Memory
 
 -- It names one of so many inputs.
 abbrev pub NamesFile : ℕ → JudgeFault → Type 0

@@ -2,4 +2,3 @@ pub mod Faults
 pub mod Judgement
 pub mod Programs
 pub mod Shown
-pub mod Uncaught

@@ -1,11 +1,13 @@
 //! Why nothing was run and judged.
 
 ghost use Rattle.std.specs.Prelude.{◌≡◌};
+ghost use Rattle.judge.specs.Faults.{judge_fault_of};
 ghost use Rattle.judge.specs.declared.fault.JudgeFault.TheVariants.{Link, Machine, Memory};
 
 use inputs::InputFault;
 use linker::LinkFault;
 use machine::MachineFault;
+use program_runs::ProgramFault;
 use std::alloc::{AllocError, AllocFailed};
 use thiserror::Error;
 
@@ -39,6 +41,17 @@ impl From<MachineFault> for JudgeFault {
 
     fn from(fault: MachineFault) -> JudgeFault {
         JudgeFault::Machine(fault)
+    }
+}
+
+impl From<ProgramFault> for JudgeFault {
+    ghost from_gives = { λ fault error. error ≡ judge_fault_of fault };
+
+    fn from(fault: ProgramFault) -> JudgeFault {
+        match fault {
+            ProgramFault::Machine(fault) => JudgeFault::Machine(fault),
+            ProgramFault::Memory => JudgeFault::Memory,
+        }
     }
 }
 

@@ -1,129 +1,67 @@
-//! A run by a chooser's choices, of which only the end is told.
+//! A run of which only the end is kept, and whether it is atomic.
 
 ghost use Rattle.std.specs.Prelude.{◌≡◌, length, IfOk, IfErr, OnOk, OnErr, Ok};
 ghost use Rattle.judge.specs.Faults.{IsFault, NamesFile};
 ghost use Rattle.judge.specs.Judgement.{IsJudgementOn};
-ghost use Rattle.runs.specs.Choices.{chooser_behind};
-ghost use Rattle.judge.specs.Shown.{CameTo, chooser_left, program_chooser_left, program_judged, ran_of, run_judged, run_shown, shown_of};
+ghost use Rattle.judge.specs.Shown.{chooser_left, program_judged, run_judged};
+ghost use Rattle.program_runs.specs.Faults.{IsProgramFault};
+ghost use Rattle.program_runs.specs.Shown.{EndsAs, program_chooser_left, program_shown};
 
-use crate::ending::{Uncaught, uncaught_threads};
 use crate::fault::JudgeFault;
-use crate::judging::{Judged, run_and_judge};
 use crate::reading::program_of;
-use crate::verdicts::Judgement;
 use atom_spec::Spec;
-use held::items::Items;
 use inputs::Input;
-use jvms_machine::value::Value;
-use machine::{Entry, Limits, Machine, Status};
+use jvms_machine::machine::{Entry, Limits};
 use program::Program;
-use runs::count_turns;
+use program_runs::{Judgement, ProgramFault, check_program, run_program};
+use runs::Ending;
 use schedule::Chooser;
 use std::alloc::Global;
-use trace::Recording;
 use turn_limit::TurnLimit;
 
-/// What a run came to.
+/// How a run ended, and whether it is atomic, if a specification asks for it.
 #[derive(Debug, Drop)]
-pub struct Ran {
-    /// How many turns there were.
-    pub turns: u64,
-    /// What the entry's method returned: nothing where it is void, or hasn't returned.
-    pub result: Option<Value>,
-    /// The bytes that the program wrote.
-    pub output: Items<u8>,
-    pub status: Status,
-    /// The threads that ended with an exception, in rising order.
-    pub uncaught: Items<Uncaught>,
-}
-
-/// A run, and whether it is atomic, if a specification asks for it.
-#[derive(Debug, Drop)]
-pub struct Told {
-    pub ran: Ran,
+pub struct RunSummary {
+    pub ending: Ending,
     pub judgement: Option<Judgement>,
 }
 
-/// Runs a machine by the choices of a chooser, at most so many.
-fn run_machine(
-    alloc: Global,
-    machine: &mut Machine<'_>,
-    chooser: &mut Chooser,
-    most: u64,
-) -> Result<Ran, JudgeFault>
-    ensures ran { IfOk result (λ r. r ≡ ran_of (shown_of most chooser.old machine.old)) }
-    ensures chooser { OnOk result (chooser.new ≡ chooser_behind most chooser.old machine.old) }
-    ensures memory { IfErr result (λ fault. fault ≡ JudgeFault.Memory) }
-{
-    let turns = count_turns(machine, chooser, most, &mut Recording::of_nothing())?;
-    let output = machine.output().to_vec(alloc)?;
-    Ok(Ran {
-        turns,
-        result: machine.result(),
-        output: Items::from_vec(output),
-        status: machine.status(),
-        uncaught: uncaught_threads(alloc, machine)?,
-    })
-}
-
-/// Runs a program from its entry on by the choices of a chooser, at most so many.
-#[tactic(auto, unfolding(crate::specs::Shown::program_judged, crate::specs::Shown::program_chooser_left))]
-fn run_program(
+/// Runs a program, and judges the run if a specification asks for it.
+fn run_and_check(
     alloc: Global,
     program: &Program,
     limits: Limits,
     entry: &Entry,
     chooser: &mut Chooser,
-    most: u64,
-) -> Result<Ran, JudgeFault>
-    ensures came { IfOk result (λ r. CameTo (program_judged most chooser.old limits program.now entry.now) r) }
-    ensures chooser { OnOk result (program_chooser_left most chooser.old limits program.now entry.now ≡ Ok chooser.new) }
-    ensures fault { IfErr result (λ fault. IsFault fault (program_judged most chooser.old limits program.now entry.now)) }
-    ensures named { IfErr result (λ fault. NamesFile 0 fault) }
-{
-    let mut machine = Machine::new(alloc, program, limits, entry)?;
-    run_machine(alloc, &mut machine, chooser, most)
-}
-
-/// Runs the program that class files and sources make, by a chooser that may be moved also where nothing is answered.
-#[tactic(auto, unfolding(crate::specs::Shown::run_judged, crate::specs::Shown::chooser_left))]
-fn run_alone(
-    alloc: Global,
-    inputs: &[Input],
-    limits: Limits,
-    entry: &Entry,
-    chooser: &mut Chooser,
     most: TurnLimit,
-) -> Result<Ran, JudgeFault>
-    ensures came { IfOk result (λ r. CameTo (run_judged most chooser.old limits inputs.now entry.now) r) }
-    ensures chooser { OnOk result (chooser_left most chooser.old limits inputs.now entry.now ≡ Ok chooser.new) }
-    ensures fault { IfErr result (λ fault. IsFault fault (run_judged most chooser.old limits inputs.now entry.now)) }
-    ensures named { IfErr result (λ fault. NamesFile (length inputs.now) fault) }
+    spec: Option<Spec>,
+) -> Result<RunSummary, ProgramFault>
+    ensures ending { IfOk result (λ run.
+        EndsAs (program_judged most chooser.old limits program.now entry.now) run.ending) }
+    ensures judged { IfOk result (λ run. IsJudgementOn spec
+        (program_judged most chooser.old limits program.now entry.now) run.judgement) }
+    ensures chooser { OnOk result
+        (program_chooser_left most chooser.old limits program.now entry.now ≡ Ok chooser.new) }
+    ensures fault { IfErr result (λ fault.
+        IsProgramFault fault (program_shown most chooser.old limits program.now entry.now)) }
 {
-    let program = program_of(alloc, inputs)?;
-    run_program(alloc, &program, limits, entry, chooser, most.turns())
-}
-
-/// What a run that was judged came to.
-fn told_of(judged: Judged) -> Told
-    ensures ran { result.ran ≡ ran_of (run_shown judged) }
-    ensures judgement { result.judgement ≡ judged.judgement }
-{
-    let ran = Ran {
-        turns: judged.choices.as_slice().len() as u64,
-        result: judged.result,
-        output: judged.output,
-        status: judged.status,
-        uncaught: judged.uncaught,
+    let Some(spec) = spec else {
+        let ending = run_program(alloc, program, limits, entry, chooser, most.turns())?;
+        return Ok(RunSummary {
+            ending,
+            judgement: None,
+        });
     };
-    Told {
-        ran,
-        judgement: judged.judgement,
-    }
+    let run = check_program(alloc, program, limits, entry, chooser, most, spec)?;
+    Ok(RunSummary {
+        ending: run.ending,
+        judgement: Some(run.judgement),
+    })
 }
 
-/// The run alone or, where a specification asks for it, with its judgement.
-fn run_told(
+/// Runs the program that class files and sources make. The chooser may have moved also at a refusal.
+#[tactic(auto, using(crate::proofs::Faults::not_run), unfolding(crate::specs::Shown::run_judged, crate::specs::Shown::chooser_left))]
+fn run_inputs(
     alloc: Global,
     inputs: &[Input],
     limits: Limits,
@@ -131,31 +69,24 @@ fn run_told(
     chooser: &mut Chooser,
     most: TurnLimit,
     spec: Option<Spec>,
-) -> Result<Told, JudgeFault>
-    ensures came { IfOk result (λ t. CameTo (run_judged most chooser.old limits inputs.now entry.now) t.ran) }
-    ensures judged { IfOk result (λ t. IsJudgementOn spec (run_judged most chooser.old limits inputs.now entry.now) t.judgement) }
-    ensures chooser { OnOk result (chooser_left most chooser.old limits inputs.now entry.now ≡ Ok chooser.new) }
-    ensures fault { IfErr result (λ fault. IsFault fault (run_judged most chooser.old limits inputs.now entry.now)) }
+) -> Result<RunSummary, JudgeFault>
+    ensures ending { IfOk result (λ run.
+        EndsAs (run_judged most chooser.old limits inputs.now entry.now) run.ending) }
+    ensures judged { IfOk result (λ run. IsJudgementOn spec
+        (run_judged most chooser.old limits inputs.now entry.now) run.judgement) }
+    ensures chooser { OnOk result
+        (chooser_left most chooser.old limits inputs.now entry.now ≡ Ok chooser.new) }
+    ensures fault { IfErr result (λ fault.
+        IsFault fault (run_judged most chooser.old limits inputs.now entry.now)) }
     ensures named { IfErr result (λ fault. NamesFile (length inputs.now) fault) }
 {
-    match spec {
-        None => {
-            let ran = run_alone(alloc, inputs, limits, entry, chooser, most)?;
-            Ok(Told {
-                ran,
-                judgement: None,
-            })
-        }
-        Some(spec) => {
-            let judged = run_and_judge(alloc, inputs, limits, entry, chooser, most, Some(spec))?;
-            Ok(told_of(judged))
-        }
-    }
+    let program = program_of(alloc, inputs)?;
+    let run = run_and_check(alloc, &program, limits, entry, chooser, most, spec)?;
+    Ok(run)
 }
 
 /// Runs the program that class files and sources make, from its entry on, and judges the run by the specification, if
-/// there is one. Choices, outcomes and items are kept only for that: without a specification a run takes no memory for
-/// them, however long it is.
+/// there is one. Choices, outcomes and items aren't kept: a run takes no memory for them, however long it is.
 ///
 /// # Errors
 ///
@@ -168,20 +99,24 @@ pub fn run(
     chooser: &mut Chooser,
     most: TurnLimit,
     spec: Option<Spec>,
-) -> Result<Told, JudgeFault>
-    // The number of turns, result, output, status and uncaught are those of the run that `judge` answers.
-    ensures came { IfOk result (λ t. CameTo (run_judged most chooser.old limits inputs.now entry.now) t.ran) }
+) -> Result<RunSummary, JudgeFault>
+    // The number of turns, result, output, status and uncaught exceptions are those of the run that `judge` returns.
+    ensures ending { IfOk result (λ run.
+        EndsAs (run_judged most chooser.old limits inputs.now entry.now) run.ending) }
     // The verdict on the items of that run, and their counts; none without a specification.
-    ensures judged { IfOk result (λ t. IsJudgementOn spec (run_judged most chooser.old limits inputs.now entry.now) t.judgement) }
-    // The chooser is then behind its choices; at a refusal it is as it was.
-    ensures chooser { OnOk result (chooser_left most chooser.old limits inputs.now entry.now ≡ Ok chooser.new) }
+    ensures judged { IfOk result (λ run. IsJudgementOn spec
+        (run_judged most chooser.old limits inputs.now entry.now) run.judgement) }
+    // The chooser is then the one after its choices. At a refusal it is as it was.
+    ensures chooser { OnOk result
+        (chooser_left most chooser.old limits inputs.now entry.now ≡ Ok chooser.new) }
     ensures kept { OnErr result (chooser.new ≡ chooser.old) }
-    // A fault comes only where its condition stands, and that of an input names one of these.
-    ensures fault { IfErr result (λ fault. IsFault fault (run_judged most chooser.old limits inputs.now entry.now)) }
+    // A fault is returned only if its condition holds. If it is of an input, it names one of these.
+    ensures fault { IfErr result (λ fault.
+        IsFault fault (run_judged most chooser.old limits inputs.now entry.now)) }
     ensures named { IfErr result (λ fault. NamesFile (length inputs.now) fault) }
 {
     let mut moved = chooser.copy()?;
-    let told = run_told(alloc, inputs, limits, entry, &mut moved, most, spec)?;
+    let run = run_inputs(alloc, inputs, limits, entry, &mut moved, most, spec)?;
     *chooser = moved;
-    Ok(told)
+    Ok(run)
 }

@@ -18,28 +18,28 @@ pub record AreTaken (before : Machine) (first : Chooser) (most : ℕ) (items_bef
   pub left_behind : chooser_behind (most - made) chooser m ≡ chooser_behind most first before
   pub ran : IsRun before choices outcomes m items_before items
 
-one_left : (n : ℕ) (chooser : Chooser) (m : Machine) (t : ℕ) → choice_of chooser m ≡ Some t → choices_from (suc n) chooser m ≡ t ∷ choices_from n (chooser_after chooser m) (after_turn m t)
+pub one_left : (n : ℕ) (chooser : Chooser) (m : Machine) (t : ℕ) → choice_of chooser m ≡ Some t → choices_from (suc n) chooser m ≡ t ∷ choices_from n (chooser_after chooser m) (after_turn m t)
 unfolding choices_from
 one_left n chooser m t is = rw is refl
 
-none_left : (n : ℕ) (chooser : Chooser) (m : Machine) → choice_of chooser m ≡ None → choices_from n chooser m ≡ []
+pub none_left : (n : ℕ) (chooser : Chooser) (m : Machine) → choice_of chooser m ≡ None → choices_from n chooser m ≡ []
 unfolding choices_from
 none_left zero chooser m is = refl
 none_left (suc n) chooser m is = rw is refl
 
-one_behind : (n : ℕ) (chooser : Chooser) (m : Machine) (t : ℕ) → choice_of chooser m ≡ Some t → chooser_behind (suc n) chooser m ≡ chooser_behind n (chooser_after chooser m) (after_turn m t)
+pub one_behind : (n : ℕ) (chooser : Chooser) (m : Machine) (t : ℕ) → choice_of chooser m ≡ Some t → chooser_behind (suc n) chooser m ≡ chooser_behind n (chooser_after chooser m) (after_turn m t)
 unfolding chooser_behind
 one_behind n chooser m t is = rw is refl
 
-none_behind : (n : ℕ) (chooser : Chooser) (m : Machine) → choice_of chooser m ≡ None → chooser_behind (suc n) chooser m ≡ chooser_after chooser m
+pub none_behind : (n : ℕ) (chooser : Chooser) (m : Machine) → choice_of chooser m ≡ None → chooser_behind (suc n) chooser m ≡ chooser_after chooser m
 unfolding chooser_behind
 none_behind n chooser m is = rw is refl
 
-nothing_behind : (chooser : Chooser) (m : Machine) → chooser_behind 0 chooser m ≡ chooser
+pub nothing_behind : (chooser : Chooser) (m : Machine) → chooser_behind 0 chooser m ≡ chooser
 unfolding chooser_behind
 nothing_behind chooser m = refl
 
-nothing_left : (chooser : Chooser) (m : Machine) → choices_from 0 chooser m ≡ []
+pub nothing_left : (chooser : Chooser) (m : Machine) → choices_from 0 chooser m ≡ []
 unfolding choices_from
 nothing_left chooser m = refl
 

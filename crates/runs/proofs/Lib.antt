@@ -1,5 +1,6 @@
 pub mod ChosenTurns
+pub mod Continued
 mod CountedTurns
 mod NextTurns
-mod OwnTurns
 mod TurnsOn
+mod UncaughtLaws

@@ -1,13 +1,7 @@
--- Which choices a run makes: those that a chooser gives, or thread 0 alone (own).
-use Rattle.std.specs.Prelude.{◌≡◌, ℕ, zero, suc, if◌then◌else◌, List, [], ◌∷◌, take, length, Option, Some, None}
-use Rattle.jvms_program.specs.declared.program.Class.{Class}
-use Rattle.jvms_machine.specs.declared.machine.Limits.{Limits}
+-- Which choices a run makes: those that a chooser gives (own).
+use Rattle.std.specs.Prelude.{◌≡◌, ℕ, zero, suc, List, [], ◌∷◌, take, length, Option, Some, None}
 use Rattle.jvms_machine.specs.declared.machine.Outcome.{Outcome}
 use Rattle.jvms_machine.specs.declared.trace.Item.{Item}
-use Rattle.jvms_machine.specs.State.{State}
-use Rattle.jvms_machine.specs.Start.{Start}
-use Rattle.jvms_machine.specs.Turn.{turn}
-use Rattle.jvms_machine.specs.Status.{is_enabled}
 use Rattle.trace.specs.Recording.{recorded}
 use Rattle.machine.specs.Machine.{Machine, row_of, with_state}
 use Rattle.machine.specs.Runs.{run_of, RanOn}
@@ -77,11 +71,3 @@ pub record BrokeOff (before : Machine) (choices : List ℕ) (after : Machine) (i
   pub made : ℕ
   pub state : after ≡ with_state before (run_of before (take made choices)).state
   pub items : items_after ≡ recorded items_before (run_of before (take made choices)).items
-
--- The choices of thread 0 while it is enabled, at most so many.
-unfoldable pub own_choices_from : ℕ → List Class → Limits → Start → State → List ℕ
-own_choices_from zero program limits start s = []
-own_choices_from (suc most) program limits start s =
-    if is_enabled (turn program limits start s 0).outcome
-    then 0 ∷ own_choices_from most program limits start (turn program limits start s 0).state
-    else []

@@ -1,11 +1,11 @@
-//! Runs by choices: the turns that a chooser gives, or those of thread 0 alone.
+//! Runs by choices: the turns that a chooser gives, and how a run ends.
 #![tactic(auto)]
 
 mod counted;
-mod own;
+mod ending;
 mod turn;
 mod turns;
 
 pub use counted::count_turns;
-pub use own::take_own_turns;
+pub use ending::{Ending, Uncaught, ending_after, run_to_end, uncaught_threads};
 pub use turns::{Turns, take_turns};

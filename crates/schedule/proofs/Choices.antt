@@ -6,7 +6,7 @@ use Rattle.std.proofs.lemmas.Option.{slice_get-get_or}
 use Rattle.std.proofs.lemmas.Bool.Decides.{nat_tests}
 use Rattle.rand_pcg.specs.Pcg.{pcg32}
 use Rattle.schedule.specs.Schedules as schedules
-use Rattle.schedule.specs.Choosers.{Chooser, Listed, RoundRobin, Seeded, opened, next, asks, stays, round_robin, next_of, turns_with, after_choice, generator_of, words_of}
+use Rattle.schedule.specs.Choosers.{Alone, Chooser, Listed, RoundRobin, Seeded, opened, next, asks, stays, round_robin, next_of, turns_with, after_choice, generator_of, words_of}
 use Rattle.schedule.specs.Past.{last_of, in_a_row, behind, choice_behind, with_choice}
 
 -- ---- Enabled threads
@@ -67,6 +67,7 @@ chosen_is_enabled (Listed threads) enabled h = absurd (not_true h)
 chosen_is_enabled (RoundRobin quantum thread turns) enabled h = round_is_enabled quantum thread turns enabled
 chosen_is_enabled (Seeded generator) [] h = tt
 chosen_is_enabled (Seeded generator) (t ∷ ts) h = contains_at (t ∷ ts) ((pcg32 generator).0 % length (t ∷ ts))
+chosen_is_enabled Alone enabled h = absurd (not_true h)
 
 round_without : (b : Bool) (thread : ℕ) → (if (b && false) then Some thread else next_of thread []) ≡ None
 round_without true thread = refl
@@ -89,6 +90,7 @@ none_is_enabled (Seeded generator) (t ∷ ts) h =
     let place = (pcg32 generator).0 % length (t ∷ ts) in
     let there : slice_get (t ∷ ts) place ≡ Some (slice_index_or (t ∷ ts) place 0) = slice_get-get_or (t ∷ ts) place 0 (omega arith) in
     (λ none. absurd (not_true (sym (rw there at none))), λ e. absurd (omega (arith, ap length e)))
+none_is_enabled Alone enabled h = absurd (not_true h)
 
 -- ---- Turns in a row
 

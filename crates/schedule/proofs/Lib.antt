@@ -1,3 +1,4 @@
+mod Alone
 mod Candidates
 mod Choices
 mod Ranges

@@ -7,12 +7,13 @@ use Rattle.rand_pcg.specs.Pcg.{multiplier_64, pcg32}
 use Rattle.schedule.specs.Schedules as schedules
 use Rattle.schedule.specs.Schedules.{Schedule, WritesSeed}
 
--- The threads that a list has left; the quantum, the thread that was chosen last, and how many of the last choices on
--- end were that thread, counted up to the quantum; or a generator of random words.
+-- The threads that a list has left; the quantum, the thread that was chosen last, and how many of the last consecutive
+-- choices were that thread, counted up to the quantum; a generator of random words; or thread 0 alone.
 pub data Chooser : Type 0 where
   Listed : List ℕ → Chooser
   RoundRobin : ℕ → ℕ → ℕ → Chooser
   Seeded : Lcg → Chooser
+  Alone : Chooser
 
 -- The generator with a state and a stream.
 abbrev pub generator_of : ℕ → ℕ → Lcg
@@ -69,7 +70,13 @@ by_word generator [] = (None, Seeded generator)
 by_word generator (t ∷ ts) =
     (slice_get (t ∷ ts) ((pcg32 generator).0 % length (t ∷ ts)), Seeded (pcg32 generator).1)
 
--- ---- All three
+-- ---- Thread 0 alone
+
+-- Thread 0 is the choice while it is enabled.
+abbrev pub alone : List ℕ → Option ℕ
+alone enabled = find (λ t. t == 0) enabled
+
+-- ---- All of them
 
 -- The next choice, if there is one, and what is left, where these threads are enabled, in rising order. A list doesn't
 -- ask for them.
@@ -79,12 +86,14 @@ next (Listed (t ∷ threads)) enabled = (Some t, Listed threads)
 next (RoundRobin quantum thread turns) enabled =
     (round_robin quantum thread turns enabled, after_choice quantum thread turns (round_robin quantum thread turns enabled))
 next (Seeded generator) enabled = by_word generator enabled
+next Alone enabled = (alone enabled, Alone)
 
 -- The chooser once it has chosen a thread; a list and a generator have moved on by themselves.
 abbrev pub counted : ℕ → Chooser → Chooser
 counted chosen (Listed threads) = Listed threads
 counted chosen (RoundRobin quantum thread turns) = after_choice quantum thread turns (Some chosen)
 counted chosen (Seeded generator) = Seeded generator
+counted chosen Alone = Alone
 
 -- The same, of a thread that it has chosen so many times on end.
 unfoldable pub counted_times : ℕ → ℕ → Chooser → Chooser
@@ -98,8 +107,9 @@ IsNextFor (suc times) thread threads chooser =
     ((is_enabled : ℕ → Bool) → is_enabled thread ≡ true → next chooser (enabled_of is_enabled threads) ≡ (Some thread, counted thread chooser))
     × IsNextFor times thread threads (counted thread chooser)
 
--- Whether the chooser asks which threads are enabled.
+-- Whether the chooser chooses among all enabled threads.
 abbrev pub asks : Chooser → Bool
 asks (Listed threads) = false
 asks (RoundRobin quantum thread turns) = true
 asks (Seeded generator) = true
+asks Alone = false

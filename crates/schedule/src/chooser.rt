@@ -1,16 +1,17 @@
 //! Choosers: each choice names the thread of the next turn.
 
 ghost use Rattle.std.specs.Prelude.{ℕ, List, ◌≡◌, ◌≤◌, ◌↔◌, length, IfOk, IfSome, IsErrOf, MatchOption};
+ghost use Rattle.schedule.specs.Schedules as schedules;
 ghost use Rattle.schedule.specs.Schedules.{Schedule, Listed, RoundRobin, Spells, WritesSeed};
 ghost use Rattle.schedule.specs.Enabled.{enabled_threads};
 ghost use Rattle.schedule.specs.Rules.{shown};
-ghost use Rattle.schedule.specs.Choosers.{opened, enabled_of, by_word, counted_times, next, Seeded, IsNextFor, IsSeeded};
+ghost use Rattle.schedule.specs.Choosers.{opened, enabled_of, by_word, counted_times, next, Alone, Seeded, IsNextFor, IsSeeded};
 
 use crate::fault::ScheduleFault;
 use crate::list::{ListLeft, listed};
 use crate::numbers::{long_number, quantum};
 use crate::round_robin::{Candidate, Turns};
-use crate::threads::{Threads, enabled_at, enabled_count};
+use crate::threads::{Threads, alone, enabled_at, enabled_count};
 use jvms_machine::machine::ThreadId;
 use machine::Machine;
 use rand_core::utils::NextWord;
@@ -27,6 +28,8 @@ enum Rule {
     RoundRobin(Turns),
     /// Random words.
     Seeded(Lcg64Xsh32),
+    /// Thread 0 alone.
+    Alone,
 }
 
 /// A chooser: what is left of a schedule.
@@ -91,6 +94,21 @@ fn next_by_word<T: Threads>(generator: &mut Lcg64Xsh32, threads: &T) -> Option<T
     enabled_at(threads, generator.next_word() % enabled)
 }
 
+/// Returns thread 0, which is the next choice for ever as long as it is enabled.
+#[tactic(auto, using(crate::proofs::Alone::alone_for))]
+fn candidate_alone<T: Threads>(threads: &T) -> Option<Candidate>
+    ensures next { IfSome result (λ c. IsNextFor c.turns c.thread (T.count threads.now) Alone) }
+    ensures some { IfSome result (λ c. 1 ≤ c.turns) }
+{
+    if threads.count() == 0 {
+        return None;
+    }
+    Some(Candidate {
+        thread: 0,
+        turns: u64::MAX,
+    })
+}
+
 impl Rule {
     /// The same rule once more.
     fn copy(&self) -> Result<Rule, AllocError>
@@ -100,6 +118,7 @@ impl Rule {
             Rule::Listed(list) => Ok(Rule::Listed(list.copy()?)),
             Rule::RoundRobin(turns) => Ok(Rule::RoundRobin(*turns)),
             Rule::Seeded(generator) => Ok(Rule::Seeded(generator.clone()?)),
+            Rule::Alone => Ok(Rule::Alone),
         }
     }
 }
@@ -117,6 +136,22 @@ impl Chooser {
         Chooser {
             rule: Rule::RoundRobin(turns),
         }
+    }
+
+    /// Chooses an enabled thread by the random words of a state and a stream: the schedule `seed:S:K`.
+    pub fn seeded(state: u64, stream: u64) -> Chooser
+        ensures { result ≡ opened (schedules.Seeded state stream) }
+    {
+        Chooser {
+            rule: Rule::Seeded(Lcg64Xsh32::new(state, stream)),
+        }
+    }
+
+    /// Chooses thread 0 while it is enabled, and no other. No text spells this schedule.
+    pub fn alone() -> Chooser
+        ensures { result ≡ Alone }
+    {
+        Chooser { rule: Rule::Alone }
     }
 
     /// The chooser of the schedule that a text spells: `list:` and numbers of threads of at most 4,294,967,295 parted
@@ -153,12 +188,14 @@ impl Chooser {
             Rule::Listed(list) => list.next(),
             Rule::RoundRobin(turns) => turns.next(threads),
             Rule::Seeded(generator) => next_by_word(generator, threads),
+            Rule::Alone => alone(threads),
         }
     }
 
     /// The next choice, if there is one: the next thread of a list, enabled or not; by `rr:Q` the thread that was
     /// chosen last, while it is enabled and had fewer than Q turns in a row, else the next enabled one by rising number,
-    /// round to the least; by `seed:S:K` an enabled thread that the next random word names. It takes no memory.
+    /// round to the least; by `seed:S:K` an enabled thread that the next random word names; thread 0 alone while it is
+    /// enabled. It takes no memory.
     pub fn next(&mut self, machine: &Machine<'_>) -> Option<ThreadId>
         ensures choice { result ≡ (next self.old (enabled_threads machine.now)).0 }
         ensures after { self.new ≡ (next self.old (enabled_threads machine.now)).1 }
@@ -168,19 +205,20 @@ impl Chooser {
 
     /// The thread that is the next choice where it is enabled, and for how many turns on end, told without a look at any
     /// thread, where the schedule tells one: by `rr:Q` the only thread, or the thread that was chosen last for the turns
-    /// that it has left, else the one behind it.
+    /// that it has left, else the one behind it; thread 0 alone for ever.
     pub fn candidate(&self, machine: &Machine<'_>) -> Option<Candidate>
         ensures next { IfSome result (λ c. IsNextFor c.turns c.thread (length machine.now.state.threads) self.now) }
         ensures some { IfSome result (λ c. 1 ≤ c.turns) }
     {
         match &self.rule {
             Rule::RoundRobin(turns) => turns.candidate(machine),
+            Rule::Alone => candidate_alone(machine),
             Rule::Listed(_) | Rule::Seeded(_) => None,
         }
     }
 
     /// Counts so many choices of a candidate on end, which was enabled each time.
-    #[tactic(auto, using(crate::proofs::Candidates::listed_stays, crate::proofs::Candidates::seeded_stays))]
+    #[tactic(auto, using(crate::proofs::Candidates::listed_stays, crate::proofs::Candidates::seeded_stays, crate::proofs::Alone::alone_stays))]
     pub fn count(&mut self, chosen: ThreadId, times: u64)
         ensures { self.new ≡ counted_times times chosen self.old }
     {

@@ -194,3 +194,20 @@ fn random_words_name_enabled_threads(rt: HostRuntime) -> Result<(), Fail> {
     ];
     are_chosen(&rt, alloc, "seed:0042:9223372036854775862", &turns)
 }
+
+#[test]
+fn thread_0_alone_is_chosen_while_it_is_enabled(rt: HostRuntime) -> Result<(), Fail> {
+    let cases: [(&[bool], Option<ThreadId>); 5] = [
+        (&[true], Some(0)),
+        (&[true, true], Some(0)),
+        (&[false, true], None),
+        (&[], None),
+        (&[true, false, true], Some(0)),
+    ];
+    let mut chooser = Chooser::alone();
+    for (enabled, chosen) in cases {
+        let count = u32::try_from(enabled.len()).unwrap_or(0);
+        assert_eq!(rt; chooser.choose(&Flags { enabled, count }), chosen);
+    }
+    Ok(())
+}

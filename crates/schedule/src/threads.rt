@@ -2,7 +2,7 @@
 
 ghost use Rattle.std.specs.Prelude.{◌≡◌, ℕ, ◌-◌, Bool, length, slice_get};
 ghost use Rattle.std.specs.List.{find, range_with_len};
-ghost use Rattle.schedule.specs.Choosers.{enabled_of, next_of};
+ghost use Rattle.schedule.specs.Choosers.{alone, enabled_of, next_of};
 ghost use Rattle.schedule.specs.Enabled.{can_go_on};
 
 use jvms_machine::machine::ThreadId;
@@ -69,6 +69,17 @@ pub(crate) fn next_enabled<T: Threads>(threads: &T, thread: ThreadId) -> Option<
         Some(next) => Some(next),
         None => first_enabled(threads, 0, thread + 1),
     }
+}
+
+/// Returns thread 0 if it is enabled.
+#[tactic(auto, using(crate::proofs::Alone::first_is_alone, crate::proofs::Alone::none_is_alone))]
+pub(crate) fn alone<T: Threads>(threads: &T) -> Option<ThreadId>
+    ensures { result ≡ alone (enabled_of (T.passes threads.now) (T.count threads.now)) }
+{
+    if threads.count() == 0 || !threads.is_enabled(0) {
+        return None;
+    }
+    Some(0)
 }
 
 /// How many threads are enabled.

@@ -1,0 +1,20 @@
+-- Why a program wasn't run is a fault of all of it.
+use Rattle.std.proofs.Common.{ℕ, ap}
+use Rattle.std.specs.Prelude.{Result}
+use Rattle.jvms_machine.specs.Opening.{NotMade}
+use Rattle.machine.specs.declared.fault.MachineFault.TheVariants as machine_fault
+use Rattle.program_runs.specs.declared.fault.ProgramFault.{ProgramFault}
+use Rattle.program_runs.specs.declared.fault.ProgramFault.TheVariants as program_fault
+use Rattle.program_runs.specs.Faults.{IsProgramFault}
+use Rattle.judge.specs.Faults.{IsFault, NamesFile, judge_fault_of}
+use Rattle.judge.specs.Programs.{not_made, refused}
+
+pub not_run : {A : Type 0} → (fault : ProgramFault) → (shown : Result A NotMade) → IsProgramFault fault shown → IsFault (judge_fault_of fault) (refused not_made shown)
+not_run (program_fault.Machine machine_fault.NoEntry) shown is = ap (refused not_made) is
+not_run (program_fault.Machine machine_fault.Limits) shown is = ap (refused not_made) is
+not_run (program_fault.Machine machine_fault.Memory) shown is = tt
+not_run program_fault.Memory shown is = tt
+
+pub names_none : (files : ℕ) (fault : ProgramFault) → NamesFile files (judge_fault_of fault)
+names_none files (program_fault.Machine fault) = tt
+names_none files program_fault.Memory = tt

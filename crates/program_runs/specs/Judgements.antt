@@ -1,0 +1,50 @@
+-- What is said of a trace by the lines of a specification (Velodrome, sections 3 and 4).
+use Rattle.std.specs.Prelude.{◌≡◌, List, [], ◌∷◌, ◌++◌, length, None, Result, Ok, Err, IsTrue}
+use Rattle.jvms_program.specs.Program.{IsProgram}
+use Rattle.jvms_machine.specs.declared.trace.Item.{Item}
+use Rattle.jvms_machine.specs.Limits.{are_limits}
+use Rattle.jvms_machine.specs.Start.{IsStart}
+use Rattle.machine.specs.Machine.{Machine}
+use Rattle.machine.specs.Started.{opened}
+use Rattle.velodrome.specs.Specification.{Specification}
+use Rattle.velodrome.specs.Transactions.{walk}
+use Rattle.velodrome.specs.Verdicts.{IsVerdict}
+use Rattle.atom_graph.specs.Checking.{Fed, fault_of}
+use Rattle.program_runs.specs.declared.feeding.Judgement.{Judgement}
+use Rattle.program_runs.specs.Shown.{Shown}
+
+-- The verdict on the trace's transactions, and how many events and transactions they are.
+pub record IsJudgementBy (lines : Specification) (items : List Item) (j : Judgement) : Type 0 where
+  pub verdict : IsVerdict (walk lines items) j.verdict
+  pub events : j.counts.events ≡ length (walk lines items).events
+  pub transactions : j.counts.transactions ≡ (walk lines items).transactions
+
+-- There is a run, and this is the judgement on its items.
+abbrev pub IsJudgementIn : {E : Type 0} → Specification → Result Shown E → Judgement → Type 0
+IsJudgementIn lines (Ok shown) j = IsJudgementBy lines shown.items j
+IsJudgementIn lines (Err why) j = ⊥
+
+-- What a checker was fed, followed by more.
+abbrev pub with_items : List Item → Fed → Fed
+with_items more fed = record { lines = fed.lines; items = fed.items ++ more }
+
+-- There is a run, and a checker of these lines was fed its items.
+abbrev pub IsFedWith : {E : Type 0} → Result Shown E → Specification → Fed → Type 0
+IsFedWith (Ok shown) lines fed = fed ≡ record { lines = lines; items = shown.items }
+IsFedWith (Err why) lines fed = ⊥
+
+-- A checker takes each of these items after those before it.
+abbrev pub MayFollow : Fed → List Item → Type 0
+MayFollow fed items =
+    (before after : List Item) (i : Item) → items ≡ before ++ i ∷ after → fault_of (with_items before fed) i ≡ None
+
+-- The same, of a checker that wasn't fed yet.
+abbrev pub MayBeFed : Specification → List Item → Type 0
+MayBeFed lines items = MayFollow (record { lines = lines; items = [] }) items
+
+-- A machine before its first turn.
+pub record IsOpened (m : Machine) : Type 0 where
+  pub classes : IsProgram m.program
+  pub limits : IsTrue (are_limits m.limits)
+  pub start : IsStart m.start
+  pub state : m ≡ opened m.program m.limits m.start

@@ -1,0 +1,3 @@
+pub mod Faults
+pub mod Judgements
+pub mod Shown

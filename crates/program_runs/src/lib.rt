@@ -1,0 +1,15 @@
+//! Runs of a program from an entry, by the choices of a chooser: how they end, what they leave, and whether they are
+//! atomic.
+#![tactic(auto)]
+
+mod checking;
+mod ending;
+mod fault;
+mod feeding;
+mod tracing;
+
+pub use checking::{CheckedRun, check_program, check_turns, feed_program};
+pub use ending::run_program;
+pub use fault::ProgramFault;
+pub use feeding::{Judgement, feed_items, judgement_of};
+pub use tracing::{TracedRun, trace_program};
