@@ -133,11 +133,11 @@ fn program_words<'a>(
     })
 }
 
-/// The words of `eval`, whose entry is no main class.
-fn eval_words<'a>(alloc: Global, matches: &ArgMatches<'a>) -> Result<ProgramWords<'a>, WordsFault> {
+/// Returns the command `eval`. Its entry is no main class.
+fn eval_command<'a>(alloc: Global, matches: &ArgMatches<'a>) -> Result<Command<'a>, WordsFault> {
     let words = program_words(alloc, matches)?;
     match words.entry {
-        Entry::Static { .. } => Ok(words),
+        Entry::Static { .. } => Ok(Command::Eval(words)),
         Entry::Main { .. } => Err(WordsFault::Words),
     }
 }
@@ -165,19 +165,27 @@ fn run_words<'a>(
     })
 }
 
-fn check_words<'a>(matches: &ArgMatches<'a>) -> Result<CheckWords<'a>, WordsFault> {
-    Ok(CheckWords {
+/// Returns the command `run`.
+fn run_command<'a>(alloc: Global, matches: &ArgMatches<'a>) -> Result<Command<'a>, WordsFault> {
+    let spec = matches.get_str(SPECIFICATION);
+    Ok(Command::Run(run_words(alloc, matches, spec)?))
+}
+
+/// Returns the command `check`.
+fn check_command<'a>(matches: &ArgMatches<'a>) -> Result<Command<'a>, WordsFault> {
+    Ok(Command::Check(CheckWords {
         spec: matches.get_str(SPECIFICATION).ok_or(WordsFault::Words)?,
         trace: matches.get_str(TRACE).ok_or(WordsFault::Words)?,
         serial: matches.get_flag(SERIAL),
-    })
+    }))
 }
 
-fn asm_words<'a>(matches: &ArgMatches<'a>) -> Result<AsmWords<'a>, WordsFault> {
-    Ok(AsmWords {
+/// Returns the command `asm`.
+fn asm_command<'a>(matches: &ArgMatches<'a>) -> Result<Command<'a>, WordsFault> {
+    Ok(Command::Asm(AsmWords {
         input: matches.get_str(INPUT).ok_or(WordsFault::Words)?,
         output: matches.get_str(OUTPUT).ok_or(WordsFault::Words)?,
-    })
+    }))
 }
 
 /// The FILE of `list`.
@@ -232,15 +240,12 @@ fn matched<'a>(
     matches: &ArgMatches<'a>,
 ) -> Result<Command<'a>, WordsFault> {
     match name {
-        "eval" => Ok(Command::Eval(eval_words(alloc, matches)?)),
-        "run" => {
-            let spec = matches.get_str(SPECIFICATION);
-            Ok(Command::Run(run_words(alloc, matches, spec)?))
-        }
+        "eval" => eval_command(alloc, matches),
+        "run" => run_command(alloc, matches),
         "trace" => Ok(Command::Trace(run_words(alloc, matches, None)?)),
         "debug" => Ok(Command::Debug(run_words(alloc, matches, None)?)),
-        "check" => Ok(Command::Check(check_words(matches)?)),
-        "asm" => Ok(Command::Asm(asm_words(matches)?)),
+        "check" => check_command(matches),
+        "asm" => asm_command(matches),
         "list" => Ok(Command::List(list_word(matches)?)),
         _ => Err(WordsFault::Words),
     }

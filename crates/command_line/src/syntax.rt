@@ -115,7 +115,13 @@ fn with<'a>(
     commands: Command<'a>,
     command: Result<Command<'a>, AllocError>,
 ) -> Result<Command<'a>, AllocError> {
-    commands.subcommand(command?)
+    match command {
+        Ok(command) => commands.subcommand(command),
+        Err(error) => {
+            drop(commands);
+            Err(error)
+        }
+    }
 }
 
 /// Adds the commands that run a program.

@@ -36,6 +36,15 @@ impl<'e, E: ByteOut> TerminalPrompt<'e, E> {
         }
     }
 
+    /// Shows the prompt at a position. Shows the first line of the session before the first prompt.
+    fn ask_at(&mut self, position: usize, turns: usize) {
+        if !self.is_greeted {
+            self.is_greeted = true;
+            self.show(greeting(self.alloc, self.schedule, turns));
+        }
+        self.show(prompt_at(self.alloc, position, turns));
+    }
+
     /// Shows a text, if there was memory for it.
     fn show(&mut self, text: Result<String, AllocError>) {
         if let Ok(text) = text {
@@ -77,12 +86,7 @@ fn hint_of(answer: &str) -> Option<&'static str> {
 
 impl<E: ByteOut> Prompt for TerminalPrompt<'_, E> {
     fn ask(&mut self, session: &Session<'_>) {
-        let turns = session.choices().len();
-        if !self.is_greeted {
-            self.is_greeted = true;
-            self.show(greeting(self.alloc, self.schedule, turns));
-        }
-        self.show(prompt_at(self.alloc, session.position(), turns));
+        self.ask_at(session.position(), session.choices().len());
     }
 
     fn explain(&mut self, answer: &str) {

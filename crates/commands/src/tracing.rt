@@ -2,6 +2,7 @@
 
 ghost use Rattle.std.specs.Prelude.{◌≡◌, ◌≢◌, ◌+◌, IfOk, IfErr, OnOk, IsErrOf, length};
 ghost use Rattle.std.specs.Io.KnownBytes.{Appends};
+ghost use Rattle.trace.specs.Bytes.{AppendsBeginning};
 ghost use Rattle.trace_text.specs.Traces.{trace_text};
 ghost use Rattle.judge.specs.Shown.{run_judged};
 ghost use Rattle.program_runs.specs.Shown.{shown_in};
@@ -11,12 +12,30 @@ ghost use Rattle.commands.specs.Limits.{default_limits};
 use crate::fault::RunFault;
 use crate::limits::DEFAULT_LIMITS;
 use inputs::Input;
-use judge::{Judged, judge};
+use judge::{JudgeFault, Judged, judge};
 use jvms_machine::machine::Entry;
 use schedule::Chooser;
 use std::alloc::Global;
-use trace::ByteOut;
+use trace::{ByteOut, Trace};
 use turn_limit::TurnLimit;
+
+/// Writes the text of a trace.
+fn write_items<W: ByteOut>(alloc: Global, trace: &Trace, output: &mut W) -> Result<(), RunFault>
+    ensures written { OnOk result
+        (Appends (W.written output.old) (W.written output.new) (trace_text trace.now)) }
+    ensures count { OnOk result (W.failures output.new ≡ W.failures output.old) }
+    ensures beginning { IsErrOf result RunFault.Output
+        → AppendsBeginning (W.written output.old) (W.written output.new) (trace_text trace.now) }
+    ensures failed { IsErrOf result RunFault.Output
+        → W.failures output.new ≡ W.failures output.old + 1 }
+    ensures named { IfErr result (λ fault. NamesFile 0 fault) }
+    ensures untouched { IfErr result (λ fault. fault ≢ RunFault.Output
+        → (fault ≡ RunFault.Judge JudgeFault.Memory) × (output.new ≡ output.old)) }
+{
+    let text = trace_text::write(alloc, trace)?;
+    output.write_all(text.as_bytes())?;
+    Ok(())
+}
 
 /// Runs the program that class files and sources make, by the choices of a chooser, at most this number of them, and
 /// writes the text of its trace: one item a line.
@@ -43,7 +62,11 @@ pub fn write_trace<W: ByteOut>(
     ensures beginning { IsErrOf result RunFault.Output → WroteBeginning (run_judged most chooser.old default_limits inputs.now entry.now) (λ shown. trace_text shown.items) (W.written output.old) (W.written output.new) }
 {
     let judged = judge(alloc, inputs, DEFAULT_LIMITS, entry, chooser, most, None)?;
-    let text = trace_text::write(alloc, &judged.run.trace)?;
-    output.write_all(text.as_bytes())?;
-    Ok(judged)
+    match write_items(alloc, &judged.run.trace, output) {
+        Ok(()) => Ok(judged),
+        Err(fault) => {
+            drop(judged);
+            Err(fault)
+        }
+    }
 }

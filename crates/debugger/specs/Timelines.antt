@@ -1,5 +1,5 @@
 -- The timeline of a session: its choices, the machine at its position, and its checkpoints.
-use Rattle.std.specs.Prelude.{◌≡◌, ℕ, ◌≤◌, ◌<◌, ◌^◌, max, List, length}
+use Rattle.std.specs.Prelude.{◌≡◌, ℕ, ◌+◌, ◌≤◌, ◌<◌, ◌^◌, max, List, length, take}
 use Rattle.std.specs.Vec.{vec_capacity}
 use Rattle.debugger.specs.declared.reach.Reach.{Reach}
 use Rattle.debugger.specs.declared.replay.Replay.{Replay}
@@ -64,6 +64,21 @@ pub record IsAlong (t : Timeline) (r : Replay) (x : Reach) : Type 0 where
 pub record IsWalkOf (t : Timeline) (w : Walk) : Type 0 where
   pub walk : IsWalk (setting t) t.choices.items w
   pub along : IsAlong t w.replay w.reach
+
+-- Choices with another in place of those after the position.
+pub record IsBranch (t : Timeline) (choices : List ℕ) : Type 0 where
+  pub same : take t.position choices ≡ take t.position t.choices.items
+  pub count : length choices ≡ t.position + 1
+
+-- A walk along a branch that begins at the position.
+pub record BeginsBranch (t : Timeline) (choices : List ℕ) (w : Walk) : Type 0 where
+  pub walk : IsWalk (setting t) choices w
+  pub setting : setting_of w.replay.mark.machine ≡ setting t
+  pub position : w.replay.position ≡ t.position
+  pub made : w.replay.made ≡ 0
+  pub from : w.reach.from ≡ t.position
+  pub base : w.reach.base ≡ t.spacing
+  pub most : w.reach.most ≡ t.most
 
 -- The extent of a timeline that has moved to where a replay is.
 abbrev pub moved : Extent → Replay → Reach → Extent

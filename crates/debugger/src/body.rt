@@ -1,8 +1,8 @@
 //! The parts of a session, and its moves.
 
 ghost use Rattle.std.specs.Prelude.{◌≡◌, ◌+◌, ◌<◌, ◌≤◌, min, max, length, OnOk, OnErr};
-ghost use Rattle.debugger.specs.Sessions.{IsBody, moved_by, seen, session_of};
-ghost use Rattle.debugger.specs.Timelines.{IsWalkOf, setting};
+ghost use Rattle.debugger.specs.Sessions.{IsBody, moved_by, on_branch, seen, session_of};
+ghost use Rattle.debugger.specs.Timelines.{BeginsBranch, IsBranch, IsWalkOf, setting};
 ghost use Rattle.debugger_commands.specs.Sessions.{continued, continued_back, picked};
 
 use crate::timeline::Timeline;
@@ -27,20 +27,19 @@ pub(crate) struct Body<'p> {
 
 impl<'p> Body<'p> {
     /// Moves to where a walk is, and keeps what it brings. Without memory nothing changes.
-    fn settle(&mut self, walk: Walk<'p>) -> Result<(), AllocError>
+    fn settle(&mut self, walk: &mut Walk<'p>) -> Result<(), AllocError>
         requires body { IsBody self.old }
-        requires walk { IsWalkOf self.old.timeline walk }
+        requires walk { IsWalkOf self.old.timeline walk.old }
         ensures body { IsBody self.new }
-        ensures seen { OnOk result (seen self.new ≡ moved_by (seen self.old) walk.entry.replay
-            walk.entry.reach) }
+        ensures seen { OnOk result (seen self.new ≡ moved_by (seen self.old) walk.old.replay
+            walk.old.reach) }
         ensures kept { OnErr result (seen self.new ≡ seen self.old) }
     {
-        let replay = walk.replay;
-        let reach = walk.reach;
-        self.trace.replace_after(self.trace.len(), walk.items)?;
+        self.trace
+            .replace_after(self.trace.len(), walk.take_items())?;
         let _ = self.trace.len();
-        self.replayed = replay.made;
-        self.timeline.arrive(replay, reach);
+        self.replayed = walk.replay.made;
+        self.timeline.arrive(&mut walk.replay, &mut walk.reach);
         Ok(())
     }
 
@@ -58,9 +57,10 @@ impl<'p> Body<'p> {
             < place + self.new.timeline.spacing) }
         ensures kept { OnErr result (seen self.new ≡ seen self.old) }
     {
-        let walk = self.timeline.walk_to(place)?;
-        self.settle(walk)?;
-        Ok(())
+        let mut walk = self.timeline.walk_to(place)?;
+        let settled = self.settle(&mut walk);
+        drop(walk);
+        settled
     }
 
     /// Moves to the next hit, or to the end if there is none. Without memory nothing changes.
@@ -79,9 +79,10 @@ impl<'p> Body<'p> {
             ≤ self.new.timeline.position) }
         ensures kept { OnErr result (seen self.new ≡ seen self.old) }
     {
-        let walk = self.timeline.walk_to_hit(&self.breakpoints)?;
-        self.settle(walk)?;
-        Ok(())
+        let mut walk = self.timeline.walk_to_hit(&self.breakpoints)?;
+        let settled = self.settle(&mut walk);
+        drop(walk);
+        settled
     }
 
     /// Moves to the nearest hit before the position, or to 0 if there is none. Without memory nothing changes.
@@ -104,6 +105,55 @@ impl<'p> Body<'p> {
         Ok(())
     }
 
+    /// Walks along a branch, and takes its choices. Without memory nothing changes.
+    fn settle_on_branch(
+        &mut self,
+        choices: &mut Vec<ThreadId>,
+        walk: &mut Walk<'p>,
+    ) -> Result<(), AllocError>
+        requires body { IsBody self.old }
+        requires branch { IsBranch self.old.timeline choices.old.items }
+        requires walk { BeginsBranch self.old.timeline choices.old.items walk.old }
+        ensures body { IsBody self.new }
+        ensures setting { setting self.new.timeline ≡ setting self.old.timeline }
+        ensures session { OnOk result (session_of self.new
+            ≡ on_branch (session_of self.old) choices.old.items) }
+        ensures most { OnOk result (self.new.timeline.most ≡ max self.old.timeline.most
+            (self.old.timeline.position + 1)) }
+        ensures far { OnOk result (self.new.timeline.far ≡ self.old.timeline.position + 1) }
+        ensures replayed { OnOk result (self.new.replayed ≡ 1) }
+        ensures kept { OnErr result (seen self.new ≡ seen self.old) }
+    {
+        walk.advance(choices, self.timeline.position + 1)?;
+        self.trace
+            .replace_after(self.timeline.here.items, walk.take_items())?;
+        let _ = self.trace.len();
+        self.replayed = walk.replay.made;
+        self.timeline.cut(choices);
+        self.timeline.arrive(&mut walk.replay, &mut walk.reach);
+        Ok(())
+    }
+
+    /// Takes the choices of a branch, and moves after the one at the position. Without memory nothing changes.
+    fn take_branch(&mut self, choices: &mut Vec<ThreadId>) -> Result<(), AllocError>
+        requires body { IsBody self.old }
+        requires branch { IsBranch self.old.timeline choices.old.items }
+        ensures body { IsBody self.new }
+        ensures setting { setting self.new.timeline ≡ setting self.old.timeline }
+        ensures session { OnOk result (session_of self.new
+            ≡ on_branch (session_of self.old) choices.old.items) }
+        ensures most { OnOk result (self.new.timeline.most ≡ max self.old.timeline.most
+            (self.old.timeline.position + 1)) }
+        ensures far { OnOk result (self.new.timeline.far ≡ self.old.timeline.position + 1) }
+        ensures replayed { OnOk result (self.new.replayed ≡ 1) }
+        ensures kept { OnErr result (seen self.new ≡ seen self.old) }
+    {
+        let mut walk = self.timeline.begin_branch(choices)?;
+        let settled = self.settle_on_branch(choices, &mut walk);
+        drop(walk);
+        settled
+    }
+
     /// Cuts the choices at the position, appends one, and moves after it. Without memory nothing changes.
     pub(crate) fn pick(&mut self, t: ThreadId) -> Result<(), AllocError>
         requires body { IsBody self.old }
@@ -116,19 +166,7 @@ impl<'p> Body<'p> {
         ensures replayed { OnOk result (self.new.replayed ≡ 1) }
         ensures kept { OnErr result (seen self.new ≡ seen self.old) }
     {
-        let timeline = &self.timeline;
-        let position = timeline.position;
-        let choices = timeline.choices_with(t)?;
-        let mut walk = timeline.begin(&choices, &timeline.here, position, position)?;
-        walk.advance(&choices, position + 1)?;
-        let replay = walk.replay;
-        let reach = walk.reach;
-        self.trace
-            .replace_after(self.timeline.here.items, walk.items)?;
-        let _ = self.trace.len();
-        self.replayed = replay.made;
-        self.timeline.cut(choices);
-        self.timeline.arrive(replay, reach);
-        Ok(())
+        let mut choices = self.timeline.choices_with(t)?;
+        self.take_branch(&mut choices)
     }
 }

@@ -14,17 +14,17 @@ use jvms_machine::machine::ThreadId;
 
 impl Body<'_> {
     /// Adds a breakpoint at a place.
-    fn break_at(&mut self, place: Place) -> Result<View, DebugFault>
+    fn break_at(&mut self, place: &Place) -> Result<View, DebugFault>
         requires { IsBody self.old }
         ensures body { IsBody self.new }
-        ensures did { IfOk result (λ view. Did (command.Break place) (seen self.old)
+        ensures did { IfOk result (λ view. Did (command.Break place.now) (seen self.old)
             (seen self.new) view) }
-        ensures refused { IfErr result (λ fault. IsRefused (command.Break place)
+        ensures refused { IfErr result (λ fault. IsRefused (command.Break place.now)
             (seen self.old) fault) }
         ensures kept { OnErr result (seen self.new ≡ seen self.old) }
     {
         let program = self.timeline.here.machine.program();
-        let Some(method) = method_of_place(program, &place) else {
+        let Some(method) = method_of_place(program, place) else {
             return Err(DebugFault::NoPlace);
         };
         if self.next > u32::MAX as u64 {
@@ -97,12 +97,12 @@ impl Body<'_> {
     }
 
     /// Shows a class.
-    fn show_class(&mut self, name: Option<Text>) -> Result<View, DebugFault>
+    fn show_class(&mut self, name: &Option<Text>) -> Result<View, DebugFault>
         requires { IsBody self.old }
         ensures body { IsBody self.new }
-        ensures did { IfOk result (λ view. Did (command.Class name) (seen self.old)
+        ensures did { IfOk result (λ view. Did (command.Class name.now) (seen self.old)
             (seen self.new) view) }
-        ensures refused { IfErr result (λ fault. IsRefused (command.Class name)
+        ensures refused { IfErr result (λ fault. IsRefused (command.Class name.now)
             (seen self.old) fault) }
         ensures kept { OnErr result (seen self.new ≡ seen self.old) }
     {
@@ -117,27 +117,27 @@ impl Body<'_> {
     }
 
     /// Carries a command out. Where it is refused nothing changes.
-    pub(crate) fn carry_out(&mut self, command: Command) -> Result<View, DebugFault>
+    pub(crate) fn carry_out(&mut self, command: &Command) -> Result<View, DebugFault>
         requires { IsBody self.old }
         ensures body { IsBody self.new }
-        ensures did { IfOk result (λ view. Did command (seen self.old) (seen self.new) view) }
-        ensures refused { IfErr result (λ fault. IsRefused command (seen self.old) fault) }
+        ensures did { IfOk result (λ view. Did command.now (seen self.old) (seen self.new) view) }
+        ensures refused { IfErr result (λ fault. IsRefused command.now (seen self.old) fault) }
         ensures kept { OnErr result (seen self.new ≡ seen self.old) }
     {
         let position = self.timeline.position;
         let end = self.timeline.choices.len();
         let moved = match command {
-            Command::Step(n) => self.go_to((position + n as usize).min(end)),
-            Command::Back(n) => self.go_to(position.saturating_sub(n as usize).min(end)),
-            Command::Goto(n) => self.go_to((n as usize).min(end)),
+            Command::Step(n) => self.go_to((position + *n as usize).min(end)),
+            Command::Back(n) => self.go_to(position.saturating_sub(*n as usize).min(end)),
+            Command::Goto(n) => self.go_to((*n as usize).min(end)),
             Command::Continue => self.go_to_hit(),
             Command::ReverseContinue => self.go_back_to_hit(),
-            Command::Pick(t) => self.pick(t),
+            Command::Pick(t) => self.pick(*t),
             Command::Break(place) => return self.break_at(place),
-            Command::Delete(k) => return self.delete(k),
+            Command::Delete(k) => return self.delete(*k),
             Command::Threads => return Ok(self.show(View::Threads)),
-            Command::Frames(t) => return self.show_frames(t),
-            Command::Object(r) => return self.show_object(r),
+            Command::Frames(t) => return self.show_frames(*t),
+            Command::Object(r) => return self.show_object(*r),
             Command::Class(name) => return self.show_class(name),
             Command::Trace => return Ok(self.show(View::Trace)),
             Command::Output => return Ok(self.show(View::Output)),

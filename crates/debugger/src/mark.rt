@@ -1,6 +1,7 @@
 //! Checkpoints.
 
-ghost use Rattle.std.specs.Prelude.{◌≡◌, ℕ, ◌+◌, ◌*◌, ◌^◌, ◌<◌, length, IfOk, slice_index_or};
+ghost use Rattle.std.specs.Prelude.{◌≡◌, ℕ, ◌+◌, ◌*◌, ◌^◌, ◌<◌, ◌≤◌, ◌++◌, ◌∷◌, [], length};
+ghost use Rattle.std.specs.Prelude.{slice_index_or, IfOk, OnOk};
 ghost use Rattle.std.specs.Vec.{vec_capacity};
 ghost use Rattle.debugger.specs.declared.mark.Mark.{Mark as Seen};
 
@@ -29,6 +30,15 @@ impl<'p> Mark<'p> {
             outcome: self.outcome,
         })
     }
+}
+
+/// Appends a copy of a mark.
+pub(crate) fn push_copy<'p>(marks: &mut Vec<Mark<'p>>, mark: &Mark<'p>) -> Result<(), AllocError>
+    ensures marks { OnOk result (marks.new.items ≡ marks.old.items ++ mark.now ∷ []) }
+    ensures room { OnOk result (vec_capacity marks.old ≤ vec_capacity marks.new) }
+{
+    marks.push(mark.copy()?)?;
+    Ok(())
 }
 
 /// Keeps each mark whose index is `first` and a multiple of `ratio`, and drops the others.

@@ -1,7 +1,7 @@
 //! Walks to positions.
 
 ghost use Rattle.std.specs.Prelude.{◌≡◌, ◌+◌, ◌*◌, ◌<◌, ◌≤◌, max, min, length, unwrap_or};
-ghost use Rattle.std.specs.Prelude.{IfOk, IfSome};
+ghost use Rattle.std.specs.Prelude.{IfOk, IfSome, OnOk};
 ghost use Rattle.debugger.specs.Hits.{hit_after, hits, nearest_before};
 ghost use Rattle.debugger.specs.Timelines.{IsTimeline, IsWalkOf, setting};
 
@@ -46,6 +46,24 @@ impl<'p> Timeline<'p> {
         self.start(&self.checkpoints[number], before)
     }
 
+    /// Continues a walk to a position.
+    fn continue_to(&self, walk: &mut Walk<'p>, place: usize) -> Result<(), AllocError>
+        requires walk { IsWalkOf self.now walk.old }
+        requires forward { walk.old.replay.position ≤ place }
+        requires within { place ≤ length self.now.choices.items }
+        ensures walk { OnOk result (IsWalkOf self.now walk.new) }
+        ensures position { OnOk result (walk.new.replay.position ≡ place) }
+        ensures most { OnOk result (walk.new.reach.most ≡ max walk.old.reach.most place) }
+        ensures made { OnOk result (walk.new.replay.made + walk.old.replay.position
+            ≡ walk.old.replay.made + place) }
+    {
+        self.aim(walk, place);
+        while walk.replay.position < place {
+            self.advance(walk, place)?;
+        }
+        Ok(())
+    }
+
     /// Walks to a position.
     pub(crate) fn walk_to(&self, place: usize) -> Result<Walk<'p>, AllocError>
         requires timeline { IsTimeline self.now }
@@ -59,11 +77,42 @@ impl<'p> Timeline<'p> {
             → w.replay.made + self.now.position ≤ place) }
     {
         let mut walk = self.nearest(place)?;
-        self.aim(&mut walk, place);
-        while walk.replay.position < place {
-            self.advance(&mut walk, place)?;
+        match self.continue_to(&mut walk, place) {
+            Ok(()) => Ok(walk),
+            Err(error) => {
+                drop(walk);
+                Err(error)
+            }
         }
-        Ok(walk)
+    }
+
+    /// Continues a walk from the position to the next hit, or to the end if there is none.
+    fn continue_to_hit(
+        &self,
+        walk: &mut Walk<'p>,
+        breakpoints: &[Breakpoint],
+    ) -> Result<(), AllocError>
+        requires timeline { IsTimeline self.now }
+        requires walk { IsWalkOf self.now walk.old }
+        requires position { walk.old.replay.position ≡ self.now.position }
+        requires made { walk.old.replay.made ≡ 0 }
+        requires most { walk.old.reach.most ≡ self.now.most }
+        ensures walk { OnOk result (IsWalkOf self.now walk.new) }
+        ensures position { OnOk result (walk.new.replay.position
+            ≡ hit_after (setting self.now) self.now.choices.items breakpoints.now
+            self.now.position) }
+        ensures most { OnOk result (walk.new.reach.most
+            ≡ max self.now.most walk.new.replay.position) }
+        ensures made { OnOk result (walk.new.replay.made + self.now.position
+            ≤ walk.new.replay.position) }
+    {
+        for position in self.position..self.choices.len() {
+            self.advance(walk, position + 1)?;
+            if self.is_hit(&walk.replay, breakpoints) {
+                return Ok(());
+            }
+        }
+        Ok(())
     }
 
     /// Walks to the next hit, or to the end if there is none.
@@ -78,13 +127,13 @@ impl<'p> Timeline<'p> {
         ensures made { IfOk result (λ w. w.replay.made + self.now.position ≤ w.replay.position) }
     {
         let mut walk = self.start(&self.here, self.position)?;
-        for position in self.position..self.choices.len() {
-            self.advance(&mut walk, position + 1)?;
-            if self.is_hit(&walk.replay, breakpoints) {
-                return Ok(walk);
+        match self.continue_to_hit(&mut walk, breakpoints) {
+            Ok(()) => Ok(walk),
+            Err(error) => {
+                drop(walk);
+                Err(error)
             }
         }
-        Ok(walk)
     }
 
     /// Walks to the next hit, or to the end if there is none. Without a breakpoint no position is looked at.
@@ -103,6 +152,39 @@ impl<'p> Timeline<'p> {
             return Ok(walk);
         }
         self.walk_by_turns(breakpoints)
+    }
+
+    /// Finds the last hit from a walk's position on and before an end, if there is one. Continues the walk to the end.
+    fn last_hit_along(
+        &self,
+        walk: &mut Walk<'p>,
+        breakpoints: &[Breakpoint],
+        start: usize,
+        end: usize,
+    ) -> Result<LastHit, AllocError>
+        requires timeline { IsTimeline self.now }
+        requires within { end ≤ self.now.position }
+        requires start { start < end }
+        requires walk { IsWalkOf self.now walk.old }
+        requires position { walk.old.replay.position ≡ start }
+        requires made { walk.old.replay.made ≡ 0 }
+        ensures hit { IfOk result (λ h. nearest_before (setting self.now) self.now.choices.items
+            breakpoints.now end ≡ unwrap_or h.position
+            (nearest_before (setting self.now) self.now.choices.items breakpoints.now start)) }
+        ensures within { IfOk result (λ h. IfSome h.position (λ p. p < end)) }
+        ensures made { IfOk result (λ h. h.made + start ≡ end) }
+    {
+        let mut hit = None;
+        for position in start..end {
+            if self.is_hit(&walk.replay, breakpoints) {
+                hit = Some(position);
+            }
+            self.advance(walk, position + 1)?;
+        }
+        Ok(LastHit {
+            position: hit,
+            made: walk.replay.made,
+        })
     }
 
     /// Finds the last hit from the checkpoint of a number on and before an end, if there is one.
@@ -124,17 +206,9 @@ impl<'p> Timeline<'p> {
     {
         let start = number * self.spacing;
         let mut walk = self.start(&self.checkpoints[number], start)?;
-        let mut hit = None;
-        for position in start..end {
-            if self.is_hit(&walk.replay, breakpoints) {
-                hit = Some(position);
-            }
-            self.advance(&mut walk, position + 1)?;
-        }
-        Ok(LastHit {
-            position: hit,
-            made: walk.replay.made,
-        })
+        let hit = self.last_hit_along(&mut walk, breakpoints, start, end);
+        drop(walk);
+        hit
     }
 
     /// Finds the nearest hit before the position, or 0 if there is none: from the last checkpoint before the position back

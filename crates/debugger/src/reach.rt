@@ -7,7 +7,7 @@ ghost use Rattle.debugger.specs.Marks.{mark_at, AreMarks};
 ghost use Rattle.debugger.specs.States.{setting_of};
 ghost use Rattle.debugger.specs.Walks.{IsReach};
 
-use crate::mark::{Mark, thin};
+use crate::mark::{Mark, push_copy, thin};
 use crate::replay::Replay;
 use jvms_machine::machine::ThreadId;
 use std::alloc::AllocError;
@@ -121,7 +121,7 @@ impl<'p> Reach<'p> {
         self.grow(choices, &replay.mark, replay.position);
         self.far = replay.position;
         if self.far % self.spacing == 0 {
-            self.fresh.push(replay.mark.copy()?)?;
+            push_copy(&mut self.fresh, &replay.mark)?;
         }
         Ok(())
     }

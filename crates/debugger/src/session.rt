@@ -1,6 +1,7 @@
 //! Sessions.
 
-ghost use Rattle.std.specs.Prelude.{◌≡◌, ◌+◌, ◌/◌, ◌≤◌, IfErr, IfOk, OnErr};
+ghost use Rattle.std.specs.Prelude.{◌≡◌, ◌+◌, ◌/◌, ◌≤◌, ◌∷◌, [], IfErr, IfOk, OnErr};
+ghost use Rattle.std.specs.Vec.{vec_capacity};
 ghost use Rattle.machine.specs.Started.{opened};
 ghost use Rattle.debugger.specs.Commands.{Did, IsRefused};
 ghost use Rattle.debugger.specs.Marks.{IsSpacing};
@@ -9,7 +10,7 @@ ghost use Rattle.debugger.specs.States.{items_at, machine_at, outcome_at, settin
 ghost use Rattle.debugger.specs.Timelines.{IsTimeline, extent, opening_extent};
 
 use crate::body::Body;
-use crate::mark::Mark;
+use crate::mark::{Mark, push_copy};
 use crate::timeline::Timeline;
 use crate::view::View;
 use debugger_commands::{Command, DebugFault};
@@ -41,6 +42,16 @@ impl<'p> Model for Session<'p> {
     ghost invariant = { λ s. IsBody s.body };
 }
 
+/// Makes the checkpoints of a timeline at its begin: the machine there, with room for all others.
+fn first_checkpoints<'p>(alloc: Global, here: &Mark<'p>) -> Result<Vec<Mark<'p>>, AllocError>
+    ensures marks { IfOk result (λ v. v.items ≡ here.now ∷ []) }
+    ensures room { IfOk result (λ v. 64 ≤ vec_capacity v) }
+{
+    let mut checkpoints = Vec::with_capacity(alloc, MOST_CHECKPOINTS)?;
+    push_copy(&mut checkpoints, here)?;
+    Ok(checkpoints)
+}
+
 /// Makes the timeline of some choices at their begin.
 fn timeline_of<'p>(
     alloc: Global,
@@ -57,18 +68,22 @@ fn timeline_of<'p>(
         items: 0,
         outcome: None,
     };
-    let mut checkpoints = Vec::with_capacity(alloc, MOST_CHECKPOINTS)?;
-    checkpoints.push(here.copy()?)?;
-    Ok(Timeline {
-        alloc,
-        choices,
-        position: 0,
-        here,
-        most: 0,
-        far: 0,
-        spacing: 1,
-        checkpoints,
-    })
+    match first_checkpoints(alloc, &here) {
+        Ok(checkpoints) => Ok(Timeline {
+            alloc,
+            choices,
+            position: 0,
+            here,
+            most: 0,
+            far: 0,
+            spacing: 1,
+            checkpoints,
+        }),
+        Err(error) => {
+            drop(here);
+            Err(error)
+        }
+    }
 }
 
 impl<'p> Session<'p> {
@@ -112,7 +127,7 @@ impl<'p> Session<'p> {
         ensures refused { IfErr result (λ fault. IsRefused command self.old fault) }
         ensures kept { OnErr result (self.new ≡ self.old) }
     {
-        self.body.carry_out(command)
+        self.body.carry_out(&command)
     }
 
     /// Returns how many turns the last command took that was not refused.

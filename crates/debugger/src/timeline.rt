@@ -12,6 +12,7 @@ use crate::replay::Replay;
 use crate::walk::Walk;
 use jvms_machine::machine::ThreadId;
 use std::alloc::{AllocError, Global};
+use std::mem;
 use trace::Trace;
 
 /// The choices of a session with the machine at its position and the checkpoints.
@@ -116,36 +117,22 @@ impl<'p> Timeline<'p> {
         Ok(())
     }
 
-    /// Moves to where a replay is, and keeps what it brings.
-    pub(crate) fn arrive(&mut self, replay: Replay<'p>, reach: Reach<'p>)
+    /// Moves to where a replay is, and takes the machine and the checkpoints that it brings.
+    pub(crate) fn arrive(&mut self, replay: &mut Replay<'p>, reach: &mut Reach<'p>)
         requires timeline { IsTimeline self.old }
-        requires along { IsAlong self.old replay reach }
-        requires few { length (items_at (setting self.old) self.old.choices.items reach.far)
+        requires along { IsAlong self.old replay.old reach.old }
+        requires few { length (items_at (setting self.old) self.old.choices.items reach.old.far)
             < 2 ^ 63 }
         ensures timeline { IsTimeline self.new }
-        ensures extent { extent self.new ≡ moved (extent self.old) replay.entry reach.entry }
+        ensures extent { extent self.new ≡ moved (extent self.old) replay.old reach.old }
     {
-        let Reach {
-            from: _,
-            base: _,
-            far,
-            most,
-            spacing,
-            ratio,
-            mut fresh,
-        } = reach;
-        let Replay {
-            mark,
-            position,
-            made: _,
-        } = replay;
-        thin(&mut self.checkpoints, 0, ratio);
-        let kept = self.checkpoints.append(&mut fresh).is_ok();
+        thin(&mut self.checkpoints, 0, reach.ratio);
+        let kept = self.checkpoints.append(&mut reach.fresh).is_ok();
         prove!(kept);
-        self.here = mark;
-        self.position = position;
-        self.most = most;
-        self.far = far;
-        self.spacing = spacing;
+        mem::swap(&mut self.here, &mut replay.mark);
+        self.position = replay.position;
+        self.most = reach.most;
+        self.far = reach.far;
+        self.spacing = reach.spacing;
     }
 }

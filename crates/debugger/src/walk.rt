@@ -8,6 +8,7 @@ use crate::reach::Reach;
 use crate::replay::Replay;
 use jvms_machine::machine::ThreadId;
 use std::alloc::{AllocError, Global};
+use std::mem;
 use trace::{Recording, Trace};
 
 /// The turns whose items, which the session has, are in memory twice at a time.
@@ -24,6 +25,15 @@ pub(crate) struct Walk<'p> {
 }
 
 impl<'p> Walk<'p> {
+    /// Takes the items out of the walk.
+    pub(crate) fn take_items(&mut self) -> Trace
+        ensures items { result ≡ self.old.items }
+        ensures replay { self.new.replay ≡ self.old.replay }
+        ensures reach { self.new.reach ≡ self.old.reach }
+    {
+        mem::replace(&mut self.items, Trace::new(self.alloc))
+    }
+
     /// Takes turns where the session has been.
     fn advance_within(&mut self, choices: &[ThreadId], end: usize) -> Result<(), AllocError>
         requires walk { IsWalk (setting_of self.old.replay.mark.machine) choices.now self.old }

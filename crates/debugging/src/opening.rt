@@ -46,7 +46,9 @@ fn choices_of(
     ensures named { IfErr result (λ fault. NamesFile 0 fault) }
 {
     let mut machine = Machine::new(alloc, program, limits, entry)?;
-    match choices_from(alloc, &mut machine, chooser, most) {
+    let chosen = choices_from(alloc, &mut machine, chooser, most);
+    drop(machine);
+    match chosen {
         Ok(choices) => Ok(choices),
         Err(_) => Err(JudgeFault::Memory),
     }

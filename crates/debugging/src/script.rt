@@ -54,7 +54,9 @@ fn debug_program<R: ByteIn, W: ByteOut, P: Prompt>(
     ensures writes { W.failures output.new ≡ W.failures output.old + failed_writes result }
 {
     let mut session = session_on(alloc, program, limits, entry, chooser, most)?;
-    match run_prompted(alloc, &mut session, input, output, prompt) {
+    let ran = run_prompted(alloc, &mut session, input, output, prompt);
+    drop(session);
+    match ran {
         Ok(()) => Ok(()),
         Err(fault) => Err(DebugStop::Script(fault)),
     }
@@ -111,7 +113,9 @@ pub fn debug<R: ByteIn, W: ByteOut, P: Prompt>(
 {
     let program = program_of(alloc, inputs)?;
     let most = most.turns();
-    debug_program(
+    let debugged = debug_program(
         alloc, &program, limits, entry, chooser, most, input, output, prompt,
-    )
+    );
+    drop(program);
+    debugged
 }

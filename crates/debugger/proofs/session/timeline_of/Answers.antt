@@ -1,4 +1,4 @@
-use Rattle.std.proofs.Common.{◌∷◌, ◌++◌, [], length, None, arith, ap, ◌∙◌, refl}
+use Rattle.std.proofs.Common.{length, None, arith, ap, ◌∙◌, refl}
 use Rattle.machine.specs.Machine.{Machine}
 use Rattle.debugger.specs.declared.mark.Mark.{Mark}
 use Rattle.debugger.specs.Marks.{mark_at}
@@ -7,8 +7,8 @@ use Rattle.debugger.proofs.MarkLaws.{marks_first}
 use Rattle.debugger.proofs.RunLaws.{items_none, mark_opening}
 use Rattle.debugger.proofs.session.timeline_of.Goals as goal
 
-pub returns-clause-timeline : goal.returns-clause-timeline
-returns-clause-timeline c =
+pub returns-in-Ok-clause-timeline : goal.returns-in-Ok-clause-timeline
+returns-in-Ok-clause-timeline c =
     let machine = c.args.machine in
     let choices = c.args.choices.items in
     let g = setting_of machine in
@@ -20,8 +20,7 @@ returns-clause-timeline c =
       bound = omega arith;
       spacing = record { power = (0, refl); positive = omega arith; enough = omega arith; least = λ h. omega arith };
       here = here;
-      checkpoints = marks_first (mark_at g choices) c.push.new.self.items c.in_ok-copy.field-0 (c.in_ok-push.ensures.items ∙ ap (λ l. l ++ c.in_ok-copy.field-0 ∷ []) c.in_ok-checkpoints.ensures.items)
-          (c.in_ok-copy.ensures ∙ here);
-      room = omega (arith, c.in_ok-checkpoints.ensures.exact, c.in_ok-push.ensures.capacity);
+      checkpoints = marks_first (mark_at g choices) c.in-Ok.checkpoints.items _ c.in-Ok.ensures.marks here;
+      room = c.in-Ok.ensures.room;
       few = omega (arith, ap length (items_none g choices));
     }

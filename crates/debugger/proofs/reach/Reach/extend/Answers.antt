@@ -1,11 +1,11 @@
-use Rattle.std.proofs.Common.{◌+◌, ◌/◌, arith, ◌∙◌}
+use Rattle.std.proofs.Common.{◌+◌, ◌/◌, arith}
 use Rattle.debugger.specs.Marks.{mark_at}
 use Rattle.debugger.specs.States.{setting_of}
 use Rattle.debugger.proofs.MarkLaws.{marks_more}
 use Rattle.debugger.proofs.reach.Reach.extend.Goals as goal
 
-pub returns-in_ok-push-clause-reach : goal.returns-in_ok-push-clause-reach
-returns-in_ok-push-clause-reach c =
+pub returns-in_ok-push_copy-clause-reach : goal.returns-in_ok-push_copy-clause-reach
+returns-in_ok-push_copy-clause-reach c =
     let now = c.grow.new.self in
     let is = c.grow.ensures.reach in
     let places = c.grow.ensures.places in
@@ -20,6 +20,6 @@ returns-in_ok-push-clause-reach c =
       ratio_positive = is.ratio_positive;
       ratio_small = is.ratio_small;
       base_small = is.base_small;
-      fresh = marks_more at now.spacing (now.from / now.spacing + 1) now.far position now.fresh.items c.push.new.self.items c.in_ok-copy.field-0 is.spacing.positive (omega (arith, places.1, c.requires.more)) c.grow.ensures.near
-          c.if-self-eq0.true c.in_ok-push.ensures.items (c.in_ok-copy.ensures ∙ c.requires.mark) is.fresh;
+      fresh = marks_more at now.spacing (now.from / now.spacing + 1) now.far position now.fresh.items c.push_copy.new.marks.items c.args.replay.now.mark is.spacing.positive (omega (arith, places.1, c.requires.more)) c.grow.ensures.near
+          c.if-self-eq0.true c.in_ok-push_copy.ensures.marks c.requires.mark is.fresh;
     }

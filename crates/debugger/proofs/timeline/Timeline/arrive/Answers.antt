@@ -2,6 +2,7 @@ use Rattle.std.proofs.Common.{◌≡◌, ◌+◌, ◌*◌, ◌/◌, ◌≤◌, �
 use Rattle.std.proofs.lemmas.List.{length-append}
 use Rattle.std.specs.Vec.{vec_len, vec_capacity}
 use Rattle.std.specs.Result.{is_ok}
+use Rattle.debugger.specs.declared.mark.Mark.{Mark}
 use Rattle.debugger.specs.Marks.{mark_at, AreMarks}
 use Rattle.debugger.specs.States.{items_at, setting_of}
 use Rattle.debugger.specs.Timelines.{setting}
@@ -11,7 +12,7 @@ use Rattle.debugger.proofs.timeline.Timeline.arrive.Goals as goal
 pub prove-unreachable-requires : goal.prove-unreachable-requires
 prove-unreachable-requires c =
     let t = c.args.self.now in
-    let x = c.args.reach in
+    let x = c.args.reach.now in
     let along = c.requires.along in
     let is = along.reach in
     let at = mark_at (setting t) t.choices.items in
@@ -30,14 +31,15 @@ prove-unreachable-requires c =
 pub returns-clause-timeline : goal.returns-clause-timeline
 returns-clause-timeline c =
     let t = c.args.self.now in
-    let r = c.args.replay in
-    let x = c.args.reach in
+    let r = c.args.replay.now in
+    let x = c.args.reach.now in
     let timeline = c.requires.timeline in
     let along = c.requires.along in
     let is = along.reach in
     let g = setting t in
     let cs = t.choices.items in
-    let there : g ≡ setting_of r.mark.machine = sym along.setting in
+    let swapped : c.swap.new.x ≡ r.mark = c.swap.ensures.x_after in
+    let there : g ≡ setting_of c.swap.new.x.machine = sym along.setting ∙ ap (λ (m : Mark). setting_of m.machine) (sym swapped) in
     let marks : c.append.new.self.items ≡ c.thin.new.marks.items ++ x.fresh.items = search rules in
     let fresh : AreMarks (mark_at g cs) x.spacing (t.far / x.spacing + 1) x.far x.fresh.items = subst (λ n. AreMarks (mark_at g cs) x.spacing (n / x.spacing + 1) x.far x.fresh.items) along.from is.fresh in
     let ratio = is.ratio ∙ ap (λ k. x.ratio * k) along.base in
@@ -47,7 +49,7 @@ returns-clause-timeline c =
       most = is.most;
       bound = omega (arith, along.bound, timeline.bound, t.choices.ok.0, t.choices.ok.1, t.choices.small);
       spacing = is.spacing;
-      here = along.replay.mark ∙ ap (λ s. mark_at s cs r.position) there;
+      here = swapped ∙ along.replay.mark ∙ ap (λ s. mark_at s cs r.position) there;
       checkpoints = subst (λ s. AreMarks (mark_at s cs) x.spacing 0 x.far c.append.new.self.items) there
           (marks_gather (mark_at g cs) t.spacing x.ratio x.spacing t.far x.far t.checkpoints.items c.thin.new.marks.items x.fresh.items
           c.append.new.self.items is.ratio_positive ratio c.thin.ensures.each c.thin.ensures.kept c.thin.ensures.all marks timeline.checkpoints fresh);

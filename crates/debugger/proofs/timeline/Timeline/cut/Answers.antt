@@ -13,16 +13,17 @@ returns-clause-timeline c =
     let is = c.requires.timeline in
     let g = setting t in
     let old = t.choices.items in
-    let new = c.args.choices.items in
-    let same = sym c.requires.same in
+    let new = c.swap.new.x.items in
+    let swapped : new ≡ c.args.choices.now.items = ap (λ v. v.items) c.swap.ensures.x_after in
     let position = t.position in
+    let same : take position old ≡ take position new = sym c.requires.same ∙ ap (take position) (sym swapped) in
     let few : AreMarks (mark_at g old) t.spacing 0 position (take (position / t.spacing + 1) t.checkpoints.items) =
     marks_cut (mark_at g old) t.spacing t.far position t.checkpoints.items is.spacing.positive is.position is.checkpoints in
     let fewer : length (items_at g old position) ≤ length (items_at g old t.far) = items_fewer g old position t.far is.position in
     let items : length (items_at g old position) ≡ length (items_at g new position) = ap length (items_same g old new position same) in
     record {
       position = omega arith;
-      far = c.requires.within;
+      far = omega (arith, c.requires.within, ap length swapped);
       most = omega (arith, is.position, is.most);
       bound = is.bound;
       spacing = is.spacing;

@@ -1,7 +1,7 @@
 use Rattle.std.proofs.Common.{◌≡◌, ◌+◌, max}
 use Rattle.debugger.specs.Hits.{hit_after}
 use Rattle.debugger.specs.Timelines.{IsWalkOf, setting}
-use Rattle.debugger.proofs.timeline.Timeline.walk_by_turns.Given as goal
+use Rattle.debugger.proofs.timeline.Timeline.continue_to_hit.Given as goal
 
 abbrev pub invariant-loop-position : goal.invariant-loop-position
 invariant-loop-position l =

@@ -3,7 +3,7 @@ use Rattle.debugger_commands.specs.Sessions.{next_hit}
 use Rattle.debugger.specs.Hits.{hits}
 use Rattle.debugger.specs.Timelines.{setting}
 use Rattle.debugger.proofs.HitLaws.{next_hit_here, next_hit_later, next_hit_none}
-use Rattle.debugger.proofs.timeline.Timeline.walk_by_turns.Goals as goal
+use Rattle.debugger.proofs.timeline.Timeline.continue_to_hit.Goals as goal
 
 pub returns-then-is_hit-clause-position : goal.returns-then-is_hit-clause-position
 returns-then-is_hit-clause-position c =

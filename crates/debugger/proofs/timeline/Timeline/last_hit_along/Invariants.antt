@@ -2,7 +2,7 @@ use Rattle.std.proofs.Common.{◌≡◌, ◌+◌, ◌<◌}
 use Rattle.std.specs.Option.{IfSome, unwrap_or}
 use Rattle.debugger.specs.Hits.{nearest_before}
 use Rattle.debugger.specs.Timelines.{IsWalkOf, setting}
-use Rattle.debugger.proofs.timeline.Timeline.last_hit.Given as goal
+use Rattle.debugger.proofs.timeline.Timeline.last_hit_along.Given as goal
 
 abbrev pub invariant-loop-position : goal.invariant-loop-position
 invariant-loop-position l =
