@@ -43,9 +43,9 @@ def interface(number, above, method=""):
     return f".interface I{number}\n" + "".join(f".implements I{other}\n" for other in above) + method
 
 
-def circle(count):
-    """Returns interfaces each above the one before, and the last above the first."""
-    return {f"I{one}": interface(one, [(one + 1) % count], REFERENCE) for one in range(count)}
+def circle(count, method):
+    """Returns interfaces each above the one before, and the last above the first, each with a method."""
+    return {f"I{one}": interface(one, [(one + 1) % count], method) for one in range(count)}
 
 
 def twice():
@@ -59,10 +59,10 @@ def two_ways():
     return files | {"X": f".class X\n{REFERENCE}"}
 
 
-def diamonds(levels):
-    """Returns levels of two interfaces, both below both of the level before."""
+def diamonds(levels, method):
+    """Returns levels of two interfaces, both below both of the level before, each with a method."""
     above = {0: []} | {level: [2 * level - 2, 2 * level - 1] for level in range(1, levels)}
-    return {f"I{2 * level + side}": interface(2 * level + side, above[level], REFERENCE) for level in above for side in (0, 1)}
+    return {f"I{2 * level + side}": interface(2 * level + side, above[level], method) for level in above for side in (0, 1)}
 
 
 def chain(count):
@@ -82,10 +82,14 @@ def wide(interfaces, uses):
 CASES = [
     ("an interface twice below itself", twice(), "I0.f.()V", "K03"),
     ("a circle with two ways in", two_ways(), "X.f.()V", "K03"),
-    ("a circle of 1", circle(1), "I0.f.()V", "K03"),
-    ("a circle of 2", circle(2), "I0.f.()V", "K03"),
-    ("a circle of 37", circle(37), "I0.f.()V", "K03"),
-    ("30 levels of diamonds", diamonds(30), "I0.f.()V", "M01"),
+    ("a circle of 1", circle(1, ""), "I0.f.()V", "K03"),
+    ("a circle of 2", circle(2, ""), "I0.f.()V", "K03"),
+    ("a circle of 37", circle(37, ""), "I0.f.()V", "K03"),
+    ("a circle of 1, with references", circle(1, REFERENCE), "I0.f.()V", "K03"),
+    ("a circle of 2, with references", circle(2, REFERENCE), "I0.f.()V", "K03"),
+    ("a circle of 37, with references", circle(37, REFERENCE), "I0.f.()V", "K03"),
+    ("30 levels of diamonds", diamonds(30, ""), "I0.f.()V", "M01"),
+    ("30 levels of diamonds, with references", diamonds(30, REFERENCE), "I0.f.()V", "M01"),
     ("4,000 interfaces, 2,000 references", wide(4000, 2000), "W.f.()I", "7"),
     ("a chain of 60,000 interfaces", chain(60_000), "C.f.()I", "1"),
 ]

@@ -1,6 +1,10 @@
-//! Tests of the machine's calls that no row asks for, and of its parts: the rows are the data of `row_cases`, turn by turn. They
-//! are in a crate above the tested ones, so that each of those is proved once. Expected values are from the Java Virtual
-//! Machine Specification (JVMS), never from the program's answers.
+//! Tests of programs, the machine and its parts. They are in a crate above the tested ones, so that each of those is
+//! proved once. Expected values are from the Java Virtual Machine Specification (JVMS), never from the program's
+//! answers.
+//!
+//! Only what no clause says is tested: that the definitions agree with it, and that public calls succeed with ample
+//! memory. The instruction table is tested by the data of `row_cases`, turn by turn, and what a run prints by that
+//! of `command_cases`.
 #![tactic(auto)]
 
 #[cfg(test)]
@@ -8,6 +12,14 @@ mod arithmetic;
 #[cfg(test)]
 mod asked;
 #[cfg(test)]
+mod hierarchies;
+#[cfg(test)]
+mod lookup;
+#[cfg(test)]
 mod outcomes;
 #[cfg(test)]
 mod printed;
+#[cfg(test)]
+mod programs;
+#[cfg(test)]
+mod results;

@@ -1,11 +1,15 @@
-//! Tests of what needs no program and no machine: class files and their parts, and lines of sources. They are in a crate above
-//! the tested ones, so that each of those is proved once. Expected values are from the Java Virtual Machine Specification
-//! (JVMS) or the rules of sources, never from the program's answers.
+//! Tests of what needs no program and no machine: class files and their parts, lines of sources, and sources that are
+//! assembled. They are in a crate above the tested ones, so that each of those is proved once. Expected values are from
+//! the Java Virtual Machine Specification (JVMS) or the rules of sources, never from the program's answers.
 //!
 //! Only what no clause says is tested: that the definitions agree with the standard, by its own values, that each
 //! public call succeeds with ample memory, and the texts of faults. More cases, as data, are in `command_cases`.
 #![tactic(auto)]
 
+#[cfg(test)]
+mod assembled_code;
+#[cfg(test)]
+mod assembler_faults;
 #[cfg(test)]
 mod class_bytes;
 #[cfg(test)]
@@ -19,8 +23,12 @@ mod fault_texts;
 #[cfg(test)]
 mod instructions;
 #[cfg(test)]
+mod limits;
+#[cfg(test)]
 mod modified_utf8;
 #[cfg(test)]
 mod pools;
+#[cfg(test)]
+mod sources;
 #[cfg(test)]
 mod tokens;

@@ -1,5 +1,6 @@
 //! What is looked up in programs, by the Java Virtual Machine Specification (JVMS 5.4.3, 6.5).
 
+use crate::programs::program_of;
 use built_in::is_built_in;
 use classes::OBJECT;
 use fixtures::members::{field_reference, method_reference};
@@ -7,8 +8,8 @@ use fixtures::texts::units;
 use jvms_program::number::MethodNumber;
 use jvms_program::thrown::Thrown;
 use program::Program;
-use source_programs::program_of;
 use std::alloc::Global;
+use std::process::Abort;
 use std::test::Fail;
 
 /// Names of classes.
@@ -16,8 +17,8 @@ const A: [u16; 1] = [65];
 
 const C: [u16; 1] = [67];
 
-/// 37, A, extends 38, B, extends Object, and 39, I, extends Runnable; A has the static `own`, B has `up`. 40, C, extends
-/// A and implements I.
+/// 37, A, extends 38, B, extends Object, and 39, I, extends Runnable; A has the static `own`, B has `up`. 40, C,
+/// extends A and implements I.
 const SOURCES: [&str; 4] = [
     ".class A\n.super B\n.method static own()V\nreturn\n.end method",
     ".class B\n.method up()V\nreturn\n.end method",
@@ -25,12 +26,7 @@ const SOURCES: [&str; 4] = [
     ".class C\n.super A\n.implements I",
 ];
 
-/// The program of these.
-fn program(alloc: Global) -> Result<Program, Fail> {
-    program_of(alloc, &SOURCES)
-}
-
-/// How many classes there are, the number of class A, and whether it and its method are found.
+/// Returns how many classes there are, the number of class A, and whether it and its method are found.
 fn found(program: &Program) -> (usize, Option<usize>, bool, bool) {
     let own = MethodNumber {
         class: 37,
@@ -44,30 +40,19 @@ fn found(program: &Program) -> (usize, Option<usize>, bool, bool) {
     )
 }
 
-#[test]
-fn looks_up_by_name(rt: HostRuntime) -> Result<(), Fail> {
-    let program = program(rt.alloc())?;
-    assert_eq!(rt; found(&program), (41, Some(37), true, true));
-    Ok(())
-}
-
-#[test]
-fn knows_the_built_in_classes(rt: HostRuntime) -> Result<(), Fail> {
-    let program = program(rt.alloc())?;
-    let found = (
+fn looks_up_by_name(rt: &impl Abort, program: &Program) {
+    assert_eq!(rt; found(program), (41, Some(37), true, true));
+    let built_in = (
         is_built_in(&OBJECT),
         is_built_in(&A),
         program.is_built_in(36),
         program.is_built_in(37),
     );
-    assert_eq!(rt; found, (true, false, true, false));
-    Ok(())
+    assert_eq!(rt; built_in, (true, false, true, false));
 }
 
-#[test]
-fn resolves_methods(rt: HostRuntime) -> Result<(), Fail> {
-    let program = program(rt.alloc())?;
-    let up = method_reference(rt.alloc(), false, "A", "up", "()V")?;
+fn resolves_methods(rt: &impl Abort, alloc: Global, program: &Program) -> Result<(), Fail> {
+    let up = method_reference(alloc, false, "A", "up", "()V")?;
     let found = (
         program.resolve_method(false, &up),
         program.resolve_method(true, &up),
@@ -77,15 +62,8 @@ fn resolves_methods(rt: HostRuntime) -> Result<(), Fail> {
     Ok(())
 }
 
-#[test]
-fn resolves_fields(rt: HostRuntime) -> Result<(), Fail> {
-    let program = program(rt.alloc())?;
-    let out = field_reference(
-        rt.alloc(),
-        "java/lang/System",
-        "out",
-        "Ljava/io/PrintStream;",
-    )?;
+fn resolves_fields(rt: &impl Abort, alloc: Global, program: &Program) -> Result<(), Fail> {
+    let out = field_reference(alloc, "java/lang/System", "out", "Ljava/io/PrintStream;")?;
     let found = (
         program.resolve_field(true, &out),
         program.resolve_field(false, &out),
@@ -95,11 +73,9 @@ fn resolves_fields(rt: HostRuntime) -> Result<(), Fail> {
     Ok(())
 }
 
-#[test]
-fn knows_what_fits(rt: HostRuntime) -> Result<(), Fail> {
-    let program = program(rt.alloc())?;
-    let above = units(rt.alloc(), "java/lang/Runnable")?;
-    let array = units(rt.alloc(), "[[LC;")?;
+fn knows_what_fits(rt: &impl Abort, alloc: Global, program: &Program) -> Result<(), Fail> {
+    let above = units(alloc, "java/lang/Runnable")?;
+    let array = units(alloc, "[[LC;")?;
     let found = (
         program.fits(&C, above.as_slice()),
         program.fits(array.as_slice(), &C),
@@ -108,11 +84,9 @@ fn knows_what_fits(rt: HostRuntime) -> Result<(), Fail> {
     Ok(())
 }
 
-#[test]
-fn selects_up_the_superclasses(rt: HostRuntime) -> Result<(), Fail> {
-    let program = program(rt.alloc())?;
+fn selects_methods(rt: &impl Abort, alloc: Global, program: &Program) -> Result<(), Fail> {
     let up = (38, 0);
-    let named = method_reference(rt.alloc(), false, "B", "up", "()V")?;
+    let named = method_reference(alloc, false, "B", "up", "()V")?;
     let selected = (
         program.select_from(&A, up),
         program.select_from(&OBJECT, up),
@@ -120,4 +94,19 @@ fn selects_up_the_superclasses(rt: HostRuntime) -> Result<(), Fail> {
     );
     assert_eq!(rt; selected, (Some(up), None, Some(up)));
     Ok(())
+}
+
+/// Makes each of these calls once.
+fn looks_up(rt: &impl Abort, alloc: Global, program: &Program) -> Result<(), Fail> {
+    looks_up_by_name(rt, program);
+    resolves_methods(rt, alloc, program)?;
+    resolves_fields(rt, alloc, program)?;
+    knows_what_fits(rt, alloc, program)?;
+    selects_methods(rt, alloc, program)
+}
+
+#[test]
+fn programs_are_looked_up(rt: HostRuntime) -> Result<(), Fail> {
+    let program = program_of(rt.alloc(), &SOURCES)?;
+    looks_up(&rt, rt.alloc(), &program)
 }

@@ -1,6 +1,8 @@
-//! The bytes of instructions.
+//! The bytes of assembled instructions (JVMS 6.5).
 
-use crate::sources::{assembled, code_of, method};
+use crate::sources::{assert_code, method};
+use std::alloc::Global;
+use std::process::Abort;
 use std::test::Fail;
 
 /// Lines of a method, and the bytes of its code (JVMS 6.5).
@@ -70,12 +72,22 @@ const CODES: [(&str, &[u8]); 14] = [
     ),
 ];
 
-#[test]
-fn instructions_are_written_as_they_are_spelled(rt: HostRuntime) -> Result<(), Fail> {
-    for (lines, bytes) in CODES {
-        let text = method(rt.alloc(), "(I)I", 300, lines)?;
-        let class = assembled(rt.alloc(), text.as_str())??;
-        assert!(rt; code_of(&class) == Some(bytes), "{lines}");
+/// Asserts that the lines of a method are assembled to these bytes.
+fn assert_lines(rt: &impl Abort, alloc: Global, lines: &str, bytes: &[u8]) -> Result<(), Fail> {
+    let text = method(alloc, "(I)I", 300, lines)?;
+    let length = assert_code(rt, alloc, text.as_str(), bytes)?;
+    assert_eq!(rt; length, Some(bytes.len()), "{lines}");
+    Ok(())
+}
+
+fn assert_codes(rt: &impl Abort, alloc: Global, codes: &[(&str, &[u8])]) -> Result<(), Fail> {
+    for (lines, bytes) in codes {
+        assert_lines(rt, alloc, *lines, *bytes)?;
     }
     Ok(())
+}
+
+#[test]
+fn instructions_are_written_as_they_are_spelled(rt: HostRuntime) -> Result<(), Fail> {
+    assert_codes(&rt, rt.alloc(), &CODES)
 }

@@ -1,0 +1,50 @@
+//! Programs of sources in Jasmin, and their entries, for other tests: none builds a class instruction by instruction.
+
+use assembler::assemble;
+use fixtures::texts::units;
+use held::items::Items;
+use jasmin_reader::read;
+use linker::{ClassFile, link};
+use machine::{Entry, Limits};
+use program::Program;
+use std::alloc::{AllocError, Global};
+use std::test::Fail;
+
+/// Limits of one thread. What runs under them needs little else.
+pub const LIMITS: Limits = Limits {
+    objects: 10,
+    elements: 10,
+    threads: 1,
+    frames: 10,
+};
+
+/// Assembles a source. Its fault is that of the test.
+pub fn class_of(alloc: Global, text: &str) -> Result<ClassFile, Fail> {
+    let source = read(alloc, text)?;
+    Ok(assemble(alloc, &source)?.into_class())
+}
+
+/// Links the program of these sources, in order. A fault of one of them, or of their linking, is that of the test.
+pub fn program_of(alloc: Global, sources: &[&str]) -> Result<Program, Fail> {
+    let mut files = Vec::new(alloc);
+    for text in sources {
+        files.push(class_of(alloc, *text)?)?;
+    }
+    Ok(link(alloc, files)?)
+}
+
+/// Returns the entry by a static method, with arguments.
+pub fn entry(
+    alloc: Global,
+    class: &str,
+    name: &str,
+    descriptor: &str,
+    arguments: &[i32],
+) -> Result<Entry, AllocError> {
+    Ok(Entry::Static {
+        class: units(alloc, class)?,
+        name: units(alloc, name)?,
+        descriptor: units(alloc, descriptor)?,
+        arguments: Items::from_vec(Vec::from_slice(alloc, arguments)?),
+    })
+}
