@@ -1,0 +1,5 @@
+pub mod FactLaws
+pub mod EventLaws
+pub mod ViewLaws
+pub mod ReachedLaws
+pub mod TableSteps

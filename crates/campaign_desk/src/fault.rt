@@ -1,0 +1,19 @@
+//! Why a desk is refused.
+
+ghost use Rattle.std.specs.Prelude.{◌≡◌};
+
+use thiserror::Error;
+
+/// Says why a desk is refused. The first reason that applies is returned, in this order.
+#[derive(Clone, Copy, Debug, PartialEq, Eq, Error)]
+pub enum DeskFault {
+    /// G01: there are more than 1,000,000 jobs.
+    #[error("TooManyJobs")]
+    TooManyJobs,
+    /// G02: there is no worker, or there are more than 64.
+    #[error("TooManyWorkers")]
+    TooManyWorkers,
+    /// G04: memory ran out.
+    #[error("Memory")]
+    Memory,
+}
