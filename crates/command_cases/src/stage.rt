@@ -1,4 +1,4 @@
-//! Where a case is walked: its files, the command that was given last, its input, and what it has to come to.
+//! Runs a case: it has files, the last command, its input, and what that command is to write.
 
 use crate::bytes::{hex_of, lines_of, number_of, open_lines_of, spliced};
 use crate::devices::{Devices, Room, outcome_of};
