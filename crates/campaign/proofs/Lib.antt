@@ -1,0 +1,3 @@
+pub mod OneTable
+mod TableLaws
+mod WholeLaws

@@ -1,0 +1,23 @@
+-- Why there is no table.
+use Rattle.std.specs.Prelude.{◌≡◌, ℕ, ◌<◌, ◌≤◌, ◌⊎◌, List, Result, Err}
+use Rattle.jvms_program.specs.declared.program.Class.{Class}
+use Rattle.campaign_jobs.specs.declared.plan.Plan.{Plan}
+use Rattle.campaign.specs.declared.halt.Halted.{Halted}
+use Rattle.campaign.specs.declared.halt.Halted.TheVariants.{TooManyJobs, TooManyWorkers, Memory, WorkerFailed}
+
+-- The book that a halted campaign leaves is one of this program and this plan. Its type keeps the rest.
+abbrev pub KeepsBook : List Class → Plan → Halted → Type 0
+KeepsBook program plan (WorkerFailed book) = (book.program ≡ program) × (book.plan ≡ plan)
+KeepsBook program plan halted = Unit {0}
+
+-- Each limit is named exactly if it is the first that is passed.
+abbrev pub KeepsLimits : {X : Type 0} → ℕ → ℕ → Result X Halted → Type 0
+KeepsLimits jobs workers (Err TooManyJobs) = 1000000 < jobs
+KeepsLimits jobs workers (Err TooManyWorkers) = (jobs ≤ 1000000) × ((workers ≡ 0) ⊎ (64 < workers))
+KeepsLimits jobs workers other = (jobs ≤ 1000000) × (0 < workers) × (workers ≤ 64)
+
+-- There was no memory, before any worker began or later.
+abbrev pub IsMemory : Halted → Type 0
+IsMemory Memory = Unit {0}
+IsMemory (WorkerFailed book) = Unit {0}
+IsMemory other = ⊥

@@ -1,0 +1,4 @@
+pub mod Halts
+pub mod Shares
+pub mod Tables
+pub mod Whole

@@ -1,0 +1,18 @@
+//! Laws about campaigns: each is the contract of a function that does nothing.
+
+ghost use Rattle.std.specs.Prelude.{◌≡◌, List};
+ghost use Rattle.jvms_program.specs.declared.program.Class.{Class};
+ghost use Rattle.campaign.specs.Tables.{IsTable};
+ghost use Rattle.campaign.specs.Whole.{EventsKeep};
+ghost use Rattle.campaign_jobs.specs.declared.plan.Plan.{Plan};
+ghost use Rattle.campaign_jobs.specs.declared.result.JobResult.{JobResult};
+
+/// Each list of events leads to a state in which desk and book fit the plan.
+pub fn events_keep_a_campaign()
+    ensures { EventsKeep }
+{}
+
+/// A plan has one table of a program, whoever ran which job.
+pub fn a_plan_has_one_table()
+    ensures { (program : List Class) (plan : Plan) (first second : List JobResult) → IsTable program plan first → IsTable program plan second → first ≡ second }
+{}

@@ -1,0 +1,5 @@
+mod JobCodes
+pub mod JobResults
+mod JobRuns
+pub mod OneResult
+mod SeededChoices

@@ -1,0 +1,5 @@
+pub mod Atomicities
+pub mod Choices
+pub mod Named
+pub mod Plans
+pub mod Reports

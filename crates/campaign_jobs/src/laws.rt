@@ -1,0 +1,25 @@
+//! Laws about the jobs of a campaign: each is the contract of a function that does nothing.
+
+ghost use Rattle.std.specs.Prelude.{◌≡◌, ℕ, List};
+ghost use Rattle.jvms_program.specs.declared.program.Class.{Class};
+ghost use Rattle.machine.specs.Machine.{Machine};
+ghost use Rattle.runs.specs.Choices.{choices_from};
+ghost use Rattle.schedule.specs.Choosers.{generator_of, opened};
+ghost use Rattle.schedule.specs.Schedules.{Seeded};
+ghost use Rattle.campaign_jobs.specs.declared.plan.Plan.{Plan};
+ghost use Rattle.campaign_jobs.specs.declared.result.JobResult.{JobResult};
+ghost use Rattle.campaign_jobs.specs.Choices.{job_choices};
+ghost use Rattle.campaign_jobs.specs.Reports.{IsResultOf};
+
+/// The choices of a job are those of the schedule `seed:S:K` whose state is the plan's seed, and whose stream is the job's
+/// number.
+#[tactic(auto, using(crate::proofs::SeededChoices::are_seeded))]
+pub fn job_choices_are_seeded()
+    ensures { (most seed number : ℕ) (m : Machine) → job_choices most (generator_of seed number) m ≡ choices_from most (opened (Seeded seed number)) m }
+{}
+
+/// A job has one result.
+#[tactic(auto, using(crate::proofs::OneResult::is_one))]
+pub fn a_job_has_one_result()
+    ensures { (program : List Class) (plan : Plan) (number : ℕ) (first second : JobResult) → IsResultOf program plan number first → IsResultOf program plan number second → first ≡ second }
+{}

@@ -1,0 +1,115 @@
+//! The run of a job.
+
+ghost use Rattle.std.specs.Prelude.{◌≡◌, [], IfOk, IsTrue, MatchOption};
+ghost use Rattle.campaign_jobs.specs.Plans.{fits};
+ghost use Rattle.campaign_jobs.specs.Atomicities.{atomicity_of};
+ghost use Rattle.campaign_jobs.specs.Named.{IsJobOf};
+ghost use Rattle.campaign_jobs.specs.Reports.{HasNoSerialOrder, IsSerialOf, job_shown};
+ghost use Rattle.program_runs.specs.Judgements.{IsFedWith};
+ghost use Rattle.program_runs.specs.Shown.{EndsAs};
+
+use crate::plan::Plan;
+use crate::report::Report;
+use crate::result::{Atomicity, JobResult};
+use atom_graph::Checker;
+use program::Program;
+use program_runs::feed_program;
+use runs::Ending;
+use schedule::Chooser;
+use std::alloc::{AllocError, Global};
+use velodrome::verdict::Verdict;
+
+/// Runs a job, and feeds its items to a checker.
+fn feed_job(
+    alloc: Global,
+    program: &Program,
+    plan: &Plan,
+    number: u64,
+    checker: &mut Checker,
+) -> Result<Ending, AllocError>
+    requires fits { IsTrue (fits program.now plan.now) }
+    requires fresh { checker.old.items ≡ [] }
+    ensures ending { IfOk result (λ ending.
+        EndsAs (job_shown program.now plan.now number) ending) }
+    ensures fed { IfOk result (λ _. IsFedWith
+        (job_shown program.now plan.now number) checker.old.lines checker.new) }
+{
+    let mut chooser = Chooser::seeded(plan.seed, number);
+    let limits = plan.limits;
+    let entry = &plan.entry;
+    match feed_program(
+        alloc,
+        program,
+        limits,
+        entry,
+        &mut chooser,
+        plan.most,
+        checker,
+    ) {
+        Ok(ending) => Ok(ending),
+        // A plan that fits is refused for no other reason.
+        Err(_) => Err(AllocError),
+    }
+}
+
+/// Returns whether the trace of a verdict is atomic.
+fn atomicity_of(verdict: Verdict) -> Atomicity
+    ensures { result ≡ atomicity_of verdict }
+{
+    match verdict {
+        Verdict::Atomic { .. } => Atomicity::Atomic,
+        Verdict::Cycle { first_at, .. } => Atomicity::Cycle { first_at },
+    }
+}
+
+/// Runs a job, and returns its report. It waits for nobody.
+///
+/// # Errors
+///
+/// There was no memory.
+pub fn run_job<'a>(
+    alloc: Global,
+    program: &'a Program,
+    plan: &'a Plan,
+    number: u64,
+) -> Result<Report<'a>, AllocError>
+    requires fits { IsTrue (fits program.now plan.now) }
+    // The report is of this program, plan and number; its type keeps that its result is that job's.
+    ensures named { IfOk result (λ report. IsJobOf report program.now plan.now number) }
+{
+    let mut checker = Checker::new(alloc, plan.spec.copy()?)?;
+    let ending = feed_job(alloc, program, plan, number, &mut checker)?;
+    let result = JobResult {
+        atomicity: atomicity_of(checker.verdict()?),
+        status: ending.status,
+        turns: ending.turns,
+        events: checker.counts().events,
+    };
+    Ok(Report {
+        program,
+        plan,
+        number,
+        result,
+    })
+}
+
+/// Runs a job, and returns the numbers of its events in a serial order, if there is one: exactly if its report is Atomic.
+///
+/// # Errors
+///
+/// There was no memory.
+pub fn serial_of(
+    alloc: Global,
+    program: &Program,
+    plan: &Plan,
+    number: u64,
+) -> Result<Option<Vec<u64>>, AllocError>
+    requires fits { IsTrue (fits program.now plan.now) }
+    ensures { IfOk result (λ order. MatchOption order
+        (HasNoSerialOrder program.now plan.now number)
+        (λ numbers. IsSerialOf program.now plan.now number numbers.items)) }
+{
+    let mut checker = Checker::new(alloc, plan.spec.copy()?)?;
+    feed_job(alloc, program, plan, number, &mut checker)?;
+    checker.serial()
+}
