@@ -77,8 +77,6 @@ module _ (jobs workers next bound : ℕ) (seats : List Knowledge) (id : ℕ) (v 
   done_keeps none_left =
       let w = after_done v in
       record {
-        jobs_limit = d.jobs_limit;
-        workers_limit = d.workers_limit;
         all_seats = all_seats-set w;
         same_jobs = same_jobs-set w its_jobs;
         draws = λ x. omega (arith, d.draws x, draw_count-set w x);
@@ -100,8 +98,6 @@ module _ (jobs workers next bound : ℕ) (seats : List Knowledge) (id : ℕ) (v 
   job_keeps left =
       let w = record v { draws = v.draws ++ next ∷ [] } in
       record {
-        jobs_limit = d.jobs_limit;
-        workers_limit = d.workers_limit;
         all_seats = all_seats-set w;
         same_jobs = same_jobs-set w its_jobs;
         draws = λ x. one_more x (count_of x v.draws) (draw_count x seats) (draw_count x (set seats id w)) (count_of x w.draws) left (d.draws x) (count_of-push x next v.draws) (draw_count-set w x);
@@ -122,8 +118,6 @@ module _ (jobs workers next bound : ℕ) (seats : List Knowledge) (id : ℕ) (v 
   late_draw_keeps new none_left =
       let w = after_done v in
       record {
-        jobs_limit = d.jobs_limit;
-        workers_limit = d.workers_limit;
         all_seats = all_seats-set w;
         same_jobs = same_jobs-set w its_jobs;
         draws = λ x. omega (arith, same x, d.draws x, draw_count-set w x);
@@ -143,13 +137,11 @@ module _ (jobs workers next bound : ℕ) (seats : List Knowledge) (id : ℕ) (v 
       same x = let e : min next jobs ≡ min (next + 1) jobs = omega arith in ap (once_below x) e
 
   -- the seat lowers the bound
-  pub lower_keeps : (k : ℕ) → k < jobs → IsDesk jobs workers next (min bound k) (set seats id (after_lower v k))
-  lower_keeps k is_job =
+  pub lower_keeps : (k : ℕ) → IsDesk jobs workers next (min bound k) (set seats id (after_lower v k))
+  lower_keeps k =
       let w = after_lower v k in
       let more = λ (x : ℕ). let push = count_of-push x k v.lowerings in let now = lowering_count-set w x in added x (count_of x v.lowerings) (lowering_count x seats) (lowering_count x (set seats id w)) (count_of x w.lowerings) push now in
       record {
-        jobs_limit = d.jobs_limit;
-        workers_limit = d.workers_limit;
         all_seats = all_seats-set w;
         same_jobs = same_jobs-set w its_jobs;
         draws = λ x. omega (arith, d.draws x, draw_count-set w x);
@@ -182,8 +174,6 @@ module _ (jobs workers next bound : ℕ) (seats : List Knowledge) (id : ℕ) (v 
   bound_keeps =
       let w = after_bound v bound in
       record {
-        jobs_limit = d.jobs_limit;
-        workers_limit = d.workers_limit;
         all_seats = all_seats-set w;
         same_jobs = same_jobs-set w its_jobs;
         draws = λ x. omega (arith, d.draws x, draw_count-set w x);

@@ -1,12 +1,12 @@
 -- Each kind of step is one event more: it leads on from what a list of events has led to.
-use Rattle.std.proofs.Common.{◌≡◌, ℕ, zero, suc, ◌+◌, ◌<◌, ◌≤◌, ◌==◌, min, List, [], ◌∷◌, ◌++◌, set, replicate, Bool, true, false, ◌&&◌, cond, nat_lt, eq-eqb, refl, sym, ap, ◌∙◌, subst, arith}
+use Rattle.std.proofs.Common.{◌≡◌, ℕ, zero, suc, ◌+◌, ◌<◌, ◌==◌, min, List, [], ◌∷◌, ◌++◌, set, Bool, true, false, ◌&&◌, cond, eq-eqb, refl, sym, ap, ◌∙◌, subst, arith}
 use Rattle.std.specs.List.{sum_by}
 use Rattle.std.proofs.lemmas.List.Sums.{sum_by-cons, fold_push}
-use Rattle.std.proofs.lemmas.Bool.{and_parts, and_from, eqb-true, lt-ltb}
+use Rattle.std.proofs.lemmas.Bool.{and_parts, and_from, eqb-true}
 use mathlib.Core.Option.{some}
 use lib.ListN.{get_elem?}
 use Rattle.campaign_desk.specs.declared.knowledge.Knowledge.{Knowledge}
-use Rattle.campaign_desk.specs.Knowledge.{first_knowledge, after_look, after_draw, after_lower, after_bound}
+use Rattle.campaign_desk.specs.Knowledge.{after_look, after_draw, after_lower, after_bound}
 use Rattle.campaign_desk.specs.Facts.{IsDesk}
 use Rattle.campaign_desk.specs.Events.{Event, Look, Draw, Lower, Bound, DeskState, first_state, seat_number, effect, after, after_all}
 use Rattle.campaign_desk.specs.Reached.{SameSeats, IsReached}
@@ -107,63 +107,57 @@ same_set vs ws w p u x same at here f = omega (arith, sum_by-set_at f vs w u x a
 -- the facts hold of what is reached
 pub is_desk : (jobs workers next bound : ℕ) (seats : List Knowledge) → IsReached jobs workers next bound seats → IsDesk jobs workers next bound seats
 is_desk jobs workers next bound seats r =
-    let es = r.2.0 in
-    let l = r.2.1 in
+    let es = r.1.0 in
+    let l = r.1.1 in
     let s = after_all (first_state jobs workers) es in
-    let d = desk_same jobs workers s.next s.bound s.seats seats l.3 (each_leads_to_desk jobs workers es r.0 r.1) in
-    subst (λ (x : ℕ × ℕ). IsDesk jobs workers x.0 x.1 seats) (λ i. (l.1 i, l.2 i)) d
-
--- no event leads to the first state
-pub first_reached : (jobs workers : ℕ) → jobs ≤ 1000000 → workers ≤ 64 → IsReached jobs workers 0 jobs (replicate workers (first_knowledge jobs))
-first_reached jobs workers j w = (j, w, ([], (refl, refl, refl, λ f. refl)))
+    let d = desk_same jobs workers s.next s.bound s.seats seats l.2 (each_leads_to_desk jobs workers es) in
+    subst (λ (x : ℕ × ℕ). IsDesk jobs workers x.0 x.1 seats) (λ i. (l.0 i, l.1 i)) d
 
 -- the order of the seats doesn't matter
 pub reached_same : (jobs workers next bound : ℕ) (vs ws : List Knowledge) → SameSeats vs ws → IsReached jobs workers next bound vs → IsReached jobs workers next bound ws
 reached_same jobs workers next bound vs ws same r =
-    let l = r.2.1 in
-    (r.0, r.1, (r.2.0, (l.0, l.1, l.2, λ f. l.3 f ∙ same f)))
+    let l = r.1.1 in
+    (r.0, (r.1.0, (l.0, l.1, λ f. l.2 f ∙ same f)))
 
 -- one event more, of the seat at p
 module _ (jobs workers next bound : ℕ) (seats : List Knowledge) (p : ℕ) (u : Knowledge) (r : IsReached jobs workers next bound seats) (at : get_elem? seats p ≡ some u) where
   abbrev state : DeskState
-  state = after_all (first_state jobs workers) r.2.0
+  state = after_all (first_state jobs workers) r.1.0
 
   -- the event leads on, whichever number its seat has, if it changes the words and its seat so
   one_more : (e : ℕ → Event) (next' bound' : ℕ) (x : Knowledge) → ((w : ℕ) → seat_number (e w) ≡ w)
-      → ((w : ℕ) → effect state (e w) (some u) ≡ record { jobs = state.jobs; next = next'; bound = bound'; seats = set state.seats w x })
+      → ((w : ℕ) → effect state (e w) (some u) ≡ record { next = next'; bound = bound'; seats = set state.seats w x })
       → IsReached jobs workers next' bound' (set seats p x)
   one_more e next' bound' x of does =
-      let l = r.2.1 in
-      let there = place_of_seat state.seats seats p u l.3 at in
+      let l = r.1.1 in
+      let there = place_of_seat state.seats seats p u l.2 at in
       let w = there.0 in
       let now : after state (e w) ≡ effect state (e w) (some u) = ap (effect state (e w)) (ap (get_elem? state.seats) (of w) ∙ there.1) in
-      let run = fold_push after (first_state jobs workers) r.2.0 (e w) ∙ now ∙ does w in
-      let Leads : DeskState → Type 0 = λ s. (s.jobs ≡ jobs) × (s.next ≡ next') × (s.bound ≡ bound') × SameSeats s.seats (set seats p x) in
-      (r.0, r.1, (r.2.0 ++ e w ∷ [], subst Leads (sym run) (l.0, refl, refl, same_set state.seats seats w p u x l.3 there.1 at)))
+      let run = fold_push after (first_state jobs workers) r.1.0 (e w) ∙ now ∙ does w in
+      let Leads : DeskState → Type 0 = λ s. (s.next ≡ next') × (s.bound ≡ bound') × SameSeats s.seats (set seats p x) in
+      (r.0, (r.1.0 ++ e w ∷ [], subst Leads (sym run) (refl, refl, same_set state.seats seats w p u x l.2 there.1 at)))
 
   pub look_leads : IsReached jobs workers next bound (set seats p (after_look u next))
   look_leads =
-      let l = r.2.1 in
+      let l = r.1.1 in
       one_more Look next bound (after_look u next) (λ w. refl)
-      (λ w i. record { jobs = state.jobs; next = l.1 i; bound = l.2 i; seats = set state.seats w (after_look u (l.1 i)) })
+      (λ w i. record { next = l.0 i; bound = l.1 i; seats = set state.seats w (after_look u (l.0 i)) })
 
   pub draw_leads : u.is_done ≡ false → IsReached jobs workers (next + 1) bound (set seats p (after_draw u next))
   draw_leads new =
-      let l = r.2.1 in
+      let l = r.1.1 in
       one_more Draw (next + 1) bound (after_draw u next) (λ w. refl)
       (λ w. ap (λ (b : Bool). cond b state (record state { next = state.next + 1; seats = set state.seats w (after_draw u state.next) })) new
-      ∙ (λ i. record { jobs = state.jobs; next = l.1 i + 1; bound = l.2 i; seats = set state.seats w (after_draw u (l.1 i)) }))
+      ∙ (λ i. record { next = l.0 i + 1; bound = l.1 i; seats = set state.seats w (after_draw u (l.0 i)) }))
 
-  pub lower_leads : (k : ℕ) → k < jobs → IsReached jobs workers next (min bound k) (set seats p (after_lower u k))
-  lower_leads k is_job =
-      let l = r.2.1 in
-      let less : nat_lt k state.jobs ≡ true = lt-ltb k state.jobs (subst (λ j. k < j) (sym l.0) is_job) in
+  pub lower_leads : (k : ℕ) → IsReached jobs workers next (min bound k) (set seats p (after_lower u k))
+  lower_leads k =
+      let l = r.1.1 in
       one_more (λ w. Lower w k) next (min bound k) (after_lower u k) (λ w. refl)
-      (λ w. ap (λ (b : Bool). cond b (record state { bound = min state.bound k; seats = set state.seats w (after_lower u k) }) state) less
-      ∙ (λ i. record { jobs = state.jobs; next = l.1 i; bound = min (l.2 i) k; seats = set state.seats w (after_lower u k) }))
+      (λ w i. record { next = l.0 i; bound = min (l.1 i) k; seats = set state.seats w (after_lower u k) })
 
   pub bound_leads : IsReached jobs workers next bound (set seats p (after_bound u bound))
   bound_leads =
-      let l = r.2.1 in
+      let l = r.1.1 in
       one_more Bound next bound (after_bound u bound) (λ w. refl)
-      (λ w i. record { jobs = state.jobs; next = l.1 i; bound = l.2 i; seats = set state.seats w (after_bound u (l.2 i)) })
+      (λ w i. record { next = l.0 i; bound = l.1 i; seats = set state.seats w (after_bound u (l.1 i)) })

@@ -1,21 +1,20 @@
 -- Each step on the table is allowed: some list of events still leads to the words and to all views.
 use Rattle.std.proofs.Common.{◌≡◌, ℕ, zero, suc, ◌+◌, ◌-◌, replicate, ◌%◌, ◌^◌, ◌<◌, ◌≤◌, min, List, [], ◌∷◌, ◌++◌, length, set, All, false, refl, sym, ap, ◌∙◌, subst, arith}
 use Rattle.std.specs.Prelude.{slice_index, slice_set}
-use Rattle.std.proofs.lemmas.List.{append-nil}
 use Rattle.std.proofs.lemmas.Bool.Decides.{nat_tests}
 use native.Mathlib.Decide.{dec_le}
 use mathlib.Core.Option.{some, none}
 use lib.ListN.{get_elem?}
-use Rattle.atomic_table.specs.Table.{Me, step, Act, keeps, Valid, homes_after, carried_after, Allows, Splits, Joins, Seen, Final, opening}
+use Rattle.atomic_table.specs.Table.{Me, step, Act, keeps, Valid, homes_after, carried_after, Allows, Splits, Joins, Seen, Final}
 use Rattle.campaign_desk.specs.declared.knowledge.Knowledge.{Knowledge}
 use Rattle.campaign_desk.specs.declared.knowledge.Terms.{Terms}
 use Rattle.campaign_desk.specs.Knowledge.{after_look, after_draw, after_lower, after_bound, IsLeastFor}
-use Rattle.campaign_desk.specs.Views.{first_view, seats_of, other_seats, first_seat, joined_seats, no_seats, seat_of, one_seat, HoldsOneSeat}
+use Rattle.campaign_desk.specs.Views.{seats_of, other_seats, first_seat, joined_seats, no_seats, seat_of, one_seat, HoldsOneSeat}
 use Rattle.campaign_desk.specs.Facts.{count_of, once_below, draw_count, lowering_count, bound_count}
 use Rattle.campaign_desk.specs.Reached.{IsReached, IsReachedTable}
 use Rattle.campaign_desk.specs.Steps.{IsLook, IsDraw, IsLower, IsBound}
 use Rattle.campaign_desk.proofs.FactLaws.{its_jobs, all_counted, next_most, get_elem-le-sum_by}
-use Rattle.campaign_desk.proofs.ReachedLaws.{is_desk, first_reached, reached_same, look_leads, draw_leads, lower_leads, bound_leads}
+use Rattle.campaign_desk.proofs.ReachedLaws.{is_desk, reached_same, look_leads, draw_leads, lower_leads, bound_leads}
 use Rattle.campaign_desk.proofs.ViewLaws.{place_of, split_same, join_same, all_in_one}
 
 -- ---- Steps on words
@@ -69,8 +68,7 @@ module _ {S : Type 0} (t : Terms) (slots id : ℕ) (u : Knowledge) where
       (λ next bound seats p r at.
       let d = is_desk t.jobs t.workers next bound seats r in
       let most = next_most t.jobs t.workers next bound seats d in
-      let jobs_limit = d.jobs_limit in
-      let workers_limit = d.workers_limit in
+      let limits = r.0 in
       let no_wrap : next + 1 ≡ (next + 1) % 2 ^ 64 = omega arith in
       let all_below = all_counted (λ y. y < next) u.draws
       (λ x h. below x (draw_count x seats) next t.jobs (d.draws x) (omega (arith, h, get_elem-le-sum_by (λ v. count_of x v.draws) seats p u at))) in (
@@ -84,10 +82,10 @@ module _ {S : Type 0} (t : Terms) (slots id : ℕ) (u : Knowledge) where
       below : (x all next jobs : ℕ) → all ≡ once_below x (min next jobs) → 0 < all → x < next
       below x all next jobs is some_all = grind (arith, nat_tests)
 
-  lower_allows : (k : ℕ) → k < t.jobs → Allows (IsReachedTable t) slots id me 1 (λ n. min n k) (IsLower (step slots 1 k 0 none) me)
-  lower_allows k is_job = on_bound (λ n. min n k) (λ _. after_lower u k) (IsLower (step slots 1 k 0 none) me)
+  lower_allows : (k : ℕ) → Allows (IsReachedTable t) slots id me 1 (λ n. min n k) (IsLower (step slots 1 k 0 none) me)
+  lower_allows k = on_bound (λ n. min n k) (λ _. after_lower u k) (IsLower (step slots 1 k 0 none) me)
       (λ next bound seats p r at. (
-        lower_leads t.jobs t.workers next bound seats p u r at k is_job,
+        lower_leads t.jobs t.workers next bound seats p u r at k,
         λ w e. ap (λ (x : Knowledge). one_seat (after_lower x k)) (same_seat w e),
       ))
 
@@ -120,17 +118,13 @@ module _ {S : Type 0} (t : Terms) (slots id : ℕ) (m : Me S (List Knowledge)) (
   pub one_draws : (seat_of m.0).is_done ≡ false → Allows (IsReachedTable t) slots id m 0 (λ n. (n + 1) % 2 ^ 64) (IsDraw (step slots 0 1 0 none) m)
   one_draws new = subst (λ (x : Me S (List Knowledge)). Allows (IsReachedTable t) slots id x 0 (λ n. (n + 1) % 2 ^ 64) (IsDraw (step slots 0 1 0 none) x)) (sym is) (draw_allows t slots id (seat_of m.0) new)
 
-  pub one_lowers : (k : ℕ) → k < t.jobs → Allows (IsReachedTable t) slots id m 1 (λ n. min n k) (IsLower (step slots 1 k 0 none) m)
-  one_lowers k is_job = subst (λ (x : Me S (List Knowledge)). Allows (IsReachedTable t) slots id x 1 (λ n. min n k) (IsLower (step slots 1 k 0 none) x)) (sym is) (lower_allows t slots id (seat_of m.0) k is_job)
+  pub one_lowers : (k : ℕ) → Allows (IsReachedTable t) slots id m 1 (λ n. min n k) (IsLower (step slots 1 k 0 none) m)
+  one_lowers k = subst (λ (x : Me S (List Knowledge)). Allows (IsReachedTable t) slots id x 1 (λ n. min n k) (IsLower (step slots 1 k 0 none) x)) (sym is) (lower_allows t slots id (seat_of m.0) k)
 
   pub one_reads : Allows (IsReachedTable t) slots id m 1 (λ n. n) (IsBound (step slots 1 0 0 none) m)
   one_reads = subst (λ (x : Me S (List Knowledge)). Allows (IsReachedTable t) slots id x 1 (λ n. n) (IsBound (step slots 1 0 0 none) x)) (sym is) (bound_allows t slots id (seat_of m.0))
 
--- ---- The table opens, is split and joined, and closes
-
--- no event leads to the table as it opens
-pub table_opens : (S : Type 0) (t : Terms) → t.jobs ≤ 1000000 → t.workers ≤ 64 → IsReachedTable t (opening {S = S} (0 ∷ t.jobs ∷ []) [] (first_view t))
-table_opens S t j w = (0, t.jobs, refl, subst (IsReached t.jobs t.workers 0 t.jobs) (sym (append-nil (first_view t))) (first_reached t.jobs t.workers j w))
+-- ---- The table is split and joined, and closes
 
 -- a pass may take in another
 pub pass_joins : (S : Type 0) (t : Terms) (id other : ℕ) (v w : List Knowledge) → Joins (IsReachedTable {S = S} t) id v other w (joined_seats v w) no_seats

@@ -58,8 +58,6 @@ sum_by-one (v ∷ vs) = omega (arith, sum_by-one vs, sum_by-cons (λ (_ : Knowle
 pub desk_same : (jobs workers next bound : ℕ) (vs ws : List Knowledge) → SameSeats vs ws → IsDesk jobs workers next bound vs → IsDesk jobs workers next bound ws
 desk_same jobs workers next bound vs ws same d =
     record {
-      jobs_limit = d.jobs_limit;
-      workers_limit = d.workers_limit;
       all_seats = omega (arith, same (λ _. 1), sum_by-one vs, sum_by-one ws, d.all_seats);
       same_jobs = λ k u h. ours (get_or ws k u) (omega (arith, get_or-le-sum_by other ws k u h, same other, no_other));
       draws = λ x. sym (same (λ v. count_of x v.draws)) ∙ d.draws x;

@@ -1,9 +1,9 @@
 -- Says what a desk does, as a list of events, each of one seat.
-use Rattle.std.specs.Prelude.{ℕ, ◌+◌, List, if◌then◌else◌, nat_lt, min, set, replicate, fold}
+use Rattle.std.specs.Prelude.{ℕ, ◌+◌, List, if◌then◌else◌, min, set, fold}
 use mathlib.Core.Option.{Option, some, none}
 use lib.ListN.{get_elem?}
 use Rattle.campaign_desk.specs.declared.knowledge.Knowledge.{Knowledge}
-use Rattle.campaign_desk.specs.Knowledge.{first_knowledge}
+use Rattle.campaign_desk.specs.Knowledge.{opening_seats}
 use Rattle.campaign_desk.specs.Knowledge.{after_look, after_draw, after_lower, after_bound}
 
 -- The seat of a number looks at the next number, draws it, lowers the bound, or reads the bound.
@@ -13,17 +13,15 @@ pub data Event : Type 0 where
   Lower : ℕ → ℕ → Event
   Bound : ℕ → Event
 
--- The number of jobs, the next number to draw, the bound, and what each seat knows.
+-- The next number to draw, the bound, and what each seat knows.
 pub record DeskState : Type 0 where
-  pub jobs : ℕ
   pub next : ℕ
   pub bound : ℕ
   pub seats : List Knowledge
 
 -- Returns the state before the first event: nothing is drawn, and the bound is jobs.
 abbrev pub first_state : ℕ → ℕ → DeskState
-first_state jobs workers =
-    record { jobs = jobs; next = 0; bound = jobs; seats = replicate workers (first_knowledge jobs) }
+first_state jobs workers = record { next = 0; bound = jobs; seats = opening_seats jobs workers }
 
 -- Returns the number of the seat that takes the step.
 abbrev pub seat_number : Event → ℕ
@@ -39,12 +37,10 @@ with_draw w seat s =
     then s
     else record s { next = s.next + 1; seats = set s.seats w (after_draw seat s.next) }
 
--- Returns the state after a seat lowers the bound. It lowers it only to a job's number.
+-- Returns the state after a seat lowers the bound by a number: it becomes the lesser of the two.
 abbrev pub with_lower : ℕ → ℕ → Knowledge → DeskState → DeskState
 with_lower w number seat s =
-    if nat_lt number s.jobs
-    then record s { bound = min s.bound number; seats = set s.seats w (after_lower seat number) }
-    else s
+    record s { bound = min s.bound number; seats = set s.seats w (after_lower seat number) }
 
 -- Returns the state after an event, by what its seat knows. Without that seat nothing changes.
 abbrev pub effect : DeskState → Event → Option Knowledge → DeskState

@@ -30,8 +30,6 @@ once_below x n = if nat_lt x n then 1 else 0
 
 -- The next number, the bound and the seats' lists fit each other.
 pub record IsDesk (jobs workers next bound : ℕ) (seats : List Knowledge) : Type 0 where
-  pub jobs_limit : jobs ≤ 1000000
-  pub workers_limit : workers ≤ 64
   pub all_seats : length seats ≡ workers
   pub same_jobs : All (λ seat. seat.jobs ≡ jobs) seats
   -- The seats drew the numbers below next and jobs, each once, and no others.

@@ -1,11 +1,16 @@
 -- Says what one seat knows, and what each kind of step adds to it.
-use Rattle.std.specs.Prelude.{ℕ, ◌≤◌, All, [], ◌∷◌, ◌++◌, true, false, if◌then◌else◌, nat_lt}
+use Rattle.std.specs.Prelude.{ℕ, ◌≤◌, All, List, [], ◌∷◌, ◌++◌, replicate}
+use Rattle.std.specs.Prelude.{true, false, if◌then◌else◌, nat_lt}
 use Rattle.campaign_desk.specs.declared.knowledge.Knowledge.{Knowledge}
 
 -- Returns what a seat knows before its first step.
 abbrev pub first_knowledge : ℕ → Knowledge
 first_knowledge jobs =
     record { jobs = jobs; draws = []; lowerings = []; bounds = []; is_done = false }
+
+-- Returns what each seat knows as a desk opens.
+abbrev pub opening_seats : ℕ → ℕ → List Knowledge
+opening_seats jobs workers = replicate workers (first_knowledge jobs)
 
 -- Adds that no job is left.
 abbrev pub after_done : Knowledge → Knowledge

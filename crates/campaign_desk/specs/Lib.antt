@@ -1,3 +1,4 @@
+pub mod Limits
 pub mod Knowledge
 pub mod Views
 pub mod Facts

@@ -1,14 +1,14 @@
 -- Says what a view of the table is: a list of seats. The first view has all, a worker's has one.
-use Rattle.std.specs.Prelude.{◌≡◌, List, [], ◌∷◌, ◌++◌, replicate}
+use Rattle.std.specs.Prelude.{◌≡◌, List, [], ◌∷◌, ◌++◌}
 use Rattle.atomic_table.specs.Table.{Me}
 use Rattle.atomic_table.specs.Seated.{TableId}
 use Rattle.campaign_desk.specs.declared.knowledge.Knowledge.{Knowledge}
 use Rattle.campaign_desk.specs.declared.knowledge.Terms.{Terms}
-use Rattle.campaign_desk.specs.Knowledge.{first_knowledge}
+use Rattle.campaign_desk.specs.Knowledge.{first_knowledge, opening_seats}
 
 -- Returns the view with which a table begins: a seat for each worker.
 abbrev pub first_view : Terms → List Knowledge
-first_view terms = replicate terms.workers (first_knowledge terms.jobs)
+first_view terms = opening_seats terms.jobs terms.workers
 
 -- Returns the first seat of a view, as a view of its own.
 abbrev pub first_seat : List Knowledge → List Knowledge

@@ -8,7 +8,7 @@ ghost use Rattle.campaign_desk.specs.Desk.{new_seats, knowledge_of};
 
 use crate::fault::DeskFault;
 use crate::knowledge::{DeskRule, Terms, View};
-use crate::seat::{Claim, JobNumber, Seat, join_seats, split_seats};
+use crate::seat::{Claim, Seat, join_seats, split_seats};
 use crate::steps::{draw_next, load_bound, load_next, lower_bound};
 use atomic_table::Table;
 use std::alloc::Global;
@@ -98,7 +98,7 @@ impl Desk {
     }
 
     /// Lowers the bound to a job's number, if that is less, by one step.
-    pub fn lower(&self, seat: &mut Seat, number: JobNumber)
+    pub fn lower(&self, seat: &mut Seat, number: u64)
         requires desk { IsSeatOf self.now seat.old }
         requires job { number < self.now.jobs }
         ensures desk { IsSeatOf self.now seat.new }

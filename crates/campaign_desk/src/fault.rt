@@ -8,12 +8,12 @@ use thiserror::Error;
 #[derive(Clone, Copy, Debug, PartialEq, Eq, Error)]
 pub enum DeskFault {
     /// G01: there are more than 1,000,000 jobs.
-    #[error("TooManyJobs")]
+    #[error("G01 TooManyJobs")]
     TooManyJobs,
     /// G02: there is no worker, or there are more than 64.
-    #[error("TooManyWorkers")]
+    #[error("G02 TooManyWorkers")]
     TooManyWorkers,
     /// G04: memory ran out.
-    #[error("Memory")]
+    #[error("G04 Memory")]
     Memory,
 }

@@ -8,8 +8,7 @@ ghost use Rattle.campaign_desk.specs.Reached.{LeadToDesk};
 
 /// Each list of events leads to words and lists that fit each other.
 pub fn events_lead_to_a_desk()
-    ensures desk { (jobs workers : ℕ) (events : List Event)
-        → jobs ≤ 1000000 → workers ≤ 64 → LeadToDesk jobs workers events }
+    ensures desk { (jobs workers : ℕ) (events : List Event) → LeadToDesk jobs workers events }
 {}
 
 /// The next number is at most the number of jobs plus that of seats.

@@ -10,7 +10,7 @@ mod steps;
 
 pub use desk::Desk;
 pub use fault::DeskFault;
-pub use seat::{Claim, JobNumber, Seat};
+pub use seat::{Claim, Seat};
 
 #[cfg(test)]
 mod tests;

@@ -1,16 +1,13 @@
 //! A worker's seat at a desk, split off the pass of all seats and joined to it again.
 
-ghost use Rattle.std.specs.Prelude.{◌≡◌, ◌<◌, ◌≤◌, [], ◌∷◌, ◌++◌, All, replicate, vec_capacity};
-ghost use Rattle.campaign_desk.specs.Knowledge.{first_knowledge};
+ghost use Rattle.std.specs.Prelude.{◌≡◌, ◌<◌, ◌≤◌, [], ◌∷◌, ◌++◌, All, vec_capacity};
+ghost use Rattle.campaign_desk.specs.Knowledge.{opening_seats};
 ghost use Rattle.campaign_desk.specs.Views.{IsPassOf};
 ghost use Rattle.campaign_desk.specs.Desk.{new_seats, knowledge_of};
 
 use crate::knowledge::Seats;
 use crate::steps::{Pass, Words};
 use std::marker::Model;
-
-/// Numbers a job, from 0.
-pub type JobNumber = u64;
 
 /// Lets one worker take steps at a desk. Contracts see what these steps returned.
 #[derive(Drop)]
@@ -34,8 +31,8 @@ impl Model for Seat {
 /// Says what a worker does next.
 #[derive(Clone, Copy, Debug, PartialEq, Eq)]
 pub enum Claim {
-    /// Run this job.
-    Job(JobNumber),
+    /// Run the job of this number.
+    Job(u64),
     /// No job is left.
     Done,
 }
@@ -48,7 +45,7 @@ pub(crate) fn split_seats(
     workers: u64,
 ) -> Vec<Seat>
     requires words { IsPassOf words.now.table_id pass.table_id }
-    requires all { pass.me ≡ (replicate workers (first_knowledge words.now.key.jobs), []) }
+    requires all { pass.me ≡ (opening_seats words.now.key.jobs workers, []) }
     requires room { (seats.items ≡ []) × (0 < workers) × (workers ≤ vec_capacity seats) }
     ensures { result.items ≡ new_seats words.now.table_id words.now.key.jobs workers }
 {

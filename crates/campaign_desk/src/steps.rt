@@ -68,7 +68,6 @@ pub(crate) fn draw_next(words: &Words, pass: &mut Pass) -> u64
 pub(crate) fn lower_bound(words: &Words, pass: &mut Pass, number: u64)
     requires words { IsPassOf words.now.table_id pass.old.table_id }
     requires one { HoldsOneSeat pass.old.me }
-    requires job { number < words.now.key.jobs }
     ensures table { pass.new.table_id ≡ pass.old.table_id }
     ensures lower { pass.new.me ≡ one_seat (after_lower (seat_of pass.old.me.0) number) }
 {

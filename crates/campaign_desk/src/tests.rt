@@ -1,4 +1,4 @@
-//! Tests of a desk: its limits, the draws of two threads, the bound, and a seat that is done.
+//! Tests of a desk: its limits, the draws of two threads, the bound, a seat that is done, and the texts of faults.
 
 ghost use Rattle.std.specs.Prelude.{◌≡◌, ℕ, ◌+◌, ◌<◌, [], ◌∷◌, IfSome};
 ghost use Rattle.campaign_desk.specs.Knowledge.{first_knowledge};
@@ -61,8 +61,29 @@ fn close_for_two(alloc: Global, desk: Desk, first: Seat, second: Seat) -> Option
     Some(desk.close(seats))
 }
 
-/// Returns what two threads draw: each job once. None if memory ran out.
-fn draw_by_two<R: Threads + Sync>(rt: &R, alloc: Global, jobs: u64) -> Option<(Vec<u64>, Vec<u64>)>
+/// Returns the bound that the second seat reads first, after the first lowers it to 5, and after it lowers it to 7.
+fn bounds_read(desk: &Desk, first: &mut Seat, second: &mut Seat) -> [u64; 3]
+    requires jobs { 7 < desk.now.jobs }
+    requires first { HasDrawn desk.now first.old first.old.knowledge.draws }
+    requires second { HasDrawn desk.now second.old second.old.knowledge.draws }
+    ensures first { HasDrawn desk.now first.new first.old.knowledge.draws }
+    ensures second { HasDrawn desk.now second.new second.old.knowledge.draws }
+{
+    let opening = desk.bound(second);
+    desk.lower(first, 5);
+    let lowered = desk.bound(second);
+    desk.lower(first, 7);
+    [opening, lowered, desk.bound(second)]
+}
+
+/// Returns what two threads draw until both are done, each job once, and then the bounds that `bounds_read` reads. None
+/// if memory ran out.
+fn draw_by_two<R: Threads + Sync>(
+    rt: &R,
+    alloc: Global,
+    jobs: u64,
+) -> Option<(Vec<u64>, Vec<u64>, [u64; 3])>
+    requires jobs { 7 < jobs }
     ensures { IfSome result (λ r. (x : ℕ)
         → count_of x r.0.items + count_of x r.1.items ≡ once_below x jobs) }
 {
@@ -78,41 +99,22 @@ fn draw_by_two<R: Threads + Sync>(rt: &R, alloc: Global, jobs: u64) -> Option<(V
             ensures { IfSome result (λ r. HasDrawn desk r.0 r.1.items) }
         { draw_all(alloc, &desk, second) },
     );
-    let (first, one) = one?;
-    let (second, other) = other?;
+    let (mut first, one) = one?;
+    let (mut second, other) = other?;
+    let bounds = bounds_read(&desk, &mut first, &mut second);
     close_for_two(alloc, desk, first, second)?;
-    Some((one, other))
+    Some((one, other, bounds))
 }
 
 #[test]
-fn two_threads_draw_each_job_once(rt: HostRuntime) -> Result<(), Fail> {
+fn two_threads_draw_each_job_once_and_share_the_bound(rt: HostRuntime) -> Result<(), Fail> {
     let drawn = draw_by_two(&rt, rt.alloc(), 1_000);
-    let (mut all, other) = drawn.expect(&rt, "there is memory");
+    let (mut all, other, bounds) = drawn.expect(&rt, "there is memory");
     all.extend_from_slice(&other)?;
     all.sort()?;
     assert!(rt; all.iter().copied().eq(0..1_000));
+    assert_eq!(rt; bounds, [1_000, 5, 5]);
     Ok(())
-}
-
-/// Returns the bound that the second seat reads first, after the first lowers it to 5, and after it lowers it to 7.
-fn bounds_read(desk: &Desk, first: &mut Seat, second: &mut Seat) -> [u64; 3]
-    requires first { IsSeatOf desk.now first.old }
-    requires second { IsSeatOf desk.now second.old }
-    requires jobs { 7 < desk.now.jobs }
-{
-    let opening = desk.bound(second);
-    desk.lower(first, 5);
-    let lowered = desk.bound(second);
-    desk.lower(first, 7);
-    [opening, lowered, desk.bound(second)]
-}
-
-#[test]
-fn the_bound_is_the_least_number_of_all_seats(rt: HostRuntime) {
-    let opened = open_for_two(rt.alloc(), 10);
-    let (desk, mut first, mut second) = opened.expect(&rt, "there is memory");
-    let bounds = bounds_read(&desk, &mut first, &mut second);
-    assert_eq!(rt; bounds, [10, 5, 5]);
 }
 
 /// Claims thrice at a desk of one job, and returns the claims and the words at the end. None if memory ran out.
@@ -153,4 +155,19 @@ fn limits_are_tested_in_their_order(rt: HostRuntime) {
         );
     }
     assert!(rt; Desk::open(rt.alloc(), 1_000_000, 64).is_ok());
+}
+
+#[test]
+fn faults_have_texts(rt: HostRuntime) -> Result<(), Fail> {
+    let text = format!(in rt.alloc();
+        "{}, {}, {}",
+        DeskFault::TooManyJobs,
+        DeskFault::TooManyWorkers,
+        DeskFault::Memory
+    )?;
+    assert_eq!(rt;
+        text.as_str(),
+        "G01 TooManyJobs, G02 TooManyWorkers, G04 Memory"
+    );
+    Ok(())
 }

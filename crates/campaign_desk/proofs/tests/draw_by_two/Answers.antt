@@ -9,6 +9,9 @@ returns g c =
     let desk = c.in_ok-desk.desk in
     let one = subst (λ o. IfSome o (λ r. HasDrawn desk r.0 r.1.items)) c.in_ok-first.was c.join-one.ensures.first in
     let other = subst (λ o. IfSome o (λ r. HasDrawn desk r.0 r.1.items)) c.in_ok-second.was c.join-one.ensures.second in
-    λ x. (λ i. count_of x (sym one.1 i) + count_of x (sym other.1 i))
-    ∙ two_drew_all _ _ _ _ _ _ c.in_ok-close_for_two.ensures one.2 x
+    let after = c.bounds_read-bounds.ensures in
+    let first = after.first.1 ∙ one.1 in
+    let second = after.second.1 ∙ other.1 in
+    λ x. (λ i. count_of x (sym first i) + count_of x (sym second i))
+    ∙ two_drew_all _ _ _ _ _ _ c.in_ok-close_for_two.ensures after.first.2 x
     ∙ ap (once_below x) c.in_ok-desk.ensures.jobs

@@ -1,0 +1,14 @@
+-- Says how many jobs and workers a desk may have.
+use Rattle.std.specs.Prelude.{ℕ, ◌<◌, ◌≤◌}
+
+-- Limits the jobs of a desk.
+abbrev pub most_jobs : ℕ
+most_jobs = 1000000
+
+-- Limits the workers of a desk.
+abbrev pub most_workers : ℕ
+most_workers = 64
+
+-- A desk may have this many jobs and workers.
+abbrev pub FitsLimits : ℕ → ℕ → Type 0
+FitsLimits jobs workers = (jobs ≤ most_jobs) × (0 < workers) × (workers ≤ most_workers)
