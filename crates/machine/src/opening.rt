@@ -1,13 +1,12 @@
 //! The opening of a machine.
 
-ghost use Rattle.std.specs.Prelude.{◌≡◌, ◌++◌, ◌∷◌, [], map, IfOk, None};
+ghost use Rattle.std.specs.Prelude.{◌≡◌, ◌++◌, ◌∷◌, [], map, slice_get, IfOk, None, Some};
 ghost use Rattle.jvms_machine.specs.declared.value.Value.TheVariants as value;
 ghost use Rattle.jvms_machine.specs.Start.{entry_arguments};
 ghost use Rattle.jvms_machine.specs.Opening.{opening_heap, opening_initialisation, opening_static};
 ghost use Rattle.jvms_machine.specs.State.{new_thread, static_fields};
 ghost use Rattle.machine.specs.Started.{with_arguments, opened};
 
-use built_in::is_built_in;
 use heap::{Heap, Statics};
 use jvms_machine::machine::{Entry, Limits};
 use jvms_machine::state::Initialisation;
@@ -44,24 +43,25 @@ fn arguments(alloc: Global, entry: &Entry) -> Result<Vec<Value>, AllocError>
     }
 }
 
-/// Built-in classes are initialised, and no other is.
-fn initialisation(class: &Class) -> Initialisation
-    ensures { result ≡ opening_initialisation class.now }
+/// Returns how far the initialisation of a class has come at the opening: built-in classes are initialised, and no other is.
+fn initialisation(program: &Program, number: usize, _class: &Class) -> Initialisation
+    requires { slice_get program.now number ≡ Some _class.now }
+    ensures { result ≡ opening_initialisation _class.now }
 {
-    if is_built_in(class.name.as_slice()) {
+    if program.is_built_in(number) {
         Initialisation::Done
     } else {
         Initialisation::NotBegun
     }
 }
 
-/// How far the initialisation of each class has come at the opening.
-fn initialisations(alloc: Global, classes: &[Class]) -> Result<Vec<Initialisation>, AllocError>
-    ensures { IfOk result (λ marks. marks.items ≡ map opening_initialisation classes.now) }
+/// Returns how far the initialisation of each class has come at the opening.
+fn initialisations(alloc: Global, program: &Program) -> Result<Vec<Initialisation>, AllocError>
+    ensures { IfOk result (λ marks. marks.items ≡ map opening_initialisation program.now) }
 {
     let mut marks = Vec::new(alloc);
-    for class in classes {
-        marks.push(initialisation(class))?;
+    for (number, class) in program.classes().iter().enumerate() {
+        marks.push(initialisation(program, number, class))?;
     }
     Ok(marks)
 }
@@ -86,7 +86,7 @@ fn opening_lists<'p>(
 {
     Ok(OpeningLists {
         arguments: arguments(alloc, entry)?,
-        initialisations: initialisations(alloc, program.classes())?,
+        initialisations: initialisations(alloc, program)?,
         threads: vec![in alloc; Thread::new(alloc, None)]?,
     })
 }
