@@ -1,5 +1,6 @@
 -- A session that is begun, or why it isn't.
-use Rattle.std.proofs.Common.{◌≡◌, ℕ, List, Result, Ok, sym, ap, ◌∙◌}
+use Rattle.std.proofs.Common.{◌≡◌, ℕ, List, Result, Ok, Err, refl, sym, ap, ◌∙◌}
+use Rattle.std.specs.Prelude.{IsTrue, is_ok}
 use Rattle.jvms_file.specs.Results.{◌>>=◌}
 use Rattle.jvms_program.specs.declared.program.Class.{Class}
 use Rattle.jvms_machine.specs.declared.machine.Entry.{Entry}
@@ -17,13 +18,20 @@ use Rattle.debugging.specs.Sessions.{AreChoices, session_from, session_on}
 
 -- ---- Faults
 
+-- Where there is a start, there is a session.
+is_session_too : (start : Result Start NotMade) (session : Start → Debugger) → IsTrue (is_ok start)
+    → IsTrue (is_ok (refused not_made start >>= λ s. Ok (session s)))
+is_session_too (Ok start) session is = refl
+is_session_too (Err why) session is = absurd (cc)
+
 -- Why no machine was made is why there is no session.
 pub is_fault : (most : ℕ) (chooser : Chooser) (limits : Limits) (program : List Class) (entry : Entry) (why : MachineFault)
     → IsNotMade program limits entry why → IsMachineFault why (session_on most chooser limits program entry)
 unfolding session_on
 is_fault most chooser limits program entry machine_fault.NoEntry is = ap (λ r. refused not_made r >>= λ start. Ok (session_from most chooser limits program start)) is
 is_fault most chooser limits program entry machine_fault.Limits is = ap (λ r. refused not_made r >>= λ start. Ok (session_from most chooser limits program start)) is
-is_fault most chooser limits program entry machine_fault.Memory is = tt
+is_fault most chooser limits program entry machine_fault.Memory is =
+    is_session_too (made program limits entry) (λ start. session_from most chooser limits program start) is
 
 -- ---- The session
 

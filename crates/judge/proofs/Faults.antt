@@ -1,6 +1,6 @@
 -- Why a program wasn't run is a fault of all of it.
-use Rattle.std.proofs.Common.{ℕ, ap}
-use Rattle.std.specs.Prelude.{Result}
+use Rattle.std.proofs.Common.{ℕ, refl, ap}
+use Rattle.std.specs.Prelude.{Result, Ok, Err}
 use Rattle.jvms_machine.specs.Opening.{NotMade}
 use Rattle.machine.specs.declared.fault.MachineFault.TheVariants as machine_fault
 use Rattle.program_runs.specs.declared.fault.ProgramFault.{ProgramFault}
@@ -12,7 +12,8 @@ use Rattle.judge.specs.Programs.{not_made, refused}
 pub not_run : {A : Type 0} → (fault : ProgramFault) → (shown : Result A NotMade) → IsProgramFault fault shown → IsFault (judge_fault_of fault) (refused not_made shown)
 not_run (program_fault.Machine machine_fault.NoEntry) shown is = ap (refused not_made) is
 not_run (program_fault.Machine machine_fault.Limits) shown is = ap (refused not_made) is
-not_run (program_fault.Machine machine_fault.Memory) shown is = tt
+not_run (program_fault.Machine machine_fault.Memory) (Ok shown) is = refl
+not_run (program_fault.Machine machine_fault.Memory) (Err why) is = absurd (cc)
 not_run program_fault.Memory shown is = tt
 
 pub names_none : (files : ℕ) (fault : ProgramFault) → NamesFile files (judge_fault_of fault)

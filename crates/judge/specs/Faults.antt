@@ -1,5 +1,5 @@
 -- Faults are why nothing was run, unless memory ran out.
-use Rattle.std.specs.Prelude.{◌≡◌, ◌<◌, ℕ, List, Result, Err}
+use Rattle.std.specs.Prelude.{◌≡◌, ◌<◌, ℕ, IsTrue, is_ok, List, Result, Err}
 use Rattle.jvms_file.specs.declared.class_file.ClassFile.{ClassFile}
 use Rattle.jvms_machine.specs.Opening.{no_entry, no_limits}
 use Rattle.inputs.specs.declared.fault.InputFault.{InputFault}
@@ -42,9 +42,16 @@ IsLinkFault link_fault.Memory said = Unit {0}
 IsLinkFault fault said = said ≡ Err (not_linked fault)
 
 abbrev pub IsMachineFault : {A : Type 0} → MachineFault → Result A NotRun → Type 0
-IsMachineFault machine_fault.Memory said = Unit {0}
+IsMachineFault machine_fault.Memory said = IsTrue (is_ok said)
 IsMachineFault machine_fault.NoEntry said = said ≡ Err (not_made no_entry)
 IsMachineFault machine_fault.Limits said = said ≡ Err (not_made no_limits)
+
+-- Why files make no program. A machine isn't asked for.
+abbrev pub IsNoProgram : {A : Type 0} → JudgeFault → Result A NotRun → Type 0
+IsNoProgram (judge_fault.Input file fault) said = IsFileFault file fault said
+IsNoProgram (judge_fault.Link fault) said = IsLinkFault fault said
+IsNoProgram (judge_fault.Machine fault) said = ⊥
+IsNoProgram judge_fault.Memory said = Unit {0}
 
 -- A fault is what was said.
 abbrev pub IsFault : {A : Type 0} → JudgeFault → Result A NotRun → Type 0

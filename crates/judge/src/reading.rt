@@ -2,7 +2,7 @@
 
 ghost use Rattle.std.specs.Prelude.{◌≡◌, length, IfOk, IfErr};
 ghost use Rattle.inputs.specs.Inputs.{Becomes, class_in};
-ghost use Rattle.judge.specs.Faults.{IsClassesFault, IsFault, NamesFile};
+ghost use Rattle.judge.specs.Faults.{IsClassesFault, IsNoProgram, NamesFile};
 ghost use Rattle.judge.specs.Programs.{classes_from, program_in};
 
 use crate::fault::JudgeFault;
@@ -45,7 +45,7 @@ fn read_all(alloc: Global, inputs: &[Input]) -> Result<Vec<ClassFile>, JudgeFaul
 pub fn program_of(alloc: Global, inputs: &[Input]) -> Result<Program, JudgeFault>
     ensures exact { IfOk result (λ program. program_in inputs.now ≡ Ok program) }
     // A fault comes only where its condition stands, and that of an input names one of these.
-    ensures fault { IfErr result (λ fault. IsFault fault (program_in inputs.now)) }
+    ensures fault { IfErr result (λ fault. IsNoProgram fault (program_in inputs.now)) }
     ensures named { IfErr result (λ fault. NamesFile (length inputs.now) fault) }
 {
     let classes = read_all(alloc, inputs)?;

@@ -1,5 +1,5 @@
--- A fault is why a program wasn't run, unless memory ran out.
-use Rattle.std.specs.Prelude.{◌≡◌, Result, Err}
+-- A fault is why a program wasn't run. Memory may run out only if nothing else is at fault.
+use Rattle.std.specs.Prelude.{◌≡◌, IsTrue, is_ok, Result, Err}
 use Rattle.jvms_machine.specs.Opening.{NotMade, no_entry, no_limits}
 use Rattle.machine.specs.declared.fault.MachineFault.TheVariants as machine_fault
 use Rattle.program_runs.specs.declared.fault.ProgramFault.{ProgramFault}
@@ -8,5 +8,5 @@ use Rattle.program_runs.specs.declared.fault.ProgramFault.TheVariants as program
 abbrev pub IsProgramFault : {A : Type 0} → ProgramFault → Result A NotMade → Type 0
 IsProgramFault (program_fault.Machine machine_fault.NoEntry) shown = shown ≡ Err no_entry
 IsProgramFault (program_fault.Machine machine_fault.Limits) shown = shown ≡ Err no_limits
-IsProgramFault (program_fault.Machine machine_fault.Memory) shown = Unit {0}
-IsProgramFault program_fault.Memory shown = Unit {0}
+IsProgramFault (program_fault.Machine machine_fault.Memory) shown = IsTrue (is_ok shown)
+IsProgramFault program_fault.Memory shown = IsTrue (is_ok shown)

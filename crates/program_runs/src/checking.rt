@@ -4,7 +4,7 @@ ghost use Rattle.std.specs.Prelude.{◌≡◌, ◌≤◌, [], length, IfOk, IfEr
 ghost use Rattle.machine.specs.Machine.{with_state};
 ghost use Rattle.machine.specs.Runs.{run_of};
 ghost use Rattle.program_runs.specs.Faults.{IsProgramFault};
-ghost use Rattle.program_runs.specs.Judgements.{IsFedWith, IsJudgementIn, IsOpened, MayFollow, with_items};
+ghost use Rattle.program_runs.specs.Judgements.{IsFedWith, IsJudgementBy, IsJudgementIn, IsOpened, MayFollow, with_items};
 ghost use Rattle.program_runs.specs.Shown.{EndsAs, program_chooser_left, program_shown, shown_of};
 ghost use Rattle.runs.specs.Choices.{choices_from, chooser_behind};
 ghost use Rattle.runs.specs.Endings.{ending_of};
@@ -109,13 +109,21 @@ fn check_machine(
     Ok(ending)
 }
 
+/// How a run ended, and whether it is atomic.
+#[derive(Debug, Drop)]
+pub struct CheckedRun {
+    pub ending: Ending,
+    pub judgement: Judgement,
+}
+
 /// Runs a program from an entry by the choices of a chooser, at most this number of them, and returns how the run ends. The
 /// items are fed to a checker as the run goes, and aren't kept.
 ///
 /// # Errors
 ///
-/// Why there is no machine for the entry, or that there was no memory. No item of a run is at fault with a checker: each
-/// exit is of its thread's innermost method, and there are no more events than turns.
+/// Why there is no machine for the entry, or that there was no memory. Then the chooser may have moved, and the checker may
+/// have been fed. No item of a run is at fault with a checker: each exit is of its thread's innermost method, and there are
+/// no more events than turns.
 #[tactic(auto, unfolding(crate::specs::Shown::program_shown, crate::specs::Shown::program_chooser_left))]
 pub fn feed_program(
     alloc: Global,
@@ -146,18 +154,33 @@ pub fn feed_program(
     check_machine(alloc, &mut machine, chooser, most, checker)
 }
 
-/// How a run ended, and whether it is atomic.
-#[derive(Debug, Drop)]
-pub struct CheckedRun {
-    pub ending: Ending,
-    pub judgement: Judgement,
+/// Runs a machine from its opening as `check_machine` does, with a checker of its own, and judges the run.
+fn judge_machine(
+    alloc: Global,
+    machine: &mut Machine<'_>,
+    chooser: &mut Chooser,
+    most: TurnLimit,
+    spec: Spec,
+) -> Result<CheckedRun, ProgramFault>
+    requires opened { IsOpened machine.old }
+    ensures ending { IfOk result (λ run. run.ending ≡ ending_of most chooser.old machine.old) }
+    ensures judgement { IfOk result (λ run.
+        IsJudgementBy spec (shown_of most chooser.old machine.old).items run.judgement) }
+    ensures chooser { OnOk result (chooser.new ≡ chooser_behind most chooser.old machine.old) }
+    ensures memory { IfErr result (λ fault. fault ≡ ProgramFault.Memory) }
+{
+    let mut checker = Checker::new(alloc, spec)?;
+    let ending = check_machine(alloc, machine, chooser, most, &mut checker)?;
+    let judgement = judgement_of(&checker)?;
+    Ok(CheckedRun { ending, judgement })
 }
 
 /// Runs a program as `feed_program` does, and returns how the run ends and whether it is atomic by a specification.
 ///
 /// # Errors
 ///
-/// Why there is no machine for the entry, or that there was no memory.
+/// Why there is no machine for the entry, or that there was no memory. Then the chooser may have moved.
+#[tactic(auto, unfolding(crate::specs::Shown::program_shown, crate::specs::Shown::program_chooser_left))]
 pub fn check_program(
     alloc: Global,
     program: &Program,
@@ -177,8 +200,7 @@ pub fn check_program(
     ensures fault { IfErr result (λ fault.
         IsProgramFault fault (program_shown most chooser.old limits program.now entry.now)) }
 {
-    let mut checker = Checker::new(alloc, spec)?;
-    let ending = feed_program(alloc, program, limits, entry, chooser, most, &mut checker)?;
-    let judgement = judgement_of(&checker)?;
-    Ok(CheckedRun { ending, judgement })
+    program.is_program();
+    let mut machine = Machine::new(alloc, program, limits, entry)?;
+    judge_machine(alloc, &mut machine, chooser, most, spec)
 }

@@ -34,7 +34,7 @@ fn run_machine(
 ///
 /// # Errors
 ///
-/// Why there is no machine for the entry, or that there was no memory.
+/// Why there is no machine for the entry, or that there was no memory. Then the chooser may have moved.
 #[tactic(auto, unfolding(crate::specs::Shown::program_shown, crate::specs::Shown::program_chooser_left))]
 pub fn run_program(
     alloc: Global,
