@@ -7,12 +7,14 @@ use Rattle.campaign_jobs.specs.declared.result.Atomicity.{Atomicity}
 use Rattle.campaign_jobs.specs.declared.result.Atomicity.TheVariants.{Atomic, Cycle}
 use Rattle.campaign_jobs.specs.declared.result.JobResult.{JobResult}
 
+-- Returns the number of a status.
 abbrev number_of : Status → ℕ
 number_of Finished = 0
 number_of Running = 1
 number_of Deadlocked = 2
 number_of Stalled = 3
 
+-- Returns the status of a number.
 abbrev status_of : ℕ → Status
 status_of zero = Finished
 status_of (suc zero) = Running
@@ -25,10 +27,12 @@ status_back Running = refl
 status_back Deadlocked = refl
 status_back Stalled = refl
 
+-- Returns the number of events of the first cycle, if there is one.
 abbrev cycle_of : Atomicity → Option ℕ
 cycle_of Atomic = None
 cycle_of (Cycle n) = Some n
 
+-- Returns the atomicity with a first cycle at this number of events, if it is given.
 abbrev atomicity_of : Option ℕ → Atomicity
 atomicity_of None = Atomic
 atomicity_of (Some n) = Cycle n

@@ -32,7 +32,8 @@ result_is lines (Ok shown) ending fed v events ends fed_is is count =
       events = count ∙ ap (λ (f : Fed). length (walk_of f).events) fed_is;
     }
 
--- What a checker says of a serial order of what it was fed.
+-- With memory, the result is a serial order of the events that were fed, or they have a cycle and no rearrangement
+-- is serial.
 abbrev Says : {V E : Type 0} → (V → List ℕ) → Result (Option V) E → Fed → Type 0
 Says items r fed =
     IfOk r (λ o. MatchOption o

@@ -13,7 +13,7 @@ use Rattle.campaign_jobs.specs.declared.plan.Plan.{Plan}
 use Rattle.campaign_jobs.specs.Reports.{job_shown}
 use Rattle.campaign_jobs.proofs.SeededChoices.{are_seeded}
 
--- The chooser of a job.
+-- Returns the chooser of a job: random words of the plan's seed and the job's number name enabled threads.
 abbrev pub chooser_of : Plan → ℕ → Chooser
 chooser_of plan number = opened (Seeded plan.seed number)
 

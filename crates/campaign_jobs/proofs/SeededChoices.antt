@@ -10,7 +10,7 @@ use Rattle.schedule.specs.Schedules as schedules
 use Rattle.runs.specs.Choices.{after_turn, choices_from, first_then}
 use Rattle.campaign_jobs.specs.Choices.{chosen_then, job_choices, thread_at}
 
--- The thread at a word is there.
+-- A nonempty list has a thread at the next word modulo its length.
 is_there : (t : ℕ) (ts : List ℕ) (generator : Lcg) → slice_get (t ∷ ts) ((pcg32 generator).0 % length (t ∷ ts)) ≡ Some (thread_at (t ∷ ts) generator)
 is_there t ts generator = slice_get-get_or (t ∷ ts) ((pcg32 generator).0 % length (t ∷ ts)) 0 (omega arith)
 

@@ -1,4 +1,4 @@
--- Whether a run is atomic (Velodrome, sections 3 and 4).
+-- Says whether a run is atomic (Velodrome, PLDI 2008, sections 3 and 4).
 use Rattle.std.specs.Prelude.{Bool, true, false, List}
 use Rattle.velodrome.specs.declared.verdict.Verdict.{Verdict}
 use Rattle.velodrome.specs.declared.verdict.Verdict.TheVariants as verdict
@@ -7,15 +7,17 @@ use Rattle.velodrome.specs.Transactions.{Event}
 use Rattle.campaign_jobs.specs.declared.result.Atomicity.{Atomicity}
 use Rattle.campaign_jobs.specs.declared.result.Atomicity.TheVariants as atomicity
 
--- The events have no cycle, or their first cycle at this number of them.
+-- The events have no cycle, or this is the least number of first events that have one.
 abbrev pub IsAtomicityOf : List Event → Atomicity → Type 0
 IsAtomicityOf events atomicity.Atomic = AreAtomic events
 IsAtomicityOf events (atomicity.Cycle first_at) = IsFirstAt events first_at
 
+-- The run has a cycle.
 abbrev pub has_cycle : Atomicity → Bool
 has_cycle atomicity.Atomic = false
 has_cycle (atomicity.Cycle first_at) = true
 
+-- Returns whether a verdict has a cycle, with the number of events at which the first appears.
 abbrev pub atomicity_of : Verdict → Atomicity
 atomicity_of (verdict.Atomic order) = atomicity.Atomic
 atomicity_of (verdict.Cycle first_at transactions pairs) = atomicity.Cycle first_at

@@ -1,4 +1,4 @@
--- The report of a job (own; the verdict is that of Velodrome, sections 3 and 4).
+-- Says what the result of a job is, and when its events have a serial order (Velodrome, sections 3 and 4).
 use Rattle.std.specs.Prelude.{◌≡◌, ℕ, List, length, Result, Ok, Err}
 use Rattle.jvms_file.specs.Results.{◌>>=◌}
 use Rattle.jvms_program.specs.declared.program.Class.{Class}
@@ -16,47 +16,51 @@ use Rattle.campaign_jobs.specs.declared.result.JobResult.{JobResult}
 use Rattle.campaign_jobs.specs.Atomicities.{IsAtomicityOf}
 use Rattle.campaign_jobs.specs.Choices.{job_choices}
 
--- What the run of the job of a number shows, from where the entry starts: the stream of its random words is the number.
+-- Returns what the run of a job shows, from where the entry starts. The generator of its random words has the
+-- plan's seed as its state, and the job's number as its stream.
 abbrev pub job_from : List Class → Plan → ℕ → Start → Shown
 job_from program plan number start =
     let m = opened program plan.limits start in shown_by m (job_choices plan.most (generator_of plan.seed number) m)
 
+-- Returns what the run of a job shows, or why no machine is made for it.
 unfoldable pub job_shown : List Class → Plan → ℕ → Result Shown NotMade
 job_shown program plan number = do
   start ← made program plan.limits plan.entry
   Ok (job_from program plan number start)
 
--- The result of a run under a specification.
+-- The result is that of a run under a specification: its atomicity, status, and numbers of turns and of events.
 pub record IsResultOn (lines : Specification) (shown : Shown) (r : JobResult) : Type 0 where
   pub atomicity : IsAtomicityOf (walk lines shown.items).events r.atomicity
   pub status : r.status ≡ shown.status
   pub turns : r.turns ≡ length shown.choices
   pub events : r.events ≡ length (walk lines shown.items).events
 
+-- There is a run, and the result is its result under a specification.
 abbrev pub IsResultIn : Specification → Result Shown NotMade → JobResult → Type 0
 IsResultIn lines (Ok shown) r = IsResultOn lines shown r
 IsResultIn lines (Err why) r = ⊥
 
--- The result of the job of a number, whichever cycle shows it.
+-- The result is that of the job of this number. Which cycle shows that doesn't matter.
 abbrev pub IsResultOf : List Class → Plan → ℕ → JobResult → Type 0
 IsResultOf program plan number r = ∥ IsResultIn plan.spec (job_shown program plan number) r ∥₁
 
--- These are the numbers of the events in a serial order.
+-- There is a run, its events have no cycle, and these are their numbers in a serial order.
 abbrev pub IsSerialIn : Specification → Result Shown NotMade → List ℕ → Type 0
 IsSerialIn lines (Ok shown) numbers =
     let events = (walk lines shown.items).events in AreAtomic events × IsSerial events numbers
 IsSerialIn lines (Err why) numbers = ⊥
 
--- There is a cycle, and no rearrangement of the events is serial.
+-- There is a run, its events have a cycle, and no rearrangement of them is serial.
 abbrev pub HasNoneIn : Specification → Result Shown NotMade → Type 0
 HasNoneIn lines (Ok shown) =
     let events = (walk lines shown.items).events in
     ((transactions : List ℕ) × IsCycle events transactions) × ((numbers : List ℕ) → IsRearrangement events numbers → ⊥)
 HasNoneIn lines (Err why) = ⊥
 
--- The same, of the events of the job of a number.
+-- The events of the job of this number have no cycle, and these are their numbers in a serial order.
 abbrev pub IsSerialOf : List Class → Plan → ℕ → List ℕ → Type 0
 IsSerialOf program plan number numbers = IsSerialIn plan.spec (job_shown program plan number) numbers
 
+-- The events of the job of this number have a cycle, and no rearrangement of them is serial.
 abbrev pub HasNoSerialOrder : List Class → Plan → ℕ → Type 0
 HasNoSerialOrder program plan number = HasNoneIn plan.spec (job_shown program plan number)

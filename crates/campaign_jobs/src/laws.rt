@@ -11,14 +11,13 @@ ghost use Rattle.campaign_jobs.specs.declared.result.JobResult.{JobResult};
 ghost use Rattle.campaign_jobs.specs.Choices.{job_choices};
 ghost use Rattle.campaign_jobs.specs.Reports.{IsResultOf};
 
-/// The choices of a job are those of the schedule `seed:S:K` whose state is the plan's seed, and whose stream is the job's
-/// number.
+/// The choices of a job are those of the schedule `seed:S:K`, where S is the plan's seed and K the job's number.
 #[tactic(auto, using(crate::proofs::SeededChoices::are_seeded))]
 pub fn job_choices_are_seeded()
     ensures { (most seed number : ℕ) (m : Machine) → job_choices most (generator_of seed number) m ≡ choices_from most (opened (Seeded seed number)) m }
 {}
 
-/// A job has one result.
+/// A job has at most one result: any two are equal.
 #[tactic(auto, using(crate::proofs::OneResult::is_one))]
 pub fn a_job_has_one_result()
     ensures { (program : List Class) (plan : Plan) (number : ℕ) (first second : JobResult) → IsResultOf program plan number first → IsResultOf program plan number second → first ≡ second }

@@ -1,4 +1,4 @@
-//! The jobs of a campaign: each runs a program under a seeded schedule of its own, and reports whether the run is atomic.
+//! The jobs of a campaign: each runs a program under its own seeded schedule, and reports whether the run is atomic.
 #![tactic(auto)]
 
 pub mod laws;

@@ -9,18 +9,18 @@ use machine::admits;
 use program::Program;
 use turn_limit::TurnLimit;
 
-/// What a campaign runs: jobs numbered from 0, all from one entry and under one specification.
+/// Says what a campaign runs: jobs numbered from 0, all from one entry and under one specification.
 #[derive(Drop)]
 pub struct Plan {
     /// Where each job begins.
     pub entry: Entry,
-    /// What each job may use.
+    /// The limits of each job's machine.
     pub limits: Limits,
     /// The number of jobs.
     pub jobs: u64,
     /// The state of the generator of random words. The stream is the job's number.
     pub seed: u64,
-    /// How many turns each job may take.
+    /// The limit on the turns of each job.
     pub most: TurnLimit,
     /// Which methods are to be atomic.
     pub spec: Spec,
@@ -29,7 +29,7 @@ pub struct Plan {
 }
 
 impl Plan {
-    /// Returns whether a machine of this program can be made with the plan's entry and limits. It takes no memory.
+    /// Returns whether a machine of this program can be made with the plan's entry and limits. Takes no memory.
     pub fn fits(&self, program: &Program) -> bool
         ensures { result ≡ fits program.now self.now }
     {

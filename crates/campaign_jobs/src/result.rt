@@ -5,12 +5,12 @@ ghost use Rattle.campaign_jobs.specs.Atomicities.{has_cycle};
 
 use machine::Status;
 
-/// Whether a run is atomic.
+/// Says whether a run is atomic.
 #[derive(Clone, Copy, Debug, PartialEq, Eq)]
 pub enum Atomicity {
     /// No cycle of transactions exists.
     Atomic,
-    /// The first `first_at` events are the least whose trace has a cycle.
+    /// The first `first_at` events have a cycle, and no fewer have one.
     Cycle { first_at: u64 },
 }
 
@@ -23,10 +23,12 @@ impl Atomicity {
     }
 }
 
-/// How the run of a job ended, and whether it is atomic.
+/// Says how the run of a job ended, and whether it is atomic.
 #[derive(Clone, Copy, Debug, PartialEq, Eq)]
 pub struct JobResult {
+    /// Whether the run is atomic.
     pub atomicity: Atomicity,
+    /// The status of the machine after the last turn.
     pub status: Status,
     /// The number of turns.
     pub turns: u64,

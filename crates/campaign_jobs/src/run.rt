@@ -19,7 +19,7 @@ use schedule::Chooser;
 use std::alloc::{AllocError, Global};
 use velodrome::verdict::Verdict;
 
-/// Runs a job, and feeds its items to a checker.
+/// Runs a job, feeds its items to a checker, and returns how the run ended.
 fn feed_job(
     alloc: Global,
     program: &Program,
@@ -62,11 +62,11 @@ fn atomicity_of(verdict: Verdict) -> Atomicity
     }
 }
 
-/// Runs a job, and returns its report. It waits for nobody.
+/// Runs a job and returns its report. Waits for nobody.
 ///
 /// # Errors
 ///
-/// There was no memory.
+/// Memory ran out.
 pub fn run_job<'a>(
     alloc: Global,
     program: &'a Program,
@@ -74,7 +74,7 @@ pub fn run_job<'a>(
     number: u64,
 ) -> Result<Report<'a>, AllocError>
     requires fits { IsTrue (fits program.now plan.now) }
-    // The report is of this program, plan and number; its type keeps that its result is that job's.
+    // The report is of this program, plan and number. Its type keeps that the result is that job's.
     ensures named { IfOk result (λ report. IsJobOf report program.now plan.now number) }
 {
     let mut checker = Checker::new(alloc, plan.spec.copy()?)?;
@@ -93,11 +93,11 @@ pub fn run_job<'a>(
     })
 }
 
-/// Runs a job, and returns the numbers of its events in a serial order, if there is one: exactly if its report is Atomic.
+/// Runs a job and returns the numbers of its events in a serial order, or `None` if the run has a cycle.
 ///
 /// # Errors
 ///
-/// There was no memory.
+/// Memory ran out.
 pub fn serial_of(
     alloc: Global,
     program: &Program,

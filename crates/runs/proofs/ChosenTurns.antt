@@ -11,7 +11,8 @@ use Rattle.machine.proofs.RunLaws.{run_none, run_more}
 use Rattle.schedule.specs.Choosers.{Chooser}
 use Rattle.runs.specs.Choices.{after_turn, choice_of, chooser_after, choices_from, chooser_behind, first_then, BrokeOff, IsTurnOf}
 
--- So many turns were made of those that a chooser gives, and these are behind them.
+-- Turns were taken by the first choices of a chooser, and led to this machine and these items. What is left of the
+-- chooser gives the other choices.
 pub record AreTaken (before : Machine) (first : Chooser) (most : ℕ) (items_before : Option (List Item)) (made : ℕ) (choices : List ℕ) (outcomes : List Outcome) (m : Machine) (chooser : Chooser) (items : Option (List Item)) : Type 0 where
   pub within : made ≤ most
   pub left : choices ++ choices_from (most - made) chooser m ≡ choices_from most first before
@@ -43,7 +44,7 @@ pub nothing_left : (chooser : Chooser) (m : Machine) → choices_from 0 chooser 
 unfolding choices_from
 nothing_left chooser m = refl
 
--- No turn was made yet.
+-- No turn is taken yet.
 pub taken_none : (m : Machine) (chooser : Chooser) (most : ℕ) (items : Option (List Item)) (choices : List ℕ) (outcomes : List Outcome) → choices ≡ [] → outcomes ≡ [] → AreTaken m chooser most items 0 choices outcomes m chooser items
 taken_none m chooser most items choices outcomes no_choice no_outcome =
     rw (no_choice, no_outcome) record {
@@ -53,11 +54,11 @@ taken_none m chooser most items choices outcomes no_choice no_outcome =
       ran = run_none m items;
     }
 
--- So many are left: one, and those behind it.
+-- Before a turn, the number of turns that are left is one more than after it.
 more_left : (most made : ℕ) → made < most → most - made ≡ suc (most - (made + 1))
 more_left most made below = omega arith
 
--- One more turn is made.
+-- One more turn is taken.
 pub taken_more : (before : Machine) (first : Chooser) (most : ℕ) (items_before : Option (List Item)) (made : ℕ) (choices : List ℕ) (outcomes : List Outcome) (m : Machine) (chooser : Chooser) (items : Option (List Item))
     (t : ℕ) (o : Outcome) (after : Machine) (later : Chooser) (items_after : Option (List Item))
     → AreTaken before first most items_before made choices outcomes m chooser items → made < most
@@ -83,7 +84,7 @@ taken_more before first most items_before made choices outcomes m chooser items 
       ran = run_more before m after choices outcomes items_before items items_after t o taken.ran outcome state items_are;
     }
 
--- The same, of a turn by the next choice.
+-- One more turn is taken, that of the chooser's next choice.
 pub taken_next : (before : Machine) (first : Chooser) (most : ℕ) (items_before : Option (List Item)) (made : ℕ) (choices : List ℕ) (outcomes : List Outcome) (m : Machine) (chooser : Chooser) (items : Option (List Item))
     (taken : ℕ × Outcome) (after : Machine) (later : Chooser) (more : Option (List Item))
     → AreTaken before first most items_before made choices outcomes m chooser items → made < most → IsTurnOf m chooser items taken after later more
@@ -91,7 +92,7 @@ pub taken_next : (before : Machine) (first : Chooser) (most : ℕ) (items_before
 taken_next before first most items_before made choices outcomes m chooser items taken after later more are below is =
     taken_more before first most items_before made choices outcomes m chooser items taken.0 taken.1 after later more are below is.0 is.3 is.1 is.2 is.4
 
--- A run that breaks off here has made the first of the choices.
+-- A run that breaks off here has taken the turns of some first choices.
 pub broken_here : (before : Machine) (first : Chooser) (most : ℕ) (items_before : Option (List Item)) (made : ℕ) (choices : List ℕ) (outcomes : List Outcome) (m : Machine) (chooser : Chooser) (items : Option (List Item))
     → AreTaken before first most items_before made choices outcomes m chooser items → BrokeOff before (choices_from most first before) m items_before items
 broken_here before first most items_before made choices outcomes m chooser items taken =
@@ -103,25 +104,25 @@ broken_here before first most items_before made choices outcomes m chooser items
       items = rw are taken.ran.2;
     }
 
--- What was noted of them is their run.
+-- Lists that equal the choices and the outcomes are those of the run.
 pub told : (before : Machine) (first : Chooser) (most : ℕ) (items_before : Option (List Item)) (made : ℕ) (choices more : List ℕ) (outcomes more_outcomes : List Outcome) (m : Machine) (chooser : Chooser) (items : Option (List Item))
     → AreTaken before first most items_before made choices outcomes m chooser items → more ≡ choices → more_outcomes ≡ outcomes → IsRun before more more_outcomes m items_before items
 told before first most items_before made choices more outcomes more_outcomes m chooser items taken choices_are outcomes_are = rw (choices_are, outcomes_are) taken.ran
 
--- No choice is left: none is given.
+-- If the chooser gives none, these are all the choices.
 pub all_given : (before : Machine) (first : Chooser) (most : ℕ) (items_before : Option (List Item)) (made : ℕ) (choices : List ℕ) (outcomes : List Outcome) (m : Machine) (chooser : Chooser) (items : Option (List Item))
     → AreTaken before first most items_before made choices outcomes m chooser items → choice_of chooser m ≡ None → choices ≡ choices_from most first before
 all_given before first most items_before made choices outcomes m chooser items taken none =
     sym (append-nil choices) ∙ ap (λ l. choices ++ l) (sym (none_left (most - made) chooser m none)) ∙ taken.left
 
--- No choice is left: as many were made as may be.
+-- If the limit is reached, these are all the choices.
 pub all_made : (before : Machine) (first : Chooser) (most : ℕ) (items_before : Option (List Item)) (made : ℕ) (choices : List ℕ) (outcomes : List Outcome) (m : Machine) (chooser : Chooser) (items : Option (List Item))
     → AreTaken before first most items_before made choices outcomes m chooser items → most ≤ made → choices ≡ choices_from most first before
 all_made before first most items_before made choices outcomes m chooser items taken reached =
     let none : most - made ≡ 0 = omega arith in
     sym (append-nil choices) ∙ ap (λ l. choices ++ l) (sym (nothing_left chooser m)) ∙ ap (λ n. choices ++ choices_from n chooser m) (sym none) ∙ taken.left
 
--- The chooser at the end, where it gave no choice more.
+-- If the chooser gives none, what is left of it is the chooser after all the choices.
 pub behind_all_given : (before : Machine) (first : Chooser) (most : ℕ) (items_before : Option (List Item)) (made : ℕ) (choices : List ℕ) (outcomes : List Outcome) (m : Machine) (chooser later : Chooser) (items : Option (List Item))
     → AreTaken before first most items_before made choices outcomes m chooser items → made < most → choice_of chooser m ≡ None → later ≡ chooser_after chooser m → later ≡ chooser_behind most first before
 behind_all_given before first most items_before made choices outcomes m chooser later items taken below none later_is =
@@ -130,7 +131,7 @@ behind_all_given before first most items_before made choices outcomes m chooser 
     ∙ ap (λ n. chooser_behind n chooser m) (sym (more_left most made below))
     ∙ taken.left_behind
 
--- The chooser at the end, where as many turns were made as may be.
+-- If the limit is reached, this is the chooser after all the choices.
 pub behind_all_made : (before : Machine) (first : Chooser) (most : ℕ) (items_before : Option (List Item)) (made : ℕ) (choices : List ℕ) (outcomes : List Outcome) (m : Machine) (chooser : Chooser) (items : Option (List Item))
     → AreTaken before first most items_before made choices outcomes m chooser items → most ≤ made → chooser ≡ chooser_behind most first before
 behind_all_made before first most items_before made choices outcomes m chooser items taken reached =
@@ -141,7 +142,7 @@ first_then_few : (n : ℕ) (o : Option ℕ) (rest : ℕ → List ℕ) → ((t : 
 first_then_few n None rest few = omega arith
 first_then_few n (Some t) rest few = let below = few t in omega arith
 
--- A chooser gives no more choices than are asked for.
+-- A chooser gives at most as many choices as are asked for.
 pub choices_are_few : (n : ℕ) (chooser : Chooser) (m : Machine) → length (choices_from n chooser m) ≤ n
 unfolding choices_from
 choices_are_few zero chooser m = omega arith

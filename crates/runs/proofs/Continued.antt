@@ -7,7 +7,7 @@ use Rattle.schedule.specs.Choosers.{Chooser}
 use Rattle.runs.specs.Choices.{after_turn, choice_of, chooser_after, choices_from, chooser_behind}
 use Rattle.runs.proofs.ChosenTurns.{one_left, none_left, one_behind, none_behind, nothing_behind, nothing_left}
 
--- The machine after the choices that a chooser gives, at most this number of them.
+-- Returns the machine after the choices that a chooser gives, at most this number of them.
 abbrev pub machine_behind : ℕ → Chooser → Machine → Machine
 machine_behind most chooser m = with_state m (run_of m (choices_from most chooser m)).state
 
@@ -22,7 +22,7 @@ one_run m t ts = refl
 none_run : (chooser : Chooser) (m : Machine) → machine_behind 0 chooser m ≡ m
 none_run chooser m = ap (λ l. with_state m (run_of m l).state) (nothing_left chooser m) ∙ no_run m
 
--- What is left for a chooser after the first of its choices.
+-- Returns the choices that follow the first ones: at most `b`, after at most `a`.
 abbrev pub rest_of : ℕ → ℕ → Chooser → Machine → List ℕ
 rest_of a b chooser m = choices_from b (chooser_behind a chooser m) (machine_behind a chooser m)
 
@@ -39,7 +39,7 @@ rest_step a b chooser m t is =
 shorter : (a : ℕ) (chooser : Chooser) (m : Machine) (t : ℕ) → choice_of chooser m ≡ Some t → length (choices_from (suc a) chooser m) ≡ suc (length (choices_from a (chooser_after chooser m) (after_turn m t)))
 shorter a chooser m t is = ap length (one_left a chooser m t is)
 
--- As many choices as were asked for are followed by those that the chooser gives then.
+-- A chooser that gave all `a` choices asked for continues from there, if asked for `a + b`.
 abbrev Continues : ℕ → ℕ → Chooser → Machine → Type 0
 Continues a b chooser m =
     length (choices_from a chooser m) ≡ a →
@@ -81,7 +81,7 @@ pub continues : (a b : ℕ) (chooser : Chooser) (m : Machine) → Continues a b 
 continues zero b chooser m = continues_zero b chooser m
 continues (suc a) b chooser m = continues_by a b chooser m (choice_of chooser m) refl (λ c n. continues a b c n)
 
--- Once a chooser gave fewer choices than were asked for, it gives no more.
+-- A chooser that gave fewer choices than asked for gives no more.
 abbrev Ends : ℕ → ℕ → Chooser → Machine → Type 0
 Ends a b chooser m =
     length (choices_from a chooser m) < a →

@@ -12,19 +12,19 @@ use Rattle.runs.specs.Choices.{choice_of, chooser_after, choices_from, chooser_b
 use Rattle.runs.proofs.ChosenTurns.{AreTaken, all_given, all_made, behind_all_given, behind_all_made, broken_here, taken_next, taken_none}
 use Rattle.runs.proofs.TurnsOn.{taken_on}
 
--- So many turns were made of those that a chooser gives; their choices and outcomes aren't kept.
+-- Turns were taken by the first choices of a chooser, and only their number is kept.
 pub record AreCounted (before : Machine) (first : Chooser) (most : ℕ) (items_before : Option (List Item)) (made : ℕ) (m : Machine) (chooser : Chooser) (items : Option (List Item)) : Type 0 where
   pub choices : List ℕ
   pub outcomes : List Outcome
   pub taken : AreTaken before first most items_before made choices outcomes m chooser items
   pub many : made ≡ length choices
 
--- No turn was made yet.
+-- No turn is taken yet.
 pub counted_none : (m : Machine) (chooser : Chooser) (most : ℕ) (items : Option (List Item)) → AreCounted m chooser most items 0 m chooser items
 counted_none m chooser most items =
     record { choices = []; outcomes = []; taken = taken_none m chooser most items [] [] refl refl; many = refl }
 
--- So many turns on end.
+-- Consecutive turns of one thread are taken.
 pub counted_on : (before : Machine) (first : Chooser) (most : ℕ) (items_before : Option (List Item)) (made : ℕ) (m : Machine) (chooser : Chooser) (items : Option (List Item))
     (t n : ℕ) (after : Machine) (later : Chooser) (more : Option (List Item))
     → AreCounted before first most items_before made m chooser items → n ≤ most - made → AreTurnsOn m chooser items t n after later more
@@ -40,7 +40,7 @@ counted_on before first most items_before made m chooser items t n after later m
       many = omega arith;
     }
 
--- One more turn.
+-- One more turn is taken.
 pub counted_next : (before : Machine) (first : Chooser) (most : ℕ) (items_before : Option (List Item)) (made : ℕ) (m : Machine) (chooser : Chooser) (items : Option (List Item))
     (taken : ℕ × Outcome) (after : Machine) (later : Chooser) (more : Option (List Item))
     → AreCounted before first most items_before made m chooser items → made < most → IsTurnOf m chooser items taken after later more
@@ -55,13 +55,13 @@ counted_next before first most items_before made m chooser items taken after lat
       many = omega arith;
     }
 
--- A run that breaks off here has made the first of the choices.
+-- A run that breaks off here has taken the turns of some first choices.
 pub counted_broken : (before : Machine) (first : Chooser) (most : ℕ) (items_before : Option (List Item)) (made : ℕ) (m : Machine) (chooser : Chooser) (items : Option (List Item))
     → AreCounted before first most items_before made m chooser items → BrokeOff before (choices_from most first before) m items_before items
 counted_broken before first most items_before made m chooser items are =
     broken_here before first most items_before made are.choices are.outcomes m chooser items are.taken
 
--- What all turns that a chooser gives came to.
+-- The number, the machine and the items are those of all turns that a chooser gives, up to the limit.
 pub record AllCounted (before : Machine) (first : Chooser) (most : ℕ) (items_before : Option (List Item)) (made : ℕ) (m : Machine) (items : Option (List Item)) : Type 0 where
   pub many : made ≡ length (choices_from most first before)
   pub state : m ≡ with_state before (run_of before (choices_from most first before)).state
@@ -76,27 +76,27 @@ all_counted before first most items_before made m chooser items are all =
       kept = are.taken.ran.2 ∙ ap (λ l. recorded items_before (run_of before l).items) all;
     }
 
--- No choice is left: none is given.
+-- If the chooser gives none, these are all the turns.
 pub counted_all_given : (before : Machine) (first : Chooser) (most : ℕ) (items_before : Option (List Item)) (made : ℕ) (m : Machine) (chooser : Chooser) (items : Option (List Item))
     → AreCounted before first most items_before made m chooser items → choice_of chooser m ≡ None → AllCounted before first most items_before made m items
 counted_all_given before first most items_before made m chooser items are none =
     all_counted before first most items_before made m chooser items are
     (all_given before first most items_before made are.choices are.outcomes m chooser items are.taken none)
 
--- No choice is left: as many were made as may be.
+-- If the limit is reached, these are all the turns.
 pub counted_all_made : (before : Machine) (first : Chooser) (most : ℕ) (items_before : Option (List Item)) (made : ℕ) (m : Machine) (chooser : Chooser) (items : Option (List Item))
     → AreCounted before first most items_before made m chooser items → most ≤ made → AllCounted before first most items_before made m items
 counted_all_made before first most items_before made m chooser items are reached =
     all_counted before first most items_before made m chooser items are
     (all_made before first most items_before made are.choices are.outcomes m chooser items are.taken reached)
 
--- The chooser at the end, where it gave no choice more.
+-- If the chooser gives none, what is left of it is the chooser after all the choices.
 pub chooser_all_given : (before : Machine) (first : Chooser) (most : ℕ) (items_before : Option (List Item)) (made : ℕ) (m : Machine) (chooser later : Chooser) (items : Option (List Item))
     → AreCounted before first most items_before made m chooser items → made < most → choice_of chooser m ≡ None → later ≡ chooser_after chooser m → later ≡ chooser_behind most first before
 chooser_all_given before first most items_before made m chooser later items are below none later_is =
     behind_all_given before first most items_before made are.choices are.outcomes m chooser later items are.taken below none later_is
 
--- The chooser at the end, where as many turns were made as may be.
+-- If the limit is reached, this is the chooser after all the choices.
 pub chooser_all_made : (before : Machine) (first : Chooser) (most : ℕ) (items_before : Option (List Item)) (made : ℕ) (m : Machine) (chooser : Chooser) (items : Option (List Item))
     → AreCounted before first most items_before made m chooser items → most ≤ made → chooser ≡ chooser_behind most first before
 chooser_all_made before first most items_before made m chooser items are reached =

@@ -1,4 +1,4 @@
--- Turns of one thread on end.
+-- Consecutive turns of one thread.
 use Rattle.std.proofs.Common.{◌≡◌, ℕ, zero, suc, ◌+◌, ◌-◌, ◌<◌, ◌≤◌, ◌≢◌, Bool, true, List, [], ◌∷◌, ◌++◌, length, replicate, refl, ap, sym, ◌∙◌, subst, arith, Option, Some}
 use Rattle.std.proofs.lemmas.List.{append-nil, append_assoc, replicate-append-replicate}
 use Rattle.jvms_machine.specs.declared.machine.Outcome.{Outcome}
@@ -13,12 +13,12 @@ use Rattle.schedule.specs.Enabled.{can_go_on, enabled_threads}
 use Rattle.runs.specs.Choices.{after_turn, AreTurnsOn}
 use Rattle.runs.proofs.ChosenTurns.{AreTaken, taken_more}
 
--- No turn at all.
+-- Before the first turn, nothing has changed.
 pub none_on : (m : Machine) (chooser : Chooser) (items : Option (List Item)) (thread : ℕ) → AreTurnsOn m chooser items thread 0 m chooser items
 unfolding RanOn IsNextFor counted_times
 none_on m chooser items thread = record { ran = (refl, refl); chosen = tt; counted = refl }
 
--- Who is next so many times is next fewer times.
+-- A thread that is next for a number of turns is next for any smaller number.
 next_fewer : (fewer times thread threads : ℕ) (chooser : Chooser) → fewer ≤ times → IsNextFor times thread threads chooser → IsNextFor fewer thread threads chooser
 unfolding IsNextFor
 next_fewer zero times thread threads chooser few is = tt
@@ -26,13 +26,13 @@ next_fewer (suc fewer) zero thread threads chooser few is = let never : ⊥ = om
 next_fewer (suc fewer) (suc times) thread threads chooser few is =
     (is.0, next_fewer fewer times thread threads (counted thread chooser) (omega arith) is.1)
 
--- As many turns as were made of those for which the thread is next.
+-- Turns of a thread that ran are the chooser's, if the thread is next for at least as many.
 pub fewer_on : (m after : Machine) (chooser later : Chooser) (items more : Option (List Item)) (thread times turns : ℕ) → RanOn times thread (length m.state.threads) m items after more → times ≤ turns
     → IsNextFor turns thread (length m.state.threads) chooser → later ≡ counted_times times thread chooser → AreTurnsOn m chooser items thread times after later more
 fewer_on m after chooser later items more thread times turns ran few next_is counted_is =
     record { ran = ran; chosen = next_fewer times turns thread (length m.state.threads) chooser few next_is; counted = counted_is }
 
--- One turn, which is the next for so many times.
+-- A thread that is next for at least one turn is the next choice if it is enabled.
 pub next_once : (times thread threads : ℕ) (chooser : Chooser) (p : ℕ → Bool) → 1 ≤ times → IsNextFor times thread threads chooser → p thread ≡ true
     → next chooser (enabled_of p threads) ≡ (Some thread, counted_times 1 thread chooser)
 unfolding IsNextFor counted_times
@@ -63,7 +63,7 @@ on_taken (suc n) threads before first most items_before made choices outcomes m 
     (subst (λ l. AreTaken before first most items_before (made + suc n) ((choices ++ t ∷ []) ++ replicate n t) l after later more) (append_assoc outcomes (outcome.Ran ∷ []) (replicate n outcome.Ran))
     (subst (λ k. AreTaken before first most items_before k ((choices ++ t ∷ []) ++ replicate n t) ((outcomes ++ outcome.Ran ∷ []) ++ replicate n outcome.Ran) after later more) as_many rest))
 
--- So many turns more of those that a chooser gives.
+-- Consecutive turns of a thread follow the turns that were taken.
 pub taken_on : (before : Machine) (first : Chooser) (most : ℕ) (items_before : Option (List Item)) (made : ℕ) (choices : List ℕ) (outcomes : List Outcome) (m : Machine) (chooser : Chooser) (items : Option (List Item))
     (t n : ℕ) (after : Machine) (later : Chooser) (more_items : Option (List Item))
     → AreTaken before first most items_before made choices outcomes m chooser items → n ≤ most - made → AreTurnsOn m chooser items t n after later more_items
@@ -72,7 +72,7 @@ taken_on before first most items_before made choices outcomes m chooser items t 
     let within = taken.within in
     on_taken n (length m.state.threads) before first most items_before made choices outcomes m chooser items t after later more_items taken (omega arith) on.ran on.chosen on.counted
 
--- The same, with their choices and outcomes put behind those before.
+-- Consecutive turns of a thread follow the turns that were taken, with choices and outcomes appended.
 pub noted_on : (before : Machine) (first : Chooser) (most : ℕ) (items_before : Option (List Item)) (made : ℕ) (choices more : List ℕ) (outcomes more_outcomes : List Outcome) (m : Machine) (chooser : Chooser) (items : Option (List Item))
     (t n : ℕ) (after : Machine) (later : Chooser) (more_items : Option (List Item))
     → AreTaken before first most items_before made choices outcomes m chooser items → n ≤ most - made → AreTurnsOn m chooser items t n after later more_items
@@ -81,14 +81,14 @@ pub noted_on : (before : Machine) (first : Chooser) (most : ℕ) (items_before :
 noted_on before first most items_before made choices more outcomes more_outcomes m chooser items t n after later more_items taken fits on choices_are outcomes_are =
     rw (choices_are, outcomes_are) (taken_on before first most items_before made choices outcomes m chooser items t n after later more_items taken fits on)
 
--- One more of the same.
+-- Appending an element to a repetition of it makes the repetition longer by one.
 pub one_more : {A : Type 0} (n : ℕ) (x : A) (xs : List A) → (xs ++ replicate n x) ++ x ∷ [] ≡ xs ++ replicate (n + 1) x
 one_more n x xs = append_assoc xs (replicate n x) (x ∷ []) ∙ ap (λ l. xs ++ l) (replicate-append-replicate n 1 x)
 
--- Not as many were made as may be.
+-- If the limit isn't reached, fewer turns were taken.
 pub fewer : (made times most : ℕ) → made < most → times ≤ most - made → made + times ≢ most → made + times < most
 fewer made times most left few not_all = omega (arith, left, few, not_all)
 
--- As many were made as may be.
+-- If as many turns were taken as the limit, it is reached.
 pub as_many : (made most : ℕ) → made ≡ most → most ≤ made
 as_many made most all = omega (arith, all)

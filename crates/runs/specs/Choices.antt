@@ -1,4 +1,4 @@
--- Which choices a run makes: those that a chooser gives (own).
+-- Says which choices a chooser gives in a run, and what their turns do.
 use Rattle.std.specs.Prelude.{◌≡◌, ℕ, zero, suc, List, [], ◌∷◌, take, length, Option, Some, None}
 use Rattle.jvms_machine.specs.declared.machine.Outcome.{Outcome}
 use Rattle.jvms_machine.specs.declared.trace.Item.{Item}
@@ -8,65 +8,71 @@ use Rattle.machine.specs.Runs.{run_of, RanOn}
 use Rattle.schedule.specs.Choosers.{Chooser, counted_times, next, IsNextFor}
 use Rattle.schedule.specs.Enabled.{enabled_threads}
 
--- A choice, if there is one, and then those that follow it.
+-- Returns a choice, followed by the choices after it. Without a choice the list is empty.
 abbrev pub first_then : Option ℕ → (ℕ → List ℕ) → List ℕ
 first_then None rest = []
 first_then (Some t) rest = t ∷ rest t
 
--- The machine behind a thread's turn.
+-- Returns the machine after a thread's turn.
 abbrev pub after_turn : Machine → ℕ → Machine
 after_turn m t = with_state m (row_of m t).state
 
--- Which choice is next, if there is one, and which chooser follows.
+-- Returns the chooser's next choice among the enabled threads of a machine, if there is one.
 abbrev pub choice_of : Chooser → Machine → Option ℕ
 choice_of chooser m = (next chooser (enabled_threads m)).0
 
+-- Returns the chooser after its next choice among the enabled threads of a machine, or after it gave none.
 abbrev pub chooser_after : Chooser → Machine → Chooser
 chooser_after chooser m = (next chooser (enabled_threads m)).1
 
--- A choice and its turn: the chooser chose this thread, whose turn has this outcome; the machine, the chooser and the items,
--- if they are kept, are those behind it.
+-- The thread is the chooser's next choice, and the outcome is that of its turn. The machine, the chooser and the
+-- items are those after this turn.
 abbrev pub IsTurnOf : Machine → Chooser → Option (List Item) → ℕ × Outcome → Machine → Chooser → Option (List Item) → Type 0
 IsTurnOf m chooser items taken after later more =
     (choice_of chooser m ≡ Some taken.0) × (taken.1 ≡ (row_of m taken.0).outcome)
     × (after ≡ after_turn m taken.0) × (later ≡ chooser_after chooser m) × (more ≡ recorded items (row_of m taken.0).items)
 
--- Where no turn was taken nothing has changed.
+-- The turn of the chooser's next choice was taken, or no turn was taken and nothing has changed.
 abbrev pub IsTurn : Machine → Chooser → Option (List Item) → Option (ℕ × Outcome) → Machine → Chooser → Option (List Item) → Type 0
 IsTurn m chooser items None after later more = (after ≡ m) × (later ≡ chooser) × (more ≡ items)
 IsTurn m chooser items (Some taken) after later more = IsTurnOf m chooser items taken after later more
 
--- The next turn was taken. Where there is no choice the chooser alone has gone on.
+-- The turn of the chooser's next choice was taken. If there is no choice, the machine and the items are unchanged.
 abbrev pub IsNextTurn : Machine → Chooser → Option (List Item) → Option (ℕ × Outcome) → Machine → Chooser → Option (List Item) → Type 0
 IsNextTurn m chooser items None after later more =
     (choice_of chooser m ≡ None) × (after ≡ m) × (later ≡ chooser_after chooser m) × (more ≡ items)
 IsNextTurn m chooser items (Some taken) after later more = IsTurnOf m chooser items taken after later more
 
--- So many turns of a thread were taken on end, each of which ran: the chooser chose it each time. The machine, the chooser
--- and the items are those behind them.
+-- Consecutive turns of a thread were taken, this number of them. The machine, the chooser and the items are those
+-- after the last.
 pub record AreTurnsOn (m : Machine) (chooser : Chooser) (items : Option (List Item)) (thread : ℕ) (times : ℕ) (after : Machine) (later : Chooser) (more : Option (List Item)) : Type 0 where
+  -- Each of them ran, and only the last may have started a thread.
   pub ran : RanOn times thread (length m.state.threads) m items after more
+  -- The thread is the chooser's choice for each of them.
   pub chosen : IsNextFor times thread (length m.state.threads) chooser
+  -- The chooser has them counted.
   pub counted : later ≡ counted_times times thread chooser
 
--- The choices that a chooser gives, each of the machine behind those before, at most so many.
+-- Returns the choices that a chooser gives from a machine on, at most this number of them. Each is given for the
+-- machine after the turns before.
 unfoldable pub choices_from : ℕ → Chooser → Machine → List ℕ
 choices_from zero chooser m = []
 choices_from (suc most) chooser m =
     let n = next chooser (enabled_threads m) in first_then n.0 (λ t. choices_from most n.1 (after_turn m t))
 
--- The chooser behind a choice, or what is left of it where it gave none.
+-- Returns the chooser that follows a choice, or the one that is left if there was no choice.
 abbrev pub left_or : Option ℕ → Chooser → (ℕ → Chooser) → Chooser
 left_or None left behind = left
 left_or (Some t) left behind = behind t
 
--- The chooser behind the choices that it gives, at most so many.
+-- Returns the chooser after the choices that it gives from a machine on, at most this number of them.
 unfoldable pub chooser_behind : ℕ → Chooser → Machine → Chooser
 chooser_behind zero chooser m = chooser
 chooser_behind (suc most) chooser m =
     let n = next chooser (enabled_threads m) in left_or n.0 n.1 (λ t. chooser_behind most n.1 (after_turn m t))
 
--- A run broke off behind so many of the choices: the machine and the items are those of their run.
+-- A run broke off after the turns of some first choices, maybe of none or of all. The machine and the items are
+-- those of their run.
 pub record BrokeOff (before : Machine) (choices : List ℕ) (after : Machine) (items_before : Option (List Item)) (items_after : Option (List Item)) : Type 0 where
   pub made : ℕ
   pub state : after ≡ with_state before (run_of before (take made choices)).state

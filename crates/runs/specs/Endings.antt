@@ -1,4 +1,4 @@
--- How a run ends.
+-- Says how a run ends: its turns, result, output, status and uncaught exceptions.
 use Rattle.std.specs.Prelude.{ℕ, suc, List, [], ◌∷◌, ◌++◌, length, Option, Some, None}
 use Rattle.jvms_machine.specs.State.{Object, State, Thread}
 use Rattle.jvms_machine.specs.Status.{status_of}
@@ -9,20 +9,22 @@ use Rattle.schedule.specs.Choosers.{Chooser}
 use Rattle.runs.specs.declared.ending.Ending.{Ending}
 use Rattle.runs.specs.Choices.{choices_from}
 
--- A thread with the class of the exception with which it ended, if it did.
+-- Returns a list of a thread with its exception's class, or an empty list if there is no class.
 abbrev pub uncaught_of : ℕ → Option (List ℕ) → List (ℕ × List ℕ)
 uncaught_of t None = []
 uncaught_of t (Some class) = (t, class) ∷ []
 
--- The threads that ended with an exception, each with the exception's class: of these, the first of which has the number.
+-- Returns the threads of a list that ended with an exception, each with the exception's class. The first thread of
+-- the list has this number.
 abbrev pub uncaught_from : List Object → ℕ → List Thread → List (ℕ × List ℕ)
 uncaught_from heap t [] = []
 uncaught_from heap t (x ∷ xs) = uncaught_of t (uncaught_in heap x.ended x.pending) ++ uncaught_from heap (suc t) xs
 
+-- Returns the threads of a state that ended with an exception, in rising order, each with the exception's class.
 abbrev pub uncaught_threads : State → List (ℕ × List ℕ)
 uncaught_threads s = uncaught_from s.heap 0 s.threads
 
--- How a run of this number of turns ended, if it left this machine.
+-- Returns how a run ended that took this number of turns and left this machine.
 abbrev pub ending_in : ℕ → Machine → Ending
 ending_in turns m =
     record {
@@ -33,7 +35,7 @@ ending_in turns m =
       uncaught = uncaught_threads m.state;
     }
 
--- How the run by all choices of a chooser ends, up to the most.
+-- Returns how the run by a chooser's choices ends, after at most this number of turns.
 abbrev pub ending_of : ℕ → Chooser → Machine → Ending
 ending_of most chooser m =
     let choices = choices_from most chooser m in

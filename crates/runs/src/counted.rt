@@ -1,4 +1,4 @@
-//! The turns that a chooser gives, of which only the number is kept.
+//! Takes the turns that a chooser gives, and counts them.
 
 ghost use Rattle.std.specs.Prelude.{◌≡◌, length, IfOk, OnOk, OnErr};
 ghost use Rattle.machine.specs.Machine.{with_state};
@@ -12,8 +12,12 @@ use schedule::Chooser;
 use std::alloc::AllocError;
 use trace::Recording;
 
-/// Makes the turns that a chooser gives, at most so many, as `take_turns` does, and counts them: their choices and outcomes
-/// aren't kept.
+/// Takes the turns that a chooser gives, at most `most` of them, and returns their number. Unlike `take_turns`,
+/// keeps neither their choices nor their outcomes.
+///
+/// # Errors
+///
+/// Memory ran out. The turns of some first choices were taken, maybe of none or of all.
 pub fn count_turns(
     machine: &mut Machine<'_>,
     chooser: &mut Chooser,
@@ -22,10 +26,10 @@ pub fn count_turns(
 ) -> Result<u64, AllocError>
     ensures count { IfOk result (λ n. n ≡ length (choices_from most chooser.old machine.old)) }
     ensures chooser { OnOk result (chooser.new ≡ chooser_behind most chooser.old machine.old) }
-    // Machine and items are those of the run of these choices by the instruction table.
+    // The machine and the items are those of the run of these choices, by the instruction table.
     ensures state { OnOk result (machine.new ≡ with_state machine.old (run_of machine.old (choices_from most chooser.old machine.old)).state) }
     ensures items { OnOk result (recording.new ≡ recorded recording.old (run_of machine.old (choices_from most chooser.old machine.old)).items) }
-    // Without memory some of the turns were made, from the first one on.
+    // Without memory, the turns of some first choices were taken.
     ensures broken { OnErr result (BrokeOff machine.old (choices_from most chooser.old machine.old) machine.new recording.old recording.new) }
 {
     let mut made = 0;

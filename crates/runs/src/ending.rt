@@ -1,4 +1,4 @@
-//! How a run ends.
+//! How a run ends: its turns, result, output, status and uncaught exceptions.
 
 ghost use Rattle.std.specs.Prelude.{◌≡◌, ◌++◌, IfOk, OnOk};
 ghost use Rattle.machine.specs.Views.{uncaught};
@@ -13,25 +13,25 @@ use schedule::Chooser;
 use std::alloc::{AllocError, Global};
 use trace::Recording;
 
-/// A thread that ended with an exception, and the exception's class.
+/// Pairs a thread that ended with an exception with the exception's class, as UTF-16 code units.
 pub type Uncaught = (ThreadId, Items<u16>);
 
-/// How a run ended.
+/// Says how a run ended.
 #[derive(Debug, Drop)]
 pub struct Ending {
-    /// How many turns there were.
+    /// The number of turns.
     pub turns: u64,
-    /// What the entry's method returned: nothing where it is void, or hasn't returned.
+    /// The value that the entry's method returned. `None` if it is void, or hasn't returned.
     pub result: Option<Value>,
     /// The bytes that the program wrote.
     pub output: Items<u8>,
-    /// Whether the run finished, and else what it waits for.
+    /// The status of the machine after the last turn.
     pub status: Status,
     /// The threads that ended with an exception, in rising order.
     pub uncaught: Items<Uncaught>,
 }
 
-/// Appends a thread to the others, if it ended with an exception.
+/// Appends a thread, with its exception's class, if it ended with an exception.
 fn push_uncaught(
     alloc: Global,
     machine: &Machine<'_>,
@@ -53,7 +53,7 @@ fn push_uncaught(
 pub fn uncaught_threads(alloc: Global, machine: &Machine<'_>) -> Result<Items<Uncaught>, AllocError>
     ensures { IfOk result (λ threads. threads ≡ uncaught_threads machine.now.state) }
 {
-    // There are no more threads than the limit, so that each has a number.
+    // There are at most as many threads as the limit, so each number fits `ThreadId`.
     machine.state_is_sound();
     let _limits = machine.limits();
     let mut threads = Vec::new(alloc);
@@ -63,7 +63,7 @@ pub fn uncaught_threads(alloc: Global, machine: &Machine<'_>) -> Result<Items<Un
     Ok(Items::from_vec(threads))
 }
 
-/// Returns how a run of this number of turns ended, if it left this machine.
+/// Returns how a run ended that took this number of turns and left this machine.
 pub fn ending_after(alloc: Global, machine: &Machine<'_>, turns: u64) -> Result<Ending, AllocError>
     ensures { IfOk result (λ ending. ending ≡ ending_in turns machine.now) }
 {
@@ -77,8 +77,8 @@ pub fn ending_after(alloc: Global, machine: &Machine<'_>, turns: u64) -> Result<
     })
 }
 
-/// Takes the turns that a chooser gives, at most this number of them, and returns how the run ends. Choices, outcomes and
-/// items aren't kept, so that a run takes no memory for them, however long it is.
+/// Takes the turns that a chooser gives, at most `most` of them, and returns how the run ends. Keeps no choices,
+/// outcomes or items, so a run takes no memory for them, however long it is.
 pub fn run_to_end(
     alloc: Global,
     machine: &mut Machine<'_>,

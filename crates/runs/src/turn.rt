@@ -8,20 +8,22 @@ use schedule::{Candidate, Chooser};
 use std::alloc::AllocError;
 use trace::Recording;
 
-/// A choice, and what its turn came to.
+/// Pairs a choice with the outcome of its turn.
 pub(crate) type Taken = (ThreadId, Outcome);
 
-/// Turns of one thread on end.
+/// Counts consecutive turns of one thread.
 #[derive(Clone, Copy)]
 pub(crate) struct TurnsOn {
     /// The thread.
     pub thread: ThreadId,
-    /// How many there are.
+    /// The number of turns.
     pub times: u64,
 }
 
-/// Takes turns of the thread that the chooser tells as next, one after another, while each runs, at most so many; without
-/// such a thread none. They are by far the most frequent, and so many of them need no look at the chooser.
+/// Takes consecutive turns of the thread that the chooser predicts, at most `most` of them, and returns their
+/// number. Each has the outcome `Ran`. Takes none if the chooser predicts no thread.
+///
+/// Fast path of a run: consults the chooser once for all of these turns.
 pub(crate) fn take_turns_on(
     machine: &mut Machine<'_>,
     chooser: &mut Chooser,
@@ -42,8 +44,10 @@ pub(crate) fn take_turns_on(
     TurnsOn { thread, times }
 }
 
-/// Takes the turn of the thread that the chooser tells as next where it is enabled. So that turn is decided once, and no
-/// other thread is looked at. Where the thread isn't enabled, or none is told, nothing has changed.
+/// Takes one turn of the thread that the chooser predicts, and returns the thread and the outcome. Returns `None`,
+/// with nothing changed, if the chooser predicts no thread, or one that isn't enabled.
+///
+/// Decides that turn once, and inspects no other thread. On an error, the machine and the items are unchanged.
 fn take_candidate(
     machine: &mut Machine<'_>,
     chooser: &mut Chooser,
@@ -64,7 +68,8 @@ fn take_candidate(
     Ok(Some((thread, outcome)))
 }
 
-/// Takes the next turn, if the chooser gives one.
+/// Takes the turn of the chooser's next choice, and returns the choice and the outcome. Returns `None` if there is
+/// no choice. Then, as on an error, the machine and the items are unchanged.
 pub(crate) fn take_turn(
     machine: &mut Machine<'_>,
     chooser: &mut Chooser,

@@ -1,4 +1,4 @@
-//! The turns that a chooser gives.
+//! Takes the turns that a chooser gives, and keeps their choices and outcomes.
 
 ghost use Rattle.std.specs.Prelude.{◌≡◌, ◌++◌, replicate, IfOk, OnOk, OnErr};
 ghost use Rattle.machine.specs.Machine.{with_state};
@@ -14,16 +14,16 @@ use schedule::Chooser;
 use std::alloc::{AllocError, Global};
 use trace::Recording;
 
-/// The turns of a run, in order.
+/// Lists the turns of a run, in order.
 #[derive(Debug, Drop)]
 pub struct Turns {
-    /// Which thread took each turn.
+    /// The thread of each turn.
     pub choices: Items<ThreadId>,
-    /// What each turn came to.
+    /// The outcome of each turn.
     pub outcomes: OutcomeList,
 }
 
-/// The turns of these choices and outcomes.
+/// Returns the turns with these choices and outcomes.
 fn turns_of(choices: Vec<ThreadId>, outcomes: OutcomeList) -> Turns
     ensures choices { result.choices ≡ choices.items }
     ensures outcomes { result.outcomes ≡ outcomes }
@@ -34,7 +34,7 @@ fn turns_of(choices: Vec<ThreadId>, outcomes: OutcomeList) -> Turns
     }
 }
 
-/// Puts the choices of so many turns of a thread behind the others.
+/// Appends the choices of consecutive turns: their thread, once for each.
 #[tactic(auto, using(crate::proofs::TurnsOn::one_more))]
 fn put_choices(choices: &mut Vec<ThreadId>, on: TurnsOn) -> Result<(), AllocError>
     ensures { OnOk result (choices.new.items ≡ choices.old.items ++ replicate on.times on.thread) }
@@ -46,8 +46,14 @@ fn put_choices(choices: &mut Vec<ThreadId>, on: TurnsOn) -> Result<(), AllocErro
     Ok(())
 }
 
-/// Makes the turns that a chooser gives, at most so many, and puts their items behind those that are kept, if any are. The
-/// chooser is asked before each turn, and no more once it has answered none. Without memory it stops behind some of the turns.
+/// Takes the turns that a chooser gives, at most `most` of them, and returns them. Appends their items to the
+/// recording, if it keeps any.
+///
+/// Each choice is given for the machine after the turns before. The run ends once the chooser gives none.
+///
+/// # Errors
+///
+/// Memory ran out. The turns of some first choices were taken, maybe of none or of all.
 pub fn take_turns(
     alloc: Global,
     machine: &mut Machine<'_>,
@@ -57,11 +63,11 @@ pub fn take_turns(
 ) -> Result<Turns, AllocError>
     ensures choices { IfOk result (λ r. r.choices ≡ choices_from most chooser.old machine.old) }
     ensures chooser { OnOk result (chooser.new ≡ chooser_behind most chooser.old machine.old) }
-    // Outcomes, machine and items are those of the run of these choices by the instruction table.
+    // The outcomes, the machine and the items are those of the run of these choices, by the instruction table.
     ensures outcomes { IfOk result (λ r. r.outcomes ≡ (run_of machine.old r.choices).outcomes) }
     ensures state { IfOk result (λ r. machine.new ≡ with_state machine.old (run_of machine.old r.choices).state) }
     ensures items { IfOk result (λ r. recording.new ≡ recorded recording.old (run_of machine.old r.choices).items) }
-    // Without memory some of the turns were made, from the first one on.
+    // Without memory, the turns of some first choices were taken.
     ensures broken { OnErr result (BrokeOff machine.old (choices_from most chooser.old machine.old) machine.new recording.old recording.new) }
 {
     let mut choices = Vec::new(alloc);

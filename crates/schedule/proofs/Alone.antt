@@ -13,12 +13,12 @@ none_above p a (suc n) above =
     elim (p a) as (λ b. alone (cond b (a ∷ filter p (range_with_len (a + 1) n)) (filter p (range_with_len (a + 1) n))) ≡ None)
     [ true ↦ rw here rest | false ↦ rest ]
 
--- It is the choice if it is enabled.
+-- Thread 0 is the choice if it is enabled.
 pub first_is_alone : (p : ℕ → Bool) (count : ℕ) → 0 < count → p 0 ≡ true → alone (enabled_of p count) ≡ Some 0
 first_is_alone p zero there enabled = let never : ⊥ = omega arith in absurd never
 first_is_alone p (suc count) there enabled = rw enabled refl
 
--- Else there is none.
+-- There is no choice if thread 0 isn't enabled.
 pub none_is_alone : (p : ℕ → Bool) (count : ℕ) → p 0 ≡ false → alone (enabled_of p count) ≡ None
 none_is_alone p zero not_enabled = refl
 none_is_alone p (suc count) not_enabled = rw not_enabled (none_above p 1 count (omega arith))

@@ -1,4 +1,4 @@
--- The one thread that is next where it is enabled.
+-- The thread that round robin predicts, which is next if it is enabled.
 use Rattle.std.proofs.Common.{◌≡◌, ℕ, zero, suc, ◌+◌, ◌-◌, ◌<◌, ◌≤◌, Bool, true, false, nat_lt, min, ◌==◌, List, Option, Some, None, refl, sym, ◌∙◌, ap, arith, subst, if◌then◌else◌}
 use Rattle.std.specs.List.{find, range_with_len}
 use Rattle.std.proofs.lemmas.Bool.Decides.{nat_tests}
@@ -6,7 +6,7 @@ use Rattle.rand_pcg.specs.Lcg.{Lcg}
 use Rattle.schedule.specs.Choosers.{Chooser, Listed, RoundRobin, Seeded, after_choice, counted, counted_times, enabled_of, next, next_of, round_robin, stays, IsNextFor}
 use Rattle.schedule.proofs.Ranges.{next_of_within, range_more, range_none, stays_enabled}
 
--- The thread of the last choice stays.
+-- The last thread stays the choice while it is enabled and has turns left.
 pub same_stays : (p : ℕ → Bool) (count quantum thread turns : ℕ) → turns < quantum → thread < count → p thread ≡ true
     → round_robin quantum thread turns (enabled_of p count) ≡ Some thread
 same_stays p count quantum thread turns fewer there enabled =
@@ -14,7 +14,7 @@ same_stays p count quantum thread turns fewer there enabled =
     let below : nat_lt thread count ≡ true = grind (arith, nat_tests) in
     rw (stays_enabled p count quantum thread turns, few, below, enabled) refl
 
--- It had its turns.
+-- A thread without turns left is followed by the next enabled one.
 moves : (p : ℕ → Bool) (count quantum thread turns : ℕ) → quantum ≤ turns
     → round_robin quantum thread turns (enabled_of p count) ≡ next_of thread (enabled_of p count)
 moves p count quantum thread turns had =
@@ -27,7 +27,7 @@ found p a b less enabled = rw (range_more a b less, enabled) refl
 found_none : (p : ℕ → Bool) (a b : ℕ) → b ≤ a → find p (range_with_len a (b - a)) ≡ None
 found_none p a b most = rw (range_none a b most) refl
 
--- The one above it is next.
+-- A thread without turns left is followed by the thread above it, if that is enabled.
 pub above : (p : ℕ → Bool) (count quantum thread turns : ℕ) → quantum ≤ turns → thread + 1 < count → p (thread + 1) ≡ true
     → round_robin quantum thread turns (enabled_of p count) ≡ Some (thread + 1)
 above p count quantum thread turns had less enabled =
@@ -40,7 +40,7 @@ least_found p thread enabled =
     let e : thread + 1 - 0 ≡ thread + 1 = omega arith in
     rw e at (found p 0 (thread + 1) (omega arith) enabled)
 
--- None is above it: the least is next.
+-- The last of the threads, without turns left, is followed by thread 0, if that is enabled.
 pub least : (p : ℕ → Bool) (count quantum thread turns : ℕ) → quantum ≤ turns → thread < count → count ≤ thread + 1 → p 0 ≡ true
     → round_robin quantum thread turns (enabled_of p count) ≡ Some 0
 least p count quantum thread turns had there most enabled =
@@ -48,28 +48,30 @@ least p count quantum thread turns had there most enabled =
     ∙ next_of_within p thread count there
     ∙ rw (found_none p (thread + 1) count most, least_found p thread enabled) refl
 
--- ---- So many times on end
+-- ---- Consecutive turns
 
--- The next choice of round robin, and what is left.
+-- The choice of round robin is its next choice, and leaves it with that choice counted.
 is_next : (p : ℕ → Bool) (count quantum thread turns chosen : ℕ) → round_robin quantum thread turns (enabled_of p count) ≡ Some chosen
     → next (RoundRobin quantum thread turns) (enabled_of p count) ≡ (Some chosen, counted chosen (RoundRobin quantum thread turns))
 is_next p count quantum thread turns chosen is = ap (λ o. (o, after_choice quantum thread turns o)) is
 
--- The choice after the turns of a thread is the one above it, or the least.
+-- A thread without turns left is followed by the thread above it for one turn.
 pub above_for : (count quantum thread turns : ℕ) → quantum ≤ turns → thread + 1 < count → IsNextFor 1 (thread + 1) count (RoundRobin quantum thread turns)
 unfolding IsNextFor
 above_for count quantum thread turns had less = (λ p enabled. is_next p count quantum thread turns (thread + 1) (above p count quantum thread turns had less enabled), tt)
 
+-- The last of the threads, without turns left, is followed by thread 0 for one turn.
 pub least_for : (count quantum thread turns : ℕ) → quantum ≤ turns → thread < count → count ≤ thread + 1 → IsNextFor 1 0 count (RoundRobin quantum thread turns)
 unfolding IsNextFor
 least_for count quantum thread turns had there most = (λ p enabled. is_next p count quantum thread turns 0 (least p count quantum thread turns had there most enabled), tt)
 
--- A thread stays for the turns that it has left.
+-- Counting the last thread adds one turn, up to the quantum.
 counted_same : (quantum thread turns : ℕ) → counted thread (RoundRobin quantum thread turns) ≡ RoundRobin quantum thread (min quantum (turns + 1))
 counted_same quantum thread turns =
     let same : (thread == thread) ≡ true = grind (arith, nat_tests) in
     rw same refl
 
+-- A thread stays the choice for the turns that it has left.
 pub stays_for : (times count quantum thread turns : ℕ) → turns + times ≤ quantum → thread < count → IsNextFor times thread count (RoundRobin quantum thread turns)
 unfolding IsNextFor
 stays_for zero count quantum thread turns fits there = tt
@@ -82,7 +84,7 @@ stays_for (suc times) count quantum thread turns fits there =
       rw after (stays_for times count quantum thread (turns + 1) (omega arith) there),
     )
 
--- The only thread is always next.
+-- The only thread is next if it is enabled.
 only_next : (p : ℕ → Bool) (quantum turns : ℕ) (b : Bool) → nat_lt turns quantum ≡ b → p 0 ≡ true → round_robin quantum 0 turns (enabled_of p 1) ≡ Some 0
 only_next p quantum turns true is enabled = same_stays p 1 quantum 0 turns (grind (arith, nat_tests)) (omega arith) enabled
 only_next p quantum turns false is enabled = least p 1 quantum 0 turns (grind (arith, nat_tests)) (omega arith) (omega arith) enabled
@@ -100,9 +102,9 @@ alone_for times count quantum thread turns there one =
     let none : thread ≡ 0 = omega arith in
     rw (none, one) (only_for times quantum turns)
 
--- ---- What is left after so many
+-- ---- Counted turns
 
--- The thread of the last choice is counted up to the quantum.
+-- Turns of the last thread are counted up to the quantum.
 pub counted_on : (times quantum thread turns : ℕ) → 1 ≤ times → counted_times times thread (RoundRobin quantum thread turns) ≡ RoundRobin quantum thread (min quantum (turns + times))
 unfolding counted_times
 counted_on zero quantum thread turns some = let never : ⊥ = omega arith in absurd never
@@ -117,7 +119,7 @@ pub counted_none : (chosen : ℕ) (chooser : Chooser) → counted_times 0 chosen
 unfolding counted_times
 counted_none chosen chooser = refl
 
--- The first of so many, and then the rest.
+-- Counting several turns is counting the first, and then the others.
 pub counted_first : (times chosen : ℕ) (chooser : Chooser) → 1 ≤ times → counted_times times chosen chooser ≡ counted_times (times - 1) chosen (counted chosen chooser)
 unfolding counted_times
 counted_first zero chosen chooser some = let never : ⊥ = omega arith in absurd never
@@ -125,7 +127,7 @@ counted_first (suc times) chosen chooser some =
     let rest : suc times - 1 ≡ times = omega arith in
     ap (λ n. counted_times n chosen (counted chosen chooser)) (sym rest)
 
--- A list and a generator have moved on by themselves.
+-- Counting changes neither a list nor a generator.
 pub listed_stays : (times chosen : ℕ) (threads : List ℕ) → counted_times times chosen (Listed threads) ≡ Listed threads
 unfolding counted_times
 listed_stays zero chosen threads = refl

@@ -100,7 +100,7 @@ opened_behind quantum = let e : min quantum 0 ≡ 0 = grind (arith, nat_tests) i
 capped : (quantum n : ℕ) → nat_lt (min quantum n) quantum ≡ nat_lt n quantum
 capped quantum n = grind (arith, nat_tests)
 
--- A thread that wasn't chosen last has no choices on end.
+-- A thread that wasn't chosen last has no last consecutive choices.
 other_row : (chosen : ℕ) (past : List ℕ) → nat_eq chosen (last_of past) ≡ false → in_a_row chosen past ≡ 0
 other_row chosen [] e = refl
 other_row chosen (t ∷ past) e = let f : nat_eq t chosen ≡ false = grind (arith, nat_tests) in rw f refl

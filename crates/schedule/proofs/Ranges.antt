@@ -32,7 +32,7 @@ first-filter p (x ∷ xs) =
     elim (p x) as (λ b. slice_get (cond b (x ∷ filter p xs) (filter p xs)) 0 ≡ cond b (Some x) (find p xs))
     [ true ↦ refl | false ↦ first-filter p xs ]
 
--- Of numbers up to one, none is above it.
+-- No number up to a thread is above it.
 pub find_above_none : (p : ℕ → Bool) (thread a n : ℕ) → a + n ≤ thread + 1 → find (nat_lt thread) (filter p (range_with_len a n)) ≡ None
 find_above_none p thread a zero most = refl
 find_above_none p thread a (suc n) most =
@@ -41,7 +41,7 @@ find_above_none p thread a (suc n) most =
     elim (p a) as (λ b. find (nat_lt thread) (cond b (a ∷ filter p (range_with_len (a + 1) n)) (filter p (range_with_len (a + 1) n))) ≡ None)
     [ true ↦ rw (here, rest) refl | false ↦ rest ]
 
--- Of numbers above one, all are.
+-- All numbers above a thread are above it.
 pub find_above_all : (p : ℕ → Bool) (thread a n : ℕ) → thread < a → find (nat_lt thread) (filter p (range_with_len a n)) ≡ find p (range_with_len a n)
 find_above_all p thread a zero above = refl
 find_above_all p thread a (suc n) above =
@@ -81,7 +81,7 @@ next_of_within p thread count less =
 pub next_of_beyond : (p : ℕ → Bool) (thread count : ℕ) → count ≤ thread → next_of thread (enabled_of p count) ≡ find p (range_with_len 0 count)
 next_of_beyond p thread count most = rw (find_above_none p thread 0 count (omega arith), first-filter p (range_with_len 0 count)) refl
 
--- Whether a number is one of those that pass.
+-- One step of `any_of_range`.
 any_of_step : (here there rest : Bool) (thread a n : ℕ) → (a ≡ thread → here ≡ there) → rest ≡ ((nat_le (a + 1) thread && nat_lt thread (a + 1 + n)) && there) → cond here (nat_eq a thread || rest) rest ≡ ((nat_le a thread && nat_lt thread (a + suc n)) && there)
 any_of_step here there rest thread a n same e = grind (arith, nat_tests)
 
@@ -89,6 +89,7 @@ list_any-cond : (q : ℕ → Bool) (b : Bool) (x : ℕ) (xs : List ℕ) → list
 list_any-cond q true x xs = refl
 list_any-cond q false x xs = refl
 
+-- A thread is among the numbers that pass exactly if it is in the range and passes.
 any_of_range : (p : ℕ → Bool) (thread a n : ℕ) → list_any (λ t. nat_eq t thread) (filter p (range_with_len a n)) ≡ ((nat_le a thread && nat_lt thread (a + n)) && p thread)
 any_of_range p thread a zero = grind (arith, nat_tests)
 any_of_range p thread a (suc n) =

@@ -9,12 +9,15 @@ use Rattle.schedule.specs.declared.fault.ScheduleFault.TheVariants.{Syntax, Memo
 use Rattle.schedule.specs.Schedules.{Schedule, Listed, RoundRobin, Seeded, Spells, WritesNumber, WritesThreads, WritesQuantum, WritesSeed}
 use Rattle.schedule.proofs.Texts.{Lacks, parts_at, first_part, one_part, numeral_lacks, same_threads, parts_of_threads, threads_of_empty}
 
+-- Returns the bytes with which the spelling of a list begins.
 abbrev pub list_kind : List ℕ
 list_kind = codes "list:"
 
+-- Returns the bytes with which the spelling of round robin begins.
 abbrev pub round_kind : List ℕ
 round_kind = codes "rr:"
 
+-- Returns the bytes with which the spelling of random words begins.
 abbrev pub seed_kind : List ℕ
 seed_kind = codes "seed:"
 
@@ -42,7 +45,7 @@ seed_only text rest (Seeded state stream) e (own, written, f) =
     let P : List ℕ → Type 0 = λ r. WritesSeed r state stream in
     (state, stream, refl, subst P (append_cancel_left seed_kind own rest (sym f ∙ e)) written)
 
--- A text that begins with a kind, from the clause of `strip_prefix`.
+-- A text begins with a kind, by the clauses of `strip_prefix`.
 pub begins : (kind text rest : List ℕ) (n : ℕ) → text ≡ kind ++ drop n text → rest ≡ drop n text → text ≡ kind ++ rest
 begins kind text rest n e f = e ∙ ap (λ r. kind ++ r) (sym f)
 
@@ -52,12 +55,12 @@ none_of P Q (Some x) holds e = let no : true ≡ false → ⊥ = λ h. cc in abs
 
 -- ---- Faults
 
--- The fault that a `?` hands on.
+-- The fault that `?` returns is the one that it was given.
 pub handed_on : {X : Type 0} (r : Result X ScheduleFault) (fault : ScheduleFault) → IsErr r × IsErrAnd r (λ e. e ≡ fault) → r ≡ Err fault
 handed_on (Ok x) fault given = absurd given.1
 handed_on (Err e) fault given = ap Err given.1
 
--- Of the two faults it is `Syntax` just where N holds.
+-- Of the two faults it is `Syntax` exactly if N holds.
 pub is_syntax : {X Y : Type 0} (N M : Type 0) (r : Result X ScheduleFault) (fault : ScheduleFault) → r ≡ Err fault → (IsErrOf {T = Y} (Err fault) Syntax → N) → (IsErrOf {T = Y} (Err fault) Memory → M) → (N → M → ⊥) → IsErrOf r Syntax ↔ N
 is_syntax N M r Syntax e first second apart = (λ _. first refl, λ _. e)
 is_syntax {X = X} N M r Memory e first second apart =
@@ -66,7 +69,7 @@ is_syntax {X = X} N M r Memory e first second apart =
 
 -- ---- Seeds
 
--- The two numbers of a seed are what stands on either side of its colon.
+-- The two numbers of a seed are the parts before and after its colon.
 parts_of_seed : (text first second : List ℕ) → IsNumeral 10 first → IsNumeral 10 second → text ≡ first ++ 58 ∷ second → parts_at 58 text ≡ first ∷ second ∷ []
 parts_of_seed text first second one two e =
     ap (parts_at 58) e ∙ first_part 58 first second (numeral_lacks 58 first one (inr (omega arith)))
@@ -78,7 +81,7 @@ head_same a b ps qs e = cc
 tail_same : (a b : List ℕ) (ps qs : List (List ℕ)) → a ∷ ps ≡ b ∷ qs → ps ≡ qs
 tail_same a b ps qs e = cc
 
--- Where a text is cut at its first colon, these are the numbers.
+-- If a seed is cut at its first colon, the parts write its two numbers.
 pub seed_is_cut : (text front back : List ℕ) (state stream : ℕ) → text ≡ front ++ 58 ∷ back → Lacks 58 front → WritesSeed text state stream → (WritesNumber front state × (state < 2 ^ 64)) × (WritesNumber back stream × (stream < 2 ^ 64))
 seed_is_cut text front back state stream e none (first, second, one, two, low, small, f) =
     let cut : front ∷ parts_at 58 back ≡ first ∷ second ∷ [] =

@@ -1,4 +1,4 @@
--- Numbers in texts, parted by a byte that is no digit.
+-- Numbers in texts, separated by a byte that is no digit.
 use Rattle.std.proofs.Common.{◌≡◌, ◌≢◌, ℕ, ◌<◌, ◌≤◌, ◌⊎◌, true, false, List, [], ◌∷◌, ◌++◌, length, get_or, eqb, Option, None, Some, MatchOption, IfSome, IfOk, ok_or, refl, ◌∙◌, ap, sym, subst, arith, inl}
 use Rattle.std.specs.List.{All, AllZip, slice_split, join_with_byte}
 use Rattle.std.specs.Option.{option_map}
@@ -11,10 +11,11 @@ use Rattle.std.proofs.lemmas.Str.Parse.{digit_at}
 use Rattle.std.proofs.lemmas.Bool.Decides.{nat_tests}
 use Rattle.schedule.specs.Schedules.{WritesThread, WritesThreads}
 
--- The parts of a text between bytes.
+-- Returns the parts of a text between the occurrences of a byte.
 abbrev pub parts_at : ℕ → List ℕ → List (List ℕ)
 parts_at c text = slice_split (λ b. eqb b c) text
 
+-- The byte doesn't occur in the text.
 abbrev pub Lacks : ℕ → List ℕ → Type 0
 Lacks c text = All (λ b. eqb b c ≡ false) text
 
@@ -74,7 +75,7 @@ threads_of_empty (t ∷ ts) (n ∷ [], written, e) = absurd (omega (arith, writt
 threads_of_empty (t ∷ ts) (n ∷ m ∷ ns, written, e) =
     absurd (omega (arith, length-append n (44 ∷ join_with_byte 44 (m ∷ ns)), ap length e))
 
--- A part in the midst writes a thread.
+-- Each part of a text that writes threads writes a thread.
 pub part_in_midst : (front : List (List ℕ)) (part : List ℕ) (more : List (List ℕ)) (threads : List ℕ) → AllZip WritesThread (front ++ part ∷ more) threads → (t : ℕ) × WritesThread part t
 part_in_midst [] part more [] written = absurd written
 part_in_midst [] part more (t ∷ ts) written = (t, written.0)
@@ -83,8 +84,7 @@ part_in_midst (p ∷ ps) part more (t ∷ ts) written = part_in_midst ps part mo
 
 -- ---- Reading a list
 
--- So much of a text is read that the rest is left: its first parts write the threads that are held, where memory holds
--- them.
+-- The rest of a text is still to be read. The parts before it write threads, which are kept unless memory ran out.
 pub record IsRead (text rest : List ℕ) (held : Option (List ℕ)) : Type 0 where
   pub front : List (List ℕ)
   pub threads : List ℕ
@@ -96,7 +96,7 @@ pub record IsRead (text rest : List ℕ) (held : Option (List ℕ)) : Type 0 whe
 pub nothing_read : (text : List ℕ) → 0 < length text → IsRead text text (Some [])
 nothing_read text some = record { front = []; threads = []; parts = refl; written = tt; kept = refl; some = some }
 
--- A list with one thread more, where memory holds it.
+-- The list after has one thread more than the list before. Without memory there is no list after.
 abbrev pub Adds : Option (List ℕ) → ℕ → Option (List ℕ) → Type 0
 Adds before thread after = IfSome after (λ a. MatchOption before ⊥ (λ b. a ≡ b ++ thread ∷ []))
 
@@ -126,7 +126,7 @@ pub last_read : (text rest : List ℕ) (thread : ℕ) (before after : Option (Li
 last_read text rest thread before after read none written adds =
     (read.threads ++ thread ∷ [], last_written text rest thread before read none written, adds_kept before after thread read.threads adds read.kept)
 
--- Where a part writes no thread, the text writes none.
+-- If a part writes no thread, the text is no list of threads.
 pub never_read : (text rest part : List ℕ) (more : List (List ℕ)) (held : Option (List ℕ)) → IsRead text rest held → parts_at 44 rest ≡ part ∷ more → ((t : ℕ) → ¬ (WritesThread part t)) → (threads : List ℕ) → ¬ (WritesThreads text threads)
 never_read text rest part more held read e never threads written =
     let whole : parts_at 44 text ≡ read.front ++ part ∷ more = read.parts ∙ ap (λ ps. read.front ++ ps) e in

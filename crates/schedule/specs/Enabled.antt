@@ -1,13 +1,13 @@
--- The enabled threads of a machine.
+-- Says which threads of a machine are enabled.
 use Rattle.std.specs.Prelude.{ℕ, Bool, List, length}
 use Rattle.jvms_machine.specs.Status.{is_enabled}
 use Rattle.machine.specs.Machine.{Machine, row_of}
 use Rattle.schedule.specs.Choosers.{enabled_of}
 
--- The turn of a thread can be made.
+-- The thread is enabled: it can take its next turn.
 abbrev pub can_go_on : Machine → ℕ → Bool
 can_go_on m t = is_enabled (row_of m t).outcome
 
--- In rising order.
+-- Returns the enabled threads of a machine, in rising order.
 abbrev pub enabled_threads : Machine → List ℕ
 enabled_threads m = enabled_of (can_go_on m) (length m.state.threads)

@@ -1,4 +1,4 @@
-//! Choosers: each choice names the thread of the next turn.
+//! Choosers: each gives the thread of the next turn.
 
 ghost use Rattle.std.specs.Prelude.{ℕ, List, ◌≡◌, ◌≤◌, ◌↔◌, length, IfOk, IfSome, IsErrOf, MatchOption};
 ghost use Rattle.schedule.specs.Schedules as schedules;
@@ -19,20 +19,20 @@ use rand_pcg::Lcg64Xsh32;
 use std::alloc::{AllocError, Global};
 use std::marker::Model;
 
-/// By what a chooser chooses.
+/// Says how a chooser chooses.
 #[derive(Drop)]
 enum Rule {
-    /// The threads of a list that are still to come.
+    /// The remaining threads of a list.
     Listed(ListLeft),
     /// Each enabled thread in turn.
     RoundRobin(Turns),
-    /// Random words.
+    /// An enabled thread that a random word names.
     Seeded(Lcg64Xsh32),
     /// Thread 0 alone.
     Alone,
 }
 
-/// A chooser: what is left of a schedule.
+/// Gives the thread of each turn. A chooser is what is left of a schedule.
 #[derive(Drop)]
 pub struct Chooser {
     rule: Rule,
@@ -47,7 +47,7 @@ impl Model for Chooser {
     ghost view = { λ c. shown c.rule };
 }
 
-/// The generator whose state and stream a text writes, parted by a colon.
+/// Returns the generator whose state and stream a text writes, separated by a colon, or `None` if it writes none.
 fn generator(text: &str) -> Option<Lcg64Xsh32>
     ensures { MatchOption result ((state stream : ℕ) → ¬ (WritesSeed text.now state stream)) (IsSeeded text.now) }
 {
@@ -55,7 +55,11 @@ fn generator(text: &str) -> Option<Lcg64Xsh32>
     Some(Lcg64Xsh32::new(long_number(state)?, long_number(stream)?))
 }
 
-/// The rule of the schedule that a text spells.
+/// Returns the rule of the schedule that a text spells.
+///
+/// # Errors
+///
+/// `Syntax` if the text spells no schedule, and `Memory` if memory runs out for a list.
 fn rule_of(alloc: Global, text: &str) -> Result<Rule, ScheduleFault>
     ensures rule { IfOk result (λ rule. (schedule : Schedule) × Spells text.now schedule × (shown rule ≡ opened schedule)) }
     ensures syntax { IsErrOf result ScheduleFault.Syntax → (schedule : Schedule) → ¬ (Spells text.now schedule) }
@@ -83,7 +87,7 @@ fn rule_of(alloc: Global, text: &str) -> Result<Rule, ScheduleFault>
     Ok(Rule::Seeded(generator))
 }
 
-/// The thread that a generator's next word names; without an enabled thread no word is taken.
+/// Returns the enabled thread that a generator's next word names. Without an enabled thread, takes no word.
 fn next_by_word<T: Threads>(generator: &mut Lcg64Xsh32, threads: &T) -> Option<ThreadId>
     ensures { (result, Seeded generator.new) ≡ by_word generator.old (enabled_of (T.passes threads.now) (T.count threads.now)) }
 {
@@ -94,7 +98,7 @@ fn next_by_word<T: Threads>(generator: &mut Lcg64Xsh32, threads: &T) -> Option<T
     enabled_at(threads, generator.next_word() % enabled)
 }
 
-/// Returns thread 0, which is the next choice for ever as long as it is enabled.
+/// Predicts thread 0, which is the next choice as long as it is enabled. Returns `None` if there are no threads.
 #[tactic(auto, using(crate::proofs::Alone::alone_for))]
 fn candidate_alone<T: Threads>(threads: &T) -> Option<Candidate>
     ensures next { IfSome result (λ c. IsNextFor c.turns c.thread (T.count threads.now) Alone) }
@@ -110,7 +114,7 @@ fn candidate_alone<T: Threads>(threads: &T) -> Option<Candidate>
 }
 
 impl Rule {
-    /// The same rule once more.
+    /// Returns a rule that makes the same choices. Both share the threads of a list.
     fn copy(&self) -> Result<Rule, AllocError>
         ensures { IfOk result (λ rule. shown rule ≡ shown self.now) }
     {
@@ -124,7 +128,8 @@ impl Rule {
 }
 
 impl Chooser {
-    /// Each enabled thread takes one turn, by rising number and round: the schedule `rr:1`.
+    /// Returns the chooser of the schedule `rr:1`: each enabled thread takes one turn, by rising number, round to
+    /// the least.
     pub fn in_turn() -> Chooser
         ensures { result ≡ opened (RoundRobin 1) }
     {
@@ -138,7 +143,7 @@ impl Chooser {
         }
     }
 
-    /// Chooses an enabled thread by the random words of a state and a stream: the schedule `seed:S:K`.
+    /// Returns the chooser of the schedule `seed:S:K`: random words of state S and stream K name enabled threads.
     pub fn seeded(state: u64, stream: u64) -> Chooser
         ensures { result ≡ opened (schedules.Seeded state stream) }
     {
@@ -147,21 +152,27 @@ impl Chooser {
         }
     }
 
-    /// Chooses thread 0 while it is enabled, and no other. No text spells this schedule.
+    /// Returns the chooser that gives thread 0 while it is enabled, and no other. No text spells this schedule.
     pub fn alone() -> Chooser
         ensures { result ≡ Alone }
     {
         Chooser { rule: Rule::Alone }
     }
 
-    /// The chooser of the schedule that a text spells: `list:` and numbers of threads of at most 4,294,967,295 parted
-    /// by commas, maybe none; `rr:Q` with a quantum from 1 to 1,000,000; `seed:S:K` with a state and a stream below
-    /// 2^64. Numbers are decimal digits, maybe behind zeros.
+    /// Returns the chooser of the schedule that a text spells:
     ///
-    /// `Syntax` where the text spells no schedule, and nowhere else; `Memory` where there is none for a list.
+    /// - `list:` and numbers of threads up to 4,294,967,295, separated by commas, maybe none,
+    /// - `rr:Q` with a quantum Q from 1 to 1,000,000,
+    /// - `seed:S:K` with a state S and a stream K below 2^64.
+    ///
+    /// Numbers are decimal digits. Leading zeros are allowed.
+    ///
+    /// # Errors
+    ///
+    /// `Syntax` if and only if the text spells no schedule. `Memory` if memory runs out for a list.
     pub fn parse(alloc: Global, text: &str) -> Result<Chooser, ScheduleFault>
         ensures chooser { IfOk result (λ chooser. (schedule : Schedule) × Spells text.now schedule × (chooser ≡ opened schedule)) }
-        // No text spells two schedules.
+        // Whichever schedule the text spells, this is its chooser.
         ensures only { (schedule : Schedule) → Spells text.now schedule → IfOk result (λ chooser. chooser ≡ opened schedule) }
         ensures syntax { IsErrOf result ScheduleFault.Syntax ↔ ((schedule : Schedule) → ¬ (Spells text.now schedule)) }
         ensures memory { IsErrOf result ScheduleFault.Memory → (threads : List ℕ) × Spells text.now (Listed threads) }
@@ -170,8 +181,7 @@ impl Chooser {
         Ok(Chooser { rule })
     }
 
-    /// A chooser that makes the same choices. A list is held once by both of them, so that it takes no memory, however
-    /// long it is.
+    /// Returns a chooser that makes the same choices. Both share the threads of a list, which aren't copied.
     pub fn copy(&self) -> Result<Chooser, AllocError>
         ensures { IfOk result (λ chooser. chooser ≡ self.now) }
     {
@@ -180,7 +190,7 @@ impl Chooser {
         })
     }
 
-    /// The next choice among threads.
+    /// Returns the next choice among threads, if there is one.
     pub(crate) fn choose<T: Threads>(&mut self, threads: &T) -> Option<ThreadId>
         ensures { (result, self.new) ≡ next self.old (enabled_of (T.passes threads.now) (T.count threads.now)) }
     {
@@ -192,10 +202,13 @@ impl Chooser {
         }
     }
 
-    /// The next choice, if there is one: the next thread of a list, enabled or not; by `rr:Q` the thread that was
-    /// chosen last, while it is enabled and had fewer than Q turns in a row, else the next enabled one by rising number,
-    /// round to the least; by `seed:S:K` an enabled thread that the next random word names; thread 0 alone while it is
-    /// enabled. It takes no memory.
+    /// Returns the next choice, if there is one. Takes no memory.
+    ///
+    /// - A list gives its next thread, enabled or not.
+    /// - `rr:Q` gives the last thread while it is enabled and had fewer than Q consecutive turns. Else it gives the
+    ///   next enabled thread by rising number, round to the least.
+    /// - `seed:S:K` gives an enabled thread that the next random word names.
+    /// - The chooser of thread 0 alone gives thread 0 while it is enabled.
     pub fn next(&mut self, machine: &Machine<'_>) -> Option<ThreadId>
         ensures choice { result ≡ (next self.old (enabled_threads machine.now)).0 }
         ensures after { self.new ≡ (next self.old (enabled_threads machine.now)).1 }
@@ -203,9 +216,11 @@ impl Chooser {
         self.choose(machine)
     }
 
-    /// The thread that is the next choice where it is enabled, and for how many turns on end, told without a look at any
-    /// thread, where the schedule tells one: by `rr:Q` the only thread, or the thread that was chosen last for the turns
-    /// that it has left, else the one behind it; thread 0 alone for ever.
+    /// Predicts the next choice and its number of consecutive turns, without inspecting any thread. The prediction
+    /// holds as long as the thread is enabled at each of them.
+    ///
+    /// `rr:Q` predicts the only thread, or the last thread for its remaining turns, else the thread after it. The
+    /// chooser of thread 0 alone predicts that. Lists and random words predict nothing.
     pub fn candidate(&self, machine: &Machine<'_>) -> Option<Candidate>
         ensures next { IfSome result (λ c. IsNextFor c.turns c.thread (length machine.now.state.threads) self.now) }
         ensures some { IfSome result (λ c. 1 ≤ c.turns) }
@@ -217,7 +232,7 @@ impl Chooser {
         }
     }
 
-    /// Counts so many choices of a candidate on end, which was enabled each time.
+    /// Counts consecutive choices of a thread that was predicted and was enabled each time.
     #[tactic(auto, using(crate::proofs::Candidates::listed_stays, crate::proofs::Candidates::seeded_stays, crate::proofs::Alone::alone_stays))]
     pub fn count(&mut self, chosen: ThreadId, times: u64)
         ensures { self.new ≡ counted_times times chosen self.old }

@@ -1,16 +1,16 @@
-//! Why a text gave no chooser.
+//! Why a text gives no chooser.
 
 ghost use Rattle.std.specs.Prelude.{◌≡◌};
 
 use thiserror::Error;
 
-/// Why a text gave no chooser.
+/// Says why a text gives no chooser.
 #[derive(Clone, Copy, Debug, PartialEq, Eq, Error)]
 pub enum ScheduleFault {
     /// H01: the text spells no schedule.
     #[error("H01 Syntax")]
     Syntax,
-    /// There was no memory for the numbers of a list.
+    /// Memory ran out for a list.
     #[error("Memory")]
     Memory,
 }

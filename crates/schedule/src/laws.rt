@@ -12,14 +12,14 @@ pub fn choices_are_of_enabled_threads()
     ensures none { (chooser : Chooser) (enabled : List ℕ) → IsTrue (asks chooser) → (IsNone (next chooser enabled).0 ↔ (enabled ≡ [])) }
 {}
 
-/// The turns in a row of round robin are all of the thread's last choices on end, also where the round led back to it.
+/// Round robin counts all of a thread's last consecutive choices, up to the quantum, even if the round led back to it.
 #[tactic(auto, using(crate::proofs::Choices::opened_behind, crate::proofs::Choices::next_behind))]
 pub fn round_robin_counts_choices_on_end()
     ensures start { (quantum : ℕ) → opened (RoundRobin quantum) ≡ behind quantum [] }
     ensures turn { (quantum : ℕ) (past : List ℕ) (enabled : List ℕ) → 0 < quantum → let chosen = choice_behind quantum past enabled in next (behind quantum past) enabled ≡ (chosen, behind quantum (with_choice chosen past)) }
 {}
 
-/// The words of PCG's demonstration of pcg32, whose state is 42 and whose stream 54.
+/// The first words of state 42 and stream 54 are those of PCG's demonstration of pcg32.
 #[tactic(auto, using(crate::proofs::Choices::demonstrated))]
 pub fn random_words_are_those_of_pcg()
     ensures { words_of 6 (generator_of 42 54) ≡ 0xa15c02b7 ∷ 0x7b47f409 ∷ 0xba1d3330 ∷ 0x83d2f293 ∷ 0xbfa4784b ∷ 0xcbed606e ∷ [] }

@@ -12,7 +12,7 @@ use jvms_machine::machine::ThreadId;
 use std::alloc::{AllocError, Global};
 use std::marker::Model;
 
-/// What is left of a list of threads: those from a place on. Copies hold the list in common.
+/// Keeps what is left of a list of threads: those from a place on. Copies share the list.
 #[derive(Drop)]
 pub(crate) struct ListLeft {
     threads: Shared<Items<ThreadId>>,
@@ -28,7 +28,7 @@ impl Model for ListLeft {
 }
 
 impl ListLeft {
-    /// A list of which nothing is taken yet.
+    /// Returns a list of which no thread is taken yet.
     pub(crate) fn new(alloc: Global, threads: Vec<ThreadId>) -> Result<ListLeft, AllocError>
         ensures { IfOk result (λ list. list ≡ threads.items) }
     {
@@ -38,7 +38,7 @@ impl ListLeft {
         })
     }
 
-    /// The same threads once more.
+    /// Returns a copy that shares the list.
     pub(crate) fn copy(&self) -> Result<ListLeft, AllocError>
         ensures { IfOk result (λ list. list ≡ self.now) }
     {
@@ -48,7 +48,7 @@ impl ListLeft {
         })
     }
 
-    /// Takes the next thread, if there is one.
+    /// Takes the next thread and returns it, if there is one.
     pub(crate) fn next(&mut self) -> Option<ThreadId>
         ensures { (enabled : List ℕ) → (result, Listed self.new) ≡ next (Listed self.old) enabled }
     {
@@ -58,7 +58,7 @@ impl ListLeft {
     }
 }
 
-/// A list with one thread more. Once memory was refused there is no list.
+/// Appends a thread to a list and returns it, or `None` if memory runs out or ran out before.
 fn with_thread(threads: Option<Vec<ThreadId>>, thread: ThreadId) -> Option<Vec<ThreadId>>
     ensures { IfSome result (λ after. MatchOption threads ⊥ (λ before. after.items ≡ before.items ++ thread ∷ [])) }
 {
@@ -67,7 +67,11 @@ fn with_thread(threads: Option<Vec<ThreadId>>, thread: ThreadId) -> Option<Vec<T
     Some(threads)
 }
 
-/// The threads whose numbers a text writes, parted by commas. The whole text is read, also where memory runs out.
+/// Returns the threads whose numbers a text writes, separated by commas.
+///
+/// # Errors
+///
+/// `Syntax` if the text is no such list. `Memory` if it is one and memory runs out, so the whole text is read.
 pub(crate) fn listed(alloc: Global, text: &str) -> Result<Vec<ThreadId>, ScheduleFault>
     ensures threads { IfOk result (λ threads. WritesThreads text.now threads.items) }
     ensures syntax { IsErrOf result ScheduleFault.Syntax → (threads : List ℕ) → ¬ (WritesThreads text.now threads) }

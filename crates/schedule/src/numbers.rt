@@ -1,4 +1,4 @@
-//! Numbers in texts: decimal digits, maybe behind zeros. There is no sign.
+//! Numbers in texts: decimal digits without a sign. Leading zeros are allowed.
 
 ghost use Rattle.std.specs.Prelude.{ℕ, ◌≡◌, ◌^◌, ◌<◌, MatchOption};
 ghost use Rattle.std.specs.Option.{SomeIff};
@@ -7,7 +7,7 @@ ghost use Rattle.schedule.specs.Schedules.{WritesThread, WritesQuantum};
 
 use jvms_machine::machine::ThreadId;
 
-/// The number of 32 bits that a text writes.
+/// Returns the number that a text writes, if it is below 2^32.
 pub(crate) fn short_number(text: &str) -> Option<u32>
     ensures { SomeIff result (IsNumeral 10 text.now × (digits_value 10 text.now < 2 ^ 32)) (digits_value 10 text.now) }
 {
@@ -17,7 +17,7 @@ pub(crate) fn short_number(text: &str) -> Option<u32>
     text.parse::<u32>().ok()
 }
 
-/// The number of 64 bits that a text writes.
+/// Returns the number that a text writes, if it is below 2^64.
 pub(crate) fn long_number(text: &str) -> Option<u64>
     ensures { SomeIff result (IsNumeral 10 text.now × (digits_value 10 text.now < 2 ^ 64)) (digits_value 10 text.now) }
 {
@@ -27,14 +27,14 @@ pub(crate) fn long_number(text: &str) -> Option<u64>
     text.parse::<u64>().ok()
 }
 
-/// The number of a thread that a text writes.
+/// Returns the number of a thread that a text writes, if it writes one.
 pub(crate) fn thread_number(text: &str) -> Option<ThreadId>
     ensures { MatchOption result ((thread : ℕ) → ¬ (WritesThread text.now thread)) (WritesThread text.now) }
 {
     short_number(text)
 }
 
-/// The quantum that a text writes, from 1 to 1,000,000.
+/// Returns the quantum that a text writes, if it writes one from 1 to 1,000,000.
 pub(crate) fn quantum(text: &str) -> Option<u32>
     ensures { MatchOption result ((quantum : ℕ) → ¬ (WritesQuantum text.now quantum)) (WritesQuantum text.now) }
 {

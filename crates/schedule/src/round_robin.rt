@@ -1,4 +1,4 @@
-//! Round robin: each enabled thread in turn, for as many turns as the quantum says.
+//! Round robin: each enabled thread in turn, for a quantum of consecutive turns.
 
 ghost use Rattle.std.specs.Prelude.{◌≡◌, ◌≤◌, IfSome};
 ghost use Rattle.schedule.specs.Choosers.{enabled_of, stays, round_robin, after_choice, turns_with, counted_times, IsNextFor, RoundRobin};
@@ -6,28 +6,28 @@ ghost use Rattle.schedule.specs.Choosers.{enabled_of, stays, round_robin, after_
 use crate::threads::{Threads, next_enabled};
 use jvms_machine::machine::ThreadId;
 
-/// The thread that is the next choice where it is enabled, and for how many turns on end.
+/// Predicts the next choice: a thread for a number of consecutive turns, as long as it is enabled.
 #[derive(Clone, Copy, Debug)]
 pub struct Candidate {
     /// The thread.
     pub thread: ThreadId,
-    /// How many turns on end it is chosen for, as long as it is enabled. One at least.
+    /// The number of consecutive turns, at least 1.
     pub turns: u64,
 }
 
-/// The turns of a thread.
+/// Counts the consecutive turns of the last thread.
 #[derive(Clone, Copy)]
 pub(crate) struct Turns {
-    /// How many turns in a row a thread has while another one is enabled.
+    /// The number of consecutive turns of a thread while another one is enabled.
     pub quantum: u32,
-    /// The thread that was chosen last.
+    /// The thread that was chosen last, at first thread 0.
     pub thread: ThreadId,
-    /// How many of the last choices on end were that thread, counted up to the quantum.
+    /// The number of last consecutive choices of that thread, counted up to the quantum.
     pub turns: u32,
 }
 
 impl Turns {
-    /// Whether the thread of the last choice stays.
+    /// Returns whether the last thread stays the choice: it is enabled and has turns left.
     #[tactic(auto, using(crate::proofs::Ranges::stays_enabled))]
     fn goes_on<T: Threads>(&self, threads: &T) -> bool
         ensures { result ≡ stays self.now.quantum self.now.thread self.now.turns (enabled_of (T.passes threads.now) (T.count threads.now)) }
@@ -37,7 +37,7 @@ impl Turns {
             && threads.is_enabled(self.thread)
     }
 
-    /// Whose turn is next.
+    /// Returns the thread of the next turn, if one is enabled.
     fn choice<T: Threads>(&self, threads: &T) -> Option<ThreadId>
         ensures { result ≡ round_robin self.now.quantum self.now.thread self.now.turns (enabled_of (T.passes threads.now) (T.count threads.now)) }
     {
@@ -48,8 +48,8 @@ impl Turns {
         }
     }
 
-    /// Whose turn is next where that thread is enabled, and for how many turns on end, without a look at it: the only
-    /// thread for ever; the thread of the last choice for the turns that it has left; else the one behind it, round to the
+    /// Predicts the thread of the next turn and its number of consecutive turns, without inspecting any thread.
+    /// That is the only thread, or the last thread for its remaining turns, else the thread after it, round to the
     /// least.
     #[tactic(auto, using(crate::proofs::Candidates::alone_for, crate::proofs::Candidates::stays_for, crate::proofs::Candidates::above_for, crate::proofs::Candidates::least_for))]
     pub(crate) fn candidate<T: Threads>(&self, threads: &T) -> Option<Candidate>
@@ -89,7 +89,7 @@ impl Turns {
         }
     }
 
-    /// Counts so many turns more, one at least, of the thread of the last choice.
+    /// Counts more turns of the last thread, at least one.
     #[tactic(auto, using(crate::proofs::Candidates::counted_on))]
     fn count_on(&mut self, times: u64)
         requires { 1 ≤ times }
@@ -103,7 +103,7 @@ impl Turns {
         }
     }
 
-    /// Counts so many turns of a thread on end.
+    /// Counts consecutive turns of a thread.
     #[tactic(auto, using(crate::proofs::Candidates::counted_none, crate::proofs::Candidates::counted_first))]
     pub(crate) fn count_times(&mut self, chosen: ThreadId, times: u64)
         ensures { RoundRobin self.new.quantum self.new.thread self.new.turns ≡ counted_times times chosen (RoundRobin self.old.quantum self.old.thread self.old.turns) }
@@ -117,7 +117,7 @@ impl Turns {
         }
     }
 
-    /// The next choice, if a thread is enabled.
+    /// Returns the next choice, if a thread is enabled, and counts it.
     pub(crate) fn next<T: Threads>(&mut self, threads: &T) -> Option<ThreadId>
         ensures choice { result ≡ round_robin self.old.quantum self.old.thread self.old.turns (enabled_of (T.passes threads.now) (T.count threads.now)) }
         ensures after { RoundRobin self.new.quantum self.new.thread self.new.turns ≡ after_choice self.old.quantum self.old.thread self.old.turns result }

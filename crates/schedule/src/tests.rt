@@ -1,4 +1,4 @@
-//! Texts that spell schedules, and what they choose.
+//! Tests of the texts that spell schedules, and of what choosers choose.
 
 use super::*;
 use crate::threads::Threads;
@@ -7,7 +7,7 @@ use std::alloc::Global;
 use std::process::Abort;
 use std::test::*;
 
-/// Threads of which these are enabled.
+/// Says which threads are enabled.
 #[derive(Clone, Copy)]
 struct Flags<'a> {
     enabled: &'a [bool],
@@ -31,7 +31,7 @@ impl Threads for Flags<'_> {
     }
 }
 
-/// That the chooser of a text makes these choices, one after another, where each time these threads are enabled.
+/// Checks the choices of a text's chooser, one after another, each among the threads that are enabled then.
 fn are_chosen(
     rt: &impl Abort,
     alloc: Global,
@@ -165,8 +165,8 @@ fn turns_alone_are_still_in_a_row(rt: HostRuntime) -> Result<(), Fail> {
     are_chosen(&rt, rt.alloc(), "rr:2", &turns)
 }
 
-/// The words of PCG's demonstration of pcg32, with state 42 and stream 54, are a15c02b7 7b47f409 ba1d3330 83d2f293
-/// bfa4784b cbed606e.
+/// Expects the words of PCG's demonstration of pcg32, with state 42 and stream 54: a15c02b7 7b47f409 ba1d3330
+/// 83d2f293 bfa4784b cbed606e.
 #[test]
 fn random_words_name_enabled_threads(rt: HostRuntime) -> Result<(), Fail> {
     let alloc = rt.alloc();

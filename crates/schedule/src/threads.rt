@@ -8,19 +8,19 @@ ghost use Rattle.schedule.specs.Enabled.{can_go_on};
 use jvms_machine::machine::ThreadId;
 use machine::{Machine, is_enabled};
 
-/// Threads, numbered from 0 on, some of which are enabled.
+/// Says how many threads there are, numbered from 0, and which are enabled.
 pub(crate) trait Threads {
-    // How many there are.
+    // The number of threads.
     ghost count: { Self → ℕ };
 
     // Whether the thread of a number is enabled.
     ghost passes: { Self → ℕ → Bool };
 
-    /// How many threads there are.
+    /// Returns the number of threads.
     fn count(&self) -> u32
         ensures { result ≡ count self.now };
 
-    /// Whether the thread of a number is enabled.
+    /// Returns whether the thread of a number is enabled.
     fn is_enabled(&self, thread: ThreadId) -> bool
         ensures { result ≡ passes self.now thread };
 }
@@ -43,7 +43,7 @@ impl Threads for Machine<'_> {
     }
 }
 
-/// The first enabled thread from one number up to another.
+/// Returns the first enabled thread from one number up to another, which is excluded.
 #[tactic(auto, using(crate::proofs::Ranges::range_more, crate::proofs::Ranges::range_none))]
 fn first_enabled<T: Threads>(threads: &T, from: u32, to: u32) -> Option<ThreadId>
     ensures { result ≡ find (T.passes threads.now) (range_with_len from (to - from)) }
@@ -56,7 +56,7 @@ fn first_enabled<T: Threads>(threads: &T, from: u32, to: u32) -> Option<ThreadId
     None
 }
 
-/// The next enabled thread behind one: the least above it, else the least of all.
+/// Returns the next enabled thread after another: the least above it, else the least of all.
 #[tactic(auto, using(crate::proofs::Ranges::next_of_within, crate::proofs::Ranges::next_of_beyond))]
 pub(crate) fn next_enabled<T: Threads>(threads: &T, thread: ThreadId) -> Option<ThreadId>
     ensures { result ≡ next_of thread (enabled_of (T.passes threads.now) (T.count threads.now)) }
@@ -82,7 +82,7 @@ pub(crate) fn alone<T: Threads>(threads: &T) -> Option<ThreadId>
     Some(0)
 }
 
-/// How many threads are enabled.
+/// Returns the number of enabled threads.
 #[tactic(auto, using(crate::proofs::Ranges::range_more, crate::proofs::Ranges::range_none))]
 pub(crate) fn enabled_count<T: Threads>(threads: &T) -> u32
     ensures { result ≡ length (enabled_of (T.passes threads.now) (T.count threads.now)) }
@@ -96,7 +96,7 @@ pub(crate) fn enabled_count<T: Threads>(threads: &T) -> u32
     enabled
 }
 
-/// The enabled thread at a place among them, from 0 on.
+/// Returns the enabled thread at a place among the enabled threads, from 0.
 #[tactic(auto, using(crate::proofs::Ranges::range_more, crate::proofs::Ranges::range_none))]
 pub(crate) fn enabled_at<T: Threads>(threads: &T, place: u32) -> Option<ThreadId>
     ensures { result ≡ slice_get (enabled_of (T.passes threads.now) (T.count threads.now)) place }

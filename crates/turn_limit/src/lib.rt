@@ -1,14 +1,14 @@
-//! How many turns a run may take.
+//! The limit on the turns of a run.
 #![tactic(auto)]
 
 ghost use Rattle.std.specs.Prelude.{◌≡◌, ◌<◌, ◌≤◌, MatchOption};
 
 use std::marker::Model;
 
-/// The greatest number of turns that a run may be allowed (own).
+/// Bounds the turns of a run: the greatest `TurnLimit`.
 pub const MOST_TURNS: u64 = 100_000_000;
 
-/// How many turns a run may take: at most 100,000,000 (own). Contracts see the number.
+/// Limits a run to a number of turns, at most 100,000,000. Contracts see the number.
 #[derive(Clone, Copy, Debug, PartialEq, Eq)]
 pub struct TurnLimit {
     turns: u64,
@@ -27,7 +27,7 @@ impl Model for TurnLimit {
 }
 
 impl TurnLimit {
-    /// The limit of so many turns, unless they are more than 100,000,000.
+    /// Returns the limit of a number of turns, or `None` if that is more than 100,000,000.
     pub fn new(turns: u64) -> Option<TurnLimit>
         ensures { MatchOption result (100000000 < turns) (λ limit. (limit ≡ turns) × (turns ≤ 100000000)) }
     {
@@ -37,7 +37,7 @@ impl TurnLimit {
         Some(TurnLimit { turns })
     }
 
-    /// How many turns: at most 100,000,000.
+    /// Returns the number of turns, which is at most 100,000,000.
     pub fn turns(self) -> u64
         ensures turns { result ≡ self }
         ensures within { result ≤ 100000000 }

@@ -1,4 +1,4 @@
--- One more thread is looked at.
+-- One more thread is inspected.
 use Rattle.std.proofs.Common.{arith}
 use Rattle.runs.proofs.UncaughtLaws.{one_more}
 use Rattle.runs.proofs.ending.uncaught_threads.Goals as goal

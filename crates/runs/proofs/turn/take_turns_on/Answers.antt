@@ -1,4 +1,4 @@
--- As many turns as were made are among those for which the thread is next.
+-- The turns that were taken are among those for which the thread is next.
 use Rattle.std.proofs.Common.{arith, ◌≤◌}
 use Rattle.runs.proofs.TurnsOn.{none_on, fewer_on}
 use Rattle.runs.proofs.turn.take_turns_on.Goals as goal

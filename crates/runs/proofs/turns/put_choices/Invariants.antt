@@ -1,4 +1,4 @@
--- So many choices so far, and room for those to come.
+-- The choices so far are appended, and there is capacity for the others.
 use Rattle.std.proofs.Common.{◌≡◌, ◌≤◌, ◌+◌, ◌-◌, ◌++◌, replicate}
 use Rattle.std.specs.Prelude.{vec_capacity, vec_len}
 use Rattle.runs.proofs.turns.put_choices.Given as goal

@@ -1,4 +1,4 @@
--- Turns on end and then one more are the first of those that are left; at the end none is.
+-- Consecutive turns and then one more are the first of those that are left. At the end none is left.
 use Rattle.std.proofs.Common.{rules, ◌≡◌, ◌+◌, ◌<◌, ◌≤◌, None, ◌∙◌}
 use Rattle.std.proofs.lemmas.Result.{err_from_is_err_and}
 use Rattle.runs.specs.Choices.{choice_of, chooser_after, IsTurnOf}

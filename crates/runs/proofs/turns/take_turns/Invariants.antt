@@ -1,4 +1,4 @@
--- The turns that were made are the first of those that the chooser gives.
+-- The turns that were taken are the first of those that the chooser gives.
 use Rattle.std.proofs.Common.{◌-◌}
 use Rattle.runs.proofs.ChosenTurns.{AreTaken}
 use Rattle.runs.proofs.turns.take_turns.Given as goal
