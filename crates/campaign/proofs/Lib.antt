@@ -1,3 +1,5 @@
+mod Answered
+mod AuditLaws
 pub mod OneTable
 mod TableLaws
 mod WholeLaws

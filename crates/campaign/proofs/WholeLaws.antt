@@ -1,7 +1,6 @@
 -- Each event keeps a state of the campaign.
-use Rattle.std.proofs.Common.{◌≡◌, ℕ, zero, suc, ◌<◌, ◌≤◌, List, [], ◌∷◌, ◌++◌, All, Option, Some, None, refl, sym, subst, arith}
+use Rattle.std.proofs.Common.{◌≡◌, zero, suc, List, [], ◌∷◌, All, Option, Some, None, refl, sym, subst, arith}
 use Rattle.std.proofs.lemmas.List.Elements.{All-push}
-use lib.ListN.{get_elem?}
 use Rattle.jvms_program.specs.declared.program.Class.{Class}
 use Rattle.campaign_jobs.specs.declared.plan.Plan.{Plan}
 use Rattle.campaign_book.specs.declared.row.Row.{Row}
@@ -46,8 +45,8 @@ books program plan s (Store row ∷ events) all is =
     (book_after program plan s.rows row (refusal plan s.rows row) refl (head_all (IsEvent program plan) (Store row) events all) is)
 
 pub events_keep : EventsKeep
-events_keep program plan workers events jobs few all = (
+events_keep program plan workers events all = (
   subst (λ (d : desk.DeskState). IsDesk plan.jobs workers d.next d.bound d.seats) (sym (desk_is plan (first_state plan workers) events))
-      (laws.each_leads_to_desk plan.jobs workers (steps_of events) jobs few),
+      (laws.each_leads_to_desk plan.jobs workers (steps_of events)),
   books program plan (first_state plan workers) events all (record { right = λ k d h. absurd (omega arith); replays = tt }),
 )

@@ -1,6 +1,7 @@
 -- Why there is no table.
 use Rattle.std.specs.Prelude.{◌≡◌, ℕ, ◌<◌, ◌≤◌, ◌⊎◌, List, Result, Err}
 use Rattle.jvms_program.specs.declared.program.Class.{Class}
+use Rattle.campaign_desk.specs.Limits.{most_jobs, most_workers, FitsLimits}
 use Rattle.campaign_jobs.specs.declared.plan.Plan.{Plan}
 use Rattle.campaign.specs.declared.halt.Halted.{Halted}
 use Rattle.campaign.specs.declared.halt.Halted.TheVariants.{TooManyJobs, TooManyWorkers, Memory, WorkerFailed}
@@ -12,9 +13,9 @@ KeepsBook program plan halted = Unit {0}
 
 -- Each limit is named exactly if it is the first that is passed.
 abbrev pub KeepsLimits : {X : Type 0} → ℕ → ℕ → Result X Halted → Type 0
-KeepsLimits jobs workers (Err TooManyJobs) = 1000000 < jobs
-KeepsLimits jobs workers (Err TooManyWorkers) = (jobs ≤ 1000000) × ((workers ≡ 0) ⊎ (64 < workers))
-KeepsLimits jobs workers other = (jobs ≤ 1000000) × (0 < workers) × (workers ≤ 64)
+KeepsLimits jobs workers (Err TooManyJobs) = most_jobs < jobs
+KeepsLimits jobs workers (Err TooManyWorkers) = (jobs ≤ most_jobs) × ((workers ≡ 0) ⊎ (most_workers < workers))
+KeepsLimits jobs workers other = FitsLimits jobs workers
 
 -- There was no memory, before any worker began or later.
 abbrev pub IsMemory : Halted → Type 0

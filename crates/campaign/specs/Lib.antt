@@ -1,3 +1,4 @@
+pub mod Audits
 pub mod Halts
 pub mod Shares
 pub mod Tables

@@ -1,15 +1,24 @@
--- What shares count, and the campaign that has no name.
+-- What shares count, what a shared book answers, and what stands for a campaign until its name is chosen.
 use Rattle.std.specs.Prelude.{ℕ, ◌+◌, List, [], cond, false, is_ok, Result}
 use Rattle.jvms_program.specs.declared.program.Class.{Class}
 use Rattle.jvms_machine.specs.declared.machine.Entry.TheVariants as entry
 use Rattle.campaign_jobs.specs.declared.plan.Plan.{Plan}
 use Rattle.campaign_book.specs.declared.fault.StoreFault.{StoreFault}
+use Rattle.campaign_book.specs.declared.row.Row.{Row}
+use Rattle.campaign_book.specs.Books.{IsBook}
+use Rattle.campaign_book.specs.Rows.{IsStoring}
 
 -- An entry that was stored adds 1, and any other answer nothing.
 abbrev pub after_answer : ℕ → Result (Unit {0}) StoreFault → ℕ
 after_answer n answer = n + cond (is_ok answer) 1 0
 
--- The program and the plan of the campaign that has no name.
+-- A book of this program and this plan answered so when it was given this row: others may have stored before.
+abbrev pub IsAnswer : List Class → Plan → Row → Result (Unit {0}) StoreFault → Type 0
+IsAnswer program plan row answer =
+    (old : List Row) × (new : List Row)
+    × IsBook program plan old × IsBook program plan new × IsStoring plan old row answer new
+
+-- The program and the plan of `Brand`. A call that names a campaign by it chooses its own.
 abbrev pub no_program : List Class
 no_program = []
 

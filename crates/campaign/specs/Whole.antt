@@ -1,5 +1,5 @@
 -- A campaign as a list of events: the next number, the bound, what each seat knows, and the book (own).
-use Rattle.std.specs.Prelude.{ℕ, ◌≤◌, List, [], ◌∷◌, ◌++◌, All, Option, Some, None, fold}
+use Rattle.std.specs.Prelude.{ℕ, List, [], ◌∷◌, ◌++◌, All, Option, Some, None, fold}
 use Rattle.jvms_program.specs.declared.program.Class.{Class}
 use Rattle.campaign_jobs.specs.declared.plan.Plan.{Plan}
 use Rattle.campaign_book.specs.declared.row.Row.{Row}
@@ -48,5 +48,4 @@ IsState program plan workers s =
 abbrev pub EventsKeep : Type 0
 EventsKeep =
     (program : List Class) (plan : Plan) (workers : ℕ) (events : List Event)
-    → plan.jobs ≤ 1000000 → workers ≤ 64 → All (IsEvent program plan) events
-    → IsState program plan workers (after_all plan (first_state plan workers) events)
+    → All (IsEvent program plan) events → IsState program plan workers (after_all plan (first_state plan workers) events)

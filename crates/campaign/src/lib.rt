@@ -1,6 +1,7 @@
 //! Campaigns: workers run the jobs of a plan on threads, and the table is the same for every number of workers.
 #![tactic(auto)]
 
+mod audits;
 mod gate;
 mod halt;
 pub mod laws;
@@ -9,6 +10,7 @@ mod shared;
 mod table;
 mod worker;
 
+pub use audits::audit;
 pub use campaign_book::{Book, BookEntry, Row, StoreFault, Totals};
 pub use campaign_desk::{Claim, Desk, DeskFault, Seat};
 pub use campaign_jobs::{Atomicity, JobResult, Plan, Report, run_job, serial_of};

@@ -106,6 +106,7 @@ fn run_named<'a, C: Campaign + Send + Sync, G: Gate + Sync, R: Threads + Wait + 
             requires { IsSeatOf work.desk.now worker.old.seat }
         { work.work(rt, gate, worker) },
     );
+    gate.ended();
     let failed = dismiss(team, &mut shares);
     let mut book = book.close(shares);
     if failed {

@@ -3,7 +3,7 @@
 ghost use Rattle.std.specs.Prelude.{◌≡◌, ◌<◌, ◌+◌, [], length, vec_len, replicate, IfOk, sum};
 ghost use Rattle.campaign_book.specs.Entries.{row_of, IsEntryOf};
 ghost use Rattle.campaign_book.specs.Rows.{IsStoring};
-ghost use Rattle.campaign.specs.Shares.{after_answer};
+ghost use Rattle.campaign.specs.Shares.{after_answer, IsAnswer};
 
 use campaign_book::{Book, BookEntry, StoreFault};
 use std::alloc::{AllocError, Global};
@@ -63,6 +63,7 @@ impl<'a, C: Campaign> Guarded<'a, C> {
         ensures program { self.new.book.program ≡ self.old.book.program }
         ensures plan { self.new.book.plan ≡ self.old.book.plan }
         ensures rows { IsStoring self.old.book.plan self.old.book.rows (row_of entry.entry) result self.new.book.rows }
+        ensures answer { IsAnswer C.program C.plan (row_of entry.entry) result }
         ensures share { share.new ≡ after_answer share.old result }
     {
         let Guarded { book, stored } = self;
@@ -119,7 +120,8 @@ impl<'a, C: Campaign> SharedBook<'a, C> {
     ) -> Result<(), StoreFault>
         // A report is of the campaign's program and plan.
         requires { IsEntryOf C.program C.plan entry }
-        ensures { share.new ≡ after_answer share.old result }
+        ensures answer { IsAnswer C.program C.plan (row_of entry.entry) result }
+        ensures share { share.new ≡ after_answer share.old result }
     {
         self.lock.lock(rt).store(share, entry)
     }
@@ -153,3 +155,6 @@ fn merged<C: Campaign>(mut shares: Vec<Share<C>>, last: Share<C>) -> ledger::Sha
     }
     all
 }
+
+#[cfg(test)]
+mod tests;

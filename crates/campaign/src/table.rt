@@ -80,7 +80,7 @@ fn is_last(plan: &Plan, last: JobResult) -> bool
     plan.stop && last.atomicity.has_cycle()
 }
 
-/// Returns the table of a book's program and plan. The jobs that it lacks are run and stored.
+/// Returns the table of a book's program and plan. The jobs that it needs and the book lacks are run and stored.
 ///
 /// # Errors
 ///

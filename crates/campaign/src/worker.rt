@@ -1,6 +1,7 @@
 //! One worker of a campaign.
 
 ghost use Rattle.std.specs.Prelude.{◌≡◌, ◌<◌, IfErr, IsTrue};
+ghost use Rattle.campaign_book.specs.Books.{HasCycle};
 ghost use Rattle.campaign_book.specs.declared.fault.StoreFault.TheVariants.{Memory};
 ghost use Rattle.campaign_desk.specs.Desk.{IsSeatOf};
 ghost use Rattle.campaign_jobs.specs.Plans.{fits};
@@ -36,7 +37,8 @@ pub(crate) struct Work<'a, 'w, C: Campaign> {
 }
 
 impl<'a, C: Campaign> Work<'a, '_, C> {
-    /// Stores that a number is skipped, if the bound is below it. Returns whether it was: else the job has to be run.
+    /// Stores that a number is skipped, if the bound is below it. Returns false if the job has to be run, and true also if the
+    /// book has an entry of the number.
     ///
     /// # Errors
     ///
@@ -58,12 +60,28 @@ impl<'a, C: Campaign> Work<'a, '_, C> {
         }
     }
 
+    /// Lowers the bound by the number of a job with a cycle.
+    fn lower(&self, worker: &mut Worker<C>, number: u64)
+        requires seat { IsSeatOf self.now.desk.now worker.old.seat }
+        requires job { number < self.now.desk.now.jobs }
+        requires cycle { HasCycle C.program C.plan number }
+        ensures seat { IsSeatOf self.now.desk.now worker.new.seat }
+    {
+        self.desk.lower(&mut worker.seat, number);
+    }
+
     /// Runs a job, stores its report, and lowers the bound if it has a cycle.
     ///
     /// # Errors
     ///
     /// There was no memory.
-    fn run(&self, rt: &impl Wait, worker: &mut Worker<C>, number: u64) -> Result<(), StoreFault>
+    fn run<G: Gate>(
+        &self,
+        rt: &impl Wait,
+        gate: &G,
+        worker: &mut Worker<C>,
+        number: u64,
+    ) -> Result<(), StoreFault>
         requires seat { IsSeatOf self.now.desk.now worker.old.seat }
         requires job { number < self.now.desk.now.jobs }
         ensures seat { IsSeatOf self.now.desk.now worker.new.seat }
@@ -72,6 +90,7 @@ impl<'a, C: Campaign> Work<'a, '_, C> {
         let Ok(report) = run_job(self.alloc, self.program, self.plan, number) else {
             return Err(StoreFault::Memory);
         };
+        gate.reported(number, report.result);
         let has_cycle = report.result.atomicity.has_cycle();
         let answer = self
             .book
@@ -80,7 +99,7 @@ impl<'a, C: Campaign> Work<'a, '_, C> {
             return Err(StoreFault::Memory);
         }
         if has_cycle {
-            self.desk.lower(&mut worker.seat, number);
+            self.lower(worker, number);
         }
         Ok(())
     }
@@ -90,7 +109,13 @@ impl<'a, C: Campaign> Work<'a, '_, C> {
     /// # Errors
     ///
     /// There was no memory.
-    fn job(&self, rt: &impl Wait, worker: &mut Worker<C>, number: u64) -> Result<(), StoreFault>
+    fn job<G: Gate>(
+        &self,
+        rt: &impl Wait,
+        gate: &G,
+        worker: &mut Worker<C>,
+        number: u64,
+    ) -> Result<(), StoreFault>
         requires seat { IsSeatOf self.now.desk.now worker.old.seat }
         requires job { number < self.now.desk.now.jobs }
         ensures seat { IsSeatOf self.now.desk.now worker.new.seat }
@@ -103,7 +128,7 @@ impl<'a, C: Campaign> Work<'a, '_, C> {
                 Err(fault) => return Err(fault),
             }
         }
-        self.run(rt, worker, number)
+        self.run(rt, gate, worker, number)
     }
 
     /// Draws numbers, and runs or skips their jobs, until no job is left or there is no memory.
@@ -116,7 +141,7 @@ impl<'a, C: Campaign> Work<'a, '_, C> {
                 return;
             };
             gate.before(number);
-            if self.job(rt, worker, number).is_err() {
+            if self.job(rt, gate, worker, number).is_err() {
                 worker.failed = true;
                 return;
             }

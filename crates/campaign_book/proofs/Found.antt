@@ -1,4 +1,4 @@
--- What a row of a book tells.
+-- What follows from a row of a book.
 use Rattle.std.proofs.Common.{◌≡◌, ℕ, zero, suc, ◌+◌, ◌<◌, ◌≤◌, List, [], ◌∷◌, ◌++◌, All, Bool, true, false, not, ◌&&◌, ◌||◌, cond, nat_lt, Option, Some, None, Err, is_some, count_by, refl, sym, ap, ◌∙◌, subst, arith, append_assoc}
 use Rattle.std.specs.List.{find}
 use Rattle.std.specs.Option.{option_or}
@@ -12,10 +12,9 @@ use Rattle.campaign_book.specs.declared.row.Row.{Row}
 use Rattle.campaign_book.specs.declared.row.Row.TheVariants.{Done, Skipped}
 use Rattle.campaign_book.specs.declared.fault.StoreFault.{StoreFault}
 use Rattle.campaign_book.specs.declared.fault.StoreFault.TheVariants.{Range, Repeated, NotSkippable, Memory}
-use Rattle.campaign_jobs.specs.Atomicities.{has_cycle}
 use Rattle.campaign_jobs.specs.Reports.{IsResultOf}
 use Rattle.campaign_book.specs.Rows.{number_of, is_at, row_at, is_some_cycle, has_number, has_cycle_at, is_skippable, refusal, Replays, IsRight, IsStoring}
-use Rattle.campaign_book.specs.Books.{HasCycle, IsBook}
+use Rattle.campaign_book.specs.Books.{HasCycle, IsBook, IsSkip}
 
 tail_all : {A : Type 0} (P : A → Type 0) (x : A) (xs : List A) → All P (x ∷ xs) → All P xs
 tail_all P x xs all k d h = all (suc k) d (omega arith)
@@ -27,7 +26,7 @@ cons_all : {A : Type 0} (P : A → Type 0) (x : A) (xs : List A) → P x → All
 cons_all P x xs p all zero d h = p
 cons_all P x xs p all (suc k) d h = all k d (omega arith)
 
--- A row that is found is among the rows, and has the number
+-- A row that is found is among the rows, and has the number.
 found : (P : Row → Type 0) (k : ℕ) (rows : List Row) (r : Row) → All P rows → find (is_at k) rows ≡ Some r → P r × (number_of r ≡ k)
 found P k [] r all e = absurd (cc)
 found P k (x ∷ xs) r all e = by (λ t. found P k xs r (tail_all P x xs all) t) (is_at k x) refl
@@ -39,17 +38,12 @@ found P k (x ∷ xs) r all e = by (λ t. found P k xs r (tail_all P x xs all) t)
         subst (λ y. P y × (number_of y ≡ k)) here (head_all P x xs all, eqb-true (number_of x) k is)
     by rest false is = rest (sym (ap (λ (b : Bool). cond b (Some x) (find (is_at k) xs)) is) ∙ e)
 
--- A row that is storable passes the three tests
+-- A row without a reason against it passes the three tests.
 passes : (a b c : Bool) (x y z : StoreFault) → cond a (Some x) (cond b (Some y) (cond c (Some z) None)) ≡ None → (a ≡ false) × (b ≡ false) × (c ≡ false)
 passes true b c x y z e = absurd (cc)
 passes false true c x y z e = absurd (cc)
 passes false false true x y z e = absurd (cc)
 passes false false false x y z e = (refl, refl, refl)
-
--- For a row that was skipped, a smaller number has a cycle among these rows
-abbrev IsSkip : Plan → List Row → Row → Type 0
-IsSkip plan rows (Done k o) = Unit {0}
-IsSkip plan rows (Skipped k because) = (plan.stop ≡ true) × (because < k) × (has_cycle_at because rows ≡ true)
 
 skip_of : (plan : Plan) (rows : List Row) (row : Row) → is_skippable plan rows row ≡ true → IsSkip plan rows row
 skip_of plan rows (Done k o) e = tt
@@ -58,7 +52,7 @@ skip_of plan rows (Skipped k because) e =
     let q = and_parts (nat_lt because k) (has_cycle_at because rows) p.1 in
     (p.0, ltb-true because k q.0, q.1)
 
--- More rows behind keep it
+-- `IsSkip` still holds once rows are appended.
 skip_longer : (plan : Plan) (rows more : List Row) (row : Row) → IsSkip plan rows row → IsSkip plan (rows ++ more) row
 skip_longer plan rows more (Done k o) s = tt
 skip_longer plan rows more (Skipped k because) s = (s.0, s.1, ap is_some_cycle (find-append (is_at because) rows more) ∙ either (row_at because rows) s.2)
@@ -74,7 +68,7 @@ skips plan past (x ∷ xs) r =
     let rest = subst (λ (rs : List Row). All (IsSkip plan rs) xs) (append_assoc past (x ∷ []) xs) (skips plan (past ++ x ∷ []) xs r.1) in
     cons_all (IsSkip plan (past ++ x ∷ xs)) x xs (skip_longer plan past (x ∷ xs) x (skip_of plan past x (not-false (is_skippable plan past x) t.2))) rest
 
--- A result with a cycle is that of its number.
+-- If the row of a number is a result with a cycle, the job of this number has one.
 cycle_right : (program : List Class) (plan : Plan) (k : ℕ) (rows : List Row) → All (IsRight program plan) rows → has_cycle_at k rows ≡ true → HasCycle program plan k
 cycle_right program plan k rows all e = by (row_at k rows) refl e
   where
@@ -85,7 +79,7 @@ cycle_right program plan k rows all e = by (row_at k rows) refl e
         (result, subst (λ j. IsResultOf program plan j result) f.1 f.0, e)
     by (Some (Skipped n because)) at e = absurd (cc)
 
--- A result in a book is that of its number.
+-- A result in a book is that of the job of its number.
 pub done_right : (program : List Class) (plan : Plan) (k : ℕ) (rows : List Row) (n : ℕ) (result : JobResult) → IsBook program plan rows → find (is_at k) rows ≡ Some (Done n result) → IsResultOf program plan k result
 done_right program plan k rows n result b e =
     let f = found (IsRight program plan) k rows (Done n result) b.right e in
@@ -100,7 +94,7 @@ skip_right program plan k rows n because b e =
     let less = s.1 in
     (s.0, omega arith, cycle_right program plan because rows b.right s.2)
 
--- A number that stood before stands no more, and no number stands twice
+-- No later row has a number of an earlier one, and no two rows have the same number.
 differ : (plan : Plan) (past rows : List Row) → Replays plan past rows → (k : ℕ) → (has_number k past ≡ true → count_by (is_at k) rows ≡ 0) × (count_by (is_at k) rows ≤ 1)
 differ plan past [] r k = ((λ _. refl), omega arith)
 differ plan past (x ∷ xs) r k = by (is_at k x) refl (differ plan (past ++ x ∷ []) xs r.1 k) (sum_by-cons (λ row. cond (is_at k row) 1 0) x xs)
@@ -127,15 +121,19 @@ differ plan past (x ∷ xs) r k = by (is_at k x) refl (differ plan (past ++ x �
         let n = ap {B = ℕ} (λ (b : Bool). cond b 1 0) is in
         ((λ was. omega (arith, rest.0 (longer ∙ or_left (has_number k past) (is_some (cond (is_at k x) (Some x) None)) was), n, one)), omega (arith, rest.1, n, one))
 
--- The numbers of a book differ
+-- Each number that a book skips is skipped for a smaller one with a cycle.
+pub book_skips : (program : List Class) (plan : Plan) (rows : List Row) → IsBook program plan rows → All (IsSkip plan rows) rows
+book_skips program plan rows b = skips plan [] rows b.replays
+
+-- No two rows of a book have the same number.
 pub numbers_differ : (program : List Class) (plan : Plan) (rows : List Row) → IsBook program plan rows → (k : ℕ) → count_by (is_at k) rows ≤ 1
 numbers_differ program plan rows b k = (differ plan [] rows b.replays k).1
 
--- A report of a number below jobs that no row has may be stored
+-- A report may be stored if its number is below the number of jobs and no row has it.
 pub storable : (plan : Plan) (rows : List Row) (k : ℕ) (o : JobResult) → k < plan.jobs → find (is_at k) rows ≡ None → refusal plan rows (Done k o) ≡ None
 storable plan rows k o small none = rw (lt-ltb k plan.jobs small, none) refl
 
--- Where no reason stands, only memory refuses
+-- Without a reason against a row, only memory refuses it.
 pub only_memory : (plan : Plan) (old : List Row) (row : Row) (fault : StoreFault) (new : List Row) → refusal plan old row ≡ None → IsStoring plan old row (Err fault) new → fault ≡ Memory
 only_memory plan old row Range new none s = let e = sym none ∙ s.0 in absurd (cc)
 only_memory plan old row Repeated new none s = let e = sym none ∙ s.0 in absurd (cc)

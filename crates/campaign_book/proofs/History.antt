@@ -1,5 +1,5 @@
--- A book with one row more.
-use Rattle.std.proofs.Common.{◌≡◌, List, [], ◌∷◌, ◌++◌, cond, None, sym, ◌∙◌, subst, append_assoc}
+-- A book with one more row.
+use Rattle.std.proofs.Common.{◌≡◌, List, [], ◌∷◌, ◌++◌, cond, None, sym, subst, append_assoc}
 use Rattle.std.proofs.lemmas.List.Elements.{All-push}
 use Rattle.std.proofs.lemmas.List.{append-nil, length-append}
 use Rattle.std.proofs.lemmas.List.Sums.{sum_by_push}
@@ -8,8 +8,6 @@ use Rattle.campaign_jobs.specs.declared.plan.Plan.{Plan}
 use Rattle.campaign_book.specs.declared.row.Row.{Row}
 use Rattle.campaign_book.specs.declared.entry.BookEntry.{BookEntry}
 use Rattle.campaign_book.specs.declared.entry.BookEntry.TheVariants as entry
-use Rattle.campaign_jobs.specs.Atomicities.{has_cycle}
-use Rattle.campaign_jobs.specs.Reports.{IsResultOf}
 use Rattle.campaign_book.specs.Rows.{is_done, is_cycle, refusal, Replays, IsRight, with_row}
 use Rattle.campaign_book.specs.Books.{totals_of, IsBook}
 use Rattle.campaign_book.specs.Entries.{row_of, IsEntryOf}

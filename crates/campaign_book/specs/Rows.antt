@@ -1,4 +1,4 @@
--- The rows of a book, in the order of storing (own).
+-- Says which rows a book stores, and why it refuses others.
 use Rattle.std.specs.Prelude.{◌≡◌, ℕ, ◌+◌, ◌==◌, nat_lt, List, [], ◌∷◌, ◌++◌, Bool, true, false, not, ◌&&◌, cond, Option, Some, None, is_some, if◌then◌else◌, Result, Ok, Err}
 use Rattle.std.specs.List.{find}
 use Rattle.jvms_program.specs.declared.program.Class.{Class}
@@ -11,39 +11,43 @@ use Rattle.campaign_book.specs.declared.row.Totals.{Totals}
 use Rattle.campaign_book.specs.declared.fault.StoreFault.{StoreFault}
 use Rattle.campaign_book.specs.declared.fault.StoreFault.TheVariants.{Range, Repeated, NotSkippable, Memory}
 
--- The number of a row's job.
+-- Returns the number of a row's job.
 abbrev pub number_of : Row → ℕ
 number_of (Done number result) = number
 number_of (Skipped number because) = number
 
--- A result with a cycle.
+-- The row is a result with a cycle.
 abbrev pub is_cycle : Row → Bool
 is_cycle (Done number result) = has_cycle result.atomicity
 is_cycle (Skipped number because) = false
 
+-- The row is a result.
 abbrev pub is_done : Row → Bool
 is_done (Done number result) = true
 is_done (Skipped number because) = false
 
+-- The row has this number.
 abbrev pub is_at : ℕ → Row → Bool
 is_at number row = number_of row == number
 
--- The row of a number, if there is one.
+-- Returns the first row of a number, if there is one.
 abbrev pub row_at : ℕ → List Row → Option Row
 row_at number rows = find (is_at number) rows
 
+-- One of the rows has this number.
 abbrev pub has_number : ℕ → List Row → Bool
 has_number number rows = is_some (row_at number rows)
 
+-- There is a row, and it is a result with a cycle.
 abbrev pub is_some_cycle : Option Row → Bool
 is_some_cycle None = false
 is_some_cycle (Some row) = is_cycle row
 
--- The row of the number is a result with a cycle.
+-- There is a row of this number, and the first is a result with a cycle.
 abbrev pub has_cycle_at : ℕ → List Row → Bool
 has_cycle_at number rows = is_some_cycle (row_at number rows)
 
--- Totals with one more row.
+-- Returns the totals with one more row counted.
 abbrev pub with_row : Totals → Row → Totals
 with_row t row =
     record {
@@ -52,12 +56,13 @@ with_row t row =
       cycles = t.cycles + cond (is_cycle row) 1 0;
     }
 
--- A number is skipped only by a plan that stops, and because of a smaller one whose result has a cycle.
+-- The row is a result, or it may skip its number. It may if the plan stops, and it names a smaller number whose row
+-- is a result with a cycle.
 abbrev pub is_skippable : Plan → List Row → Row → Bool
 is_skippable plan rows (Done number result) = true
 is_skippable plan rows (Skipped number because) = plan.stop && (nat_lt because number && has_cycle_at because rows)
 
--- The first reason against a row, in this order, if there is one.
+-- Returns the first reason against a row, tested in this order, if there is one.
 abbrev pub refusal : Plan → List Row → Row → Option StoreFault
 refusal plan rows row =
     if not (nat_lt (number_of row) plan.jobs) then Some Range
@@ -65,17 +70,18 @@ refusal plan rows row =
     else if not (is_skippable plan rows row) then Some NotSkippable
     else None
 
--- Each row could be stored after those before it: the history is that of one thread.
+-- Each of the rows could be stored after the past rows and after those before it.
 abbrev pub Replays : Plan → List Row → List Row → Type 0
 Replays plan past [] = Unit {0}
 Replays plan past (row ∷ rows) = (refusal plan past row ≡ None) × Replays plan (past ++ row ∷ []) rows
 
--- A result is that of the job of its number.
+-- If the row is a result, it is that of the job of its number.
 abbrev pub IsRight : List Class → Plan → Row → Type 0
 IsRight program plan (Done number result) = IsResultOf program plan number result
 IsRight program plan (Skipped number because) = Unit {0}
 
--- A row was stored after the others, or refused by the first reason against it. A refusal changes nothing.
+-- A row is refused for the first reason against it, else appended, or refused for lack of memory. A refusal changes
+-- nothing.
 abbrev pub IsStoring : Plan → List Row → Row → Result (Unit {0}) StoreFault → List Row → Type 0
 IsStoring plan old row (Ok done) new = (refusal plan old row ≡ None) × (new ≡ old ++ row ∷ [])
 IsStoring plan old row (Err Memory) new = (refusal plan old row ≡ None) × (new ≡ old)

@@ -12,8 +12,8 @@ use program::Program;
 use std::alloc::Global;
 use std::marker::Model;
 
-/// The rows of a campaign, in the order in which they were stored. Its type keeps that each result is that of its job,
-/// and that each row could be stored after those before it.
+/// Stores the rows of a campaign, in order. Its type keeps that each result is that of its job, and that each row
+/// could be stored after those before it.
 #[derive(Drop)]
 pub struct Book<'a> {
     program: &'a Program,
@@ -33,7 +33,7 @@ impl<'a> Model for Book<'a> {
     ghost invariant = { λ b. IsBook b.program.now b.plan.now b.rows × (b.totals ≡ totals_of b.rows) };
 }
 
-/// Returns whether the row of a number is a result with a cycle.
+/// Returns whether there is a row of a number and it is a result with a cycle.
 fn has_cycle_at(rows: &Rows, number: u64) -> bool
     ensures { result ≡ has_cycle_at number rows.now }
 {
@@ -43,7 +43,7 @@ fn has_cycle_at(rows: &Rows, number: u64) -> bool
     }
 }
 
-/// Returns whether a row may be stored if it skips its number.
+/// Returns whether a row is a result, or may skip its number.
 fn is_skippable(plan: &Plan, rows: &Rows, row: &Row) -> bool
     ensures { result ≡ is_skippable plan.now rows.now row.now }
 {
@@ -71,7 +71,7 @@ fn refusal(plan: &Plan, rows: &Rows, row: &Row) -> Option<StoreFault>
     None
 }
 
-/// Returns totals with one more row.
+/// Returns the totals with one more row counted.
 fn with_row(totals: Totals, row: &Row) -> Totals
     requires { (totals.rows < 2 ^ 63) × (totals.done < 2 ^ 63) × (totals.cycles < 2 ^ 63) }
     ensures { result ≡ with_row totals row.now }
@@ -89,7 +89,7 @@ impl<'a> Book<'a> {
     ghost use Rattle.campaign_book.specs.Books.{IsBook, totals_of};
     ghost use Rattle.campaign_book.specs.Entries.{row_of, IsEntryOf};
 
-    /// Returns an empty book of a program and a plan. It takes no memory.
+    /// Returns an empty book of a program and a plan. Takes no memory.
     pub fn new(alloc: Global, program: &'a Program, plan: &'a Plan) -> Book<'a>
         ensures program { result.program ≡ program.now }
         ensures plan { result.plan ≡ plan.now }
@@ -111,14 +111,20 @@ impl<'a> Book<'a> {
     ///
     /// # Errors
     ///
-    /// G07 where its number isn't below the number of jobs, else G03 where the book has an entry of this number, else G06
-    /// where it skips its number and may not, else G04 where there was no memory. A refusal changes nothing.
+    /// Returns the first fault that applies, and then changes nothing:
+    ///
+    /// - G07: the number isn't below the number of jobs.
+    /// - G03: the book has an entry of this number.
+    /// - G06: the entry skips its number, and may not.
+    /// - G04: memory ran out.
     pub fn store(&mut self, entry: BookEntry<'a>) -> Result<(), StoreFault>
-        // A report is of the book's program and plan.
+        // If the entry is a report, it is of the book's program and plan.
         requires { IsEntryOf self.old.program self.old.plan entry }
         ensures program { self.new.program ≡ self.old.program }
         ensures plan { self.new.plan ≡ self.old.plan }
         ensures rows { IsStoring self.old.plan self.old.rows (row_of entry.entry) result self.new.rows }
+        ensures was { IsBook self.old.program self.old.plan self.old.rows }
+        ensures is { IsBook self.new.program self.new.plan self.new.rows }
     {
         let row = entry.row();
         if let Some(fault) = refusal(self.plan, &self.rows, &row) {

@@ -6,12 +6,12 @@ ghost use Rattle.campaign_book.specs.Entries.{row_of};
 use crate::row::Row;
 use campaign_jobs::Report;
 
-/// What a book is given to store.
+/// Says what a book is given to store.
 #[derive(Drop)]
 pub enum BookEntry<'a> {
     /// The report of a job.
     Done(Report<'a>),
-    /// A number that is skipped because the job of a smaller one has a cycle.
+    /// A request to skip a number, because the job of a smaller one has a cycle.
     Skipped { number: u64, because: u64 },
 }
 

@@ -1,8 +1,8 @@
-//! Why a book refused an entry.
+//! Why a book refuses an entry.
 
 use thiserror::Error;
 
-/// Why a book refused an entry.
+/// Says why a book refuses an entry. The first reason that applies is returned, in this order.
 #[derive(Clone, Copy, Debug, PartialEq, Eq, Error)]
 pub enum StoreFault {
     /// G07: the number isn't below the number of jobs.
@@ -11,10 +11,11 @@ pub enum StoreFault {
     /// G03: the book has an entry of this number.
     #[error("G03 Repeated")]
     Repeated,
-    /// G06: the plan doesn't stop, or the book holds no report of a smaller number with a cycle.
+    /// G06: the plan doesn't stop, or the report that the entry names isn't in the book, has no cycle, or isn't of
+    /// a smaller number.
     #[error("G06 NotSkippable")]
     NotSkippable,
-    /// G04: there was no memory.
+    /// G04: memory ran out.
     #[error("G04 Memory")]
     Memory,
 }

@@ -4,6 +4,7 @@
 mod book;
 mod entry;
 mod fault;
+pub mod laws;
 mod row;
 mod rows;
 

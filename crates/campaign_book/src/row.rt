@@ -4,23 +4,23 @@ ghost use Rattle.std.specs.Prelude.{◌≡◌};
 
 use campaign_jobs::JobResult;
 
-/// An entry of a book as plain data.
+/// Says what an entry of a book is, as plain data.
 #[derive(Clone, Copy, Debug, PartialEq, Eq)]
 pub enum Row {
     /// The result of the job of a number.
     Done { number: u64, result: JobResult },
-    /// A number that was skipped because the job of a smaller one has a cycle.
+    /// A number that is skipped because of another one. In a book, the other is smaller and its job has a cycle.
     Skipped { number: u64, because: u64 },
 }
 
-/// The totals of a book.
+/// Counts the rows of a book.
 #[derive(Clone, Copy, Debug, PartialEq, Eq)]
 pub struct Totals {
     /// The number of rows.
     pub rows: u64,
-    /// How many of them are results.
+    /// The number of rows that are results.
     pub done: u64,
-    /// How many of these have a cycle.
+    /// The number of results with a cycle.
     pub cycles: u64,
 }
 

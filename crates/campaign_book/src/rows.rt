@@ -1,4 +1,4 @@
-//! The rows of a book in the order of storing, with the row of each number.
+//! The rows of a book in the order of storing, and a map from each number to its row.
 
 ghost use Rattle.std.specs.Prelude.{◌≡◌, ◌++◌, ◌∷◌, [], false, OnOk, OnErr, length, ◌<◌, ◌^◌};
 ghost use Rattle.campaign_book.specs.Rows.{row_at, has_number, number_of};
@@ -8,7 +8,7 @@ use std::alloc::{AllocError, Global};
 use std::collections::BTreeMap;
 use std::marker::Model;
 
-/// The rows of a book. Contracts see their list.
+/// Keeps the rows of a book, and finds them by their numbers. Contracts see their list.
 #[derive(Drop)]
 pub(crate) struct Rows {
     list: Vec<Row>,
@@ -30,7 +30,7 @@ impl Model for Rows {
 }
 
 impl Rows {
-    /// Returns no rows.
+    /// Returns an empty list of rows.
     pub(crate) fn new(alloc: Global) -> Rows
         ensures { result ≡ [] }
     {
@@ -54,7 +54,7 @@ impl Rows {
         self.places.get(&number).copied()
     }
 
-    /// Appends a row of a new number. Without memory for it nothing changes.
+    /// Appends a row of a new number. Nothing changes if memory runs out.
     pub(crate) fn push(&mut self, row: Row) -> Result<(), AllocError>
         requires { has_number (number_of row) self.old ≡ false }
         ensures ok { OnOk result (self.new ≡ self.old ++ row ∷ []) }

@@ -41,7 +41,7 @@ fn answers(
     Ok((answers, book.totals()))
 }
 
-/// The same, of a plan of three jobs, each of which has a cycle.
+/// Returns the answers and the totals of a book whose plan has three jobs, each with a cycle.
 fn answers_of_three(
     alloc: Global,
     stop: bool,
@@ -68,9 +68,9 @@ fn a_book_refuses_what_it_may_not_store(rt: HostRuntime) -> Result<(), Fail> {
             cycles: 1
         }
     );
-    let (goes_on, totals) = answers_of_three(rt.alloc(), false)?;
+    let (kept_on, totals) = answers_of_three(rt.alloc(), false)?;
     assert_eq!(rt;
-        goes_on,
+        kept_on,
         [refused, Ok(()), refused, refused, range, refused]
     );
     assert_eq!(rt;

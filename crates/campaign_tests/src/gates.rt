@@ -7,7 +7,7 @@ use std::thread::yield_now;
 /// For how many rounds a gate waits at most.
 const MOST_ROUNDS: u64 = 1_000_000_000;
 
-/// Waits until a count is reached, or for so many rounds. Returns whether it was reached.
+/// Waits until a count is reached, for `MOST_ROUNDS` at most. Returns whether it was reached.
 fn is_reached(count: &AtomicU64, wanted: u64) -> bool {
     for _ in 0..MOST_ROUNDS {
         if count.load(Ordering::SeqCst) >= wanted {
@@ -39,7 +39,7 @@ impl Gate for HoldsFirst {
     }
 }
 
-/// Holds each job until so many have come.
+/// Holds each job until the wanted number of them have come.
 #[derive(Drop)]
 pub struct Meets {
     pub came: AtomicU64,

@@ -1,9 +1,13 @@
-//! Tables of campaigns.
+//! Tables of campaigns, and audits of them.
+
+ghost use Rattle.std.specs.Prelude.{IsTrue, OnOk};
+ghost use Rattle.campaign_jobs.specs.Plans.{fits};
 
 use crate::gates::{HoldsFirst, Meets};
 use crate::plans::{FORKS, HELLO, campaign_of};
 use campaign::{
-    Atomicity, Gate, Halted, JobResult, OpenGate, Plan, Table, run_campaign, serial_of,
+    Atomicity, DeskFault, Gate, Halted, JobResult, OpenGate, Plan, Table, audit, run_campaign,
+    serial_of,
 };
 use machine::Status;
 use program::Program;
@@ -22,7 +26,8 @@ const GREETED: JobResult = JobResult {
     events: 0,
 };
 
-/// Runs a campaign whose plan fits. Why there is no table is the test's fault.
+/// Runs a campaign whose plan fits, and returns its table. The test fails if there is none, or if an audit finds a result
+/// that differs.
 fn table_of<G: Gate + Sync, R: Threads + Wait + Sync>(
     rt: &R,
     alloc: Global,
@@ -30,31 +35,46 @@ fn table_of<G: Gate + Sync, R: Threads + Wait + Sync>(
     plan: &Plan,
     workers: u64,
     gate: &G,
-) -> Result<Table, Fail> {
+) -> Result<Table, Fail>
+    ensures { OnOk result (IsTrue (fits program.now plan.now)) }
+{
     if !plan.fits(program) {
         return Err(Fail::new("a plan fits no program"));
     }
-    match run_campaign(rt, alloc, program, plan, workers, gate) {
-        Ok(table) => Ok(table),
-        Err(_) => Err(Fail::new("a campaign halted")),
+    let Ok(table) = run_campaign(rt, alloc, program, plan, workers, gate) else {
+        return Err(Fail::new("a campaign halted"));
+    };
+    if !audit(rt, alloc, program, plan, &table)?.is_empty() {
+        return Err(Fail::new("an audit found a result that is right"));
+    }
+    Ok(table)
+}
+
+/// Returns none for an empty table.
+fn none_if_empty(table: &Table) -> Result<Option<DeskFault>, Fail> {
+    if table.results.is_empty() {
+        Ok(None)
+    } else {
+        Err(Fail::new("a table has results"))
     }
 }
 
-/// Returns whether a campaign halts for a limit: of jobs, else of workers.
-fn halts<R: Threads + Wait + Sync>(
+/// Returns why a campaign halts, or none if it has an empty table.
+fn halt_of<R: Threads + Wait + Sync>(
     rt: &R,
     alloc: Global,
     program: &Program,
     plan: &Plan,
     workers: u64,
-) -> (bool, bool) {
+) -> Result<Option<DeskFault>, Fail> {
     if !plan.fits(program) {
-        return (true, true);
+        return Err(Fail::new("a plan fits no program"));
     }
     match run_campaign(rt, alloc, program, plan, workers, &OpenGate) {
-        Err(Halted::TooManyJobs) => (true, false),
-        Err(Halted::TooManyWorkers) => (false, true),
-        _ => (false, false),
+        Ok(table) => none_if_empty(&table),
+        Err(Halted::TooManyJobs) => Ok(Some(DeskFault::TooManyJobs)),
+        Err(Halted::TooManyWorkers) => Ok(Some(DeskFault::TooManyWorkers)),
+        Err(_) => Ok(Some(DeskFault::Memory)),
     }
 }
 
@@ -117,12 +137,30 @@ fn runs_alike<R: Threads + Wait + Sync + Abort>(
     Ok(())
 }
 
-/// Returns whether job 0 has a serial order.
-fn is_serial(alloc: Global, program: &Program, plan: &Plan) -> Result<bool, Fail> {
+/// Changes one result of a table of eight jobs. An audit finds its number alone.
+fn finds_changed<R: Threads + Wait + Sync + Abort>(
+    rt: &R,
+    alloc: Global,
+    program: &Program,
+    plan: &Plan,
+) -> Result<(), Fail> {
+    let mut table = table_of(rt, alloc, program, plan, 3, &OpenGate)?;
+    assert_eq!(rt; table.results.len(), 8);
+    table.results[5].turns = 8;
+    let found = audit(rt, alloc, program, plan, &table)?;
+    assert_eq!(rt; found.as_slice(), [5].as_slice());
+    Ok(())
+}
+
+/// Returns the number of events in the serial order of job 0, if it has one.
+fn serial_events(alloc: Global, program: &Program, plan: &Plan) -> Result<Option<usize>, Fail> {
     if !plan.fits(program) {
         return Err(Fail::new("a plan fits no program"));
     }
-    Ok(serial_of(alloc, program, plan, 0)?.is_some())
+    match serial_of(alloc, program, plan, 0)? {
+        Some(order) => Ok(Some(order.len())),
+        None => Ok(None),
+    }
 }
 
 #[test]
@@ -144,19 +182,28 @@ fn eight_jobs_meet_on_eight_workers(rt: HostRuntime) -> Result<(), Fail> {
 }
 
 #[test]
+fn an_audit_finds_what_was_changed(rt: HostRuntime) -> Result<(), Fail> {
+    let (program, plan) = campaign_of(rt.alloc(), HELLO, "plain *", 8, false)?;
+    let ran = finds_changed(&rt, rt.alloc(), &program, &plan);
+    drop(plan);
+    drop(program);
+    ran
+}
+
+#[test]
 fn limits_are_tested_in_their_order(rt: HostRuntime) -> Result<(), Fail> {
     let cases = [
-        (0, 1, (false, false)),
-        (1, 65, (false, true)),
-        (1, 0, (false, true)),
-        (1_000_001, 65, (true, false)),
+        (0, 1, None),
+        (1, 65, Some(DeskFault::TooManyWorkers)),
+        (1, 0, Some(DeskFault::TooManyWorkers)),
+        (1_000_001, 65, Some(DeskFault::TooManyJobs)),
     ];
     for (jobs, workers, wanted) in cases {
         let (program, plan) = campaign_of(rt.alloc(), HELLO, "plain *", jobs, false)?;
-        let halted = halts(&rt, rt.alloc(), &program, &plan, workers);
+        let halted = halt_of(&rt, rt.alloc(), &program, &plan, workers);
         drop(plan);
         drop(program);
-        assert_eq!(rt; halted, wanted);
+        assert_eq!(rt; halted?, wanted);
     }
     Ok(())
 }
@@ -175,9 +222,9 @@ fn tables_are_those_of_one_worker(rt: HostRuntime) -> Result<(), Fail> {
 
 #[test]
 fn a_serial_order_is_that_of_an_atomic_job(rt: HostRuntime) -> Result<(), Fail> {
-    for (source, wanted) in [(HELLO, true), (FORKS, false)] {
+    for (source, wanted) in [(HELLO, Some(0)), (FORKS, None)] {
         let (program, plan) = campaign_of(rt.alloc(), source, "atomic Main.main", 1, false)?;
-        let found = is_serial(rt.alloc(), &program, &plan);
+        let found = serial_events(rt.alloc(), &program, &plan);
         drop(plan);
         drop(program);
         assert_eq!(rt; found?, wanted);

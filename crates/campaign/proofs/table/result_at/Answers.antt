@@ -1,5 +1,5 @@
 -- A number that the table needs isn't skipped, and what the book has of it is right.
-use Rattle.std.proofs.Common.{◌≡◌, Some, sym, ap, ◌∙◌}
+use Rattle.std.proofs.Common.{Some, sym, ap, ◌∙◌}
 use Rattle.campaign_book.proofs.Found.{done_right}
 use Rattle.campaign.proofs.TableLaws.{not_skipped}
 use Rattle.campaign.proofs.table.result_at.Goals as goal

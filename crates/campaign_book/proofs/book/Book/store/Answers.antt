@@ -15,3 +15,6 @@ invariant_of-self-2 c =
       subst (IsBook c.self.inside.program.now c.self.inside.plan.now) (sym items) (book_push _ _ rows c.args.entry of new c.self.invariant.0),
       c.with_row-self-inside.ensures ∙ (λ i. with_row (c.self.invariant.1 i) (c.row-row.ensures i)) ∙ sym (totals_push rows row) ∙ ap totals_of (sym items),
     )
+
+pub returns-clause-is : goal.returns-clause-is
+returns-clause-is c = (invariant_of-self-2 c).0

@@ -22,7 +22,7 @@ at_same n = grind (arith, nat_tests)
 at_other : (n k : ℕ) → n ≢ k → tree.is_at (nat_cmp n) k ≡ false
 at_other n k h = grind (arith, nat_tests)
 
--- What the map has at k, with one row more
+-- With one more row, the map still has the first row of each number.
 step : (k : ℕ) (rows : List Row) (row : Row) (g : Option Row) → has_number (number_of row) rows ≡ false → g ≡ row_at k rows → cond (tree.is_at (nat_cmp (number_of row)) k) (Some row) g ≡ row_at k (rows ++ row ∷ [])
 step k rows row g new is = ⊎_elim here there (cases_eq (number_of row) k)
   where
