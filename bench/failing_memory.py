@@ -1,11 +1,13 @@
 #!/usr/bin/env python3
 """Runs commands of jvmx again and again, in each run with one allocation refused: the first, the second, and so on until one
 run needs no more. Each run must end as the run with ample memory does, or be refused in one line that ends in `Memory`,
-with status 3, and with nothing on standard output that the other run doesn't begin with.
+with status 3, and with nothing on standard output that the other run doesn't begin with. A refused campaign may also end in
+`jvmx: G05 WorkerFailed`, and writes nothing to standard output.
 
-    bench/failing_memory.py [--jvmx PROGRAM]
+    bench/failing_memory.py [--jvmx PROGRAM] [NAME...]
 
-A small library in C, built by gcc and loaded in front of the system's, refuses the allocation.
+A small library in C, built by gcc and loaded in front of the system's, refuses the allocation. The dynamic loader's own may
+be refused too. A thread's start allocates by calloc, which isn't refused. A campaign with one worker starts no thread.
 """
 import argparse
 import os
@@ -20,6 +22,8 @@ ROOT = Path(__file__).resolve().parent.parent
 THREADS = ROOT / "examples/threads"
 COUNT = "FAILING_ALLOCATION"
 REFUSED = re.compile(r"jvmx: (.*: )?(\w\d\d )?Memory$")
+# How a campaign ends where a job, and not the campaign itself, was refused memory.
+WORKER_FAILED = "jvmx: G05 WorkerFailed"
 LIBRARY = f"""
 #include <stddef.h>
 #include <stdlib.h>
@@ -65,6 +69,7 @@ def commands(folder):
         "check, a cycle": ["check", "--spec", spec, trace],
         "run --spec, a cycle": ["run", "--entry", "LostUpdate", "--spec", spec, source],
         "run --spec, atomic": ["run", "--entry", "LostUpdate", "--sched", "rr:99", "--spec", spec, source],
+        "campaign": ["campaign", "--entry", "LostUpdate", "--spec", spec, "--jobs", "4", "--workers", "1", source],
         "trace": ["trace", "--entry", "LostUpdate", "--sched", "seed:1:2", source],
         "debug": ["debug", "--entry", "LostUpdate", source],
         "eval": ["eval", "--entry", "G.gcd.(II)I", "--args", "48,36", ROOT / "examples/G.class"],
@@ -81,10 +86,12 @@ def ended(words, refused):
     return ran.returncode, ran.stdout, ran.stderr
 
 
-def is_refusal(ran, ample):
+def is_refusal(command, ran, ample):
     status, out, err = ran
-    lines = err.splitlines()
-    return status == 3 and bool(lines) and bool(REFUSED.match(lines[-1])) and ample[1].startswith(out)
+    last = err.splitlines()[-1] if err else ""
+    if command[0] == "campaign":
+        return status == 3 and out == "" and bool(REFUSED.match(last) or last == WORKER_FAILED)
+    return status == 3 and bool(REFUSED.match(last)) and ample[1].startswith(out)
 
 
 def tried(words):
@@ -96,7 +103,7 @@ def tried(words):
         ran = ended(words, refusals + same + 1)
         if ran == ample:
             same, row = same + 1, row + 1
-        elif is_refusal(ran, ample):
+        elif is_refusal(words.command, ran, ample):
             refusals, row = refusals + 1, 0
         else:
             sys.exit(f"allocation {refusals + same + 1} of {words.command}: {ran}, but with ample memory {ample}")
@@ -106,13 +113,15 @@ def tried(words):
 def main():
     parser = argparse.ArgumentParser(description=__doc__.split("\n\n")[0])
     parser.add_argument("--jvmx", default=str(ROOT / "jvmx"))
+    parser.add_argument("names", nargs="*", metavar="NAME", help="these commands, as they are printed; else all")
     words = parser.parse_args()
     with tempfile.TemporaryDirectory() as folder:
         words.library = f"{folder}/failing.so"
         gcc = ["gcc", "-shared", "-fPIC", "-x", "c", "-", "-o", words.library]
         subprocess.run(gcc, input=LIBRARY, text=True, check=True)
-        for name, command in commands(Path(folder)).items():
-            words.command = [str(word) for word in command]
+        every = commands(Path(folder))
+        for name in words.names or every:
+            words.command = [str(word) for word in every[name]]
             refusals, same = tried(words)
             print(f"{name}: {refusals} refused, {same} ended as with ample memory", flush=True)
 

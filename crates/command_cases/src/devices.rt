@@ -9,7 +9,10 @@ use commands::perform::perform;
 use std::alloc::{AllocError, Global};
 use std::io::{self, ErrorKind, Read, Write};
 use std::marker::Brand;
+use std::rt::Clock;
+use std::sync::Wait;
 use std::sync::ledger::{Blank, Ledger};
+use std::thread::Threads;
 use trace::{Counted, Failures};
 
 /// How many bytes standard input gives, and how many standard output and standard error take, before they fail.
@@ -102,8 +105,14 @@ fn words_of(alloc: Global, text: &str) -> Result<Vec<String>, AllocError> {
 }
 
 /// What a command comes to, with the failures of its devices counted by these ledgers.
-fn counted<F: Files, I: Ledger, O: Ledger, E: Ledger>(
-    alloc: Global,
+fn counted<
+    R: AllocGlobal + Clock + Eprint + Threads + Wait + Sync,
+    F: Files,
+    I: Ledger,
+    O: Ledger,
+    E: Ledger,
+>(
+    rt: &R,
     words: &[String],
     files: &mut F,
     devices: Devices<'_>,
@@ -115,6 +124,7 @@ fn counted<F: Files, I: Ledger, O: Ledger, E: Ledger>(
     requires output { (output.name ≡ O.name) × (output.parts ≡ O.parts) × (0 < O.parts) }
     requires errors { (errors.name ≡ E.name) × (errors.parts ≡ E.parts) × (0 < E.parts) }
 {
+    let alloc = rt.alloc();
     let Devices { script, room } = devices;
     let reader = Cut {
         bytes: script,
@@ -123,7 +133,7 @@ fn counted<F: Files, I: Ledger, O: Ledger, E: Ledger>(
     let mut input = Counted::new(reader, Failures::<I>::none(input));
     let mut output = Counted::new(Short::new(alloc, room.output), Failures::<O>::none(output));
     let mut errors = Counted::new(Short::new(alloc, room.errors), Failures::<E>::none(errors));
-    let status = perform(alloc, words, files, &mut input, &mut output, &mut errors);
+    let status = perform(rt, words, files, &mut input, &mut output, &mut errors);
     Ok(Outcome {
         status,
         output: output.inner().bytes.clone()?,
@@ -132,14 +142,14 @@ fn counted<F: Files, I: Ledger, O: Ledger, E: Ledger>(
 }
 
 /// Runs a command over these devices, and returns its outcome.
-pub(crate) fn outcome_of<F: Files>(
-    alloc: Global,
+pub(crate) fn outcome_of<R: AllocGlobal + Clock + Eprint + Threads + Wait + Sync, F: Files>(
+    rt: &R,
     words: &str,
     files: &mut F,
     devices: Devices<'_>,
 ) -> Result<Outcome, CaseFault> {
-    let words = words_of(alloc, words)?;
+    let words = words_of(rt.alloc(), words)?;
     let words = words.as_slice();
     let (input, output, errors) = (Blank::new(1), Blank::new(1), Blank::new(1));
-    counted::<F, Brand, Brand, Brand>(alloc, words, files, devices, input, output, errors)
+    counted::<R, F, Brand, Brand, Brand>(rt, words, files, devices, input, output, errors)
 }

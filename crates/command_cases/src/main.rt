@@ -57,16 +57,19 @@ use cases::{Case, cases_of};
 use commands::SystemFiles;
 use std::alloc::Global;
 use std::process::ExitCode;
+use std::rt::Clock;
+use std::sync::Wait;
+use std::thread::Threads;
 use std::{env, io};
 
 /// Walks a case, and tells of it where it can't be read.
-fn walk<'r>(
-    rt: &'r HostRuntime,
-    alloc: Global,
+fn walk<R: AllocGlobal + Clock + Eprint + Threads + Wait + Sync>(
+    host: &HostRuntime,
+    rt: &R,
     case: &Case<'_>,
     tally: &mut Tally,
 ) -> Result<(), CaseFault> {
-    let mut stage = Stage::new(alloc, case.name, SystemFiles { rt }, tally);
+    let mut stage = Stage::new(rt, case.name, SystemFiles { rt: host }, tally);
     for section in case.sections.as_slice() {
         stage.take(section)?;
     }
@@ -74,15 +77,20 @@ fn walk<'r>(
 }
 
 /// Walks all cases of a file.
-fn walk_file(rt: &HostRuntime, name: &str, tally: &mut Tally) -> Result<(), CaseFault> {
+fn walk_file<R: AllocGlobal + Clock + Eprint + Threads + Wait + Sync>(
+    host: &HostRuntime,
+    rt: &R,
+    name: &str,
+    tally: &mut Tally,
+) -> Result<(), CaseFault> {
     let alloc = rt.alloc();
-    let text = read_text(&mut SystemFiles { rt }, name)?;
+    let text = read_text(&mut SystemFiles { rt: host }, name)?;
     let cases = cases_of(alloc, text.as_str())?;
     if cases.is_empty() {
         return Err(CaseFault::Empty);
     }
     for case in cases.as_slice() {
-        if let Err(fault) = walk(rt, alloc, case, tally) {
+        if let Err(fault) = walk(host, rt, case, tally) {
             tally.unreadable(alloc, case.name, fault)?;
         }
     }
@@ -90,10 +98,14 @@ fn walk_file(rt: &HostRuntime, name: &str, tally: &mut Tally) -> Result<(), Case
 }
 
 /// Walks the files that the words name.
-fn walk_all(rt: &HostRuntime, tally: &mut Tally) -> Result<(), CaseFault> {
-    let words: Vec<String> = env::args(rt)?.skip(1).collect(rt.alloc())?;
+fn walk_all<R: AllocGlobal + Clock + Eprint + Threads + Wait + Sync>(
+    host: &HostRuntime,
+    rt: &R,
+    tally: &mut Tally,
+) -> Result<(), CaseFault> {
+    let words: Vec<String> = env::args(host)?.skip(1).collect(rt.alloc())?;
     for name in words.as_slice() {
-        if let Err(fault) = walk_file(rt, name.as_str(), tally) {
+        if let Err(fault) = walk_file(host, rt, name.as_str(), tally) {
             tally.unreadable(rt.alloc(), name.as_str(), fault)?;
         }
     }
@@ -116,7 +128,7 @@ fn told(rt: &HostRuntime, tally: &Tally) -> io::Result<()> {
 
 fn main(rt: HostRuntime) -> ExitCode {
     let mut tally = Tally::new(rt.alloc());
-    let walked = walk_all(&rt, &mut tally);
+    let walked = walk_all(&rt, &rt, &mut tally);
     let told = told(&rt, &tally);
     let whole = walked.is_ok() && told.is_ok() && tally.differences == 0;
     ExitCode::from(u8::from(!whole))

@@ -9,6 +9,9 @@ use cases::Section;
 use commands::{FileFault, Files};
 use std::alloc::{AllocError, Global};
 use std::mem;
+use std::rt::Clock;
+use std::sync::Wait;
+use std::thread::Threads;
 
 /// How many commands came to what is wanted and how many didn't, with a line for each of these.
 #[derive(Drop)]
@@ -78,7 +81,8 @@ struct Answered {
 
 /// A case that is walked.
 #[derive(Drop)]
-pub(crate) struct Stage<'c, 't, F> {
+pub(crate) struct Stage<'c, 't, R, F> {
+    rt: &'t R,
     alloc: Global,
     name: &'c str,
     files: HeldFiles<F>,
@@ -93,10 +97,17 @@ pub(crate) struct Stage<'c, 't, F> {
     tally: &'t mut Tally,
 }
 
-impl<'c, 't, F: Files + Drop> Stage<'c, 't, F> {
+impl<'c, 't, R: AllocGlobal + Clock + Eprint + Threads + Wait + Sync, F: Files + Drop> Stage<
+    'c,
+    't,
+    R,
+    F,
+> {
     /// A case of which no section was read, over files that are there.
-    pub(crate) fn new(alloc: Global, name: &'c str, beneath: F, tally: &'t mut Tally) -> Self {
+    pub(crate) fn new(rt: &'t R, name: &'c str, beneath: F, tally: &'t mut Tally) -> Self {
+        let alloc = rt.alloc();
         Stage {
+            rt,
             alloc,
             name,
             files: HeldFiles::new(alloc, beneath),
@@ -169,7 +180,7 @@ impl<'c, 't, F: Files + Drop> Stage<'c, 't, F> {
             script: self.input.as_slice(),
             room,
         };
-        outcome_of(self.alloc, words, &mut self.files, devices)
+        outcome_of(self.rt, words, &mut self.files, devices)
     }
 
     /// Takes the section of a file.

@@ -1,14 +1,13 @@
 //! Which command the words ask for.
 
-use crate::entry::{arguments_of, main_entry, natural_of, static_entry};
+use crate::campaign::{CampaignWords, campaign_words};
 use crate::fault::WordsFault;
 use crate::help::{
-    ASM_HELP, CHECK_HELP, DEBUG_HELP, EVAL_HELP, HELP, LIST_HELP, RUN_HELP, TRACE_HELP,
+    ASM_HELP, CAMPAIGN_HELP, CHECK_HELP, DEBUG_HELP, EVAL_HELP, HELP, LIST_HELP, RUN_HELP,
+    TRACE_HELP,
 };
-use crate::syntax::{
-    ARGUMENTS, ENTRY, FILE, FILES, INPUT, MOST, OUTPUT, SCHEDULE, SERIAL, SPECIFICATION, TRACE,
-    syntax,
-};
+use crate::program_words::{ProgramWords, most_of, program_words};
+use crate::syntax::{FILE, INPUT, OUTPUT, SCHEDULE, SERIAL, SPECIFICATION, TRACE, syntax};
 use clap::ArgMatches;
 use jvms_machine::machine::Entry;
 use std::alloc::Global;
@@ -16,9 +15,6 @@ use turn_limit::TurnLimit;
 
 /// Which thread takes each turn where `--sched` doesn't say it.
 const DEFAULT_SCHEDULE: &str = "rr:1";
-
-/// How many turns are taken at most where `--max` doesn't say it.
-const DEFAULT_MOST: u64 = 1_000_000;
 
 /// What a line of words asks for.
 #[derive(Debug, Drop)]
@@ -31,6 +27,8 @@ pub enum Command<'a> {
     Trace(RunWords<'a>),
     /// To debug a run of a program. Its words are those of `trace`.
     Debug(RunWords<'a>),
+    /// To run a program under many schedules.
+    Campaign(CampaignWords<'a>),
     /// To tell whether a trace is atomic.
     Check(CheckWords<'a>),
     /// To write the class file of a source.
@@ -41,16 +39,6 @@ pub enum Command<'a> {
     Help(&'static str),
     /// To print which program this is.
     Version,
-}
-
-/// The words of `eval`, and of `run`, `trace` and `debug` beside their options: a program and where it begins.
-#[derive(Debug, Drop)]
-pub struct ProgramWords<'a> {
-    pub entry: Entry,
-    /// The entry as the words have it.
-    pub entry_text: &'a str,
-    /// The class files and sources, at least one.
-    pub files: Vec<&'a str>,
 }
 
 /// The words of `run`, of `trace` and of `debug`.
@@ -85,54 +73,6 @@ pub struct AsmWords<'a> {
     pub output: &'a str,
 }
 
-impl<'a> ProgramWords<'a> {
-    /// The file at a place of the words.
-    pub fn file(&self, place: usize) -> &'a str {
-        self.files.get(place).copied().unwrap_or("")
-    }
-}
-
-/// The FILEs of the words.
-fn files_of<'a>(alloc: Global, matches: &ArgMatches<'a>) -> Result<Vec<&'a str>, WordsFault> {
-    let words = matches.get_strs(FILES).ok_or(WordsFault::Words)?;
-    let mut files = Vec::new(alloc);
-    for word in words {
-        files.push(*word)?;
-    }
-    Ok(files)
-}
-
-/// The arguments of the words: none where there is no such option.
-fn arguments(alloc: Global, matches: &ArgMatches<'_>) -> Result<Vec<i32>, WordsFault> {
-    match matches.get_str(ARGUMENTS) {
-        None => Ok(Vec::new(alloc)),
-        Some(text) => arguments_of(alloc, text),
-    }
-}
-
-/// The entry that a text names: without a dot a main class, which takes no arguments.
-fn entry_of(alloc: Global, text: &str, matches: &ArgMatches<'_>) -> Result<Entry, WordsFault> {
-    if text.contains('.') {
-        static_entry(alloc, text, arguments(alloc, matches)?)
-    } else if matches.get_str(ARGUMENTS).is_none() {
-        main_entry(alloc, text)
-    } else {
-        Err(WordsFault::Words)
-    }
-}
-
-fn program_words<'a>(
-    alloc: Global,
-    matches: &ArgMatches<'a>,
-) -> Result<ProgramWords<'a>, WordsFault> {
-    let entry_text = matches.get_str(ENTRY).ok_or(WordsFault::Words)?;
-    Ok(ProgramWords {
-        entry: entry_of(alloc, entry_text, matches)?,
-        entry_text,
-        files: files_of(alloc, matches)?,
-    })
-}
-
 /// Returns the command `eval`. Its entry is no main class.
 fn eval_command<'a>(alloc: Global, matches: &ArgMatches<'a>) -> Result<Command<'a>, WordsFault> {
     let words = program_words(alloc, matches)?;
@@ -140,15 +80,6 @@ fn eval_command<'a>(alloc: Global, matches: &ArgMatches<'a>) -> Result<Command<'
         Entry::Static { .. } => Ok(Command::Eval(words)),
         Entry::Main { .. } => Err(WordsFault::Words),
     }
-}
-
-/// How many turns the words allow.
-fn most_of(matches: &ArgMatches<'_>) -> Result<TurnLimit, WordsFault> {
-    let most = match matches.get_str(MOST) {
-        None => DEFAULT_MOST,
-        Some(text) => natural_of(text).ok_or(WordsFault::Words)?,
-    };
-    TurnLimit::new(most).ok_or(WordsFault::Words)
 }
 
 /// The words of a command that runs a program, with this specification.
@@ -205,6 +136,7 @@ fn help_of(command: &str) -> Option<Command<'static>> {
         "run" => Some(Command::Help(RUN_HELP)),
         "trace" => Some(Command::Help(TRACE_HELP)),
         "debug" => Some(Command::Help(DEBUG_HELP)),
+        "campaign" => Some(Command::Help(CAMPAIGN_HELP)),
         "check" => Some(Command::Help(CHECK_HELP)),
         "asm" => Some(Command::Help(ASM_HELP)),
         "list" => Some(Command::Help(LIST_HELP)),
@@ -244,6 +176,7 @@ fn matched<'a>(
         "run" => run_command(alloc, matches),
         "trace" => Ok(Command::Trace(run_words(alloc, matches, None)?)),
         "debug" => Ok(Command::Debug(run_words(alloc, matches, None)?)),
+        "campaign" => Ok(Command::Campaign(campaign_words(alloc, matches)?)),
         "check" => check_command(matches),
         "asm" => asm_command(matches),
         "list" => Ok(Command::List(list_word(matches)?)),

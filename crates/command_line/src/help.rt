@@ -12,6 +12,8 @@ Usage: jvmx COMMAND WORDS
                  whether methods were atomic in that run
   trace          runs a program and prints what its threads did
   debug          goes forward and back along the turns of a run
+  campaign       runs a program under many schedules and tells in which runs
+                 methods were atomic
   check          reads what threads did and tells whether methods were atomic
   asm            writes the class file of a source
   list           prints a class file as a source
@@ -190,6 +192,57 @@ Example: echo 'step 8
 threads
 back 1
 threads' | jvmx debug --entry LostUpdate examples/threads/LostUpdate.j
+";
+
+/// `jvmx campaign --help`
+pub const CAMPAIGN_HELP: &str = "\
+jvmx campaign: runs a program under many schedules and tells in which runs
+methods were atomic
+
+Usage: jvmx campaign --entry E [--args N,N] --spec F --jobs N [--seed N]
+                     [--workers N] [--max N] [--stop] [--summary] FILE...
+
+  --entry E    where the program begins (required), as jvmx help run says
+  --args N,N   the arguments of a static method, as jvmx help eval says
+  --spec F     which methods are to be atomic (required), as jvmx help check
+               says
+  --jobs N     how many times the program runs, at most 1000000 (required). Job
+               K, from 0, runs it under the schedule seed:SEED:K, as jvmx help
+               run says
+  --seed N     SEED, below 18446744073709551616 (default: 0)
+  --workers N  how many jobs run at the same time, from 1 to 64 (default: 4).
+               What is printed doesn't depend on it
+  --max N      how many turns each job may take, at most 100000000 (default:
+               1000000)
+  --stop       ends the table with the first job that has a cycle
+  --summary    prints the summary also where standard error is no terminal
+  FILE...      the classes of the program, as jvmx help eval says
+
+Options and FILEs stand in any order. --jobs=9 is --jobs 9, and behind -- all
+words are FILEs.
+
+Standard output: the table, a line for each job and then one for all of them,
+  job K atomic status S turns N events M
+  job K cycle at E status S turns N events M
+  jobs N atomic A cycle C
+with S one of Finished, Running, Stalled, Deadlocked. The first E of the M
+events are the fewest with a cycle. jvmx help check says what atomic means, and
+what events are.
+
+UNCAUGHT EXCEPTIONS ARE NOT TOLD, neither by the table nor by the exit status: a
+job in which a thread died of one may well be Finished. To find them, call jvmx
+run --sched seed:0:K for each K, and look at its exit status; or let the program
+loop for ever where a check of its own fails, so that the status is Running.
+
+Standard error, at a terminal: while jobs run, how many are done. Then the
+summary: for the first job with a cycle, and for the first of each status but
+Finished, the commands that run it again and debug it.
+
+Exit status: 0 where all jobs of the table are atomic and Finished, else 1; 2
+and 3 as jvmx --help says. docs/REFUSALS.md explains the codes of refusals.
+
+Example: jvmx campaign --entry LostUpdate --spec examples/threads/atomic.spec \\
+  --jobs 100 examples/threads/LostUpdate.j
 ";
 
 /// `jvmx check --help`

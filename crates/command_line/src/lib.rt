@@ -1,14 +1,19 @@
 //! The command line: which command its words ask for, and the texts of help.
 #![tactic(auto)]
 
+mod campaign;
 mod command;
 mod entry;
 mod fault;
 mod help;
+mod program_words;
 mod syntax;
 
-pub use command::{AsmWords, CheckWords, Command, ProgramWords, RunWords, command_of};
+pub use campaign::CampaignWords;
+pub use command::{AsmWords, CheckWords, Command, RunWords, command_of};
 pub use fault::WordsFault;
 pub use help::{
-    ASM_HELP, CHECK_HELP, DEBUG_HELP, EVAL_HELP, HELP, LIST_HELP, RUN_HELP, TRACE_HELP, VERSION,
+    ASM_HELP, CAMPAIGN_HELP, CHECK_HELP, DEBUG_HELP, EVAL_HELP, HELP, LIST_HELP, RUN_HELP,
+    TRACE_HELP, VERSION,
 };
+pub use program_words::{ProgramNames, ProgramWords};

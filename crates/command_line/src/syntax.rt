@@ -21,6 +21,21 @@ pub(crate) const SPECIFICATION: &str = "spec";
 /// The flag `--serial`.
 pub(crate) const SERIAL: &str = "serial";
 
+/// The option `--jobs`.
+pub(crate) const JOBS: &str = "jobs";
+
+/// The option `--seed`.
+pub(crate) const SEED: &str = "seed";
+
+/// The option `--workers`.
+pub(crate) const WORKERS: &str = "workers";
+
+/// The flag `--stop`.
+pub(crate) const STOP: &str = "stop";
+
+/// The flag `--summary`.
+pub(crate) const SUMMARY: &str = "summary";
+
 /// TRACE
 pub(crate) const TRACE: &str = "trace";
 
@@ -84,6 +99,18 @@ fn run_syntax<'a>(alloc: Global) -> Result<Command<'a>, AllocError> {
     scheduled_syntax(alloc, "run")?.arg(option(alloc, SPECIFICATION))
 }
 
+/// `campaign --entry E [--args N,N] --spec F --jobs N [--seed N] [--workers N] [--max N] [--stop] [--summary] FILE...`
+fn campaign_syntax<'a>(alloc: Global) -> Result<Command<'a>, AllocError> {
+    program_syntax(alloc, "campaign")?
+        .arg(option(alloc, SPECIFICATION).required(true))?
+        .arg(option(alloc, JOBS).required(true))?
+        .arg(option(alloc, SEED))?
+        .arg(option(alloc, WORKERS))?
+        .arg(option(alloc, MOST))?
+        .arg(flag(alloc, STOP))?
+        .arg(flag(alloc, SUMMARY))
+}
+
 /// `check --spec F [--serial] TRACE`
 fn check_syntax<'a>(alloc: Global) -> Result<Command<'a>, AllocError> {
     let specification = option(alloc, SPECIFICATION).required(true);
@@ -129,7 +156,8 @@ fn with_runs<'a>(alloc: Global, commands: Command<'a>) -> Result<Command<'a>, Al
     let commands = with(commands, program_syntax(alloc, "eval"))?;
     let commands = with(commands, run_syntax(alloc))?;
     let commands = with(commands, scheduled_syntax(alloc, "trace"))?;
-    with(commands, scheduled_syntax(alloc, "debug"))
+    let commands = with(commands, scheduled_syntax(alloc, "debug"))?;
+    with(commands, campaign_syntax(alloc))
 }
 
 /// Adds the commands that read or write other texts.

@@ -2,17 +2,21 @@
 //! what is written and the exit status.
 #![tactic(auto)]
 
+mod campaigns;
 pub mod eval;
 mod fault;
 mod files;
 mod limits;
 mod lines;
 pub mod perform;
+mod progress;
 mod reading;
 mod refusal;
 pub mod run;
+mod summary;
 mod terminal;
 pub mod tracing;
 
 pub use fault::RunFault;
 pub use files::{FileFault, Files, MOST_BYTES, SystemFiles};
+pub use terminal::Terminal;

@@ -1,5 +1,6 @@
 //! All of the program, over named files, a reader and two writers.
 
+use crate::campaigns::perform_campaign;
 use crate::eval::eval;
 use crate::files::Files;
 use crate::limits::DEFAULT_LIMITS;
@@ -7,7 +8,7 @@ use crate::lines::ending_lines;
 use crate::reading::{read_input, read_inputs, read_source, read_spec, read_text};
 use crate::refusal::Refusal;
 use crate::run::run;
-use crate::terminal::{Prompts, TerminalPrompt};
+use crate::terminal::{Terminal, TerminalPrompt};
 use crate::tracing::write_trace;
 use atom_spec::Spec;
 use command_line::{AsmWords, CheckWords, Command, ProgramWords, RunWords, VERSION, command_of};
@@ -22,6 +23,9 @@ use report::verdict_line;
 use runs::Ending;
 use schedule::Chooser;
 use std::alloc::{AllocError, Global};
+use std::rt::Clock;
+use std::sync::Wait;
+use std::thread::Threads;
 use trace::{ByteIn, ByteOut};
 use trace_check::check;
 use velodrome::verdict::Verdict;
@@ -51,10 +55,10 @@ fn perform_eval<'w, F: Files, W: ByteOut, E: ByteOut>(
     output: &mut W,
     errors: &mut E,
 ) -> Result<u8, Refusal<'w>> {
-    let inputs = read_inputs(alloc, files, words.files.as_slice())?;
+    let inputs = read_inputs(alloc, files, words.names.files.as_slice())?;
     match eval(alloc, inputs.as_slice(), &words.entry, output) {
         Ok(ending) => print_ending(alloc, &ending, errors),
-        Err(fault) => Err(Refusal::of_run(words, fault)),
+        Err(fault) => Err(Refusal::of_run(&words.names, fault)),
     }
 }
 
@@ -92,7 +96,7 @@ fn read_parts<'w, F: Files>(
     Ok(RunParts {
         chooser: chooser_of(alloc, words.schedule)?,
         spec: spec_of(alloc, files, words.spec)?,
-        inputs: read_inputs(alloc, files, words.program.files.as_slice())?,
+        inputs: read_inputs(alloc, files, words.program.names.files.as_slice())?,
     })
 }
 
@@ -131,7 +135,7 @@ fn run_parts<'w, W: ByteOut>(
     let entry = &words.program.entry;
     match run(alloc, inputs, entry, chooser, words.most, spec, output) {
         Ok(run) => Ok(run),
-        Err(fault) => Err(Refusal::of_run(&words.program, fault)),
+        Err(fault) => Err(Refusal::of_run(&words.program.names, fault)),
     }
 }
 
@@ -171,7 +175,7 @@ fn trace_parts<'w, W: ByteOut>(
     let entry = &words.program.entry;
     match write_trace(alloc, inputs, entry, chooser, words.most, output) {
         Ok(judged) => Ok(judged),
-        Err(fault) => Err(Refusal::of_run(&words.program, fault)),
+        Err(fault) => Err(Refusal::of_run(&words.program.names, fault)),
     }
 }
 
@@ -208,7 +212,7 @@ fn debug_parts<'w, I: ByteIn, W: ByteOut, P: Prompt>(
         alloc, inputs, limits, entry, chooser, words.most, input, output, prompt,
     ) {
         Ok(()) => Ok(0),
-        Err(stop) => Err(Refusal::of_debug(&words.program, stop)),
+        Err(stop) => Err(Refusal::of_debug(&words.program.names, stop)),
     }
 }
 
@@ -220,15 +224,14 @@ fn perform_debug<'w, F: Files, I: ByteIn, W: ByteOut, E: ByteOut>(
     input: &mut I,
     output: &mut W,
     errors: &mut E,
-    prompts: Prompts,
+    terminal: Terminal,
 ) -> Result<u8, Refusal<'w>> {
     let parts = read_parts(alloc, words, files)?;
-    match prompts {
-        Prompts::Shown => {
-            let mut prompt = TerminalPrompt::new(alloc, errors, words.schedule);
-            debug_parts(alloc, words, parts, input, output, &mut prompt)
-        }
-        Prompts::Hidden => debug_parts(alloc, words, parts, input, output, &mut NoPrompt),
+    if terminal.has_prompts() {
+        let mut prompt = TerminalPrompt::new(alloc, errors, words.schedule);
+        debug_parts(alloc, words, parts, input, output, &mut prompt)
+    } else {
+        debug_parts(alloc, words, parts, input, output, &mut NoPrompt)
     }
 }
 
@@ -303,21 +306,32 @@ fn print<'w, W: ByteOut>(output: &mut W, text: &str) -> Result<u8, Refusal<'w>> 
 }
 
 /// Does what the words ask for.
-fn command<'w, F: Files, I: ByteIn, W: ByteOut, E: ByteOut>(
+fn command<
+    'w,
+    R: Clock + Eprint + Threads + Wait + Sync,
+    F: Files,
+    I: ByteIn,
+    W: ByteOut,
+    E: ByteOut,
+>(
+    rt: &R,
     alloc: Global,
     words: &'w [String],
     files: &mut F,
     input: &mut I,
     output: &mut W,
     errors: &mut E,
-    prompts: Prompts,
+    terminal: Terminal,
 ) -> Result<u8, Refusal<'w>> {
     match command_of(alloc, words)? {
         Command::Eval(words) => perform_eval(alloc, &words, files, output, errors),
         Command::Run(words) => perform_run(alloc, &words, files, output, errors),
         Command::Trace(words) => perform_trace(alloc, &words, files, output),
         Command::Debug(words) => {
-            perform_debug(alloc, &words, files, input, output, errors, prompts)
+            perform_debug(alloc, &words, files, input, output, errors, terminal)
+        }
+        Command::Campaign(words) => {
+            perform_campaign(rt, alloc, words, files, output, errors, terminal)
         }
         Command::Check(words) => perform_check(alloc, &words, files, output),
         Command::Asm(words) => perform_asm(alloc, words, files),
@@ -336,45 +350,39 @@ fn refuse<E: ByteOut>(alloc: Global, refusal: &Refusal<'_>, errors: &mut E) -> u
     if written.is_ok() { status } else { 3 }
 }
 
-/// Does all of the program, with or without prompts.
-fn perform_with<F: Files, I: ByteIn, W: ByteOut, E: ByteOut>(
-    alloc: Global,
-    words: &[String],
-    files: &mut F,
-    input: &mut I,
-    output: &mut W,
-    errors: &mut E,
-    prompts: Prompts,
-) -> u8 {
-    match command(alloc, words, files, input, output, errors, prompts) {
-        Ok(status) => status,
-        Err(refusal) => refuse(alloc, &refusal, errors),
-    }
-}
-
 /// Does all of the program, on the words after its name. The answer is its exit status: 0; 1 where a run
 /// didn't finish, an exception is uncaught or a cycle was found; 2 where words or inputs are refused; 3 where memory ran
 /// out or a device failed.
-pub fn perform<F: Files, I: ByteIn, W: ByteOut, E: ByteOut>(
-    alloc: Global,
-    words: &[String],
-    files: &mut F,
-    input: &mut I,
-    output: &mut W,
-    errors: &mut E,
-) -> u8 {
-    perform_with(alloc, words, files, input, output, errors, Prompts::Hidden)
+pub fn perform<
+    R: AllocGlobal + Clock + Eprint + Threads + Wait + Sync,
+    F: Files,
+    I: ByteIn,
+    W: ByteOut,
+    E: ByteOut,
+>(rt: &R, words: &[String], files: &mut F, input: &mut I, output: &mut W, errors: &mut E) -> u8 {
+    perform_at(rt, Terminal::NONE, words, files, input, output, errors)
 }
 
-/// Does all of the program, as `perform` does, for a person at a terminal: `debug` also shows a prompt and hints on
-/// standard error.
-pub fn perform_at_terminal<F: Files, I: ByteIn, W: ByteOut, E: ByteOut>(
-    alloc: Global,
+/// Does all of the program, as `perform` does. A person at a terminal sees more on standard error: prompts and hints of
+/// `debug`, and of `campaign` how far it is, and a summary.
+pub fn perform_at<
+    R: AllocGlobal + Clock + Eprint + Threads + Wait + Sync,
+    F: Files,
+    I: ByteIn,
+    W: ByteOut,
+    E: ByteOut,
+>(
+    rt: &R,
+    terminal: Terminal,
     words: &[String],
     files: &mut F,
     input: &mut I,
     output: &mut W,
     errors: &mut E,
 ) -> u8 {
-    perform_with(alloc, words, files, input, output, errors, Prompts::Shown)
+    let alloc = rt.alloc();
+    match command(rt, alloc, words, files, input, output, errors, terminal) {
+        Ok(status) => status,
+        Err(refusal) => refuse(alloc, &refusal, errors),
+    }
 }

@@ -3,7 +3,8 @@
 use crate::fault::RunFault;
 use crate::files::FileFault;
 use atom_spec::SpecFault;
-use command_line::{ProgramWords, WordsFault};
+use campaigning::CampaignFault;
+use command_line::{ProgramNames, WordsFault};
 use debugger_script::ScriptFault;
 use debugging::DebugStop;
 use inputs::InputFault;
@@ -46,6 +47,8 @@ pub(crate) enum Refusal<'w> {
     Machine { entry: &'w str, fault: MachineFault },
     /// S01 to S03: the script of the debugger ended early.
     Script { fault: ScriptFault },
+    /// G01, G02, G04, G05: a campaign has too many jobs or workers, or there was no memory for it.
+    Campaign { fault: CampaignFault },
     /// P05: standard output or standard error failed.
     Output,
     /// There was no memory for anything else.
@@ -107,14 +110,14 @@ impl<'w> Refusal<'w> {
     }
 
     /// A class that wasn't linked.
-    fn of_link(words: &ProgramWords<'w>, fault: LinkFault) -> Self {
+    fn of_link(names: &ProgramNames<'w>, fault: LinkFault) -> Self {
         match fault {
             LinkFault::BuiltInName { class }
             | LinkFault::RepeatedClass { class }
             | LinkFault::MissingSuper { class }
             | LinkFault::SuperKind { class }
             | LinkFault::Circular { class } => Refusal::Link {
-                file: words.file(class),
+                file: names.file(class),
                 fault,
             },
             LinkFault::Memory => Refusal::LinkMemory,
@@ -122,15 +125,15 @@ impl<'w> Refusal<'w> {
     }
 
     /// A program that wasn't run and judged.
-    fn of_judge(words: &ProgramWords<'w>, fault: JudgeFault) -> Self {
+    fn of_judge(names: &ProgramNames<'w>, fault: JudgeFault) -> Self {
         match fault {
             JudgeFault::Input { file, fault } => Refusal::Input {
-                file: words.file(file),
+                file: names.file(file),
                 fault,
             },
-            JudgeFault::Link(fault) => Refusal::of_link(words, fault),
+            JudgeFault::Link(fault) => Refusal::of_link(names, fault),
             JudgeFault::Machine(fault) => Refusal::Machine {
-                entry: words.entry_text,
+                entry: names.entry,
                 fault,
             },
             JudgeFault::Memory => Refusal::Memory,
@@ -138,18 +141,27 @@ impl<'w> Refusal<'w> {
     }
 
     /// A program that wasn't run, or whose output wasn't written.
-    pub(crate) fn of_run(words: &ProgramWords<'w>, fault: RunFault) -> Self {
+    pub(crate) fn of_run(names: &ProgramNames<'w>, fault: RunFault) -> Self {
         match fault {
-            RunFault::Judge(fault) => Refusal::of_judge(words, fault),
+            RunFault::Judge(fault) => Refusal::of_judge(names, fault),
             RunFault::Output => Refusal::Output,
         }
     }
 
     /// A program that wasn't debugged, or a script that ended early.
-    pub(crate) fn of_debug(words: &ProgramWords<'w>, stop: DebugStop) -> Self {
+    pub(crate) fn of_debug(names: &ProgramNames<'w>, stop: DebugStop) -> Self {
         match stop {
-            DebugStop::Judge(fault) => Refusal::of_judge(words, fault),
+            DebugStop::Judge(fault) => Refusal::of_judge(names, fault),
             DebugStop::Script(fault) => Refusal::Script { fault },
+        }
+    }
+
+    /// A campaign without a table, or whose table wasn't written.
+    pub(crate) fn of_campaign(names: &ProgramNames<'w>, fault: CampaignFault) -> Self {
+        match fault {
+            CampaignFault::Judge(fault) => Refusal::of_judge(names, fault),
+            CampaignFault::Output => Refusal::Output,
+            _ => Refusal::Campaign { fault },
         }
     }
 
@@ -163,6 +175,7 @@ impl<'w> Refusal<'w> {
             Refusal::Input { fault, .. } if fault.is_memory() => 3,
             Refusal::List { fault, .. } if *fault == ListFault::Memory => 3,
             Refusal::Machine { fault, .. } if *fault == MachineFault::Memory => 3,
+            Refusal::Campaign { fault } if fault.is_memory() => 3,
             _ => 2,
         }
     }
@@ -184,6 +197,7 @@ impl fmt::Display for Refusal<'_> {
             Refusal::LinkMemory => write!(f, "{}", LinkFault::Memory),
             Refusal::Machine { entry, fault } => write!(f, "{entry}: {fault}"),
             Refusal::Script { fault } => write!(f, "{fault}"),
+            Refusal::Campaign { fault } => write!(f, "{fault}"),
             Refusal::Output => write!(f, "{}", RunFault::Output),
             Refusal::Memory => f.write_str("Memory"),
         }

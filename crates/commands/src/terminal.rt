@@ -5,13 +5,26 @@ use debugger_script::Prompt;
 use std::alloc::{AllocError, Global};
 use trace::ByteOut;
 
-/// Whether a person types the commands of a session.
-#[derive(Clone, Copy, PartialEq, Eq)]
-pub(crate) enum Prompts {
-    /// A prompt and hints are shown.
-    Shown,
-    /// Nothing is shown.
-    Hidden,
+/// Says which standard devices are a terminal, at which a person sits.
+#[derive(Clone, Copy, Debug, PartialEq, Eq)]
+pub struct Terminal {
+    /// Standard input is one.
+    pub input: bool,
+    /// Standard error is one.
+    pub errors: bool,
+}
+
+impl Terminal {
+    /// No standard device is a terminal.
+    pub const NONE: Terminal = Terminal {
+        input: false,
+        errors: false,
+    };
+
+    /// Returns whether a person types the commands of a session, and sees prompts.
+    pub(crate) fn has_prompts(self) -> bool {
+        self.input && self.errors
+    }
 }
 
 /// Shows a prompt with the position before each read, and a hint after a fault. A prompt that can't be shown is missing,

@@ -4,13 +4,16 @@
 ghost use Rattle.std.specs.Prelude.{◌≡◌, ◌<◌};
 
 use command_line::WordsFault;
-use commands::SystemFiles;
-use commands::perform::{perform, perform_at_terminal};
+use commands::perform::perform_at;
+use commands::{SystemFiles, Terminal};
 use std::env;
 use std::io::IsTerminal;
 use std::marker::Brand;
 use std::process::ExitCode;
+use std::rt::Clock;
+use std::sync::Wait;
 use std::sync::ledger::{Blank, Ledger};
+use std::thread::Threads;
 use trace::{Counted, Failures};
 
 /// The words behind the program's name.
@@ -19,54 +22,50 @@ fn words_of(rt: &HostRuntime) -> Result<Vec<String>, WordsFault> {
     Ok(words)
 }
 
-/// Returns whether a person types: standard input and standard error are terminals.
-fn is_terminal(rt: &HostRuntime) -> bool {
-    rt.stdin().is_terminal() && rt.stderr().is_terminal()
+/// Returns which standard devices are a terminal.
+fn terminal_of(rt: &HostRuntime) -> Terminal {
+    Terminal {
+        input: rt.stdin().is_terminal(),
+        errors: rt.stderr().is_terminal(),
+    }
 }
 
 /// The program over the system's files, standard input, standard output and standard error, whose failures
 /// these three ledgers count.
-fn counted<I: Ledger, O: Ledger, E: Ledger>(
-    rt: &HostRuntime,
-    words: &[String],
-    input: Blank,
-    output: Blank,
-    errors: Blank,
-) -> u8
+fn counted<
+    R: AllocGlobal + Clock + Eprint + Threads + Wait + Sync,
+    I: Ledger,
+    O: Ledger,
+    E: Ledger,
+>(host: &HostRuntime, rt: &R, words: &[String], input: Blank, output: Blank, errors: Blank) -> u8
     requires input { (input.name ≡ I.name) × (input.parts ≡ I.parts) × (0 < I.parts) }
     requires output { (output.name ≡ O.name) × (output.parts ≡ O.parts) × (0 < O.parts) }
     requires errors { (errors.name ≡ E.name) × (errors.parts ≡ E.parts) × (0 < E.parts) }
 {
-    let alloc = rt.alloc();
-    let mut files = SystemFiles { rt };
-    let mut input = Counted::new(rt.stdin(), Failures::<I>::none(input));
-    let mut output = Counted::new(rt.stdout(), Failures::<O>::none(output));
-    let mut errors = Counted::new(rt.stderr(), Failures::<E>::none(errors));
-    if is_terminal(rt) {
-        perform_at_terminal(
-            alloc,
-            words,
-            &mut files,
-            &mut input,
-            &mut output,
-            &mut errors,
-        )
-    } else {
-        perform(
-            alloc,
-            words,
-            &mut files,
-            &mut input,
-            &mut output,
-            &mut errors,
-        )
-    }
+    let mut files = SystemFiles { rt: host };
+    let mut input = Counted::new(host.stdin(), Failures::<I>::none(input));
+    let mut output = Counted::new(host.stdout(), Failures::<O>::none(output));
+    let mut errors = Counted::new(host.stderr(), Failures::<E>::none(errors));
+    let terminal = terminal_of(host);
+    perform_at(
+        rt,
+        terminal,
+        words,
+        &mut files,
+        &mut input,
+        &mut output,
+        &mut errors,
+    )
 }
 
 /// The exit status of the program on these words.
-fn performed(rt: &HostRuntime, words: &[String]) -> u8 {
+fn performed<R: AllocGlobal + Clock + Eprint + Threads + Wait + Sync>(
+    host: &HostRuntime,
+    rt: &R,
+    words: &[String],
+) -> u8 {
     let (input, output, errors) = (Blank::new(1), Blank::new(1), Blank::new(1));
-    counted::<Brand, Brand, Brand>(rt, words, input, output, errors)
+    counted::<R, Brand, Brand, Brand>(host, rt, words, input, output, errors)
 }
 
 /// Tells that the words couldn't be had, as where one isn't UTF-8: 2, but 3 for want of memory or where
@@ -82,7 +81,7 @@ fn refused(rt: &HostRuntime, fault: WordsFault) -> u8 {
 
 fn main(rt: HostRuntime) -> ExitCode {
     let status = match words_of(&rt) {
-        Ok(words) => performed(&rt, words.as_slice()),
+        Ok(words) => performed(&rt, &rt, words.as_slice()),
         Err(fault) => refused(&rt, fault),
     };
     ExitCode::from(status)

@@ -1,0 +1,2 @@
+pub mod Campaigns
+pub mod Faults

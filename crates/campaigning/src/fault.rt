@@ -1,0 +1,62 @@
+//! Why there is no table, or it wasn't written.
+
+ghost use Rattle.std.specs.Prelude.{◌≡◌};
+ghost use Rattle.judge.specs.declared.fault.JudgeFault.TheVariants.{Memory};
+ghost use Rattle.campaigning.specs.declared.fault.CampaignFault.TheVariants.{Judge, Output};
+
+use campaign::DeskFault;
+use judge::JudgeFault;
+use std::alloc::AllocError;
+use thiserror::Error;
+use trace::DeviceFailure;
+
+/// Says why there is no table, or why it wasn't written.
+#[derive(Clone, Copy, Debug, PartialEq, Eq, Error)]
+pub enum CampaignFault {
+    /// The inputs make no program, there is no machine for the entry, or there was no memory for these or for the text.
+    #[error("{0}")]
+    Judge(JudgeFault),
+    /// G01, G02, G04: there are too many jobs or workers, or there was no memory before any worker began.
+    #[error("{0}")]
+    Desk(DeskFault),
+    /// G05: there was no memory for a worker.
+    #[error("G05 WorkerFailed")]
+    WorkerFailed,
+    /// P05: the writer failed.
+    #[error("P05 Output")]
+    Output,
+}
+
+impl CampaignFault {
+    /// Returns whether there was no memory for the campaign itself: G04, G05.
+    pub fn is_memory(&self) -> bool {
+        matches!(
+            self,
+            CampaignFault::Desk(DeskFault::Memory) | CampaignFault::WorkerFailed
+        )
+    }
+}
+
+impl From<JudgeFault> for CampaignFault {
+    ghost from_gives = { λ why fault. fault ≡ Judge why };
+
+    fn from(why: JudgeFault) -> CampaignFault {
+        CampaignFault::Judge(why)
+    }
+}
+
+impl From<DeviceFailure> for CampaignFault {
+    ghost from_gives = { λ _ fault. fault ≡ Output };
+
+    fn from(_failure: DeviceFailure) -> CampaignFault {
+        CampaignFault::Output
+    }
+}
+
+impl From<AllocError> for CampaignFault {
+    ghost from_gives = { λ _ fault. fault ≡ Judge Memory };
+
+    fn from(_error: AllocError) -> CampaignFault {
+        CampaignFault::Judge(JudgeFault::Memory)
+    }
+}

@@ -1,0 +1,99 @@
+//! The words that name a program, and where it begins.
+
+use crate::entry::{arguments_of, main_entry, natural_of, static_entry};
+use crate::fault::WordsFault;
+use crate::syntax::{ARGUMENTS, ENTRY, FILES, MOST};
+use clap::ArgMatches;
+use jvms_machine::machine::Entry;
+use std::alloc::Global;
+use turn_limit::TurnLimit;
+
+/// How many turns are taken at most where `--max` doesn't say it.
+const DEFAULT_MOST: u64 = 1_000_000;
+
+/// The words of `eval`, and of `run`, `trace`, `debug` and `campaign` beside their options: a program and where it begins.
+#[derive(Debug, Drop)]
+pub struct ProgramWords<'a> {
+    pub entry: Entry,
+    pub names: ProgramNames<'a>,
+}
+
+/// What the words name of a program, as they have it.
+#[derive(Debug, Drop)]
+pub struct ProgramNames<'a> {
+    pub entry: &'a str,
+    /// The arguments of the entry, if the words have any.
+    pub arguments: Option<&'a str>,
+    /// The class files and sources, at least one.
+    pub files: Vec<&'a str>,
+}
+
+impl<'a> ProgramNames<'a> {
+    /// The file at a place of the words.
+    pub fn file(&self, place: usize) -> &'a str {
+        self.files.get(place).copied().unwrap_or("")
+    }
+}
+
+/// The FILEs of the words.
+fn files_of<'a>(alloc: Global, matches: &ArgMatches<'a>) -> Result<Vec<&'a str>, WordsFault> {
+    let words = matches.get_strs(FILES).ok_or(WordsFault::Words)?;
+    let mut files = Vec::new(alloc);
+    for word in words {
+        files.push(*word)?;
+    }
+    Ok(files)
+}
+
+/// The arguments of the words: none where there is no such option.
+fn arguments(alloc: Global, matches: &ArgMatches<'_>) -> Result<Vec<i32>, WordsFault> {
+    match matches.get_str(ARGUMENTS) {
+        None => Ok(Vec::new(alloc)),
+        Some(text) => arguments_of(alloc, text),
+    }
+}
+
+/// The entry that a text names: without a dot a main class, which takes no arguments.
+fn entry_of(alloc: Global, text: &str, matches: &ArgMatches<'_>) -> Result<Entry, WordsFault> {
+    if text.contains('.') {
+        static_entry(alloc, text, arguments(alloc, matches)?)
+    } else if matches.get_str(ARGUMENTS).is_none() {
+        main_entry(alloc, text)
+    } else {
+        Err(WordsFault::Words)
+    }
+}
+
+/// The words that name a program.
+pub(crate) fn program_words<'a>(
+    alloc: Global,
+    matches: &ArgMatches<'a>,
+) -> Result<ProgramWords<'a>, WordsFault> {
+    let entry = matches.get_str(ENTRY).ok_or(WordsFault::Words)?;
+    Ok(ProgramWords {
+        entry: entry_of(alloc, entry, matches)?,
+        names: ProgramNames {
+            entry,
+            arguments: matches.get_str(ARGUMENTS),
+            files: files_of(alloc, matches)?,
+        },
+    })
+}
+
+/// The number that the word of an option spells, or another where there is no such option.
+pub(crate) fn number_or(
+    matches: &ArgMatches<'_>,
+    option: &str,
+    default: u64,
+) -> Result<u64, WordsFault> {
+    match matches.get_str(option) {
+        None => Ok(default),
+        Some(text) => natural_of(text).ok_or(WordsFault::Words),
+    }
+}
+
+/// How many turns the words allow.
+pub(crate) fn most_of(matches: &ArgMatches<'_>) -> Result<TurnLimit, WordsFault> {
+    let most = number_or(matches, MOST, DEFAULT_MOST)?;
+    TurnLimit::new(most).ok_or(WordsFault::Words)
+}

@@ -1,0 +1,128 @@
+//! `campaign`: a program under many schedules.
+
+use crate::files::Files;
+use crate::limits::DEFAULT_LIMITS;
+use crate::progress::Progress;
+use crate::reading::{read_inputs, read_spec};
+use crate::refusal::Refusal;
+use crate::summary::{JobWords, summary_of};
+use crate::terminal::Terminal;
+use campaign::{Gate, OpenGate, Plan, Table};
+use campaigning::write_table;
+use command_line::{CampaignWords, ProgramNames, ProgramWords};
+use inputs::Input;
+use jvms_machine::machine::Status;
+use std::alloc::Global;
+use std::rt::Clock;
+use std::sync::Wait;
+use std::thread::Threads;
+use trace::ByteOut;
+
+/// What a campaign takes besides its words.
+#[derive(Drop)]
+struct CampaignParts<'w> {
+    names: ProgramNames<'w>,
+    plan: Plan,
+    inputs: Vec<Input>,
+}
+
+/// Reads what the words of a campaign name: the specification comes first, then the FILEs.
+fn read_campaign<'w, F: Files>(
+    alloc: Global,
+    words: CampaignWords<'w>,
+    files: &mut F,
+) -> Result<CampaignParts<'w>, Refusal<'w>> {
+    let spec = read_spec(alloc, files, words.spec)?;
+    let inputs = read_inputs(alloc, files, words.program.names.files.as_slice())?;
+    let ProgramWords { entry, names } = words.program;
+    let plan = Plan {
+        entry,
+        limits: DEFAULT_LIMITS,
+        jobs: words.jobs,
+        seed: words.seed,
+        most: words.most,
+        spec,
+        stop: words.stop,
+    };
+    Ok(CampaignParts {
+        names,
+        plan,
+        inputs,
+    })
+}
+
+/// Runs the jobs, and prints the table.
+fn print_table<'w, G: Gate + Sync, R: Threads + Wait + Sync, W: ByteOut>(
+    rt: &R,
+    alloc: Global,
+    parts: &CampaignParts<'w>,
+    workers: u64,
+    gate: &G,
+    output: &mut W,
+) -> Result<Table, Refusal<'w>> {
+    let inputs = parts.inputs.as_slice();
+    match write_table(rt, alloc, inputs, &parts.plan, workers, gate, output) {
+        Ok(table) => Ok(table),
+        Err(fault) => Err(Refusal::of_campaign(&parts.names, fault)),
+    }
+}
+
+/// Runs the jobs, and prints the table. At a terminal it shows how many are done.
+fn run_jobs<'w, R: Clock + Eprint + Threads + Wait + Sync, W: ByteOut>(
+    rt: &R,
+    alloc: Global,
+    parts: &CampaignParts<'w>,
+    workers: u64,
+    output: &mut W,
+    terminal: Terminal,
+) -> Result<Table, Refusal<'w>> {
+    if terminal.errors {
+        let progress = Progress::new(rt, parts.plan.jobs);
+        print_table(rt, alloc, parts, workers, &progress, output)
+    } else {
+        print_table(rt, alloc, parts, workers, &OpenGate, output)
+    }
+}
+
+/// Returns whether all jobs are atomic and finished.
+fn is_good(table: &Table) -> bool {
+    for job in &table.results {
+        if job.atomicity.has_cycle() || job.status != Status::Finished {
+            return false;
+        }
+    }
+    true
+}
+
+/// Prints the table of a campaign. At a terminal, or where the words ask for it, it prints a summary too.
+pub(crate) fn perform_campaign<
+    'w,
+    R: Clock + Eprint + Threads + Wait + Sync,
+    F: Files,
+    W: ByteOut,
+    E: ByteOut,
+>(
+    rt: &R,
+    alloc: Global,
+    words: CampaignWords<'w>,
+    files: &mut F,
+    output: &mut W,
+    errors: &mut E,
+    terminal: Terminal,
+) -> Result<u8, Refusal<'w>> {
+    let (spec, seed, most) = (words.spec, words.seed, words.most_text);
+    let workers = words.workers;
+    let is_summed = words.summary || terminal.errors;
+    let parts = read_campaign(alloc, words, files)?;
+    let table = run_jobs(rt, alloc, &parts, workers, output, terminal)?;
+    if is_summed {
+        let words = JobWords {
+            names: &parts.names,
+            spec,
+            seed,
+            most,
+        };
+        errors.write_all(summary_of(alloc, words, &table)?.as_bytes())?;
+    }
+    Ok(u8::from(!is_good(&table)))
+}

@@ -1,0 +1,185 @@
+//! The summary of a campaign: the commands that run some of its jobs again.
+
+use campaign::{JobResult, Table};
+use command_line::ProgramNames;
+use machine::Status;
+use machine_text::status_name;
+use std::alloc::{AllocError, Global};
+
+/// What the words of a campaign say that a command for one of its jobs repeats.
+#[derive(Clone, Copy)]
+pub(crate) struct JobWords<'n, 'w> {
+    pub names: &'n ProgramNames<'w>,
+    /// The file that says which methods are to be atomic.
+    pub spec: &'w str,
+    pub seed: u64,
+    /// The word that says how many turns a job takes at most, if one does.
+    pub most: Option<&'w str>,
+}
+
+/// Why a person may want to look at a job.
+#[derive(Clone, Copy)]
+enum Finding {
+    /// It has a cycle.
+    Cycle,
+    /// It has this status.
+    Status(Status),
+}
+
+/// What a summary looks for.
+const FINDINGS: [Finding; 4] = [
+    Finding::Cycle,
+    Finding::Status(Status::Deadlocked),
+    Finding::Status(Status::Stalled),
+    Finding::Status(Status::Running),
+];
+
+impl Finding {
+    /// Returns whether it is made in a job.
+    fn is_of(self, job: JobResult) -> bool {
+        match self {
+            Finding::Cycle => job.atomicity.has_cycle(),
+            Finding::Status(status) => job.status == status,
+        }
+    }
+
+    /// Returns the number of the first job in which it is made.
+    fn first_in(self, results: &[JobResult]) -> Option<usize> {
+        for (number, job) in results.iter().enumerate() {
+            if self.is_of(*job) {
+                return Some(number);
+            }
+        }
+        None
+    }
+
+    /// Returns what it says of a job.
+    fn text(self) -> &'static str {
+        match self {
+            Finding::Cycle => "a cycle",
+            Finding::Status(status) => status_name(status),
+        }
+    }
+}
+
+/// Returns whether a shell takes a byte as it stands.
+fn is_plain(byte: u8) -> bool {
+    byte.is_ascii_alphanumeric() || b"_./:,=+@%-".contains(&byte)
+}
+
+/// Appends a word, quoted for a shell where it has to be.
+fn put_quoted(text: &mut String, word: &str) -> Result<(), AllocError> {
+    if !word.is_empty() && word.as_bytes().iter().all(|byte| is_plain(*byte)) {
+        return text.push_str(word);
+    }
+    text.push('\'')?;
+    for c in word.chars() {
+        if c == '\'' {
+            text.push_str("'\\''")?;
+        } else {
+            text.push(c)?;
+        }
+    }
+    text.push('\'')
+}
+
+/// Appends an option and its value. A value that begins with `-` is joined to it.
+fn put_option(text: &mut String, option: &str, value: &str) -> Result<(), AllocError> {
+    text.push_str(option)?;
+    text.push_str(if value.starts_with('-') { "=" } else { " " })?;
+    put_quoted(text, value)
+}
+
+/// Appends the FILEs. Where one begins with `-`, they stand behind `--`.
+fn put_files(text: &mut String, files: &[&str]) -> Result<(), AllocError> {
+    if files.iter().any(|file| file.starts_with('-')) {
+        text.push_str(" --")?;
+    }
+    for file in files {
+        text.push(' ')?;
+        put_quoted(text, file)?;
+    }
+    Ok(())
+}
+
+/// Returns the line of the command that runs a job again, or debugs it where no specification is named.
+fn command_line(
+    alloc: Global,
+    command: &str,
+    words: JobWords<'_, '_>,
+    spec: Option<&str>,
+    number: usize,
+) -> Result<String, AllocError> {
+    let seed = words.seed;
+    let mut line = format!(in alloc; "  jvmx {command}")?;
+    put_option(&mut line, " --entry", words.names.entry)?;
+    if let Some(arguments) = words.names.arguments {
+        put_option(&mut line, " --args", arguments)?;
+    }
+    let schedule = format!(in alloc; " --sched seed:{seed}:{number}")?;
+    line.push_str(schedule.as_str())?;
+    if let Some(most) = words.most {
+        put_option(&mut line, " --max", most)?;
+    }
+    if let Some(spec) = spec {
+        put_option(&mut line, " --spec", spec)?;
+    }
+    put_files(&mut line, words.names.files.as_slice())?;
+    line.push('\n')?;
+    Ok(line)
+}
+
+/// Returns whether one of these findings is made first in the job of a number.
+fn is_first_of(findings: &[Finding], results: &[JobResult], number: usize) -> bool {
+    findings
+        .iter()
+        .any(|finding| finding.first_in(results) == Some(number))
+}
+
+/// Returns the line that says what is found first in the job of a number.
+fn found_line(alloc: Global, results: &[JobResult], number: usize) -> Result<String, AllocError> {
+    let mut line = format!(in alloc; "job {number}: ")?;
+    let mut separator = "";
+    for finding in FINDINGS {
+        if finding.first_in(results) == Some(number) {
+            line.push_str(separator)?;
+            line.push_str(finding.text())?;
+            separator = ", ";
+        }
+    }
+    line.push_str("; to run it again, and to debug it\n")?;
+    Ok(line)
+}
+
+/// Returns the lines of a job: what is found in it first, and the commands that run it again and debug it.
+fn job_lines(
+    alloc: Global,
+    words: JobWords<'_, '_>,
+    results: &[JobResult],
+    number: usize,
+) -> Result<String, AllocError> {
+    let mut lines = found_line(alloc, results, number)?;
+    let run = command_line(alloc, "run", words, Some(words.spec), number)?;
+    lines.push_str(run.as_str())?;
+    let debug = command_line(alloc, "debug", words, None, number)?;
+    lines.push_str(debug.as_str())?;
+    Ok(lines)
+}
+
+/// Returns the summary of a table: of the first job with a cycle, and of the first of each status but Finished.
+pub(crate) fn summary_of(
+    alloc: Global,
+    words: JobWords<'_, '_>,
+    table: &Table,
+) -> Result<String, AllocError> {
+    let results = table.results.as_slice();
+    let mut summary = String::new(alloc);
+    for (place, finding) in FINDINGS.iter().enumerate() {
+        if let Some(number) = finding.first_in(results)
+            && !is_first_of(&FINDINGS[..place], results, number)
+        {
+            summary.push_str(job_lines(alloc, words, results, number)?.as_str())?;
+        }
+    }
+    Ok(summary)
+}
