@@ -34,7 +34,7 @@ PRINTED = {(name, descriptor) for name in ("print", "println") for descriptor in
 # The class above, the interfaces, and the members, but for the fields `message` of Throwable and `target` of Thread,
 # which java doesn't have.
 BUILT_IN = {
-    "java/lang/Object": (None, [], {("<init>", "()V")}),
+    "java/lang/Object": (None, [], {(name, "()V") for name in ("<init>", "wait", "notify", "notifyAll")}),
     "java/lang/String": ("java/lang/Object", ["java/io/Serializable"], set()),
     "java/lang/Class": ("java/lang/Object", ["java/io/Serializable"], set()),
     "java/lang/System": ("java/lang/Object", [], {("out", "Ljava/io/PrintStream;")}),

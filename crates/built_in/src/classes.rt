@@ -54,10 +54,23 @@ pub(crate) fn interface_with(
     })
 }
 
+/// Puts the methods of an object.
+fn put_object_methods(alloc: Global, methods: &mut Vec<Method>) -> Result<(), AllocError>
+    requires { methods.old.items ≡ [] }
+    ensures { OnOk result (methods.new.items ≡ object_class.methods) }
+{
+    methods.push(plain_constructor(alloc)?)?;
+    methods.push(native(alloc, "wait", "()V")?)?;
+    methods.push(native(alloc, "notify", "()V")?)?;
+    methods.push(native(alloc, "notifyAll", "()V")?)?;
+    Ok(())
+}
+
 pub(crate) fn object_class(alloc: Global) -> Result<Class, AllocError>
     ensures { IfOk result (λ c. c ≡ object_class) }
 {
-    let methods = vec![in alloc; plain_constructor(alloc)?]?;
+    let mut methods = Vec::new(alloc);
+    put_object_methods(alloc, &mut methods)?;
     Ok(Class {
         name: text(alloc, OBJECT)?,
         kind: ClassKind::Neither,

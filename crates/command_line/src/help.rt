@@ -54,8 +54,8 @@ Options and FILEs stand in any order. --args=48,36 is --args 48,36, and behind
 -- all words are FILEs.
 
 The method runs as thread 0, which takes all turns, at most 1000000: threads
-that it starts wait. jvmx run lets them run. A run has at most 1000000 objects,
-10000000 elements of arrays, 64 threads and 1024 frames a thread.
+that it starts take none. jvmx run lets them run. A run has at most 1000000
+objects, 10000000 elements of arrays, 64 threads and 1024 frames a thread.
 
 All instructions run but those of long, float and double: a thread stands still
 before one of these, and where no thread can go on, the status is Stalled.
@@ -104,9 +104,9 @@ words are FILEs.
 
 Threads have numbers from 0, in the order of their starts; the entry runs as
 thread 0. A thread is enabled where it can go on: it hasn't ended, waits for no
-other thread, and isn't before an instruction that doesn't run. The run ends
-where no thread is enabled, the list is at its end, or --max turns were taken.
-jvmx help eval has its other limits, and what runs.
+other thread and no notification, and isn't before an instruction that doesn't
+run. The run ends where no thread is enabled, the list is at its end, or --max
+turns were taken. jvmx help eval has its other limits, and what runs.
 
 Standard output: the bytes that the program writes. Standard error: uncaught T C
 for each thread T that ended with an exception, of class C; then status S turns
@@ -145,7 +145,9 @@ M is C.m.D, a class, a method's name and its descriptor. V is C.x.D for a static
 field, R.C.x.D for a field of object R, and R[i] for an element of array R, with
 C the class that declares the field. Names are written as in --entry. Methods
 and fields of built-in classes have no lines. A monitor that a thread owns
-already is neither taken nor given up.
+already is neither taken nor given up. A call of wait has two lines: rel as the
+thread begins to wait, and acq as it takes the monitor again. Calls of notify
+and notifyAll have none.
 
 Exit status: 0 where the status is Finished and no exception is uncaught, else
 1; 2 and 3 as jvmx --help says. docs/REFUSALS.md explains the codes of refusals.
@@ -175,7 +177,7 @@ program writes isn't printed.
   delete K        removes breakpoint K
   threads         shows the outcome of each thread's next turn, and where it is
   frames T        shows the frames of thread T: local variables and operands
-  object R        shows the object of reference R
+  object R        shows the object of reference R, its owner and its waiters
   class C         shows how far the class is initialised, and its static fields
   trace           shows what the threads did so far, as jvmx trace prints it
   output          shows what the program wrote so far: how many bytes, and these

@@ -19,4 +19,5 @@ PutsAtMost (effect.Prints what ends_line) = ⊥
 PutsAtMost (effect.Locks monitor) = ⊥
 PutsAtMost (effect.Unlocks monitor) = ⊥
 PutsAtMost (effect.Starts r u) = ⊥
+PutsAtMost (effect.Notifies r all) = ⊥
 PutsAtMost _ = Unit {0}

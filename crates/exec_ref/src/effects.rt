@@ -155,6 +155,10 @@ fn affect<'p>(
         Effect::Locks(monitor) => parts.enter_monitor(t, monitor, trace),
         Effect::Unlocks(monitor) => parts.exit_monitor(t, monitor, trace),
         Effect::Starts { reference, thread } => start_thread(parts, t, reference, thread, trace),
+        Effect::Notifies { reference, all } => {
+            parts.notify(reference, all);
+            Ok(())
+        }
         _ => {
             record(parts, t, effect, trace)?;
             put(parts, t, effect);

@@ -132,6 +132,8 @@ pub(crate) fn effect_item<'p>(
             thread: t,
             started: thread,
         })),
-        Effect::Nothing | Effect::Makes(_) | Effect::Prints { .. } => Ok(None),
+        Effect::Nothing | Effect::Makes(_) | Effect::Prints { .. } | Effect::Notifies { .. } => Ok(
+            None,
+        ),
     }
 }

@@ -9,6 +9,7 @@ mod making;
 mod natives;
 mod returns;
 mod threads;
+mod waiting;
 
 pub use calls::first_call_decision;
 pub use calls::invoke::invoke_decision;
@@ -20,3 +21,4 @@ pub use making::calls::{call, end, enter, return_below};
 pub use making::initialisation::{begin, finish, initialise, mark};
 pub use returns::method_return_decision;
 pub use returns::told::{PlainReturn, return_told};
+pub use waiting::{retake, wait, waiting_decision};

@@ -1,5 +1,5 @@
-//! The native methods of built-in classes: what `System.out` prints, and starts and joins of threads. Each is done in the
-//! turn of its call.
+//! The native methods of built-in classes: what `System.out` prints, starts and joins of threads, and waits and
+//! notifications. Each is done in the turn of its call.
 
 ghost use Rattle.std.specs.Prelude.{◌≡◌, ◌+◌, ◌<◌, ◌^◌, slice_get};
 ghost use Rattle.jvms_machine.specs.Natives.{prints as printing, object_printed as prints_object, top_printed as prints_top, print_decision as prints_as, native_of_class};
@@ -8,6 +8,7 @@ ghost use Rattle.machine_parts.specs.Decided.{seen};
 ghost use Rattle.machine_parts.specs.Ready.{AreNumbered};
 
 use crate::threads::thread_native_decision;
+use crate::waiting::object_native_decision;
 use descriptor::same_text;
 use frames::Frame;
 use jvms_machine::action::{Effect, Printed};
@@ -26,6 +27,11 @@ const PRINT_STREAM: [u16; 19] = [
 /// `java/lang/Thread`
 const THREAD: [u16; 16] = [
     106, 97, 118, 97, 47, 108, 97, 110, 103, 47, 84, 104, 114, 101, 97, 100,
+];
+
+/// `java/lang/Object`
+const OBJECT: [u16; 16] = [
+    106, 97, 118, 97, 47, 108, 97, 110, 103, 47, 79, 98, 106, 101, 99, 116,
 ];
 
 /// `println`
@@ -88,10 +94,11 @@ fn print_decision<'p>(parts: &Parts<'p>, frame: &Frame, method: &Method) -> Deci
     }
 }
 
-/// A native method of the class of a number is called by the frame on top: it is `PrintStream`'s or `Thread`'s; any other
-/// has no body.
+/// A native method of the class of a number is called by the frame on top: it is `PrintStream`'s, `Thread`'s or `Object`'s;
+/// any other has no body.
 pub(crate) fn native_decision<'p>(
     parts: &Parts<'p>,
+    t: usize,
     thread: &Thread,
     frame: &Frame,
     method: &Method,
@@ -99,7 +106,7 @@ pub(crate) fn native_decision<'p>(
 ) -> Decided<'p>
     requires place { frame.now.activation.place + 1 < 2 ^ 64 }
     requires numbered { AreNumbered parts.now.state }
-    ensures { seen result ≡ native_of_class parts.now.limits parts.now.state thread.now frame.now.activation method.now (slice_get parts.now.program class) }
+    ensures { seen result ≡ native_of_class parts.now.limits parts.now.state t thread.now frame.now.activation method.now (slice_get parts.now.program class) }
 {
     let Some(c) = parts.program().class(class) else {
         return never_seen();
@@ -109,6 +116,9 @@ pub(crate) fn native_decision<'p>(
     }
     if same_text(c.name.as_slice(), &THREAD) {
         return thread_native_decision(parts, thread, frame, method);
+    }
+    if same_text(c.name.as_slice(), &OBJECT) {
+        return object_native_decision(parts, t, thread, frame, method);
     }
     parts.throws(thread, Thrown::UnsatisfiedLinkError)
 }

@@ -38,10 +38,10 @@ use Rattle.jvms_machine.specs.Calls.{entered, enter_decision, with_body, called_
 use Rattle.jvms_machine.specs.Monitors.{locked_reference}
 use Rattle.jvms_machine.specs.Actions.{with_lock, first_arguments, first_called, given, top_given, calling, top_operands, arguments_of, applied_to, items_of}
 use Rattle.jvms_machine.specs.Marks.{calls_in, calls_of}
-use Rattle.jvms_machine.proofs.ListLaws.{all_weaker, all_append, all_replicate, all_drop, all_take, all_reverse}
+use Rattle.jvms_machine.proofs.ListLaws.{all_weaker, all_append, all_replicate, all_take, all_reverse}
 use Rattle.jvms_machine.proofs.InitialisationOrder.{count_call}
 use Rattle.jvms_machine.proofs.MarkLaws.{entered_mark, marked_with_lock, changed_calls, given_calls}
-use Rattle.jvms_machine.proofs.ThreadChanges.{Stands, thread_is, frames_are_stack, moved_is_sound, stack_goes_on}
+use Rattle.jvms_machine.proofs.ThreadChanges.{IsQuiet, Stands, thread_is, frames_are_stack, given_is_frame, moved_is_sound, stack_goes_on}
 use Rattle.jvms_machine.proofs.KeptStates.{Keeps, still}
 use Rattle.jvms_machine.proofs.ExceptionSoundness.{throws_keeps}
 use Rattle.jvms_machine.proofs.HeapGrowth.{values_grow}
@@ -74,12 +74,6 @@ body_of program method m body m_is body_is = ap (option_and_then (λ (n : Method
 -- The flag at a number is that of the method at it.
 flag_of : (program : List Class) (method : MethodNumber) (m : Method) → method_at program method ≡ Some m → is_synchronized_at program method ≡ m.flags.is_synchronized
 flag_of program method m m_is = ap (λ o. unwrap_or (option_map (λ (n : Method). n.flags.is_synchronized) o) false) m_is
-
--- Its caller, without the operands that it took, is a frame.
-pub given_is_frame : (program : List Class) (heap : List Object) (takes : ℕ) (frame : MethodFrame) → IsFrame program heap (stack_frame.Call frame) → IsFrame program heap (stack_frame.Call (given takes frame))
-given_is_frame program heap takes frame is =
-    let few : length frame.activation.operands ≤ frame.body.max_stack = is.1.1 in
-    (is.0, (is.1.0, omega (arith, length-drop takes frame.activation.operands)), is.2, all_drop (IsValue heap) takes frame.activation.operands is.3, is.4, is.5)
 
 -- A text is the same as itself.
 same_as_itself : (text : List ℕ) → same_text text text ≡ true
@@ -155,7 +149,7 @@ module _ (program : List Class) (limits : Limits) (start : Start) (s : State) (t
       let few : length arguments ≤ body.max_locals = subst (λ k. k ≤ body.max_locals) (sym as_many) enters.few in
       let values_there = values_grow s.heap made.heap (locked_grows program s t locked) arguments values in
       let room = enters.room in (
-        (λ _. moved_is_sound there change (stack_frame.Call frame ∷ []) are refl refl
+        (λ _. moved_is_sound there change (stack_frame.Call frame ∷ []) are refl (refl, refl)
             (entered_is_frame program made.heap n body (locked_reference locked) arguments few values_there (body_of program n m body m_is enters.body_is) (locked_is_reference program limits s t locked enters.is_locked) (enters.flag ∙ sym (flag_of program n m m_is)), tt)
             tt (omega arith) (λ c. count_call c frame [])),
         (λ _ limited. (slice_get_within s.threads t thread stands.given_out, can_be_locked stands.sound locked enters.is_locked limited, subst (λ o. IfSome o (λ (th : Thread). length (first_arguments start th) ≤ body.max_locals)) (sym stands.given_out) few)),
@@ -215,7 +209,7 @@ module _ (program : List Class) (limits : Limits) (start : Start) (s : State) (t
 
   -- ---- The four calls
 
-  module _ (frame : MethodFrame) (below : List Frame) (how : Invoke) (r : MethodReference) (stands : Stands program limits s t thread (stack_frame.Call frame ∷ below)) (at : instruction_at frame ≡ Some (instruction.Invoke how r)) (depth : HasDepth frame (taken how r.method_type) (result_length r.method_type.result)) where
+  module _ (frame : MethodFrame) (below : List Frame) (how : Invoke) (r : MethodReference) (stands : Stands program limits s t thread (stack_frame.Call frame ∷ below)) (at : instruction_at frame ≡ Some (instruction.Invoke how r)) (depth : HasDepth frame (taken how r.method_type) (result_length r.method_type.result)) (quiet : IsQuiet thread) where
     -- The operands that are the arguments.
     arguments_are : (takes : ℕ) → arguments_of takes (slice_get s.threads t) ≡ reverse (take takes frame.activation.operands)
     arguments_are takes = ap (arguments_of takes) stands.given_out ∙ ap (λ (fs : List Frame). reverse (take takes (top_operands fs))) stands.frames_are
@@ -237,7 +231,7 @@ module _ (program : List Class) (limits : Limits) (start : Start) (s : State) (t
         let few : length arguments ≤ body.max_locals = subst (λ k. k ≤ body.max_locals) (sym as_many) enters.few in
         let there : length thread.frames ≡ length (stack_frame.Call frame ∷ below) = ap length stands.frames_are in
         let room = enters.room in (
-          (λ of_program. moved_is_sound on (calling callee takes) now are refl refl
+          (λ of_program. moved_is_sound on (calling callee takes) now are refl (refl, refl)
               (entered_is_frame program made.heap n body (locked_reference locked) arguments few values (body_of program n m body m_is enters.body_is) (locked_is_reference program limits s t locked enters.is_locked) (enters.flag ∙ sym (flag_of program n m m_is)), (given_is_frame program made.heap takes frame frames.0.0, frames.0.1))
               (stands_on_caller program made.heap frame callee m how r takes of_program frames.0.0 at m_is same depth, stack_goes_on program frame (given takes frame).activation below frames.1)
               (omega arith)
@@ -263,7 +257,7 @@ module _ (program : List Class) (limits : Limits) (start : Start) (s : State) (t
     call_keeps : (receiver : Option ℕ) → IfSome receiver (IsReference s.heap) → (found : MethodFound) (n : MethodNumber) (m : Method) → IsFound program r.descriptor found → method_number program found ≡ Some n → method_at program n ≡ Some m → m.descriptor ≡ r.descriptor → (found.class ≡ print_stream_class → is_static_call how ≡ false) → KeepsSound (call_decision program limits s t thread frame.activation receiver (taken how r.method_type) n m)
     call_keeps receiver reference found n m is number m_is same dynamic =
         called_keeps stands n m receiver (taken how r.method_type) _ (λ body locked. decision.Makes (action.Calls n body (taken how r.method_type) locked)) reference
-        (native_keeps program limits start s t thread frame below stands (taken how r.method_type) m (slice_get program n.class) depth.there (printed_is_there found n m is number m_is same dynamic))
+        (native_keeps program limits start s t thread frame below stands (how, r, at) quiet (taken how r.method_type) m (slice_get program n.class) depth.there (printed_is_there found n m is number m_is same dynamic))
         (λ body locked enters. calls_keeps n m body locked m_is same enters)
 
     numbered_keeps : (found : MethodFound) (o : Option MethodNumber) (make : MethodNumber → Method → TurnDecision) → IsFound program r.descriptor found → method_number program found ≡ o → ((n : MethodNumber) (m : Method) → method_number program found ≡ Some n → method_at program n ≡ Some m → m.descriptor ≡ r.descriptor → KeepsSound (make n m)) → KeepsSound (numbered program o make)
@@ -312,12 +306,12 @@ module _ (program : List Class) (limits : Limits) (start : Start) (s : State) (t
         (λ static. static_keeps found found_is (resolved_is_static program r found (ap (λ b. resolved_method program b r) (sym static) ∙ is)))
         (λ dynamic. receiver_keeps found (receiver_of r.method_type frame.activation.operands) found_is dynamic)
 
-  pub invoke_keeps : (frame : MethodFrame) (below : List Frame) (how : Invoke) (r : MethodReference) → HasFrames (stack_frame.Call frame ∷ below) → instruction_at frame ≡ Some (instruction.Invoke how r) → KeepsSound (invoke_decision program limits s t thread frame how r)
+  pub invoke_keeps : (frame : MethodFrame) (below : List Frame) (how : Invoke) (r : MethodReference) → HasFrames (stack_frame.Call frame ∷ below) → instruction_at frame ≡ Some (instruction.Invoke how r) → IsQuiet thread → KeepsSound (invoke_decision program limits s t thread frame how r)
   unfolding invoke_decision
-  invoke_keeps frame below how r stands at =
+  invoke_keeps frame below how r stands at quiet =
       let deep = has_depth frame.body (taken how r.method_type) (result_length r.method_type.result) frame.activation in
       cond_both (not deep) _ _ KeepsSound
       (λ _. still t stands.sound)
       (λ is_deep. cond_both (not (are_of_call how r.method_type frame.activation.operands)) _ _ KeepsSound
       (λ _. still t stands.sound)
-      (λ _. resolved_keeps frame below how r stands at (depth_is frame (taken how r.method_type) (result_length r.method_type.result) (not-false deep is_deep)) (resolved_method program (is_static_call how) r) refl))
+      (λ _. resolved_keeps frame below how r stands at (depth_is frame (taken how r.method_type) (result_length r.method_type.result) (not-false deep is_deep)) quiet (resolved_method program (is_static_call how) r) refl))

@@ -53,7 +53,7 @@ gone_on_is_sound {program = program} {s = s} {thread = thread} frame below act s
     let fit = applied_is_fit s.heap frame.body frame.activation (frame_is_fit frame below stands) act room value in
     let now = stack_frame.Call (call_gone_on act frame) ∷ below in
     let are : (gone_on act thread).frames ≡ now = ap (top_gone_on act) stands.frames_are in
-    moved_is_sound stands (gone_on act) now are refl refl
+    moved_is_sound stands (gone_on act) now are refl (refl, refl)
     ((frames.0.0.0, (fit.locals_fit, fit.operands_fit), fit.locals, fit.operands, frames.0.0.4, frames.0.0.5), frames.0.1)
     (stack_goes_on program frame (call_gone_on act frame).activation below frames.1)
     frames.2
@@ -84,6 +84,7 @@ affected_thread program s t operands (effect.Locks monitor) u thread at = at
 affected_thread program s t operands (effect.Unlocks monitor) u thread at = at
 affected_thread program s t operands (effect.Starts r v) u thread at = appended_within s.threads (new_thread (Some r) ∷ []) u thread at
 affected_thread program s t operands (effect.Joins v) u thread at = at
+affected_thread program s t operands (effect.Notifies r all) u thread at = at
 
 -- An event is no mark.
 read_is_no_mark : (t : ℕ) (o : Option Variable) → filter is_mark (event (λ v. item.Read t v) o) ≡ []
@@ -108,6 +109,7 @@ effect_is_no_mark program t (effect.Locks monitor) = acquire_is_no_mark t monito
 effect_is_no_mark program t (effect.Unlocks monitor) = release_is_no_mark t monitor
 effect_is_no_mark program t (effect.Starts r u) = refl
 effect_is_no_mark program t (effect.Joins u) = refl
+effect_is_no_mark program t (effect.Notifies r all) = refl
 
 -- ---- The depth
 
@@ -148,7 +150,7 @@ module _ (program : List Class) (limits : Limits) (start : Start) (s : State) (t
   -- After the effect the thread stands as it stood.
   stands_after : (what : Effect (List ℕ)) → Sound program limits (affected program s t frame.activation.operands what) → Stands program limits (affected program s t frame.activation.operands what) t thread (stack_frame.Call frame ∷ below)
   stands_after what sound =
-      record { sound = sound; given_out = affected_thread program s t frame.activation.operands what t thread stands.given_out; frames_are = stands.frames_are }
+      record { sound = sound; given_out = affected_thread program s t frame.activation.operands what t thread stands.given_out; awake = stands.awake; frames_are = stands.frames_are }
 
   -- Its calls are those that it had.
   calls_after : (what : Effect (List ℕ)) (act : FrameAction) (operands : List Value) → calls_of (with_changed (affected program s t operands what) t (gone_on act)) t ≡ calls_of s t

@@ -29,11 +29,11 @@ use Rattle.jvms_program.specs.Program.{key_of, field_key_at}
 use Rattle.jvms_machine.specs.Decisions.{TurnAction, TurnDecision}
 use Rattle.jvms_machine.specs.State.{State, Thread, new_thread, monitor_at, Sound}
 use Rattle.jvms_machine.specs.Start.{Start}
-use Rattle.jvms_machine.specs.Actions.{mark, event, instance_variable, static_variable, enter_items, exit_items, release_items, lock_items, unlock_items, effect_items, changed_to, with_changed, with_lock, with_unlock, with_result, with_exception, with_class_constants, put_field, put_static, affected, operands_of, gone_on, applied_to, items_of}
+use Rattle.jvms_machine.specs.Actions.{mark, event, instance_variable, static_variable, enter_items, exit_items, release_items, lock_items, unlock_items, effect_items, changed_to, with_changed, with_lock, with_unlock, with_waiter, with_retaken, put_to_wait, waited, with_result, with_exception, with_class_constants, put_field, put_static, affected, operands_of, gone_on, applied_to, items_of}
 use Rattle.jvms_machine.specs.Turn.{CanBeLocked, CanBeMade, IsReady, IsReadyToMake, state_after, items_after}
 use Rattle.jvms_machine.specs.Events.{is_acquire, is_release, is_fork, newly_held, acquires_between, releases_between, forks_between}
 use Rattle.jvms_machine.proofs.KeptStates.{IsLeft, IsHeardEffect, IsHeard, IsHeardOf}
-use Rattle.jvms_machine.proofs.HeldMonitors.{none_new_in_same, entered_new, entered_old, left_new, left_old}
+use Rattle.jvms_machine.proofs.HeldMonitors.{none_new_in_same, entered_new, entered_old, left_new, left_old, freed_new, freed_old, retaken_new, retaken_old}
 
 -- The events of a turn are those that its states tell.
 pub record IsTold (t : ℕ) (before after : State) (items : List Item) : Type 0 where
@@ -270,6 +270,7 @@ module _ (program : List Class) (limits : Limits) (start : Start) (s : State) (t
       told_by t s after _ [] (cond monitor.outermost (monitor.reference ∷ []) []) (left_changes program s t sound after monitor refl (as_many made (gone_on act) refl) heard) releases.0 releases.1 releases.2
   effect_is_told operands (effect.Starts r u) act can heard others =
       record { acquires = sym (ap (λ (rs : List ℕ). map (λ q. item.Acquire t q) rs) (none_new_in_same s.monitors)); releases = sym (ap (λ (rs : List ℕ). map (λ q. item.Release t q) rs) (none_new_in_same s.monitors)); forks = one_fork r u (gone_on act) heard }
+  effect_is_told operands (effect.Notifies r all) act can heard others = beside_is_told _ (gone_on act) _ (refl, refl) none_are_other
   effect_is_told operands (effect.Joins u) act can heard others = itself_is_told (gone_on act) _ (record { acquires = refl; releases = refl; forks = refl })
 
   action_is_told : (act : TurnAction) → IsReady start s t act → IsHeard s act → IsTold t s (applied_to program start s t act) (items_of program t act)
@@ -298,6 +299,20 @@ module _ (program : List Class) (limits : Limits) (start : Start) (s : State) (t
   action_is_told (action.FailsInitialisation class e last) ready heard =
       let beside = beside_exception program s e in
       quiet t s _ [] beside.0 (as_many (with_exception program s e) _ beside.1) none_are_other
+  action_is_told (action.Waits w) ready heard =
+      let after = with_changed (with_waiter s t w.reference) t (put_to_wait w) in
+      told_by t s after _ [] (w.reference ∷ [])
+      (record {
+        held_are = freed_new w.reference s.monitors;
+        free_are = freed_old s.heap s.threads w.reference heard.0 s.monitors sound.monitors heard.1;
+        threads_are = as_many (with_waiter s t w.reference) (put_to_wait w) refl;
+      })
+      refl refl refl
+  action_is_told (action.Retakes w) ready heard =
+      let after = with_changed (with_retaken s t w) t waited in
+      told_by t s after _ (w.reference ∷ []) []
+      (record { held_are = retaken_new t w s.monitors heard; free_are = retaken_old t w s.monitors; threads_are = as_many (with_retaken s t w) waited refl })
+      refl refl refl
   action_is_told (action.Raises e) ready heard = beside_is_told _ _ [] (beside_exception program s e) none_are_other
   action_is_told (action.Fails e) ready heard = beside_is_told _ _ [] (beside_exception program s e) none_are_other
 

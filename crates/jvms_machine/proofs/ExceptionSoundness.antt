@@ -9,7 +9,7 @@ use Rattle.jvms_program.specs.declared.thrown.Thrown.{Thrown}
 use Rattle.jvms_program.specs.declared.thrown.Thrown.TheVariants as thrown
 use Rattle.jvms_program.specs.Program.{IsProgram}
 use Rattle.jvms_program.specs.Resolution.{fits}
-use Rattle.jvms_machine.specs.State.{State, Object, instance, object_at, class_of, first_instance, Thread, Frame, IsThrowable, Sound}
+use Rattle.jvms_machine.specs.State.{State, Object, instance, object_at, class_of, first_instance, Thread, Frame, IsThrowable, Sound, IsWait}
 use Rattle.jvms_machine.specs.Start.{Start}
 use Rattle.jvms_machine.specs.Exceptions.{thrown_class, has_room_for, exception_of, exception_reference, raising, throws}
 use Rattle.jvms_machine.specs.Actions.{with_changed, with_exception, applied_to, items_of}
@@ -74,7 +74,7 @@ stands_with_exception {program = program} {limits = limits} {s = s} stands (exce
     let new = first_instance program (thrown_class class) in
     let grown : State = record s { heap = s.heap ++ new ∷ [] } in
     let grown_sound : Sound program limits grown = appended_is_sound stands.sound (new ∷ []) s.elements (first_instance_is program (s.heap ++ new ∷ []) (thrown_class class), tt) room stands.sound.elements in
-    record { sound = grown_sound; given_out = stands.given_out; frames_are = stands.frames_are }
+    record { sound = grown_sound; given_out = stands.given_out; awake = stands.awake; frames_are = stands.frames_are }
 stands_with_exception stands (exception.Held r) throwable = stands
 
 -- A thread with an exception pending, which may have ended with it.
@@ -85,7 +85,7 @@ module _ (program : List Class) (limits : Limits) (t : ℕ) (thread : Thread) (f
   raised_is_sound : (s : State) → Stands program limits s t thread frames → (r : ℕ) → IsThrowable program s.heap r → Sound program limits (with_changed s t (struck finish r))
   raised_is_sound s stands r is =
       let was = thread_is stands in
-      changed_is_sound stands (struck finish r) s.initialisations s.result refl (was.0, was.1, was.2, is, was.4) refl
+      changed_is_sound stands (struck finish r) s.initialisations s.result (refl, refl) (was.0, was.1, was.2, is, was.4, subst (λ o. IfSome o (IsWait s.heap (struck finish r thread))) (sym stands.awake) tt) refl
       (order_with_thread s.threads s.initialisations t thread (struck finish r thread) stands.given_out stands.sound.initialised (λ c. refl))
       stands.sound.result
 

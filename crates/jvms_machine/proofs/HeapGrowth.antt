@@ -119,7 +119,7 @@ module _ (heap after : List Object) (grows : Grows heap after) where
 
   thread_grows : (program : List Class) (limits : Limits) (t : Thread) → IsThread program limits heap t → IsThread program limits after t
   thread_grows program limits t is =
-      (all_weaker (IsFrame program heap) (IsFrame program after) (frame_grows program) t.frames is.0, is.1, is.2, IfSome_then t.pending is.3 (throwable_grows program), IfSome_then t.object is.4 reference_grows)
+      (all_weaker (IsFrame program heap) (IsFrame program after) (frame_grows program) t.frames is.0, is.1, is.2, IfSome_then t.pending is.3 (throwable_grows program), IfSome_then t.object is.4 reference_grows, IfSome_then t.waits is.5 (λ w it. (reference_grows w.reference it.0, it.1, it.2, it.3, it.4, it.5)))
 
 -- ---- States that grow
 
@@ -134,6 +134,7 @@ grown_is_sound {program = program} {limits = limits} {s = s} sound after statics
       opened = omega arith;
       objects_are = objects;
       monitors = monitors_grow heap after grows s.threads s.monitors sound.monitors;
+      waiters = sound.waiters;
       out_of_memory = error_object_grows heap after grows 1 (codes "java/lang/OutOfMemoryError") sound.out_of_memory;
       stack_overflow = error_object_grows heap after grows 2 (codes "java/lang/StackOverflowError") sound.stack_overflow;
       statics = same ∙ sound.statics;

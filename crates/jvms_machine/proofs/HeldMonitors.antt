@@ -6,6 +6,8 @@ use Rattle.std.proofs.lemmas.Bool.{cond_both, cond-true, cond-false, eqb-true, e
 use Rattle.jvms_machine.specs.declared.state.Hold.{Hold}
 use Rattle.jvms_machine.specs.State.{Object, Thread, monitor_at, AreMonitors}
 use Rattle.jvms_machine.specs.Monitors.{with_hold, entered_monitor, left_monitor}
+use Rattle.jvms_machine.specs.declared.state.Wait.{Wait}
+use Rattle.jvms_machine.specs.Waiting.{freed_monitor, retaken_monitor}
 use Rattle.jvms_machine.specs.Events.{newly_held}
 use Rattle.jvms_machine.proofs.ListLaws.{all_weaker}
 
@@ -170,6 +172,20 @@ left_new r h monitors e =
     rw e (cond_both (h.count == 1) _ _ (λ (ms : List (ℕ × Hold)). newly_held monitors ms ≡ [])
     (λ _. none_new monitors (remove_entry (λ q. q == r) monitors) (removed_references (IsHeldIn monitors) r monitors (own_held monitors)))
     (λ _. none_new_with r (record { owner = h.owner; count = h.count - 1 }) monitors (ap is_none e)))
+
+-- Where a monitor was held, it comes to be free as it is freed, and nothing else.
+pub freed_new : (r : ℕ) (monitors : List (ℕ × Hold)) → newly_held monitors (freed_monitor r monitors) ≡ []
+freed_new r monitors = none_new monitors (freed_monitor r monitors) (removed_references (IsHeldIn monitors) r monitors (own_held monitors))
+
+pub freed_old : (heap : List Object) (threads : List Thread) (r : ℕ) (h : Hold) (monitors : List (ℕ × Hold)) → AreMonitors heap threads monitors → monitor_at monitors r ≡ Some h → newly_held (freed_monitor r monitors) monitors ≡ r ∷ []
+freed_old heap threads r h monitors are e = one_old heap threads r monitors are (ap is_none e)
+
+-- Where it was free, it comes to be held as it is taken again, and nothing else.
+pub retaken_new : (t : ℕ) (w : Wait) (monitors : List (ℕ × Hold)) → monitor_at monitors w.reference ≡ None → newly_held monitors (retaken_monitor t w monitors) ≡ w.reference ∷ []
+retaken_new t w monitors e = one_new monitors w.reference (record { owner = t; count = w.count }) monitors (ap is_none e) (own_held monitors)
+
+pub retaken_old : (t : ℕ) (w : Wait) (monitors : List (ℕ × Hold)) → newly_held (retaken_monitor t w monitors) monitors ≡ []
+retaken_old t w monitors = none_old_with w.reference _ monitors
 
 -- Either case of a test.
 either : {X Y : Type 0} (f : X → Y) (b : Bool) (x y : X) (p q : Y) → f x ≡ p → f y ≡ q → f (cond b x y) ≡ cond b p q

@@ -1,5 +1,5 @@
 -- A turn that asks for the initialisation of a class leaves a sound state sound.
-use Rattle.std.proofs.Common.{◌≡◌, ℕ, ◌+◌, ◌<◌, ◌≤◌, false, not, ◌==◌, nat_le, leb-false, List, length, Option, Some, None, slice_get, slice_set, refl, sym, ap, ◌∙◌, arith, length-set}
+use Rattle.std.proofs.Common.{◌≡◌, ℕ, ◌+◌, ◌<◌, ◌≤◌, false, not, ◌==◌, nat_le, leb-false, List, length, Option, Some, None, IfSome, slice_get, slice_set, refl, sym, ap, ◌∙◌, subst, arith, length-set}
 use Rattle.std.proofs.lemmas.Bool.{cond_both, not-false}
 use Rattle.std.proofs.lemmas.Option.{slice_get_within}
 use Rattle.jvms_machine.specs.declared.machine.Limits.{Limits}
@@ -10,7 +10,7 @@ use Rattle.jvms_machine.specs.declared.action.Decision.TheVariants as decision
 use Rattle.jvms_program.specs.declared.program.Class.{Class}
 use Rattle.jvms_program.specs.declared.thrown.Thrown.TheVariants as thrown
 use Rattle.jvms_machine.specs.Decisions.{TurnDecision}
-use Rattle.jvms_machine.specs.State.{State, Thread, Frame, Sound}
+use Rattle.jvms_machine.specs.State.{State, Thread, Frame, IsWait, Sound}
 use Rattle.jvms_machine.specs.Exceptions.{has_room_for}
 use Rattle.jvms_machine.specs.Start.{Start}
 use Rattle.jvms_machine.specs.Initialisation.{constants_of, new_texts, begin_decision, asking_at, asking}
@@ -38,8 +38,8 @@ module _ (program : List Class) (limits : Limits) (start : Start) (s : State) (t
   begun_is_sound made stands same class c begins is room =
       let was = thread_is stands in
       let begins_there : slice_get made.initialisations class ≡ Some initialisation.NotBegun = ap (λ (is : List Initialisation). slice_get is class) same ∙ begins in
-      changed_is_sound stands (begun class) (slice_set made.initialisations class (initialisation.InProgress t)) made.result refl
-      ((slice_get_within program class c is, was.0), stack_begun program class false thread.frames was.1, omega arith, was.3, was.4)
+      changed_is_sound stands (begun class) (slice_set made.initialisations class (initialisation.InProgress t)) made.result (refl, refl)
+      ((slice_get_within program class c is, was.0), stack_begun program class false thread.frames was.1, omega arith, was.3, was.4, subst (λ o. IfSome o (IsWait made.heap (begun class thread))) (sym stands.awake) tt)
       (length-set made.initialisations class (initialisation.InProgress t))
       (order_begun made.threads made.initialisations t thread (begun class thread) stands.given_out stands.sound.initialised class begins_there refl)
       stands.sound.result
@@ -48,7 +48,7 @@ module _ (program : List Class) (limits : Limits) (start : Start) (s : State) (t
   unfolding applied_to items_of
   begins_keeps {frames = frames} stands class c begins is has_room room =
       let made = with_class_constants s (Some c) in
-      let stands_there : Stands program limits made t thread frames = record { sound = class_constants_are_sound stands.sound c has_room; given_out = stands.given_out; frames_are = stands.frames_are } in
+      let stands_there : Stands program limits made t thread frames = record { sound = class_constants_are_sound stands.sound c has_room; given_out = stands.given_out; awake = stands.awake; frames_are = stands.frames_are } in
       rw is (
         (λ _. begun_is_sound made stands_there refl class c begins is room),
         (λ _ _. tt),

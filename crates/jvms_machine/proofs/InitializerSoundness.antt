@@ -71,8 +71,8 @@ module _ (program : List Class) (limits : Limits) (start : Start) (s : State) (t
       let frames = frames_are_stack stands in
       let below_is : (popped thread).frames ≡ below = ap (λ (fs : List Frame). drop 1 fs) stands.frames_are in
       let fits : length below ≤ limits.frames = omega arith in (
-        (λ _. changed_is_sound stands popped (slice_set s.initialisations class initialisation.Done) s.result refl
-            (thread_with_frames stands (popped thread) below below_is refl refl frames.0.1 (stack_below program (stack_frame.Initialisation class called) below frames.1) fits)
+        (λ _. changed_is_sound stands popped (slice_set s.initialisations class initialisation.Done) s.result (refl, refl)
+            (thread_with_frames stands (popped thread) below below_is refl (refl, refl) frames.0.1 (stack_below program (stack_frame.Initialisation class called) below frames.1) fits)
             (length-set s.initialisations class initialisation.Done)
             (order_over s.threads s.initialisations t thread (popped thread) stands.given_out stands.sound.initialised class called initialisation.Done (λ u. refl)
             (stands.frames_are ∙ ap (λ (fs : List Frame). stack_frame.Initialisation class called ∷ fs) (sym below_is)))
@@ -101,7 +101,7 @@ module _ (program : List Class) (limits : Limits) (start : Start) (s : State) (t
       let there : length thread.frames ≡ length (stack_frame.Initialisation class false ∷ below) = ap length stands.frames_are in
       let room = is.room in
       let body_is = ap (λ (o : Option Class). option_and_then (λ (m : Method). m.body) (option_and_then (λ (d : Class). slice_get d.methods n) o)) is.class_is ∙ is.body_is in (
-        (λ of_program. moved_is_sound stands (initialising frame) now are refl refl
+        (λ of_program. moved_is_sound stands (initialising frame) now are refl (refl, refl)
             (entered_is_frame program s.heap method body None [] (omega arith) tt body_is tt (sym (initializer_is_plain program class n c of_program is.class_is is.number)), (frames.0.0, frames.0.1))
             ((refl, refl, c, is.class_is, is.number), stack_begun program class true below (stack_below program (stack_frame.Initialisation class false) below frames.1))
             (omega arith)

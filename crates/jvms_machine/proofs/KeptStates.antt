@@ -1,6 +1,6 @@
 -- What is shown of each decision in a sound state: made, it keeps the state sound; it is ready to be made; the marks among
 -- its items are of the calls that come and go; and what it tells of monitors and threads is so.
-use Rattle.std.proofs.Common.{◌≡◌, ℕ, ◌==◌, List, [], length, Some, IsTrue, IfSome}
+use Rattle.std.proofs.Common.{◌≡◌, ℕ, ◌==◌, List, [], length, Some, None, IsTrue, IfSome}
 use Rattle.std.specs.List.{filter}
 use Rattle.jvms_machine.specs.declared.machine.Limits.{Limits}
 use Rattle.jvms_machine.specs.declared.state.Hold.{Hold}
@@ -32,12 +32,14 @@ IsHeardEffect s (effect.Unlocks monitor) = IsLeft s monitor
 IsHeardEffect s (effect.Starts r u) = u ≡ length s.threads
 IsHeardEffect s _ = Unit {0}
 
--- What an action tells of the monitors that it leaves, and of the thread that it starts, is so.
+-- What an action tells of the monitors that it leaves or takes again, and of the thread that it starts, is so.
 abbrev pub IsHeard : State → TurnAction → Type 0
 IsHeard s (action.Reaches what act) = IsHeardEffect s what
 IsHeard s (action.Ends method result unlock) = IfSome unlock (IsLeft s)
 IsHeard s (action.Returns method result unlock) = IfSome unlock (IsLeft s)
 IsHeard s (action.Unwinds method last unlock) = IfSome unlock (IsLeft s)
+IsHeard s (action.Waits w) = (h : Hold) × (monitor_at s.monitors w.reference ≡ Some h)
+IsHeard s (action.Retakes w) = monitor_at s.monitors w.reference ≡ None
 IsHeard s _ = Unit {0}
 
 abbrev pub IsHeardOf : State → TurnDecision → Type 0

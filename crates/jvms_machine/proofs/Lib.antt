@@ -25,6 +25,7 @@ pub mod NativeSoundness
 pub mod NewArrays
 pub mod ObjectSoundness
 pub mod OpeningSoundness
+pub mod RetakeSoundness
 pub mod ReturnSoundness
 pub mod RunLaws
 pub mod SearchLaws
@@ -39,3 +40,5 @@ pub mod UnmadeTurns
 pub mod UnlockSoundness
 pub mod UnwindingSoundness
 pub mod UnwoundTurns
+pub mod WaitSoundness
+pub mod WaiterLaws

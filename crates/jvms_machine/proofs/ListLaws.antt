@@ -10,6 +10,11 @@ pub all_weaker : {X : Type 0} (P Q : X → Type 0) → ((x : X) → P x → Q x)
 all_weaker P Q step [] all = tt
 all_weaker P Q step (x ∷ xs) all = (step x all.0, all_weaker P Q step xs all.1)
 
+-- What follows from two facts at each element holds of all elements, where both do.
+pub all_both : {X : Type 0} (P Q R : X → Type 0) → ((x : X) → P x → Q x → R x) → (xs : List X) → AllByRecursion P xs → AllByRecursion Q xs → AllByRecursion R xs
+all_both P Q R step [] first second = tt
+all_both P Q R step (x ∷ xs) first second = (step x first.0 second.0, all_both P Q R step xs first.1 second.1)
+
 -- What holds of all elements and of one more holds after that one is written into the list.
 pub all_set : {X : Type 0} (P : X → Type 0) (xs : List X) (i : ℕ) (x : X) → P x → AllByRecursion P xs → AllByRecursion P (slice_set xs i x)
 all_set P [] i x holds all = tt

@@ -25,6 +25,7 @@ use Rattle.jvms_machine.proofs.ThreadChanges.{Stands}
 use Rattle.jvms_machine.proofs.HeapGrowth.{Grows, grows_not, appended_grows, grown_length, appended_is_sound}
 use Rattle.jvms_machine.proofs.MonitorLaws.{held_is, new_is_free, entered_are, left_are}
 use Rattle.jvms_machine.proofs.StoredValues.{found_is_reference}
+use Rattle.jvms_machine.proofs.WaiterLaws.{awake_waits_not}
 use Rattle.jvms_machine.proofs.KeptStates.{IsLeft, Keeps, still}
 use Rattle.jvms_machine.proofs.ExceptionSoundness.{throws_keeps}
 
@@ -37,6 +38,7 @@ monitors_are_sound sound monitors are =
       opened = sound.opened;
       objects_are = sound.objects_are;
       monitors = are;
+      waiters = sound.waiters;
       out_of_memory = sound.out_of_memory;
       stack_overflow = sound.stack_overflow;
       statics = sound.statics;
@@ -91,12 +93,12 @@ module _ {program : List Class} {limits : Limits} {s : State} {t : ℕ} {thread 
   -- The state is sound where the thread has entered a monitor.
   pub entered_is_sound : (monitor : MonitorUse) → IsEntered s monitor → Sound program limits (with_lock program s t (lock.Monitor monitor))
   entered_is_sound monitor is =
-      monitors_are_sound stands.sound _ (entered_are s.heap s.threads t monitor.reference s.monitors (slice_get_within s.threads t thread stands.given_out) is.0 is.1.1 stands.sound.monitors)
+      monitors_are_sound stands.sound _ (entered_are s.heap s.threads t monitor.reference s.monitors (slice_get_within s.threads t thread stands.given_out) (awake_waits_not s.threads t monitor.reference thread stands.given_out stands.awake) is.0 is.1.1 stands.sound.monitors)
 
   -- The thread stands as it stood where it has locked something.
   pub stands_with_lock : (locked : Lock) → IsLocked limits s locked → Stands program limits (with_lock program s t locked) t thread frames
   stands_with_lock lock.Nothing is = stands
-  stands_with_lock (lock.Monitor monitor) is = record { sound = entered_is_sound monitor is; given_out = stands.given_out; frames_are = stands.frames_are }
+  stands_with_lock (lock.Monitor monitor) is = record { sound = entered_is_sound monitor is; given_out = stands.given_out; awake = stands.awake; frames_are = stands.frames_are }
   stands_with_lock (lock.NewClass class r) is =
       let new = class_object (class_name_at program class) in
       let grown : State = record s { heap = s.heap ++ new ∷ [] } in
@@ -104,14 +106,14 @@ module _ {program : List Class} {limits : Limits} {s : State} {t : ℕ} {thread 
       let longer = grown_length s.heap (new ∷ []) in
       let same = is.0 in
       let free = new_is_free s.heap s.threads r s.monitors (omega arith) stands.sound.monitors in
-      let are = entered_are grown.heap s.threads t r s.monitors (slice_get_within s.threads t thread stands.given_out) (omega arith, omega arith) (subst (λ o. IfSome o (λ (h : Hold). h.count + 1 < 2 ^ 32)) (sym free) tt) grown_sound.monitors in
-      record { sound = monitors_are_sound grown_sound _ are; given_out = stands.given_out; frames_are = stands.frames_are }
+      let are = entered_are grown.heap s.threads t r s.monitors (slice_get_within s.threads t thread stands.given_out) (awake_waits_not s.threads t r thread stands.given_out stands.awake) (omega arith, omega arith) (subst (λ o. IfSome o (λ (h : Hold). h.count + 1 < 2 ^ 32)) (sym free) tt) grown_sound.monitors in
+      record { sound = monitors_are_sound grown_sound _ are; given_out = stands.given_out; awake = stands.awake; frames_are = stands.frames_are }
 
   -- And where it has left a monitor.
   pub stands_with_unlock : (unlock : Option MonitorUse) → Stands program limits (with_unlock s unlock) t thread frames
   stands_with_unlock None = stands
   stands_with_unlock (Some monitor) =
-      record { sound = monitors_are_sound stands.sound _ (left_are s.heap s.threads monitor.reference s.monitors stands.sound.monitors); given_out = stands.given_out; frames_are = stands.frames_are }
+      record { sound = monitors_are_sound stands.sound _ (left_are s.heap s.threads monitor.reference s.monitors stands.sound.monitors); given_out = stands.given_out; awake = stands.awake; frames_are = stands.frames_are }
 
 -- What a thread leaves is held.
 leaving_held_is : (s : State) (t r : ℕ) (o : Option Hold) (monitor : MonitorUse) → monitor_at s.monitors r ≡ o → leaving_held t r o ≡ Some monitor → IsLeft s monitor
@@ -135,7 +137,7 @@ module _ (program : List Class) (limits : Limits) (start : Start) (s : State) (t
   abbrev KeepsSound : TurnDecision → Type 0
   KeepsSound d = Keeps program limits start s t d
 
-  entering_held_keeps : (r : ℕ) (o : Option Hold) (make : MonitorUse → TurnDecision) → monitor_at s.monitors r ≡ o → IfSome o (λ h. IsReference s.heap r × IsHold s.threads h) → IsReference s.heap r → ((monitor : MonitorUse) → IsEntered s monitor → KeepsSound (make monitor)) → KeepsSound (entering_held limits s t thread r o make)
+  entering_held_keeps : (r : ℕ) (o : Option Hold) (make : MonitorUse → TurnDecision) → monitor_at s.monitors r ≡ o → IfSome o (λ h. IsReference s.heap r × IsHold s.threads r h) → IsReference s.heap r → ((monitor : MonitorUse) → IsEntered s monitor → KeepsSound (make monitor)) → KeepsSound (entering_held limits s t thread r o make)
   entering_held_keeps r None make e held reference keeps =
       keeps (record { reference = r; outermost = true }) (reference, (sym (ap is_none e), subst (λ o. IfSome o (λ (h : Hold). h.count + 1 < 2 ^ 32)) (sym e) tt))
   entering_held_keeps r (Some h) make e held reference keeps =

@@ -1,11 +1,11 @@
 -- The monitors that are held stay in the order of their references, of objects that are there and of threads that were
 -- given out, as they are entered and left.
-use Rattle.std.proofs.Common.{◌≡◌, ℕ, ◌+◌, ◌-◌, ◌^◌, ◌<◌, ◌==◌, nat_lt, List, [], ◌∷◌, length, Option, Some, None, IfSome, refl, sym, subst, arith}
+use Rattle.std.proofs.Common.{◌≡◌, ℕ, ◌+◌, ◌-◌, ◌^◌, ◌<◌, ◌==◌, false, nat_lt, List, [], ◌∷◌, length, Option, Some, None, IfSome, slice_get, refl, sym, subst, arith}
 use Rattle.std.specs.List.{AllByRecursion}
 use Rattle.std.specs.Map.{remove_entry}
 use Rattle.std.proofs.lemmas.Bool.{cond_both, eqb-true, eqb-false, ltb-true, ltb-false}
 use Rattle.jvms_machine.specs.declared.state.Hold.{Hold}
-use Rattle.jvms_machine.specs.State.{Object, Thread, monitor_at, IsReference, IsHold, AreMonitors}
+use Rattle.jvms_machine.specs.State.{Object, Thread, monitor_at, waits_for, IsReference, IsHold, AreMonitors}
 use Rattle.jvms_machine.specs.Monitors.{with_hold, entered_monitor, left_monitor}
 use Rattle.jvms_machine.proofs.ListLaws.{all_weaker}
 
@@ -33,7 +33,7 @@ removed_behind q r (m ∷ monitors) behind =
 -- ---- Holds that come, change and go
 
 module _ (heap : List Object) (threads : List Thread) where
-  pub with_hold_are : (r : ℕ) (h : Hold) (monitors : List (ℕ × Hold)) → IsReference heap r → IsHold threads h → AreMonitors heap threads monitors → AreMonitors heap threads (with_hold r h monitors)
+  pub with_hold_are : (r : ℕ) (h : Hold) (monitors : List (ℕ × Hold)) → IsReference heap r → IsHold threads r h → AreMonitors heap threads monitors → AreMonitors heap threads (with_hold r h monitors)
   with_hold_are r h [] reference hold are = (reference, hold, tt, tt)
   with_hold_are r h (m ∷ monitors) reference hold are =
       cond_both (r == m.0) _ _ (AreMonitors heap threads)
@@ -45,7 +45,7 @@ module _ (heap : List Object) (threads : List Thread) where
       let at_least = ltb-false r m.0 more in
       (are.0, are.1, with_hold_behind m.0 r h monitors (omega arith) are.2, with_hold_are r h monitors reference hold are.3)))
 
-  removed_are : (r : ℕ) (monitors : List (ℕ × Hold)) → AreMonitors heap threads monitors → AreMonitors heap threads (remove_entry (λ k. k == r) monitors)
+  pub removed_are : (r : ℕ) (monitors : List (ℕ × Hold)) → AreMonitors heap threads monitors → AreMonitors heap threads (remove_entry (λ k. k == r) monitors)
   removed_are r [] are = tt
   removed_are r (m ∷ monitors) are =
       cond_both (m.0 == r) _ _ (AreMonitors heap threads)
@@ -53,11 +53,11 @@ module _ (heap : List Object) (threads : List Thread) where
       (λ _. (are.0, are.1, removed_behind m.0 r monitors are.2, removed_are r monitors are.3))
 
   -- A monitor that is held is of an object that is there, and is held.
-  pub held_is : (r : ℕ) (monitors : List (ℕ × Hold)) → AreMonitors heap threads monitors → IfSome (monitor_at monitors r) (λ h. IsReference heap r × IsHold threads h)
+  pub held_is : (r : ℕ) (monitors : List (ℕ × Hold)) → AreMonitors heap threads monitors → IfSome (monitor_at monitors r) (λ h. IsReference heap r × IsHold threads r h)
   held_is r [] are = tt
   held_is r (m ∷ monitors) are =
-      cond_both (m.0 == r) _ _ (λ o. IfSome o (λ h. IsReference heap r × IsHold threads h))
-      (λ same. (subst (IsReference heap) (eqb-true m.0 r same) are.0, are.1))
+      cond_both (m.0 == r) _ _ (λ o. IfSome o (λ h. IsReference heap r × IsHold threads r h))
+      (λ same. let is = eqb-true m.0 r same in (subst (IsReference heap) is are.0, subst (λ q. IsHold threads q m.1) is are.1))
       (λ _. held_is r monitors are.3)
 
   -- That of a reference behind all objects is free.
@@ -70,18 +70,18 @@ module _ (heap : List Object) (threads : List Thread) where
 
   -- ---- Entering and leaving
 
-  entered_by : (t r : ℕ) (o : Option Hold) (monitors : List (ℕ × Hold)) → o ≡ monitor_at monitors r → t < length threads → IsReference heap r → IfSome o (λ h. h.count + 1 < 2 ^ 32) → IfSome o (λ h. IsReference heap r × IsHold threads h) → AreMonitors heap threads monitors → AreMonitors heap threads (entered_monitor t r monitors)
-  entered_by t r None monitors e given_out reference room held are =
-      rw (← e) (with_hold_are r (record { owner = t; count = 1 }) monitors reference (given_out, omega arith, omega arith) are)
-  entered_by t r (Some h) monitors e given_out reference room held are =
-      rw (← e) (with_hold_are r (record { owner = h.owner; count = h.count + 1 }) monitors reference (held.1.0, omega arith, room) are)
+  entered_by : (t r : ℕ) (o : Option Hold) (monitors : List (ℕ × Hold)) → o ≡ monitor_at monitors r → t < length threads → waits_for r (slice_get threads t) ≡ false → IsReference heap r → IfSome o (λ h. h.count + 1 < 2 ^ 32) → IfSome o (λ h. IsReference heap r × IsHold threads r h) → AreMonitors heap threads monitors → AreMonitors heap threads (entered_monitor t r monitors)
+  entered_by t r None monitors e given_out awake reference room held are =
+      rw (← e) (with_hold_are r (record { owner = t; count = 1 }) monitors reference (given_out, omega arith, omega arith, awake) are)
+  entered_by t r (Some h) monitors e given_out awake reference room held are =
+      rw (← e) (with_hold_are r (record { owner = h.owner; count = h.count + 1 }) monitors reference (held.1.0, omega arith, room, held.1.3) are)
 
-  -- A thread that was given out enters a monitor whose entries can be counted.
-  pub entered_are : (t r : ℕ) (monitors : List (ℕ × Hold)) → t < length threads → IsReference heap r → IfSome (monitor_at monitors r) (λ h. h.count + 1 < 2 ^ 32) → AreMonitors heap threads monitors → AreMonitors heap threads (entered_monitor t r monitors)
-  entered_are t r monitors given_out reference room are =
-      entered_by t r (monitor_at monitors r) monitors refl given_out reference room (held_is r monitors are) are
+  -- A thread that was given out, and doesn't wait for the object, enters a monitor whose entries can be counted.
+  pub entered_are : (t r : ℕ) (monitors : List (ℕ × Hold)) → t < length threads → waits_for r (slice_get threads t) ≡ false → IsReference heap r → IfSome (monitor_at monitors r) (λ h. h.count + 1 < 2 ^ 32) → AreMonitors heap threads monitors → AreMonitors heap threads (entered_monitor t r monitors)
+  entered_are t r monitors given_out awake reference room are =
+      entered_by t r (monitor_at monitors r) monitors refl given_out awake reference room (held_is r monitors are) are
 
-  left_by : (r : ℕ) (o : Option Hold) (monitors : List (ℕ × Hold)) → o ≡ monitor_at monitors r → IfSome o (λ h. IsReference heap r × IsHold threads h) → AreMonitors heap threads monitors → AreMonitors heap threads (left_monitor r monitors)
+  left_by : (r : ℕ) (o : Option Hold) (monitors : List (ℕ × Hold)) → o ≡ monitor_at monitors r → IfSome o (λ h. IsReference heap r × IsHold threads r h) → AreMonitors heap threads monitors → AreMonitors heap threads (left_monitor r monitors)
   left_by r None monitors e held are = rw (← e) are
   left_by r (Some h) monitors e held are =
       rw (← e) (cond_both (h.count == 1) _ _ (AreMonitors heap threads)
@@ -90,7 +90,7 @@ module _ (heap : List Object) (threads : List Thread) where
       let some = held.1.1 in
       let few = held.1.2 in
       let not_one = eqb-false h.count 1 more in
-      with_hold_are r (record { owner = h.owner; count = h.count - 1 }) monitors held.0 (held.1.0, omega arith, omega arith) are))
+      with_hold_are r (record { owner = h.owner; count = h.count - 1 }) monitors held.0 (held.1.0, omega arith, omega arith, held.1.3) are))
 
   -- A monitor is left.
   pub left_are : (r : ℕ) (monitors : List (ℕ × Hold)) → AreMonitors heap threads monitors → AreMonitors heap threads (left_monitor r monitors)

@@ -21,7 +21,7 @@ use Rattle.jvms_program.specs.declared.thrown.Thrown.TheVariants as thrown
 use Rattle.jvms_program.specs.BuiltIn.{built_in_classes, print_stream_class}
 use Rattle.jvms_program.specs.Program.{IsProgram, class_named}
 use Rattle.jvms_machine.specs.Decisions.{TurnDecision}
-use Rattle.jvms_machine.specs.State.{State, Object, instance, array, text, class_object, Thread, Frame, MethodFrame, object_at, same_object, IsReference, IsValue, Sound}
+use Rattle.jvms_machine.specs.State.{State, Object, instance, array, text, class_object, Thread, Frame, MethodFrame, object_at, same_object, IsAtInvoke, IsReference, IsValue, Sound}
 use Rattle.jvms_machine.specs.Start.{Start}
 use Rattle.jvms_machine.specs.Output.{line_bytes}
 use Rattle.jvms_machine.specs.Fields.{reaches, taking}
@@ -33,11 +33,12 @@ use Rattle.jvms_machine.proofs.ListLaws.{all_at}
 use Rattle.jvms_machine.proofs.SearchLaws.{none_passes}
 use Rattle.jvms_machine.proofs.LimitLaws.{limits_have_room}
 use Rattle.jvms_machine.proofs.StartedThreads.{started_is_sound}
-use Rattle.jvms_machine.proofs.ThreadChanges.{Stands}
+use Rattle.jvms_machine.proofs.ThreadChanges.{IsQuiet, Stands}
 use Rattle.jvms_machine.proofs.KeptStates.{IsHeardEffect, Keeps, still}
 use Rattle.jvms_machine.proofs.ExceptionSoundness.{throws_keeps}
 use Rattle.jvms_machine.proofs.ObjectSoundness.{printed_is_sound}
 use Rattle.jvms_machine.proofs.EffectSoundness.{frame_is_fit, reaches_keeps}
+use Rattle.jvms_machine.proofs.WaitSoundness.{object_native_keeps}
 
 -- ---- The methods of PrintStream
 
@@ -162,11 +163,13 @@ module _ (program : List Class) (limits : Limits) (start : Start) (s : State) (t
   thread_native_keeps m _ values there = still t stands.sound
 
   -- A native method that takes so many operands.
-  pub native_keeps : (takes : ℕ) (m : Method) (o : Option Class) → takes ≤ length frame.activation.operands → ((c : Class) → o ≡ Some c → same_text c.name (codes "java/io/PrintStream") ≡ true → IsProgram program → HasPrinted takes m) → KeepsSound (native_of_class limits s thread frame.activation m o)
-  native_keeps takes m None there has = still t stands.sound
-  native_keeps takes m (Some c) there has =
+  pub native_keeps : IsAtInvoke (stack_frame.Call frame ∷ below) → IsQuiet thread → (takes : ℕ) (m : Method) (o : Option Class) → takes ≤ length frame.activation.operands → ((c : Class) → o ≡ Some c → same_text c.name (codes "java/io/PrintStream") ≡ true → IsProgram program → HasPrinted takes m) → KeepsSound (native_of_class limits s t thread frame.activation m o)
+  native_keeps at_invoke quiet takes m None there has = still t stands.sound
+  native_keeps at_invoke quiet takes m (Some c) there has =
       cond_both (same_text c.name (codes "java/io/PrintStream")) _ _ KeepsSound
       (λ is. print_keeps takes m there (has c refl is))
       (λ _. cond_both (same_text c.name (codes "java/lang/Thread")) _ _ KeepsSound
       (λ _. thread_native_keeps m frame.activation.operands (frame_is_fit frame below stands).operands (λ some. some))
-      (λ _. throws_keeps start stands thrown.UnsatisfiedLinkError))
+      (λ _. cond_both (same_text c.name (codes "java/lang/Object")) _ _ KeepsSound
+      (λ _. object_native_keeps program limits start s t thread frame below stands quiet m frame.activation.operands at_invoke (λ some. some))
+      (λ _. throws_keeps start stands thrown.UnsatisfiedLinkError)))

@@ -21,7 +21,7 @@ use Rattle.jvms_program.specs.declared.program.Class.{Class}
 use Rattle.jvms_program.specs.declared.program.Method.{Method}
 use Rattle.jvms_program.specs.Program.{method_at}
 use Rattle.jvms_machine.specs.Decisions.{TurnDecision}
-use Rattle.jvms_machine.specs.State.{State, Object, Thread, Frame, MethodFrame, IsValue, IsFrame, IsStack, StandsOn, result_length, is_initialisation_of, Sound}
+use Rattle.jvms_machine.specs.State.{State, Object, Thread, Frame, MethodFrame, IsValue, IsFrame, IsStack, IsWait, StandsOn, result_length, is_initialisation_of, Sound}
 use Rattle.jvms_machine.specs.Start.{Start}
 use Rattle.jvms_machine.specs.Locals.{is_loaded}
 use Rattle.jvms_machine.specs.Returns.{gives_kind, gives_nothing, returns_to, returned_decision, return_top_decision, return_decision, method_return_decision}
@@ -61,24 +61,24 @@ returned_operands : (heap : List Object) (result : Option Value) (lower : Method
 returned_operands heap None lower below room few is values = (few, values)
 returned_operands heap (Some v) lower below room few is values = (omega arith, (is, values))
 
-returned_frames : (program : List Class) (heap : List Object) (result : Option Value) (f : Frame) (below : List Frame) → HasRoomFor result (f ∷ below) → IfSome result (IsValue heap) → AllByRecursion (IsFrame program heap) (f ∷ below) → AllByRecursion (IsFrame program heap) (caller_gone_on result (f ∷ below))
+pub returned_frames : (program : List Class) (heap : List Object) (result : Option Value) (f : Frame) (below : List Frame) → HasRoomFor result (f ∷ below) → IfSome result (IsValue heap) → AllByRecursion (IsFrame program heap) (f ∷ below) → AllByRecursion (IsFrame program heap) (caller_gone_on result (f ∷ below))
 returned_frames program heap result (stack_frame.Initialisation class called) below room is all = all
 returned_frames program heap result (stack_frame.Call lower) below room is all =
     let operands = returned_operands heap result lower below room all.0.1.1 is all.0.3 in
     ((all.0.0, (all.0.1.0, operands.0), all.0.2, operands.1, all.0.4, all.0.5), all.1)
 
 -- It stands where it stood.
-returned_stack : (program : List Class) (result : Option Value) (frames : List Frame) → IsStack program frames → IsStack program (caller_gone_on result frames)
+pub returned_stack : (program : List Class) (result : Option Value) (frames : List Frame) → IsStack program frames → IsStack program (caller_gone_on result frames)
 returned_stack program result [] stack = stack
 returned_stack program result (stack_frame.Initialisation class called ∷ below) stack = stack
 returned_stack program result (stack_frame.Call lower ∷ below) stack = stack_goes_on program lower (returned_to result lower).activation below stack
 
-returned_length : (result : Option Value) (frames : List Frame) → length (caller_gone_on result frames) ≡ length frames
+pub returned_length : (result : Option Value) (frames : List Frame) → length (caller_gone_on result frames) ≡ length frames
 returned_length result [] = refl
 returned_length result (stack_frame.Initialisation class called ∷ below) = refl
 returned_length result (stack_frame.Call lower ∷ below) = refl
 
-returned_count : (result : Option Value) (c : ℕ) (frames : List Frame) → count_by (is_initialisation_of c) (caller_gone_on result frames) ≡ count_by (is_initialisation_of c) frames
+pub returned_count : (result : Option Value) (c : ℕ) (frames : List Frame) → count_by (is_initialisation_of c) (caller_gone_on result frames) ≡ count_by (is_initialisation_of c) frames
 returned_count result c [] = refl
 returned_count result c (stack_frame.Initialisation class called ∷ below) = refl
 returned_count result c (stack_frame.Call lower ∷ below) = count_call c (returned_to result lower) below ∙ sym (count_call c lower below)
@@ -96,8 +96,8 @@ module _ (program : List Class) (limits : Limits) (start : Start) (s : State) (t
   ended_is_sound : (made : State) (frame : MethodFrame) (result : Option Value) → Stands program limits made t thread (stack_frame.Call frame ∷ []) → IfSome result (IsValue made.heap) → Sound program limits (record made { threads = changed_to made.threads t ended (slice_get made.threads t); result = result })
   ended_is_sound made frame result stands result_is =
       let was = thread_is stands in
-      changed_is_sound stands ended made.initialisations result refl
-      (tt, tt, omega arith, was.3, was.4)
+      changed_is_sound stands ended made.initialisations result (refl, refl)
+      (tt, tt, omega arith, was.3, was.4, subst (λ o. IfSome o (IsWait made.heap (ended thread))) (sym stands.awake) tt)
       refl
       (order_with_thread made.threads made.initialisations t thread (ended thread) stands.given_out stands.sound.initialised
       (λ c. sym (count_call c frame []) ∙ sym (ap (count_by (is_initialisation_of c)) stands.frames_are)))
@@ -129,7 +129,7 @@ module _ (program : List Class) (limits : Limits) (start : Start) (s : State) (t
       let are : (returned result thread).frames ≡ now = ap (λ (fs : List Frame). caller_gone_on result (drop 1 fs)) stands.frames_are in
       let as_many : length now ≡ length (f ∷ below) = returned_length result (f ∷ below) in
       let few = frames.2 in (
-        (λ _. moved_is_sound there (returned result) now are refl refl
+        (λ _. moved_is_sound there (returned result) now are refl (refl, refl)
             (returned_frames program made.heap result f below room result_there frames.0.1)
             (returned_stack program result (f ∷ below) frames.1.1)
             (omega arith)

@@ -6,7 +6,7 @@ use Rattle.jvms_machine.specs.declared.machine.Limits.{Limits}
 use Rattle.jvms_program.specs.declared.program.Class.{Class}
 use Rattle.jvms_machine.specs.State.{State, Thread, new_thread, same_object, initialisation_frames, IsReference, IsThread, HaveOwnObjects, Sound}
 use Rattle.jvms_machine.proofs.ListLaws.{all_append}
-use Rattle.jvms_machine.proofs.ThreadChanges.{monitors_among}
+use Rattle.jvms_machine.proofs.ThreadChanges.{WaitAlike, monitors_among, waiters_among}
 
 -- What the first of more threads is, it is of these, if there is one.
 first_stays : (threads more : List Thread) (t : ℕ) (thread : Thread) → slice_get threads t ≡ Some thread → IfSome (slice_get threads 0) (λ u. u.object ≡ None) → IfSome (slice_get (threads ++ more) 0) (λ u. u.object ≡ None)
@@ -26,6 +26,13 @@ new_frames [] object (suc u) class = refl
 new_frames (v ∷ vs) object zero class = refl
 new_frames (v ∷ vs) object (suc u) class = new_frames vs object u class
 
+-- It doesn't wait.
+new_waits : (threads : List Thread) (object : Option ℕ) → WaitAlike threads (threads ++ new_thread object ∷ [])
+new_waits [] object zero r = refl
+new_waits [] object (suc u) r = refl
+new_waits (v ∷ vs) object zero r = refl
+new_waits (v ∷ vs) object (suc u) r = new_waits vs object u r
+
 pub started_is_sound : {program : List Class} {limits : Limits} {s : State} (t : ℕ) (thread : Thread) (r : ℕ) → Sound program limits s → slice_get s.threads t ≡ Some thread → IsReference s.heap r → AllByRecursion (λ (u : Thread). same_object u.object (Some r) ≡ false) s.threads → length s.threads < limits.threads → Sound program limits (record s { threads = s.threads ++ new_thread (Some r) ∷ [] })
 started_is_sound {program = program} {limits = limits} {s = s} t thread r sound at reference apart room =
     let new = new_thread (Some r) in
@@ -33,13 +40,14 @@ started_is_sound {program = program} {limits = limits} {s = s} t thread r sound 
     record {
       opened = sound.opened;
       objects_are = sound.objects_are;
-      monitors = monitors_among s.heap s.threads (s.threads ++ new ∷ []) (omega arith) s.monitors sound.monitors;
+      monitors = monitors_among s.heap s.threads (s.threads ++ new ∷ []) (omega arith) (new_waits s.threads (Some r)) s.monitors sound.monitors;
+      waiters = waiters_among s.threads (s.threads ++ new ∷ []) (new_waits s.threads (Some r)) s.waiters sound.waiters;
       out_of_memory = sound.out_of_memory;
       stack_overflow = sound.stack_overflow;
       statics = sound.statics;
       static_values = sound.static_values;
       classes = sound.classes;
-      threads = all_append (IsThread program limits s.heap) s.threads (new ∷ []) sound.threads ((tt, tt, omega arith, tt, reference), tt);
+      threads = all_append (IsThread program limits s.heap) s.threads (new ∷ []) sound.threads ((tt, tt, omega arith, tt, reference, tt), tt);
       first_thread = first_stays s.threads (new ∷ []) t thread at sound.first_thread;
       own_objects = none_is r s.threads apart sound.own_objects;
       initialised = λ u class. new_frames s.threads (Some r) u class ∙ sound.initialised u class;

@@ -39,7 +39,7 @@ module _ (program : List Class) (limits : Limits) (start : Start) (s : State) (t
       let there = stands_with_exception stands e is in
       let frames = frames_are_stack there in
       let few = frames.2 in
-      struck_is_sound there (failing e last) below below_is (exception_is_throwable program limits s e is of_program) refl frames.0.1
+      struck_is_sound there (failing e last) below below_is (exception_is_throwable program limits s e is of_program) (refl, refl) frames.0.1
       (stack_below program (stack_frame.Call frame) below frames.1) (omega arith) (λ c. sym (count_call c frame below))
 
   failed_calls : (e : Exception) (last : Bool) → IsThrown program limits s e → calls_in (slice_get (with_changed (with_exception program s e) t (failing e last)).threads t) ≡ calls below

@@ -31,6 +31,8 @@ action_is_enabled (action.Catches r target) = refl
 action_is_enabled (action.Unwinds method last unlock) = unwound_is_enabled last
 action_is_enabled (action.FailsToUnlock method e last) = unwound_is_enabled last
 action_is_enabled (action.FailsInitialisation class e last) = unwound_is_enabled last
+action_is_enabled (action.Waits w) = refl
+action_is_enabled (action.Retakes w) = refl
 action_is_enabled (action.Raises e) = refl
 action_is_enabled (action.Fails e) = refl
 

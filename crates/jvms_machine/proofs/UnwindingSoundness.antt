@@ -27,13 +27,12 @@ use Rattle.jvms_machine.specs.Marks.{calls, calls_in, calls_of}
 use Rattle.jvms_machine.specs.Turn.{HasRoomToHandle}
 use Rattle.jvms_machine.proofs.InitialisationOrder.{order_over, count_call}
 use Rattle.jvms_machine.proofs.MarkLaws.{unmarked_by, left_mark, marked_with_unlock, changed_calls}
-use Rattle.jvms_machine.proofs.ThreadChanges.{Stands, pending_is, frames_are_stack, thread_with, changed_is_sound, struck_is_sound, moved_is_sound, stack_below, stack_goes_on}
+use Rattle.jvms_machine.proofs.ThreadChanges.{Stands, pending_is, frames_are_stack, given_is_frame, thread_with, changed_is_sound, struck_is_sound, moved_is_sound, stack_below, stack_goes_on}
 use Rattle.jvms_machine.proofs.StoredValues.{leads_is_reference}
 use Rattle.jvms_machine.proofs.KeptStates.{IsLeft, Keeps, still}
 use Rattle.jvms_machine.proofs.ExceptionSoundness.{throwable_by, IsThrown, exception_is_thrown, exception_is_throwable, stands_with_exception}
 use Rattle.jvms_machine.proofs.LockSoundness.{stands_with_unlock}
 use Rattle.jvms_machine.proofs.UnlockSoundness.{unlocking_keeps}
-use Rattle.jvms_machine.proofs.CallSoundness.{given_is_frame}
 use Rattle.jvms_machine.proofs.EffectSoundness.{if_deep_keeps}
 use Rattle.jvms_machine.proofs.ArraySoundness.{with_object_keeps}
 
@@ -54,7 +53,7 @@ module _ (program : List Class) (limits : Limits) (start : Start) (s : State) (t
         let frames = frames_are_stack stands in
         let now = stack_frame.Call (given 1 frame) ∷ below in
         let are : (thrown_in r thread).frames ≡ now = ap (top_given 1) stands.frames_are in (
-          (λ _. struck_is_sound stands (thrown_in r) now are is refl
+          (λ _. struck_is_sound stands (thrown_in r) now are is (refl, refl)
               (given_is_frame program s.heap 1 frame frames.0.0, frames.0.1)
               (stack_goes_on program frame (given 1 frame).activation below frames.1)
               frames.2
@@ -91,7 +90,7 @@ module _ (program : List Class) (limits : Limits) (start : Start) (s : State) (t
         let after = handling r target frame in
         let now = stack_frame.Call after ∷ below in
         let are : (caught r target thread).frames ≡ now = ap (top_handling r target) stands.frames_are in (
-          (λ _. struck_is_sound stands (caught r target) now are tt refl
+          (λ _. struck_is_sound stands (caught r target) now are tt (refl, refl)
               ((is.0, (is.1.0, omega arith), is.2, ((pending_is stands r pending).1, tt), is.4, is.5), frames.0.1)
               (stack_goes_on program frame after.activation below frames.1)
               frames.2
@@ -109,7 +108,7 @@ module _ (program : List Class) (limits : Limits) (start : Start) (s : State) (t
         let frames = frames_are_stack there in
         let few = frames.2 in
         let are : (unwound last thread).frames ≡ below = ap (λ (fs : List Frame). drop 1 fs) stands.frames_are in (
-          (λ _. moved_is_sound there (unwound last) below are refl refl frames.0.1 (stack_below program (stack_frame.Call frame) below frames.1) (omega arith) (λ c. sym (count_call c frame below))),
+          (λ _. moved_is_sound there (unwound last) below are refl (refl, refl) frames.0.1 (stack_below program (stack_frame.Call frame) below frames.1) (omega arith) (λ c. sym (count_call c frame below))),
           (λ _ _. tt),
           marked_with_unlock program t frame.method unlock ∙ left_mark program t (calls_of s t) _ frame.method
               (ap calls_in stands.given_out ∙ ap calls stands.frames_are
@@ -149,8 +148,8 @@ module _ (program : List Class) (limits : Limits) (start : Start) (s : State) (t
         let there = stands_with_exception stands e is in
         let frames = frames_are_stack there in
         let few = frames.2 in
-        changed_is_sound there (failing e last) (slice_set made.initialisations class initialisation.Erroneous) made.result refl
-        (thread_with there (failing e last thread) below below_is (exception_is_throwable program limits s e is of_program) refl frames.0.1 (stack_below program (stack_frame.Initialisation class called) below frames.1) (omega arith))
+        changed_is_sound there (failing e last) (slice_set made.initialisations class initialisation.Erroneous) made.result (refl, refl)
+        (thread_with there (failing e last thread) below below_is (exception_is_throwable program limits s e is of_program) (refl, refl) frames.0.1 (stack_below program (stack_frame.Initialisation class called) below frames.1) (omega arith))
         (length-set made.initialisations class initialisation.Erroneous)
         (order_over made.threads made.initialisations t thread (failing e last thread) there.given_out there.sound.initialised class called initialisation.Erroneous (λ u. refl)
         (stands.frames_are ∙ ap (λ (fs : List Frame). stack_frame.Initialisation class called ∷ fs) (sym below_is)))

@@ -10,15 +10,16 @@ use Rattle.jvms_program.specs.declared.program.Class.{Class}
 use Rattle.jvms_program.specs.declared.program.ExceptionHandler.{ExceptionHandler}
 use Rattle.jvms_program.specs.declared.thrown.Thrown.TheVariants as thrown
 use Rattle.jvms_machine.specs.Decisions.{TurnDecision, outcome_of}
-use Rattle.jvms_machine.specs.State.{State, Object, text, Thread, Frame, MethodFrame, object_at, class_of, IsReference, Sound}
+use Rattle.jvms_machine.specs.State.{State, Object, text, Thread, status_by, Frame, MethodFrame, object_at, class_of, IsReference, Sound}
 use Rattle.jvms_machine.specs.Start.{Start}
 use Rattle.jvms_machine.specs.Status.{is_enabled}
 use Rattle.jvms_machine.specs.Unwinding.{CanBeUnwound, handler_of, popped_decision, handler_decision, failed_with, top_decision, object_decision, unwinding_decision}
 use Rattle.jvms_machine.specs.Exceptions.{exception_of}
 use Rattle.jvms_machine.specs.Monitors.{is_empty, leaving, unlocking}
-use Rattle.jvms_machine.specs.Turn.{live_decision, given_out_decision, thread_decision, decide, turn}
+use Rattle.jvms_machine.specs.Turn.{given_out_decision, thread_decision, decide, turn}
 use Rattle.jvms_machine.proofs.ThreadChanges.{Stands, pending_is}
 use Rattle.jvms_machine.proofs.UnmadeTurns.{action_is_enabled}
+use Rattle.jvms_machine.proofs.TurnSoundness.{pending_is_awake}
 
 -- What is decided is the turn of an enabled thread.
 abbrev IsMade : TurnDecision → Type 0
@@ -72,11 +73,12 @@ module _ (program : List Class) (limits : Limits) (s : State) where
   decides_to_unwind : (start : Start) (t : ℕ) (thread : Thread) (r : ℕ) → slice_get s.threads t ≡ Some thread → thread.ended ≡ false → thread.pending ≡ Some r → decide program limits start s t ≡ unwinding_decision program limits s t thread r
   unfolding decide
   decides_to_unwind start t thread r given_out live pending =
-      ap (thread_decision program limits start s t) given_out ∙ ap (given_out_decision program limits start s t thread) live
-      ∙ ap (live_decision program limits start s t thread) pending
+      ap (thread_decision program limits start s t) given_out
+      ∙ ap (given_out_decision program limits start s t thread) (ap (λ b. status_by b thread.pending thread.waits) live ∙ ap (λ o. status_by false o thread.waits) pending)
 
 pub pending_is_unwound : (program : List Class) (limits : Limits) (start : Start) (s : State) (t : ℕ) (thread : Thread) (r : ℕ) → Sound program limits s → slice_get s.threads t ≡ Some thread → thread.ended ≡ false → thread.pending ≡ Some r → CanBeUnwound thread.frames → is_enabled (turn program limits start s t).outcome ≡ true
 unfolding turn
 pending_is_unwound program limits start s t thread r sound given_out live pending can =
     subst IsMade (sym (decides_to_unwind program limits s start t thread r given_out live pending))
-    (unwinding_is_made program limits s t thread r (record { sound = sound; given_out = given_out; frames_are = refl }) pending can)
+    (unwinding_is_made program limits s t thread r
+    (record { sound = sound; given_out = given_out; awake = pending_is_awake program limits start s t thread r thread.waits sound given_out pending refl; frames_are = refl }) pending can)

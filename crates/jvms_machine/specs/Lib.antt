@@ -33,3 +33,4 @@ pub mod Switches
 pub mod Threads
 pub mod Turn
 pub mod Unwinding
+pub mod Waiting

@@ -1,5 +1,5 @@
--- The native methods of built-in classes: what System.out prints, and starts and joins of threads. Each is done in the turn
--- of its call.
+-- The native methods of built-in classes: what System.out prints, starts and joins of threads, and waits and notifications.
+-- Each is done in the turn of its call.
 use Rattle.std.specs.Prelude.{ℕ, Bool, true, ◌&&◌, if◌then◌else◌, List, ◌∷◌, Option, Some, None, codes}
 use Rattle.jvms_machine.specs.declared.value.Value.{Value}
 use Rattle.jvms_machine.specs.declared.value.Value.TheVariants as value
@@ -17,6 +17,7 @@ use Rattle.jvms_machine.specs.State.{State, Thread, Activation, Object, text, ob
 use Rattle.jvms_machine.specs.Exceptions.{throws}
 use Rattle.jvms_machine.specs.Fields.{reaches, taking}
 use Rattle.jvms_machine.specs.Threads.{thread_native_decision}
+use Rattle.jvms_machine.specs.Waiting.{object_native_decision}
 
 -- What a print takes: the receiver, and, of all but println()V, what is printed.
 abbrev pub prints : Activation → ℕ → Printed → Bool → TurnDecision
@@ -40,10 +41,11 @@ print_decision s a m =
     if same_text m.name (codes "println") && same_text m.descriptor (codes "()V") then prints a 1 printed.Nothing true
     else top_printed s a (same_text m.name (codes "println")) a.operands
 
--- Native methods are those of PrintStream and of Thread; any other has no body.
-abbrev pub native_of_class : Limits → State → Thread → Activation → Method → Option Class → TurnDecision
-native_of_class limits s thread a m None = never_seen
-native_of_class limits s thread a m (Some c) =
+-- Native methods are those of PrintStream, of Thread and of Object; any other has no body.
+abbrev pub native_of_class : Limits → State → ℕ → Thread → Activation → Method → Option Class → TurnDecision
+native_of_class limits s t thread a m None = never_seen
+native_of_class limits s t thread a m (Some c) =
     if same_text c.name (codes "java/io/PrintStream") then print_decision s a m
     else (if same_text c.name (codes "java/lang/Thread") then thread_native_decision limits s thread a m a.operands
-    else throws limits s thread thrown.UnsatisfiedLinkError)
+    else (if same_text c.name (codes "java/lang/Object") then object_native_decision limits s t thread a m a.operands
+    else throws limits s thread thrown.UnsatisfiedLinkError))

@@ -56,6 +56,7 @@ opening program =
     record {
       heap = opening_heap program;
       monitors = [];
+      waiters = [];
       statics = map opening_static (static_fields program);
       initialisations = map opening_initialisation program;
       threads = new_thread None ∷ [];

@@ -1,6 +1,7 @@
 //! What a turn comes to: decided first, with nothing changed, and then made.
 
 use crate::machine::{BadCause, Outcome, ThreadId};
+use crate::state::Wait;
 use crate::value::Value;
 use jvms_file::insn::StackForm;
 use jvms_program::number::{FieldNumber, MethodNumber};
@@ -142,6 +143,11 @@ pub enum Effect<T> {
     Joins {
         thread: ThreadId,
     },
+    /// The thread that has waited longest for an object is notified, or all are that wait for it.
+    Notifies {
+        reference: u32,
+        all: bool,
+    },
 }
 
 impl<T: Copy> Clone for Effect<T> {
@@ -225,6 +231,10 @@ pub enum Action<C, T> {
         exception: Exception,
         last: bool,
     },
+    /// The call on top, of `wait`, frees a monitor, which was entered so often. The thread waits from now on.
+    Waits(Wait),
+    /// A thread that was notified takes the monitor again, and its call of `wait` is done.
+    Retakes(Wait),
     /// An exception is pending.
     Raises(Exception),
     /// The first call throws an exception, and the thread ends.

@@ -42,6 +42,8 @@ pub enum BlockedOn {
     /// The initialisation of the class at this place of the program's list.
     Initialisation { class: usize, owner: ThreadId },
     Join { thread: ThreadId },
+    /// A notification of those that wait for the object of this reference.
+    Wait { reference: u32 },
 }
 
 /// Why a turn can't be made by the instruction table.

@@ -18,6 +18,14 @@ pub struct Hold {
     pub count: u32,
 }
 
+/// What a thread keeps that waits (JLS 17.2): the object that it waits for, and how often it had entered the object's
+/// monitor, from 1 on.
+#[derive(Clone, Copy, Debug, PartialEq, Eq)]
+pub struct Wait {
+    pub reference: u32,
+    pub count: u32,
+}
+
 /// What stands on a thread's stack (JVMS 2.5.2): the frame `F` of a call, or the initialisation of the class of a
 /// number and whether its `<clinit>` was called.
 #[derive(Drop)]

@@ -18,7 +18,7 @@ use Rattle.jvms_file.specs.ConstantPool.{entry, utf8_at}
 use Rattle.jvms_program.specs.declared.program.Class.{Class}
 use Rattle.jvms_program.specs.declared.program.Method.{Method}
 use Rattle.jvms_program.specs.Meaning.{meaning, instruction_of, field_reference_of, method_reference_of, body_of, code_of, flags_of, method_of, field_of}
-use Rattle.jvms_program.specs.BuiltIn.{built_in_classes, no_flags, print_stream_class, thread_class, throwable_class, throwable_constructors}
+use Rattle.jvms_program.specs.BuiltIn.{built_in_classes, no_flags, object_class, print_stream_class, thread_class, throwable_class, throwable_constructors}
 use Rattle.jvms_program.specs.Program.{IsProgram, IsSpelledInstruction, IsSpelledMethod, IsSpelledClass, HasItsFlags, program_of}
 
 -- ---- Lists
@@ -114,11 +114,14 @@ thread_is_spelled = (
 print_stream_is_spelled : IsSpelledClass print_stream_class
 print_stream_is_spelled = (tt, ((refl, tt), ((refl, tt), ((refl, tt), ((refl, tt), ((refl, tt), tt))))))
 
+object_is_spelled : IsSpelledClass object_class
+object_is_spelled = (tt, ((refl, (tt, tt)), ((refl, tt), ((refl, tt), ((refl, tt), tt)))))
+
 -- The classes below Throwable have its constructors, and nothing else.
 built_ins_are_spelled : AllByRecursion IsSpelledClass built_in_classes
 unfolding built_in_classes
 built_ins_are_spelled = (
-  (tt, ((refl, (tt, tt)), tt)),
+  object_is_spelled,
   (
     (tt, tt),
     (

@@ -74,7 +74,19 @@ interface_with methods name =
 
 abbrev pub object_class : Class
 object_class =
-    record { name = object; kind = kind.Neither; superclass = None; interfaces = []; fields = []; methods = coded (codes "<init>") (codes "()V") (return_void ∷ []) ∷ [] }
+    record {
+      name = object;
+      kind = kind.Neither;
+      superclass = None;
+      interfaces = [];
+      fields = [];
+      methods =
+          coded (codes "<init>") (codes "()V") (return_void ∷ [])
+          ∷ native (codes "wait") (codes "()V")
+          ∷ native (codes "notify") (codes "()V")
+          ∷ native (codes "notifyAll") (codes "()V")
+          ∷ [];
+    }
 
 abbrev pub runnable_class : Class
 runnable_class = interface_with (abstracted (codes "run") (codes "()V") ∷ []) (codes "java/lang/Runnable")

@@ -15,7 +15,7 @@ use jvms_program::number::MethodNumber;
 use jvms_program::program::Class;
 use machine_parts::Parts;
 use machine_thread::Thread;
-use monitors::Monitors;
+use monitors::{Monitors, Waiters};
 use program::Program;
 use std::alloc::{AllocError, Global};
 
@@ -123,6 +123,7 @@ pub(crate) fn open<'p>(
         initialisations: lists.initialisations,
         threads: lists.threads,
         monitors: Monitors::new(alloc),
+        waiters: Waiters::new(alloc),
         output: Vec::new(alloc),
         result: None,
     })

@@ -13,6 +13,7 @@ mod monitor_use;
 mod parts;
 mod raising;
 mod stored;
+mod waiting;
 
 pub use decision::{
     ActionText, Decided, Reached, bad, has_depth, never_seen, outcome, reaches, taking,

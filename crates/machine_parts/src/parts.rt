@@ -3,6 +3,7 @@
 ghost use Rattle.std.specs.Prelude.{◌≡◌, IfOk};
 ghost use Rattle.jvms_machine.specs.State.{monitor_at};
 ghost use Rattle.jvms_machine.specs.Threads.{thread_of};
+ghost use Rattle.jvms_machine.specs.Waiting.{is_waiter};
 
 use heap::{Heap, Statics};
 use jvms_machine::machine::Limits;
@@ -10,7 +11,7 @@ use jvms_machine::state::{Hold, Initialisation};
 use jvms_machine::value::Value;
 use jvms_program::number::MethodNumber;
 use machine_thread::Thread;
-use monitors::Monitors;
+use monitors::{Monitors, Waiters};
 use program::Program;
 use std::alloc::{AllocError, Global};
 use std::marker::Model;
@@ -27,6 +28,7 @@ pub struct Parts<'p> {
     pub initialisations: Vec<Initialisation>,
     pub threads: Vec<Thread<'p>>,
     pub monitors: Monitors,
+    pub waiters: Waiters,
     pub output: Vec<u8>,
     pub result: Option<Value>,
 }
@@ -44,6 +46,7 @@ impl<'p> Model for Parts<'p> {
       state = record {
         heap = m.heap.objects;
         monitors = m.monitors;
+        waiters = m.waiters;
         statics = m.statics.fields;
         initialisations = m.initialisations.items;
         threads = m.threads.items;
@@ -80,16 +83,16 @@ fn copied_fields<'p>(
     Ok((copy, statics.copy(alloc)?))
 }
 
-/// The same threads, and how they hold monitors, once more.
-fn copied_holders<'p>(
+/// The same monitors, held alike, and the same threads that wait, once more.
+fn copied_monitors(
     alloc: Global,
-    threads: &[Thread<'p>],
     monitors: &Monitors,
-) -> Result<(Vec<Thread<'p>>, Monitors), AllocError>
-    ensures { IfOk result (λ copies. (copies.0.items ≡ threads.now) × (copies.1 ≡ monitors.now)) }
+    waiters: &Waiters,
+) -> Result<(Monitors, Waiters), AllocError>
+    ensures { IfOk result (λ copies. (copies.0 ≡ monitors.now) × (copies.1 ≡ waiters.now)) }
 {
     let copy = monitors.copy()?;
-    Ok((copied_threads(alloc, threads)?, copy))
+    Ok((copy, waiters.copy(alloc)?))
 }
 
 impl<'p> Parts<'p> {
@@ -101,7 +104,8 @@ impl<'p> Parts<'p> {
         let arguments = Vec::from_slice(alloc, self.arguments.as_slice())?;
         let initialisations = Vec::from_slice(alloc, self.initialisations.as_slice())?;
         let output = Vec::from_slice(alloc, self.output.as_slice())?;
-        let (threads, monitors) = copied_holders(alloc, self.threads.as_slice(), &self.monitors)?;
+        let threads = copied_threads(alloc, self.threads.as_slice())?;
+        let (monitors, waiters) = copied_monitors(alloc, &self.monitors, &self.waiters)?;
         let (heap, statics) = copied_fields(alloc, &self.heap, &self.statics)?;
         Ok(Parts {
             alloc,
@@ -113,6 +117,7 @@ impl<'p> Parts<'p> {
             initialisations,
             threads,
             monitors,
+            waiters,
             output,
             result: self.result,
         })
@@ -133,6 +138,13 @@ impl<'p> Parts<'p> {
             .as_slice()
             .iter()
             .position(|thread| thread.is_of(reference))
+    }
+
+    /// Whether a thread waits and wasn't notified.
+    pub fn is_waiter(&self, t: usize) -> bool
+        ensures { result ≡ is_waiter t self.now.state.waiters }
+    {
+        self.waiters.contains(t)
     }
 
     /// How the monitor of an object is held, if it is.

@@ -7,12 +7,15 @@ use std::process::Abort;
 use std::test::Fail;
 
 /// Outcomes of every kind, and some once more with other names.
-const OUTCOMES: [Outcome; 16] = [
+const OUTCOMES: [Outcome; 17] = [
     Outcome::Ran,
     Outcome::Blocked {
         on: BlockedOn::Join { thread: 7 },
     },
     Outcome::Raised,
+    Outcome::Blocked {
+        on: BlockedOn::Wait { reference: 6 },
+    },
     Outcome::Blocked {
         on: BlockedOn::Monitor {
             reference: 5,

@@ -10,6 +10,7 @@ use Rattle.jvms_machine.specs.declared.state.Initialisation.TheVariants as initi
 use Rattle.jvms_machine.specs.declared.value.Value.{Value}
 use Rattle.jvms_machine.specs.declared.value.Value.TheVariants as value
 use Rattle.jvms_machine.specs.Heap.{value_of}
+use Rattle.jvms_machine.specs.Waiting.{waiters_of}
 use Rattle.jvms_machine.specs.State.{Object, instance, array, text, class_object, keys, monitor_at, object_at}
 use Rattle.jvms_program.specs.declared.key.FieldKey.{FieldKey}
 use Rattle.jvms_program.specs.declared.program.Class.{Class}
@@ -43,9 +44,19 @@ abbrev pub hold_line : Option Hold → List ℕ
 hold_line None = []
 hold_line (Some hold) = codes "owned by " ++ decimal hold.owner ++ codes " count " ++ decimal hold.count ++ codes "\n"
 
+abbrev pub waiter_text : ℕ → List ℕ
+waiter_text thread = codes " " ++ decimal thread
+
+-- `waiting T T ..`, the thread that has waited longest first, where one waits.
+abbrev pub waiting_line : List ℕ → List ℕ
+waiting_line [] = []
+waiting_line (t ∷ threads) = codes "waiting" ++ flat_map waiter_text (t ∷ threads) ++ codes "\n"
+
 abbrev pub lines_of : Machine → ℕ → Option Object → List ℕ
 lines_of m r None = []
-lines_of m r (Some object) = codes "R:" ++ decimal r ++ codes " " ++ object_lines object ++ hold_line (monitor_at m.state.monitors r)
+lines_of m r (Some object) =
+    codes "R:" ++ decimal r ++ codes " " ++ object_lines object ++ hold_line (monitor_at m.state.monitors r)
+    ++ waiting_line (waiters_of r m.state.waiters)
 
 -- The object that a reference leads to.
 abbrev pub object_text : Machine → ℕ → List ℕ

@@ -25,11 +25,12 @@ cause_text bad_cause.Depth = codes "Depth"
 cause_text bad_cause.Kind = codes "Kind"
 cause_text bad_cause.Local = codes "Local"
 
--- `monitor R by U`, `init C by U` or `join U`.
+-- `monitor R by U`, `init C by U`, `join U` or `wait R`.
 abbrev pub blocked_text : List Class → BlockedOn → List ℕ
 blocked_text program (blocked_on.Monitor reference owner) = codes "monitor " ++ decimal reference ++ codes " by " ++ decimal owner
 blocked_text program (blocked_on.Initialisation class owner) = codes "init " ++ class_name_text program class ++ codes " by " ++ decimal owner
 blocked_text program (blocked_on.Join thread) = codes "join " ++ decimal thread
+blocked_text program (blocked_on.Wait reference) = codes "wait " ++ decimal reference
 
 abbrev pub outcome_text : List Class → Outcome → List ℕ
 outcome_text program outcome.Ran = codes "Ran"

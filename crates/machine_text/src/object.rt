@@ -5,7 +5,8 @@ ghost use Rattle.std.specs.List.{enumerate_from, flat_map};
 ghost use Rattle.std.specs.String.{string_bytes};
 ghost use Rattle.jvms_machine.specs.State.{instance, array, text, class_object};
 ghost use Rattle.jvms_machine.specs.State.{monitor_at, object_at};
-ghost use Rattle.machine_text.specs.Objects.{element_line, hold_line, object_lines};
+ghost use Rattle.jvms_machine.specs.Waiting.{waiters_of};
+ghost use Rattle.machine_text.specs.Objects.{element_line, hold_line, object_lines, waiter_text, waiting_line};
 ghost use Rattle.machine_text.specs.Objects.{object_text as text_of_object};
 ghost use Rattle.machine_text.specs.Parts.{Shows, elements_at, fields_at, fields_text, if_there};
 
@@ -14,6 +15,7 @@ use crate::fields::{Keeper, put_fields};
 use crate::value::{put_counted, put_value};
 use escapes::put_name;
 use jvms_machine::laws::the_keys_of_an_instance_are_those_of_its_class;
+use jvms_machine::machine::ThreadId;
 use jvms_program::program::Class;
 use machine::Machine;
 use std::alloc::{AllocError, Global};
@@ -195,6 +197,36 @@ fn put_hold(out: &mut String, machine: &Machine, reference: u32) -> Result<(), A
     out.push_str("\n")
 }
 
+/// Appends the numbers of threads.
+fn put_waiters(out: &mut String, threads: &[ThreadId]) -> Result<(), AllocError>
+    ensures { OnOk result (string_bytes out.new ≡ string_bytes out.old
+        ++ flat_map waiter_text threads.now) }
+{
+    for thread in threads {
+        put_counted(out, " ", u64::from(*thread))?;
+    }
+    Ok(())
+}
+
+/// Appends which threads wait for an object. Appends nothing where none does.
+fn put_waiting(
+    alloc: Global,
+    out: &mut String,
+    machine: &Machine,
+    reference: u32,
+) -> Result<(), AllocError>
+    ensures { OnOk result (string_bytes out.new ≡ string_bytes out.old
+        ++ waiting_line (waiters_of reference machine.now.state.waiters)) }
+{
+    let threads = machine.waiters(alloc, reference)?;
+    if threads.is_empty() {
+        return Ok(());
+    }
+    out.push_str("waiting")?;
+    put_waiters(out, threads.as_slice())?;
+    out.push_str("\n")
+}
+
 /// Appends the lines of the object of a reference.
 fn put_lines(
     alloc: Global,
@@ -210,7 +242,8 @@ fn put_lines(
     put_counted(out, "R:", u64::from(reference))?;
     out.push_str(" ")?;
     put_object(alloc, out, machine, reference, view)?;
-    put_hold(out, machine, reference)
+    put_hold(out, machine, reference)?;
+    put_waiting(alloc, out, machine, reference)
 }
 
 /// Returns the lines of the object of a reference.

@@ -50,6 +50,7 @@ fn put_blocked(out: &mut String, program: &Program, on: BlockedOn) -> Result<(),
             put_counted(out, " by ", u64::from(owner))
         }
         BlockedOn::Join { thread } => put_counted(out, "join ", u64::from(thread)),
+        BlockedOn::Wait { reference } => put_counted(out, "wait ", u64::from(reference)),
     }
 }
 

@@ -13,7 +13,9 @@ use Rattle.std.proofs.lemmas.Cmp.{nat_cmp_total}
 use Rattle.std.proofs.lemmas.Bool.Decides.{nat_tests}
 use Rattle.jvms_machine.specs.declared.state.Hold.{Hold}
 use Rattle.jvms_machine.specs.Monitors.{with_hold, entered_monitor, left_monitor}
+use Rattle.jvms_machine.specs.declared.state.Wait.{Wait}
 use Rattle.jvms_machine.specs.State.{monitor_at}
+use Rattle.jvms_machine.specs.Waiting.{retaken_monitor}
 
 abbrev pub Holds : Type 0
 Holds = List (ℕ × Hold)
@@ -90,6 +92,10 @@ enters_first thread r old new h free is put = rw (put, inserted r h old, free, i
 pub enters_again : (thread r : ℕ) (old new : Holds) (held h : Hold) → monitor_at old r ≡ Some held → h ≡ record { owner = held.owner; count = held.count + 1 }
     → new ≡ insert_entry nat_cmp old r h → new ≡ entered_monitor thread r old
 enters_again thread r old new held h found is put = rw (put, inserted r h old, found, is) refl
+
+pub retakes : (thread : ℕ) (wait : Wait) (old new : Holds) → new ≡ insert_entry nat_cmp old wait.reference (record { owner = thread; count = wait.count })
+    → new ≡ retaken_monitor thread wait old
+retakes thread wait old new put = put ∙ inserted wait.reference (record { owner = thread; count = wait.count }) old
 
 -- A monitor that isn't found in the tree isn't held.
 pub not_held : (r : ℕ) (holds : Holds) → lookup (is_at (nat_cmp r)) holds ≡ None → IsSome (monitor_at holds r) → ⊥

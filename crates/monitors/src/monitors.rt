@@ -2,10 +2,11 @@
 
 ghost use Rattle.std.specs.Prelude.{◌≡◌, ℕ, ◌+◌, ◌^◌, ◌<◌, [], length, IsTrue, ◌↔◌, IfOk, IsSome, IfSome, IsOk, OnOk, OnErr};
 ghost use Rattle.jvms_machine.specs.Monitors.{entered_monitor, left_monitor};
+ghost use Rattle.jvms_machine.specs.Waiting.{freed_monitor, retaken_monitor};
 ghost use Rattle.jvms_machine.specs.State.{monitor_at};
 
 use jvms_machine::machine::ThreadId;
-use jvms_machine::state::Hold;
+use jvms_machine::state::{Hold, Wait};
 use std::alloc::{AllocError, Global};
 use std::collections::BTreeMap;
 use std::marker::Model;
@@ -100,5 +101,26 @@ impl Monitors {
         } else {
             hold.count = hold.count.saturating_sub(1);
         }
+    }
+
+    /// The owner of the monitor of an object leaves it, however often it was entered. Takes no memory.
+    pub fn free(&mut self, reference: u32)
+        ensures { self.new ≡ freed_monitor reference self.old }
+    {
+        self.holds.remove(&reference);
+    }
+
+    /// A thread that has waited takes the monitor of the object again, entered as often as before. Without memory nothing
+    /// changes.
+    pub fn retake(&mut self, thread: ThreadId, wait: Wait) -> Result<(), AllocError>
+        ensures ok { OnOk result (self.new ≡ retaken_monitor thread wait self.old) }
+        ensures err { OnErr result (self.new ≡ self.old) }
+    {
+        let hold = Hold {
+            owner: thread,
+            count: wait.count,
+        };
+        self.holds.insert(wait.reference, hold)?;
+        Ok(())
     }
 }

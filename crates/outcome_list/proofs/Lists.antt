@@ -22,6 +22,7 @@ told_whole (outcome.Ended false) = refl
 told_whole (outcome.Blocked (blocked_on.Monitor reference owner)) = refl
 told_whole (outcome.Blocked (blocked_on.Initialisation class owner)) = refl
 told_whole (outcome.Blocked (blocked_on.Join thread)) = refl
+told_whole (outcome.Blocked (blocked_on.Wait reference)) = refl
 told_whole outcome.NoThread = refl
 told_whole (outcome.Bad bad_cause.FellOff) = refl
 told_whole (outcome.Bad bad_cause.OutOfProfile) = refl
@@ -38,6 +39,7 @@ one_fits (outcome.Ended false) = record { threads = refl; references = refl; cla
 one_fits (outcome.Blocked (blocked_on.Monitor reference owner)) = record { threads = refl; references = refl; classes = refl }
 one_fits (outcome.Blocked (blocked_on.Initialisation class owner)) = record { threads = refl; references = refl; classes = refl }
 one_fits (outcome.Blocked (blocked_on.Join thread)) = record { threads = refl; references = refl; classes = refl }
+one_fits (outcome.Blocked (blocked_on.Wait reference)) = record { threads = refl; references = refl; classes = refl }
 one_fits outcome.NoThread = record { threads = refl; references = refl; classes = refl }
 one_fits (outcome.Bad bad_cause.FellOff) = record { threads = refl; references = refl; classes = refl }
 one_fits (outcome.Bad bad_cause.OutOfProfile) = record { threads = refl; references = refl; classes = refl }
@@ -104,6 +106,7 @@ told_before kind.Monitor names others is =
 told_before kind.Initialisation names others is =
     rw (first_before names.threads others.threads is.threads, first_before names.classes others.classes is.classes) refl
 told_before kind.Join names others is = rw (first_before names.threads others.threads is.threads) refl
+told_before kind.Wait names others is = rw (first_before names.references others.references is.references) refl
 
 behind_before : (k : Kind) (names others : Names) → Enough k names → names_behind k (followed names others) ≡ followed (names_behind k names) others
 behind_before k names others is =

@@ -18,6 +18,7 @@ threads_of _ = 0
 
 abbrev pub references_of : Kind → ℕ
 references_of kind.Monitor = 1
+references_of kind.Wait = 1
 references_of _ = 0
 
 abbrev pub classes_of : Kind → ℕ
@@ -50,6 +51,7 @@ outcome_by kind.Local names = outcome.Bad bad_cause.Local
 outcome_by kind.Monitor names = outcome.Blocked (blocked_on.Monitor (first names.references) (first names.threads))
 outcome_by kind.Initialisation names = outcome.Blocked (blocked_on.Initialisation (first names.classes) (first names.threads))
 outcome_by kind.Join names = outcome.Blocked (blocked_on.Join (first names.threads))
+outcome_by kind.Wait names = outcome.Blocked (blocked_on.Wait (first names.references))
 
 -- The names that an outcome of a kind leaves to those behind it.
 abbrev pub names_behind : Kind → Names → Names

@@ -15,6 +15,7 @@ kind_of (outcome.Ended false) = kind.Ended
 kind_of (outcome.Blocked (blocked_on.Monitor reference owner)) = kind.Monitor
 kind_of (outcome.Blocked (blocked_on.Initialisation class owner)) = kind.Initialisation
 kind_of (outcome.Blocked (blocked_on.Join thread)) = kind.Join
+kind_of (outcome.Blocked (blocked_on.Wait reference)) = kind.Wait
 kind_of outcome.NoThread = kind.NoThread
 kind_of (outcome.Bad bad_cause.FellOff) = kind.FellOff
 kind_of (outcome.Bad bad_cause.OutOfProfile) = kind.OutOfProfile

@@ -22,11 +22,13 @@ followed names others =
       classes = names.classes ++ others.classes;
     }
 
--- What a blocked thread waits for names an owner or a thread, and maybe a reference or a class.
+-- What a blocked thread waits for names an owner or a thread, and maybe a reference or a class. A wait for a notification
+-- names a reference alone.
 abbrev pub names_of : BlockedOn → Names
 names_of (blocked_on.Monitor reference owner) = record { threads = owner ∷ []; references = reference ∷ []; classes = [] }
 names_of (blocked_on.Initialisation class owner) = record { threads = owner ∷ []; references = []; classes = class ∷ [] }
 names_of (blocked_on.Join thread) = record { threads = thread ∷ []; references = []; classes = [] }
+names_of (blocked_on.Wait reference) = record { threads = []; references = reference ∷ []; classes = [] }
 
 -- No other outcome names anything.
 abbrev pub names_in : Outcome → Names

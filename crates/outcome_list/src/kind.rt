@@ -26,6 +26,8 @@ pub(crate) enum Kind {
     Initialisation,
     /// Blocked on a thread's end: the thread is among the names.
     Join,
+    /// Blocked on a notification: the reference is among the names.
+    Wait,
 }
 
 const _: () = prove!(size_of::<Kind>() == 1);
@@ -51,6 +53,7 @@ fn blocked_kind(on: BlockedOn) -> Kind
         BlockedOn::Monitor { .. } => Kind::Monitor,
         BlockedOn::Initialisation { .. } => Kind::Initialisation,
         BlockedOn::Join { .. } => Kind::Join,
+        BlockedOn::Wait { .. } => Kind::Wait,
     }
 }
 

@@ -10,7 +10,7 @@ use std::alloc::{AllocError, Global};
 use std::marker::Model;
 
 /// A list of outcomes, which contracts see as the list itself. An outcome that names nothing takes one byte, one that is
-/// blocked by a monitor 9, by an initialisation 13, and by a thread that has not ended 5.
+/// blocked by a monitor 9, by an initialisation 13, and by a thread that has not ended or by a wait 5.
 #[derive(Debug, Drop)]
 pub struct OutcomeList {
     kinds: Vec<Kind>,

@@ -53,6 +53,7 @@ impl Names {
                 self.threads.push_reserved(owner);
             }
             BlockedOn::Join { thread } => self.threads.push_reserved(thread),
+            BlockedOn::Wait { reference } => self.references.push(reference)?,
         }
         Ok(())
     }
@@ -173,6 +174,11 @@ impl<'n> NamesLeft<'n> {
             Kind::Join => Outcome::Blocked {
                 on: BlockedOn::Join {
                     thread: self.next_thread(),
+                },
+            },
+            Kind::Wait => Outcome::Blocked {
+                on: BlockedOn::Wait {
+                    reference: self.next_reference(),
                 },
             },
         }

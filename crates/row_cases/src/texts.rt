@@ -66,6 +66,7 @@ fn blocked(alloc: Global, machine: &Machine<'_>, on: BlockedOn) -> Result<String
             format!(in alloc; "Blocked init {class} by {owner}")
         }
         BlockedOn::Join { thread } => format!(in alloc; "Blocked join {thread}"),
+        BlockedOn::Wait { reference } => format!(in alloc; "Blocked wait {reference}"),
     }
 }
 

@@ -22,7 +22,7 @@ use Rattle.jvms_program.specs.Program.{field_key_at}
 use Rattle.jvms_machine.specs.Decisions.{TurnAction, TurnDecision}
 use Rattle.jvms_machine.specs.State.{State, Thread, Frame, new_thread}
 use Rattle.jvms_machine.specs.Start.{Start}
-use Rattle.jvms_machine.specs.Actions.{affected, applied_to, caller_gone_on, changed_to, initializer_called, operands_of, put_field, put_static, top_given, top_gone_on, top_handling, with_class_constants, with_exception, with_lock, with_result, with_unlock}
+use Rattle.jvms_machine.specs.Actions.{affected, applied_to, caller_gone_on, changed_to, initializer_called, operands_of, put_field, put_static, top_given, top_gone_on, top_handling, with_class_constants, with_exception, with_lock, with_result, with_retaken, with_unlock, with_waiter}
 use Rattle.jvms_machine.specs.Marks.{calls, calls_in}
 use Rattle.jvms_machine.specs.Turn.{decide, state_after, turn}
 use Rattle.jvms_machine.proofs.ListLaws.{get_set_other, get_set_same}
@@ -145,6 +145,7 @@ affected_calls program s t operands (effect.Locks monitor) u = refl
 affected_calls program s t operands (effect.Unlocks monitor) u = refl
 affected_calls program s t operands (effect.Starts r v) u = started_calls s.threads (Some r) u
 affected_calls program s t operands (effect.Joins v) u = refl
+affected_calls program s t operands (effect.Notifies r all) u = refl
 
 -- ---- Turns
 
@@ -180,6 +181,10 @@ module _ (program : List Class) (start : Start) (s : State) (t : ℕ) where
       in_same (with_exception program s e) _ (exception_threads program s e) (λ thread. popped_calls thread.frames)
   action_changes (action.FailsInitialisation class e last) =
       in_same (with_exception program s e) _ (exception_threads program s e) (λ thread. popped_calls thread.frames)
+  action_changes (action.Waits w) =
+      in_same (with_waiter s t w.reference) _ refl (λ thread. goes_on thread.frames (top_given 1 thread.frames) (given_calls 1 thread.frames))
+  action_changes (action.Retakes w) =
+      in_same (with_retaken s t w) _ refl (λ thread. goes_on thread.frames (caller_gone_on None thread.frames) (returned_calls None thread.frames))
   action_changes (action.Raises e) = in_same (with_exception program s e) _ (exception_threads program s e) (λ thread. inl ([], refl))
   action_changes (action.Fails e) = in_same (with_exception program s e) _ (exception_threads program s e) (λ thread. inl ([], refl))
 

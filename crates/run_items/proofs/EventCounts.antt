@@ -111,6 +111,7 @@ effect_is_one program t (effect.Locks monitor) = one_acquired t monitor
 effect_is_one program t (effect.Unlocks monitor) = one_released t monitor
 effect_is_one program t (effect.Starts r u) = omega arith
 effect_is_one program t (effect.Joins u) = omega arith
+effect_is_one program t (effect.Notifies r all) = omega arith
 
 -- A call that comes with what it locks, and one that goes with what it unlocks.
 entered_is_one : (program : List Class) (t : ℕ) (m : MethodNumber) (locked : Lock) → events_among (enter_items program t m ++ lock_items t locked) ≤ 1
@@ -143,6 +144,8 @@ action_is_one program t (action.Catches r target) = omega arith
 action_is_one program t (action.Unwinds method last unlock) = exited_is_one program t method unlock
 action_is_one program t (action.FailsToUnlock method e last) = let none = no_event_exited program t method in omega arith
 action_is_one program t (action.FailsInitialisation class e last) = omega arith
+action_is_one program t (action.Waits w) = omega arith
+action_is_one program t (action.Retakes w) = omega arith
 action_is_one program t (action.Raises e) = omega arith
 action_is_one program t (action.Fails e) = omega arith
 

@@ -1,5 +1,5 @@
 -- What an instruction that calls, or touches a variable, may come to.
-use Rattle.std.proofs.Common.{List, Some, slice_get, ℕ, ◌+◌, ◌∷◌, ◌≡◌}
+use Rattle.std.proofs.Common.{List, None, Some, slice_get, ℕ, ◌+◌, ◌∷◌, ◌≡◌}
 use Rattle.std.specs.List.{filter}
 use Rattle.jvms_program.specs.Program.{IsProgram}
 use Rattle.jvms_program.specs.declared.number.MethodNumber.{MethodNumber}
@@ -17,6 +17,7 @@ use Rattle.jvms_machine.specs.declared.action.FrameAction.{FrameAction}
 use Rattle.jvms_machine.specs.declared.action.Lock.{Lock}
 use Rattle.jvms_machine.specs.declared.machine.Limits.{Limits}
 use Rattle.jvms_machine.specs.declared.state.StackFrame.TheVariants as stack_frame
+use Rattle.jvms_machine.specs.declared.state.Wait.{Wait}
 use Rattle.jvms_machine.specs.declared.trace.Item.{Item}
 use Rattle.turn_items.proofs.DecisionWalks.{IsOfTests}
 use Rattle.turn_items.specs.Accesses.{is_access}
@@ -26,17 +27,20 @@ use Rattle.turn_items.specs.Joins.{is_join}
 abbrev pub AreKnown : List Class → Limits → State → Type 0
 AreKnown program limits s = IsProgram program × Sound program limits s
 
--- The call on top of a thread that was given out.
+-- The call on top of a thread that was given out, and doesn't wait.
 pub record IsOnTop (s : State) (t : ℕ) (thread : Thread) (frame : MethodFrame) (below : List Frame) : Type 0 where
   pub given_out : slice_get s.threads t ≡ Some thread
+  pub awake : thread.waits ≡ None
   pub frames_are : thread.frames ≡ stack_frame.Call frame ∷ below
 
 -- A frame action that goes on to the next instruction.
 abbrev pub IsNext : MethodFrame → FrameAction → Type 0
 IsNext frame act = (applied act frame.activation).place ≡ frame.activation.place + 1
 
--- What holds of tests, of a call, and of an instruction that goes on, where its joins and its accesses are these.
+-- What holds of tests, of a call, of a wait, and of an instruction that goes on, where its joins and its accesses are
+-- these.
 pub record IsOfCalls (program : List Class) (limits : Limits) (s : State) (t : ℕ) (thread : Thread) (frame : MethodFrame) (joins accesses : List Item) (P : TurnDecision → Type 0) : Type 0 where
   pub of_tests : IsOfTests limits s thread P
   pub calls : (n : MethodNumber) (body : Body) (takes : ℕ) (locked : Lock) → P (decision.Makes (action.Calls n body takes locked))
+  pub waits : (w : Wait) → P (decision.Makes (action.Waits w))
   pub reached : (what : Effect (List ℕ)) (act : FrameAction) → IsNext frame act → (AreKnown program limits s → filter is_join (effect_items program t what) ≡ joins) → filter is_access (effect_items program t what) ≡ accesses → P (reaches what act)

@@ -95,6 +95,7 @@ module _ (program : List Class) (t : ℕ) where
   effect_in_parts (effect.Unlocks monitor) = releases_in_parts t monitor
   effect_in_parts (effect.Starts r u) = refl
   effect_in_parts (effect.Joins u) = refl
+  effect_in_parts (effect.Notifies r all) = refl
 
   action_in_parts : (act : TurnAction) → AreInParts (items_of program t act)
   unfolding items_of
@@ -112,6 +113,8 @@ module _ (program : List Class) (t : ℕ) where
   action_in_parts (action.Unwinds method last unlock) = exit_in_parts t (key_of program method) unlock
   action_in_parts (action.FailsToUnlock method e last) = exit_alone t (key_of program method)
   action_in_parts (action.FailsInitialisation class e last) = refl
+  action_in_parts (action.Waits w) = refl
+  action_in_parts (action.Retakes w) = refl
   action_in_parts (action.Raises e) = refl
   action_in_parts (action.Fails e) = refl
 

@@ -1,5 +1,5 @@
 -- A call joins the thread that the states tell, where it goes on.
-use Rattle.std.proofs.Common.{Bool, List, None, Option, Some, [], ap, codes, cond, false, length, nat_lt, not, option_and_then, refl, slice_get, subst, sym, true, ℕ, ◌&&◌, ◌∙◌, ◌∷◌, ◌≡◌}
+use Rattle.std.proofs.Common.{Bool, List, None, Option, Some, [], ap, codes, cond, false, length, nat_lt, not, option_and_then, refl, slice_get, subst, sym, true, ℕ, ◌&&◌, ◌==◌, ◌∙◌, ◌∷◌, ◌≡◌}
 use Rattle.std.proofs.lemmas.Bool.{cond-false, cond-true, cond_both}
 use Rattle.std.proofs.lemmas.Option.{same_Some}
 use Rattle.std.specs.List.{filter}
@@ -23,9 +23,10 @@ use Rattle.jvms_machine.specs.Calls.{are_of_call, call_decision, invoke_decision
 use Rattle.jvms_machine.specs.Decisions.{TurnDecision, never_seen}
 use Rattle.jvms_machine.specs.Fields.{reaches, taking}
 use Rattle.jvms_machine.specs.Natives.{native_of_class, object_printed, print_decision, prints, top_printed}
-use Rattle.jvms_machine.specs.State.{Frame, MethodFrame, Object, State, Thread, array, class_object, class_of, instance, object_at, result_length, text}
+use Rattle.jvms_machine.specs.State.{Frame, MethodFrame, Object, State, Thread, array, class_object, class_of, instance, monitor_at, object_at, result_length, text}
 use Rattle.jvms_machine.specs.Steps.{instruction_at}
 use Rattle.jvms_machine.specs.Threads.{join_decision, start_decision, thread_native_decision, thread_of}
+use Rattle.jvms_machine.specs.Waiting.{object_native_decision, owned, waits_or_notifies}
 use Rattle.jvms_machine.specs.declared.action.Action.TheVariants as action
 use Rattle.jvms_machine.specs.declared.action.Decision.TheVariants as decision
 use Rattle.jvms_machine.specs.declared.action.Effect.{Effect}
@@ -36,6 +37,7 @@ use Rattle.jvms_machine.specs.declared.machine.BadCause.TheVariants as cause
 use Rattle.jvms_machine.specs.declared.machine.BlockedOn.TheVariants as blocked
 use Rattle.jvms_machine.specs.declared.machine.Limits.{Limits}
 use Rattle.jvms_machine.specs.declared.machine.Outcome.TheVariants as outcome
+use Rattle.jvms_machine.specs.declared.state.Hold.{Hold}
 use Rattle.jvms_machine.specs.declared.state.StackFrame.TheVariants as stack_frame
 use Rattle.jvms_machine.specs.declared.trace.Item.{Item}
 use Rattle.jvms_machine.specs.declared.value.Value.{Value}
@@ -87,6 +89,25 @@ module _ (program : List Class) (limits : Limits) (s : State) (t : ℕ) (thread 
       (λ _. prints_has 1 printed.Nothing true none)
       (λ _. top_printed_has (same_text m.name (codes "println")) frame.activation.operands none)
 
+  -- ---- The methods of Object
+
+  -- The owner of the monitor may call them.
+  owned_has : (o : Option Hold) (make : ℕ → TurnDecision) → ((count : ℕ) → P (make count)) → P (owned limits s t thread o make)
+  owned_has None make has = call_tests.thrown_by thrown.IllegalMonitorStateException
+  owned_has (Some h) make has =
+      cond_both (h.owner == t) _ _ P (λ _. has h.count) (λ _. call_tests.thrown_by thrown.IllegalMonitorStateException)
+
+  waits_or_notifies_has : (m : Method) (r count : ℕ) → JoinsNone → P (waits_or_notifies frame.activation m r count)
+  waits_or_notifies_has m r count none =
+      cond_both (same_text m.name (codes "wait")) _ _ P
+      (λ _. leaves.waits (record { reference = r; count = count }))
+      (λ _. goes_on_with (effect.Notifies r (same_text m.name (codes "notifyAll"))) 1 (λ known. sym (none known)) refl)
+
+  object_native_has : (m : Method) (operands : List Value) → JoinsNone → P (object_native_decision limits s t thread frame.activation m operands)
+  object_native_has m (value.Reference r ∷ others) none =
+      owned_has (monitor_at s.monitors r) (waits_or_notifies frame.activation m r) (λ count. waits_or_notifies_has m r count none)
+  object_native_has m _ none = call_unmade
+
   -- ---- The methods of Thread
 
   start_has : (r : ℕ) (o : Option ℕ) → JoinsNone → P (start_decision limits s thread frame.activation r o)
@@ -126,7 +147,7 @@ module _ (program : List Class) (limits : Limits) (s : State) (t : ℕ) (thread 
       (λ waits. join_has (thread_of s.threads q) (λ known. of_class.joining known named waits q others is))
   thread_native_has m c _ of_class named is = call_unmade
 
-  native_has : (m : Method) (o : Option Class) → ((c : Class) → o ≡ Some c → AreJoinsOf m c) → P (native_of_class limits s thread frame.activation m o)
+  native_has : (m : Method) (o : Option Class) → ((c : Class) → o ≡ Some c → AreJoinsOf m c) → P (native_of_class limits s t thread frame.activation m o)
   native_has m None of_class = call_unmade
   native_has m (Some c) of_class =
       let joins_of = of_class c refl in
@@ -135,7 +156,9 @@ module _ (program : List Class) (limits : Limits) (s : State) (t : ℕ) (thread 
       (λ known. joins_of.elsewhere known (ap (λ name. same_text name (codes "java/lang/Thread")) (texts_are_same c.name (codes "java/io/PrintStream") (sym stream)))))
       (λ _. cond_both (same_text c.name (codes "java/lang/Thread")) _ _ P
       (λ named. thread_native_has m c frame.activation.operands joins_of named refl)
-      (λ _. call_tests.thrown_by thrown.UnsatisfiedLinkError))
+      (λ other. cond_both (same_text c.name (codes "java/lang/Object")) _ _ P
+      (λ _. object_native_has m frame.activation.operands (λ known. joins_of.elsewhere known other))
+      (λ _. call_tests.thrown_by thrown.UnsatisfiedLinkError)))
 
   -- ---- Calls
 
@@ -197,7 +220,7 @@ module _ (program : List Class) (limits : Limits) (s : State) (t : ℕ) (thread 
                 let thread_named = ap (λ (d : Class). same_text d.name (codes "java/lang/Thread")) (sym c_found) ∙ named in
                 let of_thread = is_thread_class program found.class known.0 is.class_is thread_named in
                 let method_is = is_start_or_join found.class n.method m of_thread (in_its_class found n m is number m_is) native in
-                let stands : Stands program limits s t thread (stack_frame.Call frame ∷ below) = record { sound = known.1; given_out = top.given_out; frames_are = top.frames_are } in
+                let stands : Stands program limits s t thread (stack_frame.Call frame ∷ below) = record { sound = known.1; given_out = top.given_out; awake = top.awake; frames_are = top.frames_are } in
                 let type : m.method_type ≡ r.method_type = called_has_type program frame.method frame.body frame.activation.place how r n m known.0 (frames_are_stack stands).0.0.0 at m_is m_descriptor in
                 let none : length r.method_type.parameters ≡ 0 = sym (ap (λ (k : MethodType). length k.parameters) type) ∙ method_is.arguments in
                 let its_join = is_the_join found thread_named (sym m_name ∙ method_is.name_is waits) (is.descriptor_is ∙ sym m_descriptor ∙ method_is.descriptor_is) in

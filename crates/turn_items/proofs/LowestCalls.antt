@@ -5,7 +5,7 @@ use Rattle.std.proofs.lemmas.Bool.Decides.{eqb_tells}
 use Rattle.std.proofs.lemmas.Option.{none-some, same_Some}
 use Rattle.jvms_program.specs.declared.program.Class.{Class}
 use Rattle.jvms_program.specs.declared.thrown.Thrown.{Thrown}
-use Rattle.jvms_machine.specs.Actions.{affected, applied_to, arguments_of, begun, caller_gone_on, calling, caught, changed_to, ended, failed, first_arguments, first_called, gone_on, initialising, initializer_called, operands_of, popped, raised, returned, thrown_in, top_given, top_gone_on, top_handling, unwound, with_changed, with_class_constants, with_exception, with_lock, with_result, with_unlock}
+use Rattle.jvms_machine.specs.Actions.{affected, applied_to, arguments_of, begun, caller_gone_on, calling, caught, changed_to, ended, failed, first_arguments, first_called, gone_on, initialising, initializer_called, operands_of, popped, put_to_wait, raised, returned, thrown_in, top_given, top_gone_on, top_handling, unwound, waited, with_changed, with_class_constants, with_exception, with_lock, with_result, with_retaken, with_unlock, with_waiter}
 use Rattle.jvms_machine.specs.Calls.{entered}
 use Rattle.jvms_machine.specs.Decisions.{TurnAction, TurnDecision}
 use Rattle.jvms_machine.specs.Exceptions.{exception_of, exception_reference, raising, throws}
@@ -13,7 +13,7 @@ use Rattle.jvms_machine.specs.Monitors.{is_empty, locked_reference}
 use Rattle.jvms_machine.specs.Opening.{opening}
 use Rattle.jvms_machine.specs.Returns.{returns_to}
 use Rattle.jvms_machine.specs.Start.{Start}
-use Rattle.jvms_machine.specs.State.{Frame, MethodFrame, State, Thread, new_thread}
+use Rattle.jvms_machine.specs.State.{Frame, MethodFrame, State, Thread, new_thread, status_by}
 use Rattle.jvms_machine.specs.Turn.{decide, given_out_decision, state_after, thread_decision, turn}
 use Rattle.jvms_machine.specs.declared.action.Action.TheVariants as action
 use Rattle.jvms_machine.specs.declared.action.Decision.TheVariants as decision
@@ -82,7 +82,7 @@ module _ (program : List Class) (limits : Limits) (start : Start) (s : State) (t
   turns_are : IsOfTurns program limits s t thread (λ joins accesses d. IsOfThread d)
   turns_are =
       record {
-        calls = λ frame below joins accesses top. record { of_tests = tests_are; calls = λ n body takes locked. tt; reached = λ what act next joined accessed. tt };
+        calls = λ frame below joins accesses top. record { of_tests = tests_are; calls = λ n body takes locked. tt; waits = λ w. tt; reached = λ what act next joined accessed. tt };
         actions = record { of_tests = tests_are; reached = λ what act is. tt; threw = λ r. tt };
         pops = record {
           unmade = λ o. tt;
@@ -96,6 +96,7 @@ module _ (program : List Class) (limits : Limits) (start : Start) (s : State) (t
         enters = λ is n body locked. is;
         initialises = λ n body. tt;
         finishes = λ c called below is class. subst IsInitialisation (sym is) tt;
+        retakes = λ w. tt;
       }
 
 -- ---- What actions make of the lowest frame
@@ -217,6 +218,10 @@ module _ (program : List Class) (limits : Limits) (start : Start) (s : State) (t
   action_has (action.FailsInitialisation class e last) of =
       own_has (with_exception program s e) (λ v. unwound last (raised (exception_reference s e) v)) (exception_threads program s e)
       (unwound_has (raised (exception_reference s e) thread) last refl refl of)
+  action_has (action.Waits w) of =
+      own_has (with_waiter s t w.reference) (put_to_wait w) (grown_not s.threads) (λ made lives. lives_on (top_given 1 thread.frames) (given_ends 1 thread.frames) made)
+  action_has (action.Retakes w) of =
+      own_has (with_retaken s t w) waited (grown_not s.threads) (λ made lives. lives_on (caller_gone_on None thread.frames) (returned_ends None thread.frames) made)
   action_has (action.Raises e) of =
       own_has (with_exception program s e) (raised (exception_reference s e)) (exception_threads program s e) (λ made lives. lives_on thread.frames (λ is. is) made)
   action_has (action.Fails e) of =
@@ -229,11 +234,11 @@ module _ (program : List Class) (limits : Limits) (start : Start) (s : State) (t
 -- ---- Turns
 
 module _ (program : List Class) (limits : Limits) (start : Start) (s : State) (t : ℕ) where
-  given_out_keeps : (thread : Thread) (over : Bool) → thread.ended ≡ over → slice_get s.threads t ≡ Some thread → HasLowestCall thread → (v : Thread) → slice_get (state_after program start s t (given_out_decision program limits start s t thread over)).threads t ≡ Some v → HasLowestCall v
+  given_out_keeps : (thread : Thread) (has_ended : Bool) → thread.ended ≡ has_ended → slice_get s.threads t ≡ Some thread → HasLowestCall thread → (v : Thread) → slice_get (state_after program start s t (given_out_decision program limits start s t thread (status_by has_ended thread.pending thread.waits))).threads t ≡ Some v → HasLowestCall v
   given_out_keeps thread true is there has v at = subst HasLowestCall (same_Some thread v (sym there ∙ at)) has
   given_out_keeps thread false is there has v at =
-      decision_has program limits start s t thread there is has (given_out_decision program limits start s t thread false)
-      (given_out_has program limits start s t (λ joins accesses d. IsOf thread.frames d) thread (turns_are program limits start s t thread) false there) v at
+      decision_has program limits start s t thread there is has (given_out_decision program limits start s t thread (status_by false thread.pending thread.waits))
+      (given_out_has program limits start s t (λ joins accesses d. IsOf thread.frames d) thread (turns_are program limits start s t thread) false thread.pending thread.waits there refl) v at
 
   thread_keeps : (o : Option Thread) → slice_get s.threads t ≡ o → ((thread : Thread) → o ≡ Some thread → HasLowestCall thread) → (v : Thread) → slice_get (state_after program start s t (thread_decision program limits start s t o)).threads t ≡ Some v → HasLowestCall v
   thread_keeps None is has v at = absurd (none-some v (sym is ∙ at))

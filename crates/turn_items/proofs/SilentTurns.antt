@@ -1,5 +1,5 @@
 -- Turns that neither join a thread nor read or write a variable.
-use Rattle.std.proofs.Common.{Bool, List, Option, [], subst, ℕ, ◌∷◌}
+use Rattle.std.proofs.Common.{Bool, List, Option, [], refl, subst, ℕ, ◌∷◌}
 use Rattle.std.proofs.lemmas.List.{append-nil}
 use Rattle.jvms_program.specs.Program.{key_of}
 use Rattle.jvms_program.specs.declared.number.MethodNumber.{MethodNumber}
@@ -23,6 +23,7 @@ use Rattle.jvms_machine.specs.declared.action.Lock.{Lock}
 use Rattle.jvms_machine.specs.declared.action.MonitorUse.{MonitorUse}
 use Rattle.jvms_machine.specs.declared.machine.Limits.{Limits}
 use Rattle.jvms_machine.specs.declared.machine.Outcome.{Outcome}
+use Rattle.jvms_machine.specs.declared.state.Wait.{Wait}
 use Rattle.jvms_machine.specs.declared.value.Value.{Value}
 use Rattle.turn_items.proofs.SilentItems.{AreSilent, entry_is_silent, exit_is_silent, left_is_silent, lock_is_silent, none_is_silent}
 
@@ -74,6 +75,14 @@ module _ (program : List Class) (limits : Limits) (s : State) (t : ℕ) where
   pub throwing_is_silent : (r : ℕ) → IsSilent (decision.Makes (action.Throws r))
   unfolding items_of
   throwing_is_silent r = none_is_silent
+
+  pub waits_is_silent : (w : Wait) → IsSilent (decision.Makes (action.Waits w))
+  unfolding items_of
+  waits_is_silent w = record { joins = refl; accesses = refl }
+
+  pub retakes_is_silent : (w : Wait) → IsSilent (decision.Makes (action.Retakes w))
+  unfolding items_of
+  retakes_is_silent w = record { joins = refl; accesses = refl }
 
   pub catches_is_silent : (r target : ℕ) → IsSilent (decision.Makes (action.Catches r target))
   unfolding items_of

@@ -7,7 +7,7 @@ use Rattle.jvms_program.specs.declared.number.MethodNumber.{MethodNumber}
 use Rattle.jvms_program.specs.declared.program.Body.{Body}
 use Rattle.jvms_program.specs.declared.program.Class.{Class}
 use Rattle.jvms_program.specs.declared.thrown.Thrown.{Thrown}
-use Rattle.jvms_machine.specs.Actions.{affected, applied_to, arguments_of, begun, call_gone_on, calling, changed_to, effect_items, gone_on, items_of, operands_of, raised, top_gone_on, with_changed, with_class_constants, with_exception, with_lock}
+use Rattle.jvms_machine.specs.Actions.{affected, applied_to, arguments_of, begun, call_gone_on, calling, changed_to, effect_items, given, gone_on, items_of, operands_of, put_to_wait, raised, top_given, top_gone_on, with_changed, with_class_constants, with_exception, with_lock, with_waiter}
 use Rattle.jvms_machine.specs.Activations.{applied}
 use Rattle.jvms_machine.specs.Calls.{entered}
 use Rattle.jvms_machine.specs.Decisions.{TurnDecision}
@@ -26,12 +26,13 @@ use Rattle.jvms_machine.specs.declared.action.Lock.{Lock}
 use Rattle.jvms_machine.specs.declared.machine.Limits.{Limits}
 use Rattle.jvms_machine.specs.declared.machine.Outcome.{Outcome}
 use Rattle.jvms_machine.specs.declared.state.StackFrame.TheVariants as stack_frame
+use Rattle.jvms_machine.specs.declared.state.Wait.{Wait}
 use Rattle.jvms_machine.specs.declared.trace.Item.{Item}
 use Rattle.jvms_machine.proofs.ListLaws.{get_set_same}
 use Rattle.turn_items.proofs.CallLeaves.{AreKnown, IsNext, IsOfCalls, IsOnTop}
 use Rattle.turn_items.proofs.SilentItems.{AreSilent, none_is_silent}
-use Rattle.turn_items.proofs.SilentTurns.{begins_is_silent, calls_is_silent, raising_is_silent}
-use Rattle.turn_items.proofs.ThreadLaws.{AreThreadsGrown, affected_threads, constants_threads, exception_threads, locked_threads}
+use Rattle.turn_items.proofs.SilentTurns.{begins_is_silent, calls_is_silent, raising_is_silent, waits_is_silent}
+use Rattle.turn_items.proofs.ThreadLaws.{AreThreadsGrown, affected_threads, constants_threads, exception_threads, grown_not, locked_threads}
 use Rattle.turn_items.specs.Accesses.{is_access}
 use Rattle.turn_items.specs.Joins.{is_join}
 use Rattle.turn_items.specs.Progress.{call_on, has_gone_on, is_further, top_call}
@@ -99,6 +100,15 @@ module _ (program : List Class) (limits : Limits) (start : Start) (s : State) (t
       further_to (with_changed made t (calling callee takes)) (Some callee) (changed_top made (calling callee takes) (locked_threads program s t locked))
       ∙ ne_eqb 0 (frame.activation.place + 1) (λ same. absurd (omega arith))
 
+  -- A call of wait is done later.
+  waits_stays : (w : Wait) → gone (decision.Makes (action.Waits w)) ≡ false
+  unfolding applied_to
+  waits_stays w =
+      let made = with_waiter s t w.reference in
+      further_to (with_changed made t (put_to_wait w)) (Some (given 1 frame))
+      (changed_top made (put_to_wait w) (grown_not s.threads) ∙ ap (λ fs. call_on (top_given 1 fs)) top.frames_are)
+      ∙ not_further
+
   reaches_goes_on : (what : Effect (List ℕ)) (act : FrameAction) → IsNext frame act → gone (reaches what act) ≡ true
   unfolding applied_to
   reaches_goes_on what act next =
@@ -135,6 +145,9 @@ module _ (program : List Class) (limits : Limits) (start : Start) (s : State) (t
   calls_is_told n body takes locked =
       stays_is_told (decision.Makes (action.Calls n body takes locked)) (calls_is_silent program limits s t n body takes locked) (calls_stays n body takes locked)
 
+  waits_is_told : (w : Wait) → Told (decision.Makes (action.Waits w))
+  waits_is_told w = stays_is_told (decision.Makes (action.Waits w)) (waits_is_silent program limits s t w) (waits_stays w)
+
   -- The call goes on, with the event of its instruction.
   reaches_is_told : (what : Effect (List ℕ)) (act : FrameAction) → IsNext frame act → (AreKnown program limits s → filter is_join (effect_items program t what) ≡ joins) → filter is_access (effect_items program t what) ≡ accesses → Told (reaches what act)
   unfolding items_of
@@ -149,5 +162,6 @@ module _ (program : List Class) (limits : Limits) (start : Start) (s : State) (t
       record {
         of_tests = record { unmade = unmade_is_told; thrown_by = throws_is_told; begun_by = begins_is_told };
         calls = calls_is_told;
+        waits = waits_is_told;
         reached = reaches_is_told;
       }

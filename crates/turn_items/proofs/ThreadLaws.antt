@@ -6,7 +6,7 @@ use Rattle.std.proofs.lemmas.Option.{none-some, same_Some}
 use Rattle.jvms_program.specs.Program.{field_key_at}
 use Rattle.jvms_program.specs.declared.key.FieldKey.{FieldKey}
 use Rattle.jvms_program.specs.declared.program.Class.{Class}
-use Rattle.jvms_machine.specs.Actions.{affected, applied_to, changed_to, operands_of, put_field, put_static, with_changed, with_class_constants, with_exception, with_lock, with_result, with_unlock}
+use Rattle.jvms_machine.specs.Actions.{affected, applied_to, changed_to, operands_of, put_field, put_static, put_to_wait, waited, with_changed, with_class_constants, with_exception, with_lock, with_result, with_retaken, with_unlock, with_waiter}
 use Rattle.jvms_machine.specs.Decisions.{TurnAction, TurnDecision}
 use Rattle.jvms_machine.specs.Start.{Start}
 use Rattle.jvms_machine.specs.State.{State, Thread, new_thread}
@@ -104,6 +104,7 @@ affected_threads program s t operands (effect.Locks monitor) = grown_not s.threa
 affected_threads program s t operands (effect.Unlocks monitor) = grown_not s.threads
 affected_threads program s t operands (effect.Starts r v) = started_grown s.threads r
 affected_threads program s t operands (effect.Joins v) = grown_not s.threads
+affected_threads program s t operands (effect.Notifies r all) = grown_not s.threads
 
 -- ---- One thread is changed
 
@@ -153,6 +154,8 @@ module _ (program : List Class) (start : Start) (s : State) (t : ℕ) where
   action_keeps (action.Unwinds method last unlock) = in_state (with_unlock s unlock) _ (unlocked_threads s unlock)
   action_keeps (action.FailsToUnlock method e last) = in_state (with_exception program s e) _ (exception_threads program s e)
   action_keeps (action.FailsInitialisation class e last) = in_state (with_exception program s e) _ (exception_threads program s e)
+  action_keeps (action.Waits w) = in_state (with_waiter s t w.reference) (put_to_wait w) (grown_not s.threads)
+  action_keeps (action.Retakes w) = in_state (with_retaken s t w) waited (grown_not s.threads)
   action_keeps (action.Raises e) = in_state (with_exception program s e) _ (exception_threads program s e)
   action_keeps (action.Fails e) = in_state (with_exception program s e) _ (exception_threads program s e)
 
@@ -197,6 +200,8 @@ module _ (program : List Class) (start : Start) (s : State) (t : ℕ) (thread : 
   action_keeps_object (action.Unwinds method last unlock) = object_of_changed (with_unlock s unlock) _ (unlocked_threads s unlock) refl
   action_keeps_object (action.FailsToUnlock method e last) = object_of_changed (with_exception program s e) _ (exception_threads program s e) refl
   action_keeps_object (action.FailsInitialisation class e last) = object_of_changed (with_exception program s e) _ (exception_threads program s e) refl
+  action_keeps_object (action.Waits w) = object_of_changed (with_waiter s t w.reference) (put_to_wait w) (grown_not s.threads) refl
+  action_keeps_object (action.Retakes w) = object_of_changed (with_retaken s t w) waited (grown_not s.threads) refl
   action_keeps_object (action.Raises e) = object_of_changed (with_exception program s e) _ (exception_threads program s e) refl
   action_keeps_object (action.Fails e) = object_of_changed (with_exception program s e) _ (exception_threads program s e) refl
 

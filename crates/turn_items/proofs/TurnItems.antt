@@ -22,7 +22,7 @@ use Rattle.jvms_machine.specs.declared.trace.Item.{Item}
 use Rattle.jvms_machine.proofs.TurnSoundness.{turn_is_told, turn_marks}
 use Rattle.turn_items.proofs.InstructionWalks.{IsOfActions, IsOfPops}
 use Rattle.turn_items.proofs.ItemParts.{turn_in_parts}
-use Rattle.turn_items.proofs.SilentTurns.{IsSilent, begins_is_silent, catches_is_silent, enters_is_silent, fails_initialisation_is_silent, fails_is_silent, finishes_is_silent, goes_is_silent, initialises_is_silent, reaches_is_silent, returns_is_silent, throwing_is_silent, throws_is_silent, unmade_is_silent, unwinds_is_silent}
+use Rattle.turn_items.proofs.SilentTurns.{IsSilent, begins_is_silent, catches_is_silent, enters_is_silent, fails_initialisation_is_silent, fails_is_silent, finishes_is_silent, goes_is_silent, initialises_is_silent, reaches_is_silent, retakes_is_silent, returns_is_silent, throwing_is_silent, throws_is_silent, unmade_is_silent, unwinds_is_silent}
 use Rattle.turn_items.proofs.Successes.{IsToldBy, silent_is_told, told_calls}
 use Rattle.turn_items.proofs.TurnWalks.{IsOfTurns, OfCall, given_out_has}
 use Rattle.turn_items.specs.Accesses.{accesses_between, is_access}
@@ -69,11 +69,12 @@ module _ (program : List Class) (limits : Limits) (start : Start) (s : State) (t
         enters = λ is n body locked. silent (decision.Makes (action.Enters n body locked)) (enters_is_silent program limits s t n body locked);
         initialises = λ n body. silent (decision.Makes (action.Initialises n body)) (initialises_is_silent program limits s t n body);
         finishes = λ c called below is class. silent (decision.Makes (action.Finishes class)) (finishes_is_silent program limits s t class);
+        retakes = λ w. silent (decision.Makes (action.Retakes w)) (retakes_is_silent program limits s t w);
       }
 
   thread_told : (o : Option Thread) → slice_get s.threads t ≡ o → OfCall program limits start s t (IsToldBy program limits start s t) (next_call o) (thread_decision program limits start s t o)
   thread_told None is = silent (decision.Unmade outcome.NoThread) (unmade_is_silent program limits s t outcome.NoThread)
-  thread_told (Some thread) is = given_out_has program limits start s t (IsToldBy program limits start s t) thread (told_turns thread) thread.ended is
+  thread_told (Some thread) is = given_out_has program limits start s t (IsToldBy program limits start s t) thread (told_turns thread) thread.ended thread.pending thread.waits is refl
 
   decide_told : OfCall program limits start s t (IsToldBy program limits start s t) (next_call (slice_get s.threads t)) (decide program limits start s t)
   unfolding decide

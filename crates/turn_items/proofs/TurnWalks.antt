@@ -1,6 +1,6 @@
 -- What holds of each thing that a turn may come to holds of its decision: for an instruction with the joins and
 -- accesses that its call tells.
-use Rattle.std.proofs.Common.{Bool, List, None, Option, Some, [], cond, false, is_some, refl, slice_get, true, ℕ, ◌||◌, ◌∷◌, ◌≡◌}
+use Rattle.std.proofs.Common.{Bool, List, None, Option, Some, [], false, refl, slice_get, true, ℕ, ◌∷◌, ◌≡◌}
 use Rattle.std.proofs.lemmas.Bool.{cond_both}
 use Rattle.jvms_file.specs.declared.insn.ArrayInsn.{ArrayInsn}
 use Rattle.jvms_file.specs.declared.insn.ArrayInsn.TheVariants as array_insn
@@ -24,9 +24,10 @@ use Rattle.jvms_machine.specs.Decisions.{TurnDecision, never_seen}
 use Rattle.jvms_machine.specs.Fields.{is_static_use}
 use Rattle.jvms_machine.specs.Profile.{is_outside_array, is_outside_element, is_outside_method}
 use Rattle.jvms_machine.specs.Start.{Start}
-use Rattle.jvms_machine.specs.State.{Frame, MethodFrame, State, Thread}
+use Rattle.jvms_machine.specs.State.{Frame, MethodFrame, State, Thread, monitor_at, status_by}
 use Rattle.jvms_machine.specs.Steps.{beyond_unless, frame_decision, instruction_at}
-use Rattle.jvms_machine.specs.Turn.{frame_turn_decision, frames_decision, given_out_decision, instruction_decision, live_decision, reaching_decision}
+use Rattle.jvms_machine.specs.Turn.{frame_turn_decision, frames_decision, given_out_decision, instruction_decision, reaching_decision}
+use Rattle.jvms_machine.specs.Waiting.{is_waiter, retaking, waiting_decision}
 use Rattle.jvms_machine.specs.declared.action.Action.TheVariants as action
 use Rattle.jvms_machine.specs.declared.action.Decision.TheVariants as decision
 use Rattle.jvms_machine.specs.declared.action.FrameAction.{FrameAction}
@@ -34,9 +35,12 @@ use Rattle.jvms_machine.specs.declared.action.FrameDecision.{FrameDecision}
 use Rattle.jvms_machine.specs.declared.action.FrameDecision.TheVariants as frame_decided
 use Rattle.jvms_machine.specs.declared.action.Lock.{Lock}
 use Rattle.jvms_machine.specs.declared.machine.BadCause.TheVariants as cause
+use Rattle.jvms_machine.specs.declared.machine.BlockedOn.TheVariants as blocked
 use Rattle.jvms_machine.specs.declared.machine.Limits.{Limits}
 use Rattle.jvms_machine.specs.declared.machine.Outcome.TheVariants as outcome
+use Rattle.jvms_machine.specs.declared.state.Hold.{Hold}
 use Rattle.jvms_machine.specs.declared.state.StackFrame.TheVariants as stack_frame
+use Rattle.jvms_machine.specs.declared.state.Wait.{Wait}
 use Rattle.jvms_machine.specs.declared.trace.Item.{Item}
 use Rattle.turn_items.proofs.ArrayAccesses.{loading_has, storing_has}
 use Rattle.turn_items.proofs.CallLeaves.{IsOfCalls, IsOnTop}
@@ -46,7 +50,7 @@ use Rattle.turn_items.proofs.InstructionWalks.{IsOfActions, IsOfPops, class_has,
 use Rattle.turn_items.proofs.JoinCalls.{invoke_has}
 use Rattle.turn_items.specs.Accesses.{access_of, access_of_call, array_access, resolved_access}
 use Rattle.turn_items.specs.Joins.{join_items, join_of, join_of_call, joined_for, receiver_reference}
-use Rattle.turn_items.specs.Progress.{call_on}
+use Rattle.turn_items.specs.Progress.{call_by, call_on}
 
 pub record IsOfTurns (program : List Class) (limits : Limits) (s : State) (t : ℕ) (thread : Thread) (P : List Item → List Item → TurnDecision → Type 0) : Type 0 where
   pub calls : (frame : MethodFrame) (below : List Frame) (joins accesses : List Item) → IsOnTop s t thread frame below → IsOfCalls program limits s t thread frame joins accesses (P joins accesses)
@@ -56,6 +60,7 @@ pub record IsOfTurns (program : List Class) (limits : Limits) (s : State) (t : �
   pub enters : thread.frames ≡ [] → (n : MethodNumber) (body : Body) (locked : Lock) → P [] [] (decision.Makes (action.Enters n body locked))
   pub initialises : (n : MethodNumber) (body : Body) → P [] [] (decision.Makes (action.Initialises n body))
   pub finishes : (c : ℕ) (called : Bool) (below : List Frame) → thread.frames ≡ stack_frame.Initialisation c called ∷ below → (class : ℕ) → P [] [] (decision.Makes (action.Finishes class))
+  pub retakes : (w : Wait) → P [] [] (decision.Makes (action.Retakes w))
 
 module _ (program : List Class) (limits : Limits) (start : Start) (s : State) (t : ℕ) (P : List Item → List Item → TurnDecision → Type 0) where
   -- What the call on top tells where it goes on.
@@ -165,16 +170,26 @@ module _ (program : List Class) (limits : Limits) (start : Start) (s : State) (t
 
     -- ---- Turns
 
-    stack_has : (frames : List Frame) → slice_get s.threads t ≡ Some thread → thread.frames ≡ frames → OfCall (call_on frames) (frames_decision program limits start s t thread frames)
-    stack_has [] there is = first_call_has program limits s t thread (P [] []) leaves.actions (leaves.enters is) start
-    stack_has (stack_frame.Initialisation class called ∷ below) there is =
+    stack_has : (frames : List Frame) → slice_get s.threads t ≡ Some thread → thread.waits ≡ None → thread.frames ≡ frames → OfCall (call_on frames) (frames_decision program limits start s t thread frames)
+    stack_has [] there awake is = first_call_has program limits s t thread (P [] []) leaves.actions (leaves.enters is) start
+    stack_has (stack_frame.Initialisation class called ∷ below) there awake is =
         initialisation_has program limits s t thread (P [] []) leaves.actions leaves.initialises (leaves.finishes class called below is) class called (slice_get program class)
-    stack_has (stack_frame.Call frame ∷ below) there is = frame_turn_has frame below (record { given_out = there; frames_are = is }) (instruction_at frame) refl
+    stack_has (stack_frame.Call frame ∷ below) there awake is = frame_turn_has frame below (record { given_out = there; awake = awake; frames_are = is }) (instruction_at frame) refl
 
-    live_has : (pending : Option ℕ) → slice_get s.threads t ≡ Some thread → OfCall (cond (is_some pending) None (call_on thread.frames)) (live_decision program limits start s t thread pending)
-    live_has (Some r) there = unwinding_has program limits s t thread (P [] []) leaves.pops r
-    live_has None there = stack_has thread.frames there refl
+    retaking_has : (w : Wait) (o : Option Hold) → P [] [] (retaking w o)
+    retaking_has w (Some h) = silent_tests.unmade (outcome.Blocked (blocked.Monitor w.reference h.owner))
+    retaking_has w None = leaves.retakes w
 
-    pub given_out_has : (has_ended : Bool) → slice_get s.threads t ≡ Some thread → OfCall (cond (has_ended || is_some thread.pending) None (call_on thread.frames)) (given_out_decision program limits start s t thread has_ended)
-    given_out_has true there = silent_tests.unmade (outcome.Ended false)
-    given_out_has false there = live_has thread.pending there
+    waiting_has : (w : Wait) → P [] [] (waiting_decision s t w)
+    unfolding waiting_decision
+    waiting_has w =
+        cond_both (is_waiter t s.waiters) _ _ (P [] [])
+        (λ _. silent_tests.unmade (outcome.Blocked (blocked.Wait w.reference)))
+        (λ _. retaking_has w (monitor_at s.monitors w.reference))
+
+    -- By the status of the thread.
+    pub given_out_has : (has_ended : Bool) (pending : Option ℕ) (waits : Option Wait) → slice_get s.threads t ≡ Some thread → thread.waits ≡ waits → OfCall (call_by thread (status_by has_ended pending waits)) (given_out_decision program limits start s t thread (status_by has_ended pending waits))
+    given_out_has true pending waits there is = silent_tests.unmade (outcome.Ended false)
+    given_out_has false (Some r) waits there is = unwinding_has program limits s t thread (P [] []) leaves.pops r
+    given_out_has false None (Some w) there is = waiting_has w
+    given_out_has false None None there is = stack_has thread.frames there is refl

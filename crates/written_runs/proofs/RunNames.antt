@@ -169,6 +169,8 @@ module _ (program : List Class) (are : AllByRecursion IsNamedUnlessBuiltIn progr
   action_named t (action.Initialises method body) = entered t method
   action_named t (action.Unwinds method last unlock) = all_behind (unlock_items t unlock) (exit_items program t method) (unlocked t unlock) (left t method)
   action_named t (action.FailsToUnlock method e last) = left t method
+  action_named t (action.Waits w) = (tt, tt)
+  action_named t (action.Retakes w) = (tt, tt)
   action_named t act = tt
 
   decision_named : (t : ℕ) (d : TurnDecision) → AllByRecursion IsNamed (items_after program t d)

@@ -1,14 +1,17 @@
 //! The objects of a machine, by their references. A reference that none was made of leads to nothing.
 
-ghost use Rattle.std.specs.Prelude.{◌≡◌, length};
+ghost use Rattle.std.specs.Prelude.{◌≡◌, length, IfOk};
 ghost use Rattle.std.specs.Option.{option_map};
 ghost use Rattle.jvms_machine.specs.State.{monitor_at, text_reference, class_reference};
+ghost use Rattle.jvms_machine.specs.Waiting.{waiters_of};
 ghost use Rattle.heap.specs.Objects.{asked, class_at, field_of, length_of, element_of, units_of, named_by};
 
 use crate::machine::Machine;
 use classes::FieldName;
+use jvms_machine::machine::ThreadId;
 use jvms_machine::state::Hold;
 use jvms_machine::value::Value;
+use std::alloc::{AllocError, Global};
 
 impl Machine<'_> {
     /// How many references were ever made.
@@ -77,6 +80,13 @@ impl Machine<'_> {
         ensures { result ≡ monitor_at self.now.state.monitors reference }
     {
         self.parts.monitor(reference)
+    }
+
+    /// The threads that wait for an object and weren't notified, the one that has waited longest first.
+    pub fn waiters(&self, alloc: Global, reference: u32) -> Result<Vec<ThreadId>, AllocError>
+        ensures { IfOk result (λ threads. threads.items ≡ waiters_of reference self.now.state.waiters) }
+    {
+        self.parts.waiters.of(alloc, reference)
     }
 
     /// The reference of the string of a text, if one was made: equal texts have one.

@@ -15,10 +15,11 @@ returns-clause-decision c =
     let given = c.requires.given in
     let live : thread.ended ≡ false = search rules in
     let quiet : thread.pending ≡ None = search rules in
+    let awake : thread.waits ≡ None = search rules in
     let top : slice_get thread.frames 0 ≡ Some (stack_frame.Call frame) = search rules in
     let at : instruction_at frame ≡ Some i = search rules in
     let beyond : frame_decision frame.body i frame.activation ≡ decided.Beyond = search rules in
-    reaching c.args.parts.now c.args.t thread frame i given live quiet top at beyond
+    reaching c.args.parts.now c.args.t thread frame i given live quiet awake top at beyond
 
 pub returns-clause-site : goal.returns-clause-site
 returns-clause-site c =

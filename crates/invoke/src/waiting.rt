@@ -1,0 +1,161 @@
+//! Threads that wait (JLS 17.2; Java SE API, `Object.wait`, `Object.notify` and `Object.notifyAll`).
+
+ghost use Rattle.std.specs.Prelude.{◌≡◌, ◌+◌, ◌<◌, ◌^◌, OnErr, OnOk};
+ghost use Rattle.jvms_machine.specs.declared.action.Action.TheVariants as action;
+ghost use Rattle.jvms_machine.specs.Actions.{items_of};
+ghost use Rattle.jvms_machine.specs.Turn.{IsReady};
+ghost use Rattle.jvms_machine.specs.Waiting.{object_native_decision as objects_native, owned as owns, retaking as retakes, waits_or_notifies as waits, waiting_decision as waits_on};
+ghost use Rattle.machine_parts.specs.Decided.{seen};
+ghost use Rattle.machine_parts.specs.Machine.{after};
+ghost use Rattle.machine_parts.specs.Ready.{AreNumbered, HasCaller};
+ghost use Rattle.trace.specs.Recording.{recorded};
+
+use descriptor::same_text;
+use frames::Frame;
+use jvms_machine::action::{Action, Decision, Effect};
+use jvms_machine::machine::{BlockedOn, Outcome, ThreadId};
+use jvms_machine::state::{Hold, Wait};
+use jvms_machine::value::Value;
+use jvms_program::program::Method;
+use jvms_program::thrown::Thrown;
+use machine_parts::{Decided, Parts, never_seen, reaches, taking};
+use machine_thread::Thread;
+use std::alloc::AllocError;
+use trace::Recording;
+
+/// `wait`
+const WAIT: [u16; 4] = [119, 97, 105, 116];
+
+/// `notifyAll`
+const NOTIFY_ALL: [u16; 9] = [110, 111, 116, 105, 102, 121, 65, 108, 108];
+
+/// The owner waits for an object whose monitor it has entered so often, or notifies those that do.
+fn waits_or_notifies<'p>(frame: &Frame, method: &Method, wait: Wait) -> Decided<'p>
+    requires { frame.now.activation.place + 1 < 2 ^ 64 }
+    ensures { seen result ≡ waits frame.now.activation method.now wait.reference wait.count }
+{
+    if same_text(method.name.as_slice(), &WAIT) {
+        return Decision::Makes(Action::Waits(wait));
+    }
+    let effect = Effect::Notifies {
+        reference: wait.reference,
+        all: same_text(method.name.as_slice(), &NOTIFY_ALL),
+    };
+    reaches(effect, taking(1, frame))
+}
+
+/// Only the owner of the monitor may wait and notify.
+fn owned_decision<'p>(
+    parts: &Parts<'p>,
+    t: usize,
+    thread: &Thread,
+    frame: &Frame,
+    method: &Method,
+    reference: u32,
+    hold: Option<Hold>,
+) -> Decided<'p>
+    requires { frame.now.activation.place + 1 < 2 ^ 64 }
+    ensures { seen result ≡ owns parts.now.limits parts.now.state t thread.now hold (waits frame.now.activation method.now reference) }
+{
+    let Some(hold) = hold else {
+        return parts.throws(thread, Thrown::IllegalMonitorStateException);
+    };
+    if hold.owner as usize != t {
+        return parts.throws(thread, Thrown::IllegalMonitorStateException);
+    }
+    let wait = Wait {
+        reference,
+        count: hold.count,
+    };
+    waits_or_notifies(frame, method, wait)
+}
+
+/// `wait`, `notify` and `notifyAll` of the object on top.
+pub(crate) fn object_native_decision<'p>(
+    parts: &Parts<'p>,
+    t: usize,
+    thread: &Thread,
+    frame: &Frame,
+    method: &Method,
+) -> Decided<'p>
+    requires { frame.now.activation.place + 1 < 2 ^ 64 }
+    ensures { seen result ≡ objects_native parts.now.limits parts.now.state t thread.now frame.now.activation method.now frame.now.activation.operands }
+{
+    if frame.height() == 0 {
+        return never_seen();
+    }
+    let Value::Reference(reference) = frame.top() else {
+        return never_seen();
+    };
+    let hold = parts.monitor(reference);
+    owned_decision(parts, t, thread, frame, method, reference, hold)
+}
+
+/// A thread that was notified takes the monitor again, once it is free.
+fn retaking<'p>(wait: Wait, hold: Option<Hold>) -> Decided<'p>
+    ensures { seen result ≡ retakes wait hold }
+{
+    match hold {
+        None => Decision::Makes(Action::Retakes(wait)),
+        Some(hold) => {
+            let on = BlockedOn::Monitor {
+                reference: wait.reference,
+                owner: hold.owner,
+            };
+            Decision::Unmade(Outcome::Blocked { on })
+        }
+    }
+}
+
+/// The turn of a thread that waits: it is blocked until it is notified.
+#[tactic(auto, unfolding(jvms_machine::specs::Waiting::waiting_decision))]
+pub fn waiting_decision<'p>(parts: &Parts<'p>, t: usize, wait: Wait) -> Decided<'p>
+    ensures { seen result ≡ waits_on parts.now.state t wait }
+{
+    if parts.is_waiter(t) {
+        let on = BlockedOn::Wait {
+            reference: wait.reference,
+        };
+        return Decision::Unmade(Outcome::Blocked { on });
+    }
+    retaking(wait, parts.monitor(wait.reference))
+}
+
+/// The call on top frees a monitor, and its thread waits. Without memory nothing changes.
+#[tactic(auto, unfolding(jvms_machine::specs::Actions::applied_to, jvms_machine::specs::Actions::items_of))]
+pub fn wait(
+    parts: &mut Parts,
+    t: ThreadId,
+    wait: Wait,
+    trace: &mut Recording,
+) -> Result<(), AllocError>
+    requires { IsReady parts.old.start parts.old.state t (action.Waits wait) }
+    ensures state { OnOk result (parts.new ≡ after parts.old t (action.Waits wait)) }
+    ensures items { OnOk result (trace.new ≡ recorded trace.old (items_of parts.old.program t (action.Waits wait))) }
+    ensures kept { OnErr result (parts.new ≡ parts.old) }
+    ensures no_items { OnErr result (trace.new ≡ trace.old) }
+{
+    parts.free_to_wait(t, wait.reference, trace)?;
+    parts.threads[t as usize].put_to_wait(wait);
+    Ok(())
+}
+
+/// A thread that was notified takes the monitor again, and its call of `wait` is done. Without memory nothing changes.
+#[tactic(auto, unfolding(jvms_machine::specs::Actions::applied_to, jvms_machine::specs::Actions::items_of))]
+pub fn retake(
+    parts: &mut Parts,
+    t: ThreadId,
+    wait: Wait,
+    trace: &mut Recording,
+) -> Result<(), AllocError>
+    requires ready { IsReady parts.old.start parts.old.state t (action.Retakes wait) }
+    requires stands { HasCaller parts.old.state t (action.Retakes wait) }
+    ensures state { OnOk result (parts.new ≡ after parts.old t (action.Retakes wait)) }
+    ensures items { OnOk result (trace.new ≡ recorded trace.old (items_of parts.old.program t (action.Retakes wait))) }
+    ensures kept { OnErr result (parts.new ≡ parts.old) }
+    ensures no_items { OnErr result (trace.new ≡ trace.old) }
+{
+    parts.retake_monitor(t, wait, trace)?;
+    parts.threads[t as usize].go_on_from_wait();
+    Ok(())
+}

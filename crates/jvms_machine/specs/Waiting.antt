@@ -1,0 +1,75 @@
+-- wait, notify and notifyAll (JLS 17.2; Java SE API, Object): each is done in the turn of its call, but for what a thread
+-- that waits does when it was notified. No thread is woken otherwise (own).
+use Rattle.std.specs.Prelude.{ℕ, Bool, not, ◌==◌, if◌then◌else◌, List, ◌∷◌, map, Option, Some, None, codes}
+use Rattle.std.specs.List.{filter, list_any}
+use Rattle.std.specs.Map.{remove_entry}
+use Rattle.jvms_machine.specs.declared.machine.Outcome.TheVariants as outcome
+use Rattle.jvms_machine.specs.declared.machine.BlockedOn.TheVariants as blocked
+use Rattle.jvms_machine.specs.declared.machine.Limits.{Limits}
+use Rattle.jvms_machine.specs.declared.value.Value.{Value}
+use Rattle.jvms_machine.specs.declared.value.Value.TheVariants as value
+use Rattle.jvms_machine.specs.declared.state.Hold.{Hold}
+use Rattle.jvms_machine.specs.declared.state.Wait.{Wait}
+use Rattle.jvms_machine.specs.declared.action.Action.TheVariants as action
+use Rattle.jvms_machine.specs.declared.action.Effect.TheVariants as effect
+use Rattle.jvms_machine.specs.declared.action.Decision.TheVariants as decision
+use Rattle.jvms_file.specs.Names.{same_text}
+use Rattle.jvms_program.specs.declared.program.Method.{Method}
+use Rattle.jvms_program.specs.declared.thrown.Thrown.TheVariants as thrown
+use Rattle.jvms_machine.specs.Decisions.{TurnDecision, never_seen}
+use Rattle.jvms_machine.specs.State.{State, Thread, Activation, monitor_at}
+use Rattle.jvms_machine.specs.Exceptions.{throws}
+use Rattle.jvms_machine.specs.Fields.{reaches, taking}
+use Rattle.jvms_machine.specs.Monitors.{with_hold}
+
+-- ---- What waiting changes
+
+-- The monitor of an object is free, however often it was entered.
+abbrev pub freed_monitor : ℕ → List (ℕ × Hold) → List (ℕ × Hold)
+freed_monitor r monitors = remove_entry (λ q. q == r) monitors
+
+-- A thread has taken the monitor again, entered as often as before.
+abbrev pub retaken_monitor : ℕ → Wait → List (ℕ × Hold) → List (ℕ × Hold)
+retaken_monitor t w monitors = with_hold w.reference (record { owner = t; count = w.count }) monitors
+
+-- Whether a thread waits and wasn't notified.
+abbrev pub is_waiter : ℕ → List (ℕ × ℕ) → Bool
+is_waiter t waiters = list_any (λ w. w.1 == t) waiters
+
+-- The threads that wait for an object, the one that has waited longest first.
+abbrev pub waiters_of : ℕ → List (ℕ × ℕ) → List ℕ
+waiters_of r waiters = map (λ w. w.1) (filter (λ w. w.0 == r) waiters)
+
+-- notify takes out the thread that has waited longest for the object, if there is one, and notifyAll all that wait for it.
+abbrev pub without_notified : ℕ → Bool → List (ℕ × ℕ) → List (ℕ × ℕ)
+without_notified r all waiters = if all then filter (λ w. not (w.0 == r)) waiters else remove_entry (λ q. q == r) waiters
+
+-- ---- The turns
+
+-- The owner of the monitor may wait and notify: what it does on a monitor that it has entered so often.
+abbrev pub owned : Limits → State → ℕ → Thread → Option Hold → (ℕ → TurnDecision) → TurnDecision
+owned limits s t thread None make = throws limits s thread thrown.IllegalMonitorStateException
+owned limits s t thread (Some h) make =
+    if h.owner == t then make h.count else throws limits s thread thrown.IllegalMonitorStateException
+
+abbrev pub waits_or_notifies : Activation → Method → ℕ → ℕ → TurnDecision
+waits_or_notifies a m r count =
+    if same_text m.name (codes "wait") then decision.Makes (action.Waits (record { reference = r; count = count }))
+    else reaches (effect.Notifies r (same_text m.name (codes "notifyAll"))) (taking 1 a)
+
+-- wait, notify and notifyAll of the object on top.
+abbrev pub object_native_decision : Limits → State → ℕ → Thread → Activation → Method → List Value → TurnDecision
+object_native_decision limits s t thread a m (value.Reference r ∷ below) =
+    owned limits s t thread (monitor_at s.monitors r) (waits_or_notifies a m r)
+object_native_decision limits s t thread a m _ = never_seen
+
+-- A thread that was notified takes the monitor again, once it is free.
+abbrev pub retaking : Wait → Option Hold → TurnDecision
+retaking w (Some h) = decision.Unmade (outcome.Blocked (blocked.Monitor w.reference h.owner))
+retaking w None = decision.Makes (action.Retakes w)
+
+-- The turn of a thread that waits: it is blocked until it is notified.
+unfoldable pub waiting_decision : State → ℕ → Wait → TurnDecision
+waiting_decision s t w =
+    if is_waiter t s.waiters then decision.Unmade (outcome.Blocked (blocked.Wait w.reference))
+    else retaking w (monitor_at s.monitors w.reference)

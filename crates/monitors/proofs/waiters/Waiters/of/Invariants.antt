@@ -1,0 +1,7 @@
+use Rattle.std.proofs.Common.{◌≡◌, take}
+use Rattle.jvms_machine.specs.Waiting.{waiters_of}
+use Rattle.monitors.proofs.waiters.Waiters.of.Given as goal
+
+-- Those so far that wait for the object.
+abbrev pub invariant-loop-waiter : goal.invariant-loop-waiter
+invariant-loop-waiter l = l.threads.items ≡ waiters_of l.reference (take l.waiter-index l.waiters)
