@@ -1,18 +1,24 @@
 import java.io.OutputStream;
 import java.io.PrintStream;
+import java.lang.invoke.MethodType;
 import java.lang.reflect.Method;
 import java.lang.reflect.Modifier;
 import java.net.URL;
 import java.net.URLClassLoader;
 import java.nio.file.Paths;
 
-/** Calls each static method of ints with an int result of the classes that are named behind their folder, with some
- *  arguments, and prints a line for each call: the class, the entry, the arguments or -, and the result, threw or late.
- *  Each call has its classes anew; what they print is dropped. */
+/** Calls each static method of ints and longs with such a result, of the classes that are named after their folder, with
+ *  some arguments, and prints a line for each call: the class, the entry, the arguments or -, and the result, threw or
+ *  late. Each call has its classes anew; what they print is dropped. */
 public class Call {
-    private static final int[][] ARGUMENTS = {
+    private static final int[][] INTS = {
         {48, 36, 7, 2}, {-7, 2, 3, 4}, {Integer.MAX_VALUE, Integer.MIN_VALUE, 1, 0}, {0, 0, 0, 0},
         {Integer.MIN_VALUE, -1, 31, 33}, {1, 10, 5, 8},
+    };
+
+    private static final long[][] LONGS = {
+        {48, 36, 7, 2}, {-7, 2, 3, 4}, {Long.MAX_VALUE, Long.MIN_VALUE, 1, 0}, {0, 0, 0, 0},
+        {Long.MIN_VALUE, -1, 63, 65}, {1L << 32, 10, -1L << 31, 8},
     };
 
     private static final PrintStream SAID = System.out;
@@ -22,19 +28,26 @@ public class Call {
         return new URLClassLoader(folders, ClassLoader.getPlatformClassLoader()).loadClass(name.replace('/', '.'));
     }
 
-    private static boolean takesInts(Method method) {
-        for (Class<?> parameter : method.getParameterTypes()) {
-            if (parameter != int.class) return false;
-        }
-        return Modifier.isStatic(method.getModifiers()) && method.getReturnType() == int.class;
+    private static boolean isWhole(Class<?> type) {
+        return type == int.class || type == long.class;
     }
 
-    private static Method method(Class<?> owner, String name, int count) throws NoSuchMethodException {
-        Class<?>[] parameters = new Class<?>[count];
-        java.util.Arrays.fill(parameters, int.class);
-        Method method = owner.getDeclaredMethod(name, parameters);
+    private static boolean takesWholes(Method method) {
+        for (Class<?> parameter : method.getParameterTypes()) {
+            if (!isWhole(parameter)) return false;
+        }
+        return Modifier.isStatic(method.getModifiers()) && isWhole(method.getReturnType());
+    }
+
+    private static Method again(Class<?> owner, Method named) throws NoSuchMethodException {
+        Method method = owner.getDeclaredMethod(named.getName(), named.getParameterTypes());
         method.setAccessible(true);
         return method;
+    }
+
+    private static Object argument(Class<?> type, int row, int place) {
+        if (type == long.class) return LONGS[row][place % LONGS[row].length];
+        return INTS[row][place % INTS[row].length];
     }
 
     private static String result(Method method, Object[] arguments) throws InterruptedException {
@@ -52,16 +65,18 @@ public class Call {
         return said[0];
     }
 
-    private static void call(URL folder, String owner, String name, int count) throws Exception {
-        String entry = owner + "." + name + ".(" + "I".repeat(count) + ")I";
-        for (int[] values : ARGUMENTS) {
-            Object[] arguments = new Object[count];
-            StringBuilder words = new StringBuilder(count == 0 ? "-" : "");
-            for (int i = 0; i < count; i++) {
-                arguments[i] = values[i % values.length];
+    private static void call(URL folder, String owner, Method named) throws Exception {
+        Class<?>[] parameters = named.getParameterTypes();
+        String descriptor = MethodType.methodType(named.getReturnType(), parameters).toMethodDescriptorString();
+        String entry = owner + "." + named.getName() + "." + descriptor;
+        for (int row = 0; row < INTS.length; row++) {
+            Object[] arguments = new Object[parameters.length];
+            StringBuilder words = new StringBuilder(parameters.length == 0 ? "-" : "");
+            for (int i = 0; i < parameters.length; i++) {
+                arguments[i] = argument(parameters[i], row, i);
                 words.append(i > 0 ? "," : "").append(arguments[i]);
             }
-            String result = result(method(loaded(folder, owner), name, count), arguments);
+            String result = result(again(loaded(folder, owner), named), arguments);
             SAID.println("call " + owner + " " + entry + " " + words + " " + result);
         }
     }
@@ -72,7 +87,7 @@ public class Call {
         for (int i = 1; i < words.length; i++) {
             try {
                 for (Method method : loaded(folder, words[i]).getDeclaredMethods()) {
-                    if (takesInts(method)) call(folder, words[i], method.getName(), method.getParameterCount());
+                    if (takesWholes(method)) call(folder, words[i], method);
                 }
             } catch (LinkageError error) {
                 System.err.println(words[i] + ": " + error);

@@ -4,11 +4,11 @@
     bench/against_java.py [--jvmx PROGRAM] [--max N] [--programs | --calls] FILE.class...
 
 Programs: each class with a `main` is run by `jvmx run` and by java. What they print has to be the same byte for byte, and
-so have the exceptions that nobody catches. Calls: each static method of ints is called by `jvmx eval` and by java, with
-some numbers. A class is run with those of the files that it names, and that these name.
+so have the exceptions that nobody catches. Calls: each static method of ints and longs is called by `jvmx eval` and by
+java, with some numbers. A class is run with those of the files that it names, and that these name.
 
 Ends with two counts: of what gave the same, what gave something else, and what jvmx refused or didn't finish, such as a
-program that asks for what this version doesn't run yet; such a one has to print a beginning of what java prints.
+program that uses what jvmx doesn't have; such a one has to print a beginning of what java prints.
 """
 import argparse
 import collections

@@ -29,7 +29,7 @@ BELOW = {
     "VirtualMachineError": "OutOfMemoryError StackOverflowError",
 }
 MADE = {("<init>", "()V"), ("<init>", "(Ljava/lang/String;)V")}
-PRINTED = {(name, descriptor) for name in ("print", "println") for descriptor in ("(I)V", "(Ljava/lang/String;)V")}
+PRINTED = {(name, descriptor) for name in ("print", "println") for descriptor in ("(I)V", "(J)V", "(Ljava/lang/String;)V")}
 
 # The class above, the interfaces, and the members, but for the fields `message` of Throwable and `target` of Thread,
 # which java doesn't have.
@@ -54,8 +54,8 @@ BUILT_IN |= {
 }
 
 NEVER_MADE = {"java/lang/String", "java/lang/Class", "java/lang/System", "java/io/PrintStream"}
-OF_OTHER_TYPES = {name for name in java_class.OPCODES if name[0] in "lfd" and not name.startswith(("dup", "lookup"))}
-BEYOND = OF_OTHER_TYPES - {"ldc", "ldc_w"} | {"i2l", "i2f", "i2d", "invokedynamic"}
+OF_OTHER_TYPES = {name for name in java_class.OPCODES if name[0] in "fd" and not name.startswith("dup")}
+BEYOND = OF_OTHER_TYPES | {"i2f", "i2d", "l2f", "l2d", "invokedynamic"}
 
 # Attributes that tell nothing of what a program does.
 IDLE = set("""SourceFile LineNumberTable LocalVariableTable LocalVariableTypeTable InnerClasses EnclosingMethod Synthetic
@@ -128,7 +128,9 @@ class Profile:
                 yield f"{name} in {method.name} at {place}"
             if name in ("ldc", "ldc_w") and one.pool[operand][0] == 4:
                 yield f"{name} of a float in {method.name} at {place}"
-            if name == "newarray" and operand in (6, 7, 11):
+            if name == "ldc2_w" and one.pool[operand][0] == 6:
+                yield f"ldc2_w of a double in {method.name} at {place}"
+            if name == "newarray" and operand in (6, 7):
                 yield f"newarray {operand} in {method.name} at {place}"
             if name in ("anewarray", "multianewarray") and one.class_name(operand).startswith("["):
                 yield from beyond_types(one.class_name(operand), f"{name} in {method.name} at {place}")
@@ -137,7 +139,7 @@ class Profile:
 
 
 def beyond_types(descriptor, where):
-    for letter in sorted(set(re.sub("L[^;]*;", "", descriptor)) & set("FDJ")):
+    for letter in sorted(set(re.sub("L[^;]*;", "", descriptor)) & set("FD")):
         yield f"type {letter} in {where}"
 
 

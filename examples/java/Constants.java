@@ -8,6 +8,7 @@ public class Constants {
         static final byte TINY = -128;
         static final short SHORT = -32768;
         static final char LETTER = '\uffff';
+        static final long LONG = -9223372036854775808L;
         static final boolean YES = true, NO = false;
         static final String TEXT = "a constant text", EMPTY = "";
         static int counter;
@@ -23,6 +24,7 @@ public class Constants {
         System.out.println(Values.TINY);
         System.out.println(Values.SHORT);
         System.out.println(Values.LETTER + 0);
+        System.out.println(Values.LONG);
         System.out.println(Values.YES ? "yes" : "no");
         System.out.println(Values.NO ? "yes" : "no");
         System.out.println(Values.TEXT);

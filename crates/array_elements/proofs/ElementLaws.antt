@@ -10,6 +10,9 @@ use Rattle.array_elements.proofs.Lists.{set_map}
 pub int_put : (old new : List ℤ) (i : ℕ) (n : ℤ) → new ≡ slice_set old i n → map value.Int new ≡ slice_set (map value.Int old) i (value.Int n)
 int_put old new i n is = ap (map value.Int) is ∙ sym (set_map value.Int old i n)
 
+pub long_put : (old new : List ℤ) (i : ℕ) (n : ℤ) → new ≡ slice_set old i n → map value.Long new ≡ slice_set (map value.Long old) i (value.Long n)
+long_put old new i n is = ap (map value.Long) is ∙ sym (set_map value.Long old i n)
+
 -- An int that is kept whole when it is narrowed.
 pub narrowed_put : (old new : List ℤ) (i : ℕ) (n m : ℤ) → new ≡ slice_set old i m → m ≡ n → map value.Int new ≡ slice_set (map value.Int old) i (value.Int n)
 narrowed_put old new i n m is same = ap (map value.Int) is ∙ sym (set_map value.Int old i m) ∙ ap (λ k. slice_set (map value.Int old) i (value.Int k)) same
@@ -38,6 +41,8 @@ same_again (suc n) (suc i) = ap (λ l. value.Unset ∷ l) (same_again n i)
 pub unset_put : (n i : ℕ) (v : Value) → IsOfKind kind.Nothing v → replicate n value.Unset ≡ slice_set (replicate n value.Unset) i v
 unset_put n i value.Unset is = same_again n i
 unset_put n i (value.Int k) is = absurd is
+unset_put n i (value.Long k) is = absurd is
+unset_put n i value.Second is = absurd is
 unset_put n i value.Null is = absurd is
 unset_put n i (value.Reference r) is = absurd is
 unset_put n i (value.ReturnAddress r) is = absurd is

@@ -29,6 +29,7 @@ Tells kind.Byte t = Holds array_kind.Byte (narrowed narrow.Byte) t
 Tells kind.Boolean t = Holds array_kind.Byte (narrowed narrow.Boolean) t
 Tells kind.Char t = Holds array_kind.Char (narrowed narrow.Char) t
 Tells kind.Short t = Holds array_kind.Short (narrowed narrow.Short) t
+Tells kind.Long t = serves array_kind.Long t ≡ true
 Tells kind.Reference t = serves array_kind.Reference t ≡ true
 Tells kind.Nothing t = Unit {0}
 
@@ -46,7 +47,7 @@ told zero (element.Primitive primitive.Char) = (refl, λ n. refl)
 told zero (element.Primitive primitive.Short) = (refl, λ n. refl)
 told zero (element.Primitive primitive.Float) = tt
 told zero (element.Primitive primitive.Double) = tt
-told zero (element.Primitive primitive.Long) = tt
+told zero (element.Primitive primitive.Long) = refl
 
 tells : (k : Kind) (t : FieldType) → k ≡ kind_of t → Tells k t
 tells k t is = subst (λ x. Tells x t) (sym is) (told t.dimensions t.element)
@@ -65,6 +66,9 @@ chars_are_served t is = (tells kind.Char t is).0
 
 pub shorts_are_served : (t : FieldType) → kind.Short ≡ kind_of t → serves array_kind.Short t ≡ true
 shorts_are_served t is = (tells kind.Short t is).0
+
+pub longs_are_served : (t : FieldType) → kind.Long ≡ kind_of t → serves array_kind.Long t ≡ true
+longs_are_served t is = tells kind.Long t is
 
 pub references_are_served : (t : FieldType) → kind.Reference ≡ kind_of t → serves array_kind.Reference t ≡ true
 references_are_served t is = tells kind.Reference t is

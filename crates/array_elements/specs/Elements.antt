@@ -18,6 +18,7 @@ values_of (held.Bytes v) = map value.Int v.items
 values_of (held.Booleans v) = map (λ n. value.Int (pos n)) v.items
 values_of (held.Chars v) = map (λ n. value.Int (pos n)) v.items
 values_of (held.Shorts v) = map value.Int v.items
+values_of (held.Longs v) = map value.Long v.items
 values_of (held.References v) = map reference_value v.items
 values_of (held.Nothing count) = replicate count value.Unset
 
@@ -27,5 +28,6 @@ kind_held (held.Bytes v) = kind.Byte
 kind_held (held.Booleans v) = kind.Boolean
 kind_held (held.Chars v) = kind.Char
 kind_held (held.Shorts v) = kind.Short
+kind_held (held.Longs v) = kind.Long
 kind_held (held.References v) = kind.Reference
 kind_held (held.Nothing count) = kind.Nothing

@@ -20,7 +20,7 @@ kind_of_element (element.Primitive primitive.Char) = kind.Char
 kind_of_element (element.Primitive primitive.Short) = kind.Short
 kind_of_element (element.Primitive primitive.Float) = kind.Nothing
 kind_of_element (element.Primitive primitive.Double) = kind.Nothing
-kind_of_element (element.Primitive primitive.Long) = kind.Nothing
+kind_of_element (element.Primitive primitive.Long) = kind.Long
 
 -- The kind of the values of a type.
 abbrev pub kind_of : FieldType → Kind
@@ -28,17 +28,19 @@ kind_of t = if t.dimensions == 0 then kind_of_element t.element else kind.Refere
 
 -- The first value of an element of a kind.
 abbrev pub first_of : Kind → Value
+first_of kind.Long = value.Long (pos 0)
 first_of kind.Reference = value.Null
 first_of kind.Nothing = value.Unset
 first_of _ = value.Int (pos 0)
 
--- A value can be held as an element of a kind: an int that is kept whole, a reference, or null.
+-- A value can be held as an element of a kind: an int that is kept whole, a long, a reference, or null.
 abbrev pub IsOfKind : Kind → Value → Type 0
 IsOfKind kind.Int (value.Int n) = Unit {0}
 IsOfKind kind.Byte (value.Int n) = narrowed narrow.Byte n ≡ n
 IsOfKind kind.Boolean (value.Int n) = narrowed narrow.Boolean n ≡ n
 IsOfKind kind.Char (value.Int n) = narrowed narrow.Char n ≡ n
 IsOfKind kind.Short (value.Int n) = narrowed narrow.Short n ≡ n
+IsOfKind kind.Long (value.Long n) = Unit {0}
 IsOfKind kind.Reference value.Null = Unit {0}
 IsOfKind kind.Reference (value.Reference r) = 0 < r
 IsOfKind kind.Nothing value.Unset = Unit {0}

@@ -24,6 +24,7 @@ pub enum Elements {
     Booleans(Vec<u8>),
     Chars(Vec<u16>),
     Shorts(Vec<i16>),
+    Longs(Vec<i64>),
     References(Vec<u32>),
     /// So many that have no value.
     Nothing(u32),
@@ -145,6 +146,18 @@ fn put_short(items: &mut Vec<i16>, index: usize, new: Value)
     }
 }
 
+/// Puts a long at an index, if there is an element.
+#[inline(always)]
+#[tactic(auto, using(crate::proofs::ElementLaws::long_put))]
+fn put_long(items: &mut Vec<i64>, index: usize, new: Value)
+    requires { IsOfKind kind.Long new }
+    ensures { map value.Long items.new.items ≡ slice_set (map value.Long items.old.items) index new }
+{
+    if let Value::Long(n) = new {
+        put(items, index, n);
+    }
+}
+
 /// Puts a reference or null at an index, if there is an element.
 #[inline(always)]
 #[tactic(auto, using(crate::proofs::ElementLaws::null_put, crate::proofs::ElementLaws::reference_put))]
@@ -173,6 +186,7 @@ impl Elements {
             Kind::Boolean => Ok(Elements::Booleans(vec![in alloc; 0; count]?)),
             Kind::Char => Ok(Elements::Chars(vec![in alloc; 0; count]?)),
             Kind::Short => Ok(Elements::Shorts(vec![in alloc; 0; count]?)),
+            Kind::Long => Ok(Elements::Longs(vec![in alloc; 0; count]?)),
             Kind::Reference => Ok(Elements::References(vec![in alloc; 0; count]?)),
             Kind::Nothing => Ok(Elements::Nothing(length)),
         }
@@ -191,6 +205,7 @@ impl Elements {
             }
             Elements::Chars(items) => Elements::Chars(Vec::from_slice(alloc, items.as_slice())?),
             Elements::Shorts(items) => Elements::Shorts(Vec::from_slice(alloc, items.as_slice())?),
+            Elements::Longs(items) => Elements::Longs(Vec::from_slice(alloc, items.as_slice())?),
             Elements::References(items) => {
                 Elements::References(Vec::from_slice(alloc, items.as_slice())?)
             }
@@ -209,6 +224,7 @@ impl Elements {
             Elements::Booleans(items) => items.len(),
             Elements::Chars(items) => items.len(),
             Elements::Shorts(items) => items.len(),
+            Elements::Longs(items) => items.len(),
             Elements::References(items) => items.len(),
             Elements::Nothing(count) => *count as usize,
         }
@@ -225,6 +241,7 @@ impl Elements {
             Elements::Booleans(items) => Some(Value::Int(i32::from(*items.get(index)?))),
             Elements::Chars(items) => Some(Value::Int(i32::from(*items.get(index)?))),
             Elements::Shorts(items) => Some(Value::Int(i32::from(*items.get(index)?))),
+            Elements::Longs(items) => Some(Value::Long(*items.get(index)?)),
             Elements::References(items) => Some(reference_value(*items.get(index)?)),
             Elements::Nothing(count) => {
                 if index < *count as usize {
@@ -248,6 +265,7 @@ impl Elements {
             Elements::Booleans(items) => put_boolean(items, index, value),
             Elements::Chars(items) => put_char(items, index, value),
             Elements::Shorts(items) => put_short(items, index, value),
+            Elements::Longs(items) => put_long(items, index, value),
             Elements::References(items) => put_reference(items, index, value),
             Elements::Nothing(_) => {}
         }
@@ -255,7 +273,7 @@ impl Elements {
 
     /// Whether an instruction of a kind loads and stores them: that of bytes does booleans too.
     #[inline(always)]
-    #[tactic(auto, using(crate::proofs::KindLaws::ints_are_served, crate::proofs::KindLaws::bytes_are_served, crate::proofs::KindLaws::booleans_are_served, crate::proofs::KindLaws::chars_are_served, crate::proofs::KindLaws::shorts_are_served, crate::proofs::KindLaws::references_are_served))]
+    #[tactic(auto, using(crate::proofs::KindLaws::ints_are_served, crate::proofs::KindLaws::bytes_are_served, crate::proofs::KindLaws::booleans_are_served, crate::proofs::KindLaws::chars_are_served, crate::proofs::KindLaws::shorts_are_served, crate::proofs::KindLaws::longs_are_served, crate::proofs::KindLaws::references_are_served))]
     fn are_served(&self, kind: ArrayKind) -> bool
         ensures { (t : FieldType) → kind_held self.now ≡ kind_of t → IsTrue result → serves kind t ≡ true }
     {
@@ -264,12 +282,13 @@ impl Elements {
             | (Elements::Bytes(_) | Elements::Booleans(_), ArrayKind::Byte)
             | (Elements::Chars(_), ArrayKind::Char)
             | (Elements::Shorts(_), ArrayKind::Short)
+            | (Elements::Longs(_), ArrayKind::Long)
             | (Elements::References(_), ArrayKind::Reference) => true,
             _ => false,
         }
     }
 
-    /// What is kept of an int that is stored, where ints are held.
+    /// What is kept of an int that is stored, where ints are held, and of a long, where longs are.
     #[inline(always)]
     #[tactic(auto, using(crate::proofs::KindLaws::int_is_kept, crate::proofs::KindLaws::byte_is_kept, crate::proofs::KindLaws::boolean_is_kept, crate::proofs::KindLaws::char_is_kept, crate::proofs::KindLaws::short_is_kept))]
     fn kept(&self, value: Value) -> Option<Value>
@@ -281,6 +300,7 @@ impl Elements {
             (Elements::Booleans(_), Value::Int(n)) => Some(Value::Int(i32::from(bit(n)))),
             (Elements::Chars(_), Value::Int(n)) => Some(Value::Int(i32::from(unsigned_short(n)))),
             (Elements::Shorts(_), Value::Int(n)) => Some(Value::Int(i32::from(short(n)))),
+            (Elements::Longs(_), Value::Long(n)) => Some(Value::Long(n)),
             _ => None,
         }
     }
@@ -297,7 +317,7 @@ impl Elements {
         self.get(index)
     }
 
-    /// What is kept of an int that is stored at an index, where an instruction of a kind stores ints.
+    /// What is kept of an int or a long that is stored at an index, where an instruction of a kind stores such.
     #[inline(always)]
     #[tactic(auto, using(crate::proofs::KindLaws::stores))]
     pub fn stored(&self, kind: ArrayKind, index: usize, value: Value) -> Option<Value>

@@ -17,8 +17,9 @@ pub enum Kind {
     Boolean,
     Char,
     Short,
+    Long,
     Reference,
-    /// A float, a double or a long, of which there is no value.
+    /// A float or a double, of which there is no value.
     Nothing,
 }
 
@@ -32,7 +33,8 @@ fn kind_of_primitive(primitive: Primitive) -> Kind
         Primitive::Boolean => Kind::Boolean,
         Primitive::Char => Kind::Char,
         Primitive::Short => Kind::Short,
-        Primitive::Float | Primitive::Double | Primitive::Long => Kind::Nothing,
+        Primitive::Long => Kind::Long,
+        Primitive::Float | Primitive::Double => Kind::Nothing,
     }
 }
 

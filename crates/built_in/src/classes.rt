@@ -162,8 +162,10 @@ fn put_print_methods(alloc: Global, methods: &mut Vec<Method>) -> Result<(), All
     ensures { OnOk result (methods.new.items ≡ print_stream_class.methods) }
 {
     methods.push(native(alloc, "print", "(I)V")?)?;
+    methods.push(native(alloc, "print", "(J)V")?)?;
     methods.push(native(alloc, "print", "(Ljava/lang/String;)V")?)?;
     methods.push(native(alloc, "println", "(I)V")?)?;
+    methods.push(native(alloc, "println", "(J)V")?)?;
     methods.push(native(alloc, "println", "(Ljava/lang/String;)V")?)?;
     methods.push(native(alloc, "println", "()V")?)?;
     Ok(())

@@ -1,9 +1,11 @@
 //! The entry and its arguments, as words write them.
 
 use crate::fault::WordsFault;
+use descriptor::method_type;
 use escapes::{NameSort, cut_twice, name_units};
 use held::items::Items;
-use jvms_machine::machine::Entry;
+use jvms_file::descriptor::{Element, FieldType, Primitive};
+use jvms_machine::machine::{Argument, Entry};
 use std::alloc::Global;
 
 /// The name of this sort that a text writes.
@@ -12,18 +14,20 @@ fn name_of(alloc: Global, sort: NameSort, text: &[u8]) -> Result<Items<u16>, Wor
     name.ok_or(WordsFault::Words)
 }
 
-/// The entry that `C.m.D` writes, with its arguments.
+/// Parses an entry `C.m.D`, with the arguments in `arguments`, if there are any.
 pub(crate) fn static_entry(
     alloc: Global,
     text: &str,
-    arguments: Vec<i32>,
+    arguments: Option<&str>,
 ) -> Result<Entry, WordsFault> {
     let parts = cut_twice(text.as_bytes(), b'.');
     let (class, name, descriptor) = parts.ok_or(WordsFault::Words)?;
+    let descriptor = name_of(alloc, NameSort::MethodDescriptor, descriptor)?;
+    let arguments = arguments_of(alloc, descriptor.as_slice(), arguments)?;
     Ok(Entry::Static {
         class: name_of(alloc, NameSort::Class, class)?,
         name: name_of(alloc, NameSort::Method, name)?,
-        descriptor: name_of(alloc, NameSort::MethodDescriptor, descriptor)?,
+        descriptor,
         arguments: Items::from_vec(arguments),
     })
 }
@@ -34,19 +38,40 @@ pub(crate) fn main_entry(alloc: Global, text: &str) -> Result<Entry, WordsFault>
     Ok(Entry::Main { class })
 }
 
-/// A number in decimal digits, maybe behind a minus sign.
-fn number_of(text: &str) -> Option<i32> {
+/// Parses a decimal number, maybe with a minus sign: of 64 bits for a long, else of 32. Returns `None` if it is no such
+/// number.
+fn argument_of(is_long: bool, text: &str) -> Option<Argument> {
     if text.starts_with('+') {
         return None;
     }
-    text.parse::<i32>().ok()
+    if is_long {
+        return Some(Argument::Long(text.parse::<i64>().ok()?));
+    }
+    Some(Argument::Int(text.parse::<i32>().ok()?))
 }
 
-/// The numbers that a text writes, parted by commas.
-pub(crate) fn arguments_of(alloc: Global, text: &str) -> Result<Vec<i32>, WordsFault> {
+/// Returns whether the parameter at this index is a long: false if there is none.
+fn is_long(parameters: &[FieldType], place: usize) -> bool {
+    match parameters.get(place) {
+        None => false,
+        Some(t) => t.dimensions == 0 && matches!(t.element, Element::Primitive(Primitive::Long)),
+    }
+}
+
+/// Parses arguments separated by commas, each by the parameter at its index. Without a text there are none.
+fn arguments_of(
+    alloc: Global,
+    descriptor: &[u16],
+    text: Option<&str>,
+) -> Result<Vec<Argument>, WordsFault> {
     let mut arguments = Vec::new(alloc);
-    for part in text.split(',') {
-        arguments.push(number_of(part).ok_or(WordsFault::Words)?)?;
+    let Some(text) = text else {
+        return Ok(arguments);
+    };
+    let method = method_type(alloc, descriptor)?;
+    for (place, part) in text.split(',').enumerate() {
+        let is_long = is_long(method.parameters.as_slice(), place);
+        arguments.push(argument_of(is_long, part).ok_or(WordsFault::Words)?)?;
     }
     Ok(arguments)
 }

@@ -7,7 +7,7 @@ time, and tells whether methods were atomic in a run
 
 Usage: jvmx COMMAND WORDS
 
-  eval           runs a static method on int arguments and prints what it gives
+  eval           runs a static method on numbers and prints what it gives
   run            runs a program and prints what it writes; with --spec, tells
                  whether methods were atomic in that run
   trace          runs a program and prints what its threads did
@@ -33,7 +33,7 @@ Example: jvmx eval --entry 'G.gcd.(II)I' --args 48,36 examples/G.j
 
 /// `jvmx eval --help`
 pub const EVAL_HELP: &str = "\
-jvmx eval: runs a static method on int arguments and prints what it gives
+jvmx eval: runs a static method on numbers and prints what it gives
 
 Usage: jvmx eval --entry C.m.D [--args N,N] FILE...
 
@@ -43,8 +43,9 @@ Usage: jvmx eval --entry C.m.D [--args N,N] FILE...
                  lower case hexadecimal digits
                  examples: --entry 'G.gcd.(II)I', --entry 'a/b/C.f.()V'
   --args N,N     its arguments: decimal numbers from -2147483648 to 2147483647,
-                 parted by commas (default: none). A negative first one is
-                 joined to the option
+                 or from -9223372036854775808 to 9223372036854775807 for a
+                 parameter of type long, parted by commas (default: none). A
+                 negative first one is joined to the option
                  examples: --args 48,36, --args=-7,2
   FILE...        the classes of the program, each of at most 67108864 bytes (at
                  least one): a source in Jasmin where the name ends in .j, else
@@ -57,13 +58,13 @@ The method runs as thread 0, which takes all turns, at most 1000000: threads
 that it starts take none. jvmx run lets them run. A run has at most 1000000
 objects, 10000000 elements of arrays, 64 threads and 1024 frames a thread.
 
-All instructions run but those of long, float and double: a thread stands still
-before one of these, and where no thread can go on, the status is Stalled.
+All instructions run but those of float and double: a thread stands still before
+one of these, and where no thread can go on, the status is Stalled.
 
-Standard output: the result and a line end, an int in decimal, a reference as
-null or R:n. Where there is no result, standard error: uncaught T C for each
-thread T that ended with an exception, of class C; then status S turns N, with S
-one of Finished, Running, Stalled, Deadlocked.
+Standard output: the result and a line end, an int or a long in decimal, a
+reference as null or R:n. Where there is no result, standard error: uncaught T C
+for each thread T that ended with an exception, of class C; then status S turns
+N, with S one of Finished, Running, Stalled, Deadlocked.
 
 Exit status: 0 where the status is Finished and no exception is uncaught, else
 1; 2 and 3 as jvmx --help says. docs/REFUSALS.md explains the codes of refusals.

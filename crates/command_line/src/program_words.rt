@@ -1,6 +1,6 @@
 //! The words that name a program, and where it begins.
 
-use crate::entry::{arguments_of, main_entry, natural_of, static_entry};
+use crate::entry::{main_entry, natural_of, static_entry};
 use crate::fault::WordsFault;
 use crate::syntax::{ARGUMENTS, ENTRY, FILES, MOST};
 use clap::ArgMatches;
@@ -45,18 +45,10 @@ fn files_of<'a>(alloc: Global, matches: &ArgMatches<'a>) -> Result<Vec<&'a str>,
     Ok(files)
 }
 
-/// The arguments of the words: none where there is no such option.
-fn arguments(alloc: Global, matches: &ArgMatches<'_>) -> Result<Vec<i32>, WordsFault> {
-    match matches.get_str(ARGUMENTS) {
-        None => Ok(Vec::new(alloc)),
-        Some(text) => arguments_of(alloc, text),
-    }
-}
-
 /// The entry that a text names: without a dot a main class, which takes no arguments.
 fn entry_of(alloc: Global, text: &str, matches: &ArgMatches<'_>) -> Result<Entry, WordsFault> {
     if text.contains('.') {
-        static_entry(alloc, text, arguments(alloc, matches)?)
+        static_entry(alloc, text, matches.get_str(ARGUMENTS))
     } else if matches.get_str(ARGUMENTS).is_none() {
         main_entry(alloc, text)
     } else {

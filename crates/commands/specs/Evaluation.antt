@@ -15,9 +15,11 @@ use Rattle.commands.specs.Limits.{default_limits}
 abbrev pub evaluated : List Input → Entry → Result Shown NotRun
 evaluated inputs entry = run_judged 1000000 Alone default_limits inputs entry
 
--- A value: an int in decimal, a reference as null or R:n.
+-- A value: an int or a long in decimal, a reference as null or R:n.
 abbrev pub value_text : Value → List ℕ
 value_text (value.Int n) = signed_decimal n
+value_text (value.Long n) = signed_decimal n
+value_text value.Second = codes "+"
 value_text value.Null = codes "null"
 value_text (value.Reference r) = codes "R:" ++ decimal r
 value_text (value.ReturnAddress i) = codes "ret:" ++ decimal i

@@ -38,6 +38,8 @@ fn value_line(alloc: Global, value: Value) -> Result<String, AllocError>
 {
     match value {
         Value::Int(n) => format!(in alloc; "{n}\n"),
+        Value::Long(n) => format!(in alloc; "{n}\n"),
+        Value::Second => format!(in alloc; "+\n"),
         Value::Null => format!(in alloc; "null\n"),
         Value::Reference(r) => format!(in alloc; "R:{r}\n"),
         Value::ReturnAddress(i) => format!(in alloc; "ret:{i}\n"),

@@ -34,7 +34,8 @@ fn reference_of(value: Value) -> Option<Option<u32>>
     match value {
         Value::Reference(r) => Some(Some(r)),
         Value::Null => Some(None),
-        Value::Int(_) | Value::ReturnAddress(_) | Value::Unset => None,
+        Value::Int(_) | Value::Long(_) | Value::Second | Value::ReturnAddress(_) | Value::Unset =>
+            None,
     }
 }
 
@@ -58,7 +59,7 @@ fn is_null(r: Option<u32>) -> bool
 
 // To the target where the test holds, else to the next instruction.
 #[inline(always)]
-fn jump_if(holds: bool, takes: u8, frame: &Frame, target: u32) -> FrameDecision
+fn jump_if(holds: bool, takes: u16, frame: &Frame, target: u32) -> FrameDecision
     requires place { frame.now.activation.place + 1 < 2 ^ 64 }
     requires there { takes ≤ length frame.now.activation.operands }
     ensures decision { result ≡ jumps_if holds takes frame.now.activation target }

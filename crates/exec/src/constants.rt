@@ -1,10 +1,11 @@
-//! Constants (JVMS 6.5 aconst_null, iconst, bipush, sipush, ldc).
+//! Constants (JVMS 6.5 aconst_null, iconst, lconst, bipush, sipush, ldc, ldc2_w).
 
 ghost use Rattle.std.specs.Prelude.{◌≡◌};
 ghost use Rattle.jvms_machine.specs.Activations.{HasRoom, IfDoes};
 ghost use Rattle.jvms_machine.specs.Constants.{pushed, push_decision, constant_decision};
 
 use crate::decisions::{has_depth, pushes};
+use crate::places::value_size;
 use frames::Frame;
 use jvms_file::insn;
 use jvms_machine::action::FrameDecision;
@@ -17,7 +18,7 @@ fn push_value(value: Value, frame: &Frame) -> FrameDecision
     ensures decision { result ≡ pushed frame.now.body frame.now.activation value }
     ensures room { IfDoes result (HasRoom frame.now.body frame.now.activation) }
 {
-    if has_depth(frame, 0, 1) {
+    if has_depth(frame, 0, value_size(value)) {
         pushes(0, value)
     } else {
         FrameDecision::Stops(BadCause::Depth)
@@ -33,6 +34,15 @@ pub(crate) fn push_int(n: i32, frame: &Frame) -> FrameDecision
     push_value(Value::Int(n), frame)
 }
 
+/// A long is put on top.
+#[inline(always)]
+pub(crate) fn push_long(n: i64, frame: &Frame) -> FrameDecision
+    ensures decision { result ≡ pushed frame.now.body frame.now.activation (Value.Long n) }
+    ensures room { IfDoes result (HasRoom frame.now.body frame.now.activation) }
+{
+    push_value(Value::Long(n), frame)
+}
+
 #[inline(never)]
 pub(crate) fn push(what: insn::Push, frame: &Frame) -> FrameDecision
     ensures decision { result ≡ push_decision frame.now.body what frame.now.activation }
@@ -41,7 +51,8 @@ pub(crate) fn push(what: insn::Push, frame: &Frame) -> FrameDecision
     match what {
         insn::Push::Null => push_value(Value::Null, frame),
         insn::Push::Int(n) => push_int(i32::from(n), frame),
-        insn::Push::Long(_) | insn::Push::Float(_) | insn::Push::Double(_) => {
+        insn::Push::Long(n) => push_long(i64::from(n), frame),
+        insn::Push::Float(_) | insn::Push::Double(_) => {
             FrameDecision::Stops(BadCause::OutOfProfile)
         }
     }
@@ -55,9 +66,8 @@ pub(crate) fn constant(what: &Loadable, frame: &Frame) -> FrameDecision
 {
     match what {
         Loadable::Integer(n) => push_int(*n, frame),
-        Loadable::Float(_) | Loadable::Long(_) | Loadable::Double(_) => {
-            FrameDecision::Stops(BadCause::OutOfProfile)
-        }
+        Loadable::Long(n) => push_long(*n, frame),
+        Loadable::Float(_) | Loadable::Double(_) => FrameDecision::Stops(BadCause::OutOfProfile),
         Loadable::String(_) | Loadable::Class(_) => FrameDecision::Beyond,
     }
 }

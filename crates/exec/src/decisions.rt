@@ -33,7 +33,7 @@ pub(crate) fn pushes(takes: u8, value: Value) -> FrameDecision
 
 /// On at a place, with the operands taken.
 #[inline(always)]
-pub(crate) fn jumps(takes: u8, target: usize) -> FrameDecision
+pub(crate) fn jumps(takes: u16, target: usize) -> FrameDecision
     ensures { result ≡ jumping takes target }
 {
     FrameDecision::Does(FrameAction::Jump { takes, target })

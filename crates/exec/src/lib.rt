@@ -8,6 +8,9 @@ mod branches;
 mod constants;
 mod decisions;
 mod locals;
+mod long_turns;
+mod longs;
+mod places;
 mod profile;
 mod stack;
 mod switches;
@@ -15,6 +18,6 @@ mod turn;
 
 pub use actions::apply;
 pub use decisions::has_depth;
-pub use locals::is_loaded;
+pub use places::{element_size, is_of_kind, kind_of_elements, kind_size, top_value, value_size};
 pub use profile::{is_outside_array, is_outside_method};
 pub use turn::{decide, is_beyond, step, step_by_instruction};

@@ -1,4 +1,4 @@
-//! Local variables (JVMS 6.5 iload, aload, istore, astore, ret, iinc).
+//! Local variables (JVMS 6.5 iload, lload, aload, istore, lstore, astore, ret, iinc).
 
 ghost use Rattle.std.specs.Prelude.{◌≡◌};
 ghost use Rattle.jvms_file.specs.declared.insn.Kind.TheVariants as kinds;
@@ -6,7 +6,7 @@ ghost use Rattle.jvms_file.specs.declared.insn.LocalUse.TheVariants as local_use
 ghost use Rattle.jvms_machine.specs.declared.action.FrameAction.TheVariants as action;
 ghost use Rattle.jvms_machine.specs.declared.action.FrameDecision.TheVariants as decided;
 ghost use Rattle.jvms_machine.specs.Activations.{HasRoom, IfDoes};
-ghost use Rattle.jvms_machine.specs.Locals.{is_loaded as loads, is_stored as stores, load_decision, store_decision, local_decision, increment_decision};
+ghost use Rattle.jvms_machine.specs.Locals.{load_decision, store_decision, local_decision, increment_decision};
 
 use crate::decisions::{has_depth, jumps, pushes};
 use frames::Frame;
@@ -14,29 +14,6 @@ use jvms_file::insn::{Kind, LocalUse};
 use jvms_machine::action::{FrameAction, FrameDecision};
 use jvms_machine::machine::BadCause;
 use jvms_machine::value::Value;
-
-/// Whether a value is of the kind that a load or a return takes.
-#[inline(always)]
-pub fn is_loaded(kind: Kind, value: Value) -> bool
-    ensures { result ≡ loads kind value }
-{
-    match value {
-        Value::Int(_) => kind == Kind::Int,
-        Value::Null | Value::Reference(_) => kind == Kind::Reference,
-        Value::ReturnAddress(_) | Value::Unset => false,
-    }
-}
-
-/// Whether astore takes a value: a reference, null or a return address.
-#[inline(always)]
-fn is_stored(value: Value) -> bool
-    ensures { result ≡ stores kinds.Reference value }
-{
-    match value {
-        Value::Null | Value::Reference(_) | Value::ReturnAddress(_) => true,
-        Value::Int(_) | Value::Unset => false,
-    }
-}
 
 /// JVMS 6.5 iload.
 #[inline(always)]
@@ -68,11 +45,28 @@ pub(crate) fn load_reference(n: u16, frame: &Frame) -> FrameDecision
     if !has_depth(frame, 0, 1) {
         return FrameDecision::Stops(BadCause::Depth);
     }
-    let value = frame.local(n);
-    if is_loaded(Kind::Reference, value) {
-        pushes(0, value)
-    } else {
-        FrameDecision::Stops(BadCause::Kind)
+    match frame.local(n) {
+        Value::Reference(reference) => pushes(0, Value::Reference(reference)),
+        Value::Null => pushes(0, Value::Null),
+        _ => FrameDecision::Stops(BadCause::Kind),
+    }
+}
+
+/// JVMS 6.5 lload.
+#[inline(always)]
+pub(crate) fn load_long(n: u16, frame: &Frame) -> FrameDecision
+    ensures decision { result ≡ load_decision frame.now.body kinds.Long n frame.now.activation }
+    ensures room { IfDoes result (HasRoom frame.now.body frame.now.activation) }
+{
+    if usize::from(n) + 1 >= frame.local_count() {
+        return FrameDecision::Stops(BadCause::Local);
+    }
+    if !has_depth(frame, 0, 2) {
+        return FrameDecision::Stops(BadCause::Depth);
+    }
+    match (frame.local(n), frame.local_after(n)) {
+        (Value::Long(long), Value::Second) => pushes(0, Value::Long(long)),
+        _ => FrameDecision::Stops(BadCause::Kind),
     }
 }
 
@@ -82,18 +76,19 @@ fn load(kind: Kind, n: u16, frame: &Frame) -> FrameDecision
 {
     match kind {
         Kind::Int => load_int(n, frame),
+        Kind::Long => load_long(n, frame),
         Kind::Reference => load_reference(n, frame),
-        Kind::Long | Kind::Float | Kind::Double => FrameDecision::Stops(BadCause::OutOfProfile),
+        Kind::Float | Kind::Double => FrameDecision::Stops(BadCause::OutOfProfile),
     }
 }
 
-/// A value is stored in a local variable, in place of the operand on top.
+/// Stores a value in a local variable and removes `takes` operands.
 #[inline(always)]
-fn stores_in(local: u16, value: Value) -> FrameDecision
-    ensures { result ≡ decided.Does (action.Store 1 local value) }
+fn stores_in(local: u16, takes: u8, value: Value) -> FrameDecision
+    ensures { result ≡ decided.Does (action.Store takes local value) }
 {
     FrameDecision::Does(FrameAction::Store {
-        takes: 1,
+        takes,
         local,
         value,
     })
@@ -112,7 +107,7 @@ pub(crate) fn store_int(n: u16, frame: &Frame) -> FrameDecision
         return FrameDecision::Stops(BadCause::Depth);
     }
     match frame.top() {
-        Value::Int(m) => stores_in(n, Value::Int(m)),
+        Value::Int(m) => stores_in(n, 1, Value::Int(m)),
         _ => FrameDecision::Stops(BadCause::Kind),
     }
 }
@@ -129,11 +124,29 @@ pub(crate) fn store_reference(n: u16, frame: &Frame) -> FrameDecision
     if !has_depth(frame, 1, 0) {
         return FrameDecision::Stops(BadCause::Depth);
     }
-    let value = frame.top();
-    if is_stored(value) {
-        stores_in(n, value)
-    } else {
-        FrameDecision::Stops(BadCause::Kind)
+    match frame.top() {
+        Value::Reference(reference) => stores_in(n, 1, Value::Reference(reference)),
+        Value::Null => stores_in(n, 1, Value::Null),
+        Value::ReturnAddress(place) => stores_in(n, 1, Value::ReturnAddress(place)),
+        _ => FrameDecision::Stops(BadCause::Kind),
+    }
+}
+
+/// JVMS 6.5 lstore.
+#[inline(always)]
+pub(crate) fn store_long(n: u16, frame: &Frame) -> FrameDecision
+    ensures decision { result ≡ store_decision frame.now.body kinds.Long n frame.now.activation }
+    ensures room { IfDoes result (HasRoom frame.now.body frame.now.activation) }
+{
+    if usize::from(n) + 1 >= frame.local_count() {
+        return FrameDecision::Stops(BadCause::Local);
+    }
+    if !has_depth(frame, 2, 0) {
+        return FrameDecision::Stops(BadCause::Depth);
+    }
+    match frame.top_two() {
+        (Value::Long(long), Value::Second) => stores_in(n, 2, Value::Long(long)),
+        _ => FrameDecision::Stops(BadCause::Kind),
     }
 }
 
@@ -143,8 +156,9 @@ fn store(kind: Kind, n: u16, frame: &Frame) -> FrameDecision
 {
     match kind {
         Kind::Int => store_int(n, frame),
+        Kind::Long => store_long(n, frame),
         Kind::Reference => store_reference(n, frame),
-        Kind::Long | Kind::Float | Kind::Double => FrameDecision::Stops(BadCause::OutOfProfile),
+        Kind::Float | Kind::Double => FrameDecision::Stops(BadCause::OutOfProfile),
     }
 }
 

@@ -1,4 +1,4 @@
-//! What names a type outside of the profile: a float, a double or a long; and the classes of which no object is made.
+//! What names a type outside of the profile, a float or a double; and the classes of which no object is made.
 
 ghost use Rattle.std.specs.Prelude.{◌≡◌};
 ghost use Rattle.std.specs.List.{list_any};
@@ -34,13 +34,10 @@ const PRINT_STREAM: [u16; 19] = [
 fn is_outside_primitive(primitive: Primitive) -> bool
     ensures { result ≡ outside_element (element.Primitive primitive) }
 {
-    matches!(
-        primitive,
-        Primitive::Float | Primitive::Double | Primitive::Long
-    )
+    matches!(primitive, Primitive::Float | Primitive::Double)
 }
 
-/// Whether a type is a float, a double or a long, or an array of them.
+/// Whether a type is a float or a double, or an array of them.
 #[inline(always)]
 pub(crate) fn is_outside_type(t: &FieldType) -> bool
     ensures { result ≡ outside_element t.now.element }
@@ -68,7 +65,7 @@ fn has_outside_parameter(parameters: &[FieldType]) -> bool
         .any(|parameter| is_outside_type(parameter))
 }
 
-/// Whether a method's descriptor names a float, a double or a long anywhere.
+/// Whether a method's descriptor names a float or a double anywhere.
 pub fn is_outside_method(t: &MethodType) -> bool
     ensures { result ≡ outside_method t.now }
 {
@@ -84,7 +81,7 @@ fn is_outside_innermost(innermost: Innermost) -> bool
     }
 }
 
-/// Whether the class of a name is an array of floats, doubles or longs.
+/// Whether the class of a name is an array of floats or doubles.
 pub(crate) fn is_outside_class(name: &[u16]) -> bool
     ensures { result ≡ outside_class name.now }
 {
@@ -101,19 +98,16 @@ pub(crate) fn is_outside_class(name: &[u16]) -> bool
 fn is_outside_kind(kind: ArrayKind) -> bool
     ensures { result ≡ outside_kind kind }
 {
-    matches!(kind, ArrayKind::Float | ArrayKind::Double | ArrayKind::Long)
+    matches!(kind, ArrayKind::Float | ArrayKind::Double)
 }
 
 fn is_outside_component(component: ArrayType) -> bool
     ensures { result ≡ outside_component component }
 {
-    matches!(
-        component,
-        ArrayType::Float | ArrayType::Double | ArrayType::Long
-    )
+    matches!(component, ArrayType::Float | ArrayType::Double)
 }
 
-/// Whether it is a load, a store or newarray of float, double or long.
+/// Whether it is a load, a store or newarray of float or double.
 #[inline(always)]
 pub fn is_outside_array(what: ArrayInsn) -> bool
     ensures { result ≡ outside_array what }

@@ -1,9 +1,9 @@
 //! The instructions that move operands of any kind (JVMS 6.5 pop to swap).
 
-ghost use Rattle.std.specs.Prelude.{◌≡◌, ◌≤◌, ◌+◌, ◌-◌, length};
+ghost use Rattle.std.specs.Prelude.{◌≡◌, ◌≤◌, ◌+◌, ◌-◌, length, Some};
 ghost use Rattle.jvms_file.specs.declared.insn.StackForm.TheVariants as form;
 ghost use Rattle.jvms_machine.specs.Activations.{form_takes, form_gives, rearranged, HasRoom, IfDoes};
-ghost use Rattle.jvms_machine.specs.Stack.{stack_decision, is_set as set_value, are_set as set_values};
+ghost use Rattle.jvms_machine.specs.Stack.{stack_decision, is_second as second_value, is_set as set_value, are_set as set_values, parts_a_long as parts_long};
 ghost use Rattle.frames.specs.Frame.{with_operands};
 
 use crate::decisions::has_depth;
@@ -47,7 +47,12 @@ fn is_set(value: Value) -> bool
 {
     match value {
         Value::Unset => false,
-        Value::Int(_) | Value::Null | Value::Reference(_) | Value::ReturnAddress(_) => true,
+        Value::Int(_)
+        | Value::Long(_)
+        | Value::Second
+        | Value::Null
+        | Value::Reference(_)
+        | Value::ReturnAddress(_) => true,
     }
 }
 
@@ -76,7 +81,54 @@ fn are_set(frame: &Frame, count: u8) -> bool
     }
 }
 
-/// Operands are moved as the form does. In this order: the depth; that each is set.
+/// Whether a value is the second place of a long.
+#[inline(always)]
+fn is_second(value: Value) -> bool
+    ensures { result ≡ second_value (Some value) }
+{
+    matches!(value, Value::Second)
+}
+
+/// Returns whether the border of a group parts a long, for a form that takes two operands.
+fn parts_of_two(form: StackForm, frame: &Frame) -> bool
+    requires there { 2 ≤ length frame.now.activation.operands }
+    requires few { form_takes form ≡ 2 }
+    ensures { result ≡ parts_long form frame.now.activation.operands }
+{
+    let (a, b) = frame.top_two();
+    match form {
+        StackForm::Pop2 | StackForm::Dup2 => is_second(a),
+        _ => is_second(b) || is_second(a),
+    }
+}
+
+/// Whether the border of a group of a form parts a long from its second place.
+#[inline(never)]
+fn parts_a_long(form: StackForm, frame: &Frame) -> bool
+    requires { form_takes form ≤ length frame.now.activation.operands }
+    ensures { result ≡ parts_long form frame.now.activation.operands }
+{
+    match form {
+        StackForm::Pop | StackForm::Dup => is_second(frame.top()),
+        StackForm::Pop2 | StackForm::Dup2 | StackForm::DupX1 | StackForm::Swap => {
+            parts_of_two(form, frame)
+        }
+        StackForm::DupX2 => {
+            let (a, _, c) = frame.top_three();
+            is_second(c) || is_second(a)
+        }
+        StackForm::Dup2X1 => {
+            let (a, b, _) = frame.top_three();
+            is_second(b) || is_second(a)
+        }
+        StackForm::Dup2X2 => {
+            let (a, _, c, _) = frame.top_four();
+            is_second(c) || is_second(a)
+        }
+    }
+}
+
+/// Operands are moved as the form does. In this order: the depth; that each is set; that no long is parted.
 #[inline(never)]
 pub(crate) fn stack(form: StackForm, frame: &Frame) -> FrameDecision
     ensures decision { result ≡ stack_decision frame.now.body form frame.now.activation }
@@ -85,7 +137,7 @@ pub(crate) fn stack(form: StackForm, frame: &Frame) -> FrameDecision
     if !has_depth(frame, takes(form), gives(form)) {
         return FrameDecision::Stops(BadCause::Depth);
     }
-    if !are_set(frame, takes(form)) {
+    if !are_set(frame, takes(form)) || parts_a_long(form, frame) {
         return FrameDecision::Stops(BadCause::Kind);
     }
     FrameDecision::Does(FrameAction::Rearrange(form))
@@ -100,7 +152,8 @@ pub(crate) fn duplicates(frame: &Frame) -> FrameDecision
     if !has_depth(frame, 1, 2) {
         return FrameDecision::Stops(BadCause::Depth);
     }
-    if is_set(frame.top()) {
+    let top = frame.top();
+    if is_set(top) && !is_second(top) {
         FrameDecision::Does(FrameAction::Rearrange(StackForm::Dup))
     } else {
         FrameDecision::Stops(BadCause::Kind)

@@ -132,7 +132,8 @@ fn array_length_decision<'p>(parts: &Parts<'p>, thread: &Thread, frame: &Frame) 
     match frame.top() {
         Value::Reference(reference) => measured(parts, thread, reference),
         Value::Null => parts.throws(thread, Thrown::NullPointerException),
-        Value::Int(_) | Value::ReturnAddress(_) | Value::Unset => bad(BadCause::Kind),
+        Value::Int(_) | Value::Long(_) | Value::Second | Value::ReturnAddress(_) | Value::Unset =>
+            bad(BadCause::Kind),
     }
 }
 

@@ -38,7 +38,7 @@ fn printed_text<'h>(heap: &'h Heap<'_>, what: Printed) -> Option<&'h [u16]>
             let units = heap.units_of(reference)?;
             Some(units.as_slice())
         }
-        Printed::Nothing | Printed::Int(_) | Printed::Null => None,
+        Printed::Nothing | Printed::Int(_) | Printed::Long(_) | Printed::Null => None,
     }
 }
 

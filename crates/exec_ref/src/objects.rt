@@ -146,7 +146,7 @@ fn top_told<'p>(parts: &Parts<'p>, thread: &Thread, frame: &Frame, name: &[u16])
     match frame.top() {
         Value::Null => Told::Null,
         Value::Reference(reference) => told_of(parts, thread, name, reference),
-        Value::Int(_) | Value::ReturnAddress(_) | Value::Unset => {
+        Value::Int(_) | Value::Long(_) | Value::Second | Value::ReturnAddress(_) | Value::Unset => {
             Told::Stops(bad(BadCause::Kind))
         }
     }

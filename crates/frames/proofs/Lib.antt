@@ -1,3 +1,4 @@
 pub mod Tops
 pub mod Filled
 pub mod Halves
+pub mod Locals

@@ -10,8 +10,7 @@ use Rattle.jvms_machine.specs.declared.value.Value.{Value}
 use Rattle.jvms_machine.specs.declared.value.Value.TheVariants as value
 use Rattle.jvms_machine.specs.State.{Object, array}
 use Rattle.jvms_machine.specs.Heap.{component_type, has_dimensions, stored_as}
-use Rattle.jvms_machine.specs.Locals.{is_loaded}
-use Rattle.jvms_machine.specs.Returns.{kind_of_element}
+use Rattle.jvms_machine.specs.Places.{is_of_kind, kind_of_element}
 use Rattle.jvms_machine.specs.Turn.{CanHold, ElementsCanHold, IsProper}
 use Rattle.array_elements.specs.declared.kind.Kind.TheVariants as kind
 use Rattle.array_elements.specs.Kinds.{kind_of, IsOfKind}
@@ -38,24 +37,25 @@ abbrev int_of : ℤ → Value → ℤ
 int_of other (value.Int n) = n
 int_of other _ = other
 
-of_reference : (v : Value) → IsTrue (is_loaded loads.Reference v) → IsProper v → IsOfKind kind.Reference v
+of_reference : (v : Value) → IsTrue (is_of_kind loads.Reference v) → IsProper v → IsOfKind kind.Reference v
 of_reference value.Null loaded proper = tt
 of_reference (value.Reference r) loaded proper = proper
 of_reference _ loaded proper = absurd (false≢true loaded)
 
 -- A value of an element's kind that is kept whole can be held by it.
-of_element : (e : Element) (v : Value) → IsTrue (is_loaded (kind_of_element e) v) → stored_as (record { dimensions = 0; element = e }) v ≡ v → IsProper v → IsOfKind (held_as e) v
+of_element : (e : Element) (v : Value) → IsTrue (is_of_kind (kind_of_element e) v) → stored_as (record { dimensions = 0; element = e }) v ≡ v → IsProper v → IsOfKind (held_as e) v
 of_element (element.Object name) v loaded whole proper = of_reference v loaded proper
 of_element (element.Primitive primitive.Int) (value.Int n) loaded whole proper = tt
 of_element (element.Primitive primitive.Byte) (value.Int n) loaded whole proper = ap (int_of n) whole
 of_element (element.Primitive primitive.Boolean) (value.Int n) loaded whole proper = ap (int_of n) whole
 of_element (element.Primitive primitive.Char) (value.Int n) loaded whole proper = ap (int_of n) whole
 of_element (element.Primitive primitive.Short) (value.Int n) loaded whole proper = ap (int_of n) whole
+of_element (element.Primitive primitive.Long) (value.Long n) loaded whole proper = tt
 of_element (element.Primitive _) v loaded whole proper = absurd (false≢true loaded)
 
 of_arrays : (t : FieldType) (v : Value) → (t.dimensions == 0) ≡ false → CanHold t v → IsOfKind (kind_of t) v
 of_arrays t v not_none can =
-    let loaded : IsTrue (is_loaded loads.Reference v) = subst (λ k. IsTrue (is_loaded k v)) (ap (λ c. cond c (kind_of_element t.element) loads.Reference) not_none) can.0 in
+    let loaded : IsTrue (is_of_kind loads.Reference v) = subst (λ k. IsTrue (is_of_kind k v)) (ap (λ c. cond c (kind_of_element t.element) loads.Reference) not_none) can.0 in
     subst (λ k. IsOfKind k v) (sym (ap (λ c. cond c (held_as t.element) kind.Reference) not_none)) (of_reference v loaded can.2)
 
 of_type : (dimensions : ℕ) (e : Element) (v : Value) → CanHold (record { dimensions = dimensions; element = e }) v → IsOfKind (kind_of (record { dimensions = dimensions; element = e })) v

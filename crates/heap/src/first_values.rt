@@ -22,7 +22,8 @@ fn default_of_element(element: &Element) -> Value
 {
     match element {
         Element::Object(_) => Value::Null,
-        Element::Primitive(Primitive::Float | Primitive::Double | Primitive::Long) => Value::Unset,
+        Element::Primitive(Primitive::Float | Primitive::Double) => Value::Unset,
+        Element::Primitive(Primitive::Long) => Value::Long(0),
         Element::Primitive(_) => Value::Int(0),
     }
 }

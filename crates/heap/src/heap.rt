@@ -148,7 +148,7 @@ impl<'p> Heap<'p> {
         }
     }
 
-    /// What is kept of an int that is stored in an array that an instruction of a kind serves.
+    /// What is kept of an int or a long that is stored in an array that an instruction of a kind serves.
     #[inline(always)]
     pub fn stored(
         &self,

@@ -125,7 +125,7 @@ impl HeldObject {
         }
     }
 
-    /// What is kept of an int that is stored in an array that an instruction of a kind serves.
+    /// What is kept of an int or a long that is stored in an array that an instruction of a kind serves.
     #[inline(always)]
     pub(crate) fn stored(&self, kind: ArrayKind, index: usize, value: Value) -> Option<Value>
         ensures { (program : List Class) → IsKept program self.now → IfSome result (λ kept. Stores kind index value kept (shown program self.now)) }

@@ -73,7 +73,8 @@ pub fn monitor_enter_decision<'p>(
     match frame.top() {
         Value::Reference(reference) => enter_object(parts, t, thread, frame, reference),
         Value::Null => parts.throws(thread, Thrown::NullPointerException),
-        Value::Int(_) | Value::ReturnAddress(_) | Value::Unset => bad(BadCause::Kind),
+        Value::Int(_) | Value::Long(_) | Value::Second | Value::ReturnAddress(_) | Value::Unset =>
+            bad(BadCause::Kind),
     }
 }
 
@@ -94,6 +95,7 @@ pub fn monitor_exit_decision<'p>(
     match frame.top() {
         Value::Reference(reference) => exit_object(parts, t, thread, frame, reference),
         Value::Null => parts.throws(thread, Thrown::NullPointerException),
-        Value::Int(_) | Value::ReturnAddress(_) | Value::Unset => bad(BadCause::Kind),
+        Value::Int(_) | Value::Long(_) | Value::Second | Value::ReturnAddress(_) | Value::Unset =>
+            bad(BadCause::Kind),
     }
 }

@@ -2,7 +2,8 @@
 //! notifications. Each is done in the turn of its call.
 
 ghost use Rattle.std.specs.Prelude.{◌≡◌, ◌+◌, ◌<◌, ◌^◌, slice_get};
-ghost use Rattle.jvms_machine.specs.Natives.{prints as printing, object_printed as prints_object, top_printed as prints_top, print_decision as prints_as, native_of_class};
+ghost use Rattle.jvms_machine.specs.Natives.{prints as printing, object_printed as prints_object, value_printed as prints_value, print_decision as prints_as, native_of_class};
+ghost use Rattle.jvms_machine.specs.Places.{whole_top as whole_on_top};
 ghost use Rattle.jvms_machine.specs.State.{object_at};
 ghost use Rattle.machine_parts.specs.Decided.{seen};
 ghost use Rattle.machine_parts.specs.Ready.{AreNumbered};
@@ -40,8 +41,8 @@ const PRINTLN: [u16; 7] = [112, 114, 105, 110, 116, 108, 110];
 /// `()V`, the descriptor of a method that takes and gives nothing.
 const NOTHING: [u16; 3] = [40, 41, 86];
 
-/// What a print takes: the receiver, and what is printed, if anything is.
-fn prints<'p>(frame: &Frame, takes: u8, what: Printed, ends_line: bool) -> Decided<'p>
+/// A print takes all operands of its call: the receiver, and what is printed, if anything is.
+fn prints<'p>(frame: &Frame, takes: u16, what: Printed, ends_line: bool) -> Decided<'p>
     requires { frame.now.activation.place + 1 < 2 ^ 64 }
     ensures { seen result ≡ printing frame.now.activation takes what ends_line }
 {
@@ -53,44 +54,63 @@ fn prints<'p>(frame: &Frame, takes: u8, what: Printed, ends_line: bool) -> Decid
 fn object_printed<'p>(
     parts: &Parts<'p>,
     frame: &Frame,
+    takes: u16,
     ends_line: bool,
     reference: u32,
 ) -> Decided<'p>
     requires { frame.now.activation.place + 1 < 2 ^ 64 }
-    ensures { seen result ≡ prints_object frame.now.activation ends_line reference (object_at parts.now.state.heap reference) }
+    ensures { seen result ≡ prints_object frame.now.activation takes ends_line reference (object_at parts.now.state.heap reference) }
 {
     match parts.heap.units_of(reference) {
-        Some(_) => prints(frame, 2, Printed::Text { reference }, ends_line),
+        Some(_) => prints(frame, takes, Printed::Text { reference }, ends_line),
         None => bad(BadCause::Kind),
     }
 }
 
-/// What is on top is printed.
-fn top_printed<'p>(parts: &Parts<'p>, frame: &Frame, ends_line: bool) -> Decided<'p>
-    requires { frame.now.activation.place + 1 < 2 ^ 64 }
-    ensures { seen result ≡ prints_top parts.now.state frame.now.activation ends_line frame.now.activation.operands }
+/// The value on top, whole: a second place is none without its long.
+fn whole_top(frame: &Frame) -> Option<Value>
+    ensures { result ≡ whole_on_top frame.now.activation.operands }
 {
-    if frame.height() == 0 {
-        return never_seen();
+    match frame.height() {
+        0 => None,
+        1 => match frame.top() {
+            Value::Second | Value::Long(_) => None,
+            value => Some(value),
+        },
+        _ => match frame.top_two() {
+            (Value::Long(n), Value::Second) => Some(Value::Long(n)),
+            (_, Value::Second | Value::Long(_)) => None,
+            (_, value) => Some(value),
+        },
     }
-    match frame.top() {
-        Value::Int(n) => prints(frame, 2, Printed::Int(n), ends_line),
-        Value::Null => prints(frame, 2, Printed::Null, ends_line),
-        Value::Reference(reference) => object_printed(parts, frame, ends_line, reference),
-        Value::ReturnAddress(_) | Value::Unset => never_seen(),
+}
+
+/// The value on top is printed.
+fn value_printed<'p>(parts: &Parts<'p>, frame: &Frame, takes: u16, ends_line: bool) -> Decided<'p>
+    requires { frame.now.activation.place + 1 < 2 ^ 64 }
+    ensures { seen result ≡ prints_value parts.now.state frame.now.activation takes ends_line (whole_on_top frame.now.activation.operands) }
+{
+    match whole_top(frame) {
+        Some(Value::Int(n)) => prints(frame, takes, Printed::Int(n), ends_line),
+        Some(Value::Long(n)) => prints(frame, takes, Printed::Long(n), ends_line),
+        Some(Value::Null) => prints(frame, takes, Printed::Null, ends_line),
+        Some(Value::Reference(reference)) => {
+            object_printed(parts, frame, takes, ends_line, reference)
+        }
+        _ => never_seen(),
     }
 }
 
 /// `print` and `println`.
-fn print_decision<'p>(parts: &Parts<'p>, frame: &Frame, method: &Method) -> Decided<'p>
+fn print_decision<'p>(parts: &Parts<'p>, frame: &Frame, takes: u16, method: &Method) -> Decided<'p>
     requires { frame.now.activation.place + 1 < 2 ^ 64 }
-    ensures { seen result ≡ prints_as parts.now.state frame.now.activation method.now }
+    ensures { seen result ≡ prints_as parts.now.state frame.now.activation takes method.now }
 {
     let ends_line = same_text(method.name.as_slice(), &PRINTLN);
     if ends_line && same_text(method.descriptor.as_slice(), &NOTHING) {
-        prints(frame, 1, Printed::Nothing, true)
+        prints(frame, takes, Printed::Nothing, true)
     } else {
-        top_printed(parts, frame, ends_line)
+        value_printed(parts, frame, takes, ends_line)
     }
 }
 
@@ -101,18 +121,19 @@ pub(crate) fn native_decision<'p>(
     t: usize,
     thread: &Thread,
     frame: &Frame,
+    takes: u16,
     method: &Method,
     class: usize,
 ) -> Decided<'p>
     requires place { frame.now.activation.place + 1 < 2 ^ 64 }
     requires numbered { AreNumbered parts.now.state }
-    ensures { seen result ≡ native_of_class parts.now.limits parts.now.state t thread.now frame.now.activation method.now (slice_get parts.now.program class) }
+    ensures { seen result ≡ native_of_class parts.now.limits parts.now.state t thread.now frame.now.activation takes method.now (slice_get parts.now.program class) }
 {
     let Some(c) = parts.program().class(class) else {
         return never_seen();
     };
     if same_text(c.name.as_slice(), &PRINT_STREAM) {
-        return print_decision(parts, frame, method);
+        return print_decision(parts, frame, takes, method);
     }
     if same_text(c.name.as_slice(), &THREAD) {
         return thread_native_decision(parts, thread, frame, method);

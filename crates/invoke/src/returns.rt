@@ -1,4 +1,4 @@
-//! Returns (JVMS 2.6.4, 6.5 ireturn, areturn, return).
+//! Returns (JVMS 2.6.4, 6.5 ireturn, lreturn, areturn, return).
 
 ghost use Rattle.std.specs.Prelude.{◌≡◌, drop};
 ghost use Rattle.jvms_program.specs.Program.{method_at};
@@ -7,7 +7,7 @@ ghost use Rattle.machine_parts.specs.Decided.{seen};
 
 pub(crate) mod told;
 
-use exec::is_loaded;
+use exec::{kind_size, top_value};
 use frames::Frame;
 use jvms_file::descriptor::ResultType;
 use jvms_file::insn::{Kind, ReturnInsn};
@@ -87,16 +87,16 @@ fn return_top_decision<'p>(
     given: &ResultType,
     kind: Kind,
 ) -> Decided<'p>
-    ensures { seen result ≡ returns_top parts.now.limits parts.now.state t frame.now (drop 1 thread.now.frames) given.now kind frame.now.activation.operands }
+    ensures { seen result ≡ returns_top parts.now.limits parts.now.state t frame.now (drop 1 thread.now.frames) given.now kind }
 {
-    if frame.height() == 0 {
+    if frame.height() < u16::from(kind_size(kind)) {
         return bad(BadCause::Depth);
     }
-    let value = frame.top();
-    if is_loaded(kind, value) && gives_kind(given, kind) {
-        returned_decision(parts, t, thread, frame, Some(value))
-    } else {
-        bad(BadCause::Kind)
+    match top_value(kind, frame) {
+        Some(value) if gives_kind(given, kind) => {
+            returned_decision(parts, t, thread, frame, Some(value))
+        }
+        _ => bad(BadCause::Kind),
     }
 }
 
@@ -119,12 +119,10 @@ fn return_decision<'p>(
                 bad(BadCause::Kind)
             }
         }
-        ReturnInsn::Value(kind @ (Kind::Int | Kind::Reference)) => {
+        ReturnInsn::Value(kind @ (Kind::Int | Kind::Long | Kind::Reference)) => {
             return_top_decision(parts, t, thread, frame, given, kind)
         }
-        ReturnInsn::Value(Kind::Long | Kind::Float | Kind::Double) => {
-            bad(BadCause::OutOfProfile)
-        }
+        ReturnInsn::Value(Kind::Float | Kind::Double) => bad(BadCause::OutOfProfile),
     }
 }
 

@@ -11,6 +11,7 @@ pub fn wrap(n: i64) -> i32
 }
 
 /// JVMS 6.5 iadd.
+#[tactic(auto, using(std::proofs::lemmas::Int::wraps))]
 pub fn add(a: i32, b: i32) -> i32
     ensures { result ≡ sum a b }
 {
@@ -18,6 +19,7 @@ pub fn add(a: i32, b: i32) -> i32
 }
 
 /// JVMS 6.5 isub.
+#[tactic(auto, using(std::proofs::lemmas::Int::wraps))]
 pub fn sub(a: i32, b: i32) -> i32
     ensures { result ≡ difference a b }
 {
@@ -32,6 +34,7 @@ pub fn mul(a: i32, b: i32) -> i32
 }
 
 /// JVMS 6.5 ineg.
+#[tactic(auto, using(std::proofs::lemmas::Int::wraps))]
 #[inline(always)]
 pub fn neg(a: i32) -> i32
     ensures { result ≡ negation a }
@@ -41,6 +44,7 @@ pub fn neg(a: i32) -> i32
 
 /// JVMS 6.5 idiv: the quotient, rounded to zero; `None` where the divisor is 0. The least int by -1 is
 /// itself.
+#[tactic(auto, using(crate::proofs::Wrapped::results))]
 pub fn div(a: i32, b: i32) -> Option<i32>
     ensures { result ≡ quotient a b }
 {
@@ -53,6 +57,7 @@ pub fn div(a: i32, b: i32) -> Option<i32>
 
 /// JVMS 6.5 irem: the remainder, with the dividend's sign; `None` where the divisor is 0. The least int
 /// by -1 leaves 0.
+#[tactic(auto, using(crate::proofs::Wrapped::results))]
 pub fn rem(a: i32, b: i32) -> Option<i32>
     ensures { result ≡ remainder a b }
 {

@@ -1,10 +1,12 @@
-//! The operations on two ints, by the instruction's kind.
+//! The operations on two numbers, by the instruction's kind.
 
 ghost use Rattle.std.specs.Prelude.{◌≡◌};
 ghost use Rattle.jvms_file.specs.Numbers.{binary_result, division_result};
+ghost use Rattle.jvms_file.specs.Numbers.{long_binary_result, long_division_result, long_shift_result};
 
 use crate::arithmetic::{add, div, mul, rem, sub};
 use crate::bits::{and, or, xor};
+use crate::long::{ladd, land, ldiv, lmul, lor, lrem, lshl, lshr, lsub, lushr, lxor};
 use crate::shift::{shl, shr, ushr};
 use jvms_file::insn;
 
@@ -34,5 +36,43 @@ pub fn divide(op: insn::Division, a: i32, b: i32) -> Option<i32>
     match op {
         insn::Division::Quotient => div(a, b),
         insn::Division::Remainder => rem(a, b),
+    }
+}
+
+/// Returns what two longs give, always (JVMS 6.5 ladd, lsub, lmul, land, lor, lxor).
+#[inline(always)]
+pub fn long_binary(op: insn::LongBinary, a: i64, b: i64) -> i64
+    ensures { result ≡ long_binary_result op a b }
+{
+    match op {
+        insn::LongBinary::Add => ladd(a, b),
+        insn::LongBinary::Subtract => lsub(a, b),
+        insn::LongBinary::Multiply => lmul(a, b),
+        insn::LongBinary::And => land(a, b),
+        insn::LongBinary::Or => lor(a, b),
+        insn::LongBinary::ExclusiveOr => lxor(a, b),
+    }
+}
+
+/// Divides two longs, or returns `None` if the divisor is 0 (JVMS 6.5 ldiv, lrem).
+#[inline(always)]
+pub fn long_divide(op: insn::Division, a: i64, b: i64) -> Option<i64>
+    ensures { result ≡ long_division_result op a b }
+{
+    match op {
+        insn::Division::Quotient => ldiv(a, b),
+        insn::Division::Remainder => lrem(a, b),
+    }
+}
+
+/// Shifts a long by an int (JVMS 6.5 lshl, lshr, lushr).
+#[inline(always)]
+pub fn long_shift(op: insn::LongShift, a: i64, distance: i32) -> i64
+    ensures { result ≡ long_shift_result op a distance }
+{
+    match op {
+        insn::LongShift::Left => lshl(a, distance),
+        insn::LongShift::Right => lshr(a, distance),
+        insn::LongShift::RightUnsigned => lushr(a, distance),
     }
 }

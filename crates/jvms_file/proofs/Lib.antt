@@ -1,5 +1,6 @@
 pub mod CountedLaws
 pub mod DescriptorLaws
 pub mod FrontLaws
-pub mod NumberLaws
+pub mod LongLaws
+mod NumberLaws
 pub mod TextLaws

@@ -1,10 +1,14 @@
--- The numbers of 32 bits: results of whole numbers, taken into range (JVMS 2.3.1, 2.11.3, 6.5).
-use Rattle.std.specs.Prelude.{◌≡◌, ℕ, ◌-◌, ◌/◌, ◌^◌, zero, suc, ℤ, pos, negsuc, ◌+ℤ◌, ◌-ℤ◌, ◌*ℤ◌, ◌≤ℤ◌, neg_ℤ, unsigned_abs, int_div, Option, Some, None}
-use Rattle.std.specs.Int.{w8, w16, w32, int_wrap, int_rem_euclid, int_div_euclid, int_bit_and, int_bit_or, int_bit_xor}
+-- The numbers of 32 and of 64 bits: results of whole numbers, taken into range (JVMS 2.3.1, 2.11.3, 6.5).
+use Rattle.std.specs.Prelude.{◌≡◌, ℕ, ◌-◌, ◌/◌, ◌^◌, zero, suc, ℤ, pos, negsuc, ◌+ℤ◌, ◌-ℤ◌, ◌*ℤ◌, ◌≤ℤ◌, neg_ℤ, unsigned_abs, int_div, int_lt, if◌then◌else◌, Option, Some, None}
+use Rattle.std.specs.Int.{Width, w8, w16, w32, w64, w128, int_wrap, int_rem_euclid, int_div_euclid, int_bit_and, int_bit_or, int_bit_xor}
 use Rattle.jvms_file.specs.declared.insn.Binary.{Binary}
 use Rattle.jvms_file.specs.declared.insn.Binary.TheVariants as binary
 use Rattle.jvms_file.specs.declared.insn.Division.{Division}
 use Rattle.jvms_file.specs.declared.insn.Division.TheVariants as division
+use Rattle.jvms_file.specs.declared.insn.LongBinary.{LongBinary}
+use Rattle.jvms_file.specs.declared.insn.LongBinary.TheVariants as long_binary
+use Rattle.jvms_file.specs.declared.insn.LongShift.{LongShift}
+use Rattle.jvms_file.specs.declared.insn.LongShift.TheVariants as long_shift
 use Rattle.jvms_file.specs.declared.insn.Narrow.{Narrow}
 use Rattle.jvms_file.specs.declared.insn.Narrow.TheVariants as narrow
 
@@ -17,57 +21,111 @@ pub record IsInt (n : ℤ) : Type 0 where
 abbrev pub IsCongruent : ℤ → ℤ → Type 0
 IsCongruent m n = (k : ℤ) × (m ≡ n +ℤ (k *ℤ pos (2 ^ 32)))
 
+-- The numbers of a long: from -2^63 to 2^63 - 1 (JVMS 2.3.1).
+pub record IsLong (n : ℤ) : Type 0 where
+  pub least : neg_ℤ (pos (2 ^ 63)) ≤ℤ n
+  pub most : n ≤ℤ pos (2 ^ 63 - 1)
+
+-- Two numbers differ by a multiple of 2^64.
+abbrev pub IsCongruentLong : ℤ → ℤ → Type 0
+IsCongruentLong m n = (k : ℤ) × (m ≡ n +ℤ (k *ℤ pos (2 ^ 64)))
+
 -- The one int that is congruent to a whole number (JVMS 2.11.3; a law below says so).
 abbrev pub wrap : ℤ → ℤ
 wrap n = int_wrap w32 n
 
--- JVMS 6.5 iadd
-abbrev pub sum : ℤ → ℤ → ℤ
-sum a b = wrap (a +ℤ b)
+-- The one long that is congruent to a whole number (JVMS 2.11.3; a law below says so).
+abbrev pub long_wrap : ℤ → ℤ
+long_wrap n = int_wrap w64 n
 
--- JVMS 6.5 isub
-abbrev pub difference : ℤ → ℤ → ℤ
-difference a b = wrap (a -ℤ b)
+-- ---- Operations of numbers of a width: an int has 32 bits, a long 64
 
--- JVMS 6.5 imul
-abbrev pub product : ℤ → ℤ → ℤ
-product a b = wrap (a *ℤ b)
+abbrev pub bits_of : Width → ℕ
+bits_of w8 = 8
+bits_of w16 = 16
+bits_of w32 = 32
+bits_of w64 = 64
+bits_of w128 = 128
 
--- JVMS 6.5 ineg
-abbrev pub negation : ℤ → ℤ
-negation a = wrap (neg_ℤ a)
+-- JVMS 6.5 iadd, ladd
+abbrev pub sum_in : Width → ℤ → ℤ → ℤ
+sum_in w a b = int_wrap w (a +ℤ b)
 
--- JVMS 6.5 idiv: rounded to zero; None where the divisor is 0.
-abbrev pub quotient : ℤ → ℤ → Option ℤ
-quotient a (pos zero) = None
-quotient a (pos (suc n)) = Some (wrap (int_div a (pos (suc n))))
-quotient a (negsuc n) = Some (wrap (int_div a (negsuc n)))
+-- JVMS 6.5 isub, lsub
+abbrev pub difference_in : Width → ℤ → ℤ → ℤ
+difference_in w a b = int_wrap w (a -ℤ b)
 
--- JVMS 6.5 irem: the dividend less the divisor times the quotient before it is wrapped.
+-- JVMS 6.5 imul, lmul
+abbrev pub product_in : Width → ℤ → ℤ → ℤ
+product_in w a b = int_wrap w (a *ℤ b)
+
+-- JVMS 6.5 ineg, lneg
+abbrev pub negation_in : Width → ℤ → ℤ
+negation_in w a = int_wrap w (neg_ℤ a)
+
+-- JVMS 6.5 idiv, ldiv: rounded to zero; None where the divisor is 0.
+abbrev pub quotient_in : Width → ℤ → ℤ → Option ℤ
+quotient_in w a (pos zero) = None
+quotient_in w a (pos (suc n)) = Some (int_wrap w (int_div a (pos (suc n))))
+quotient_in w a (negsuc n) = Some (int_wrap w (int_div a (negsuc n)))
+
+-- JVMS 6.5 irem, lrem: the dividend less the divisor times the quotient before it is wrapped.
 abbrev pub remainder : ℤ → ℤ → Option ℤ
 remainder a (pos zero) = None
 remainder a (pos (suc n)) = Some (a -ℤ (pos (suc n) *ℤ int_div a (pos (suc n))))
 remainder a (negsuc n) = Some (a -ℤ (negsuc n *ℤ int_div a (negsuc n)))
 
--- The distance of a shift: its low five bits (JVMS 6.5 ishl).
+-- The distance of a shift: its low five bits for an int, and six for a long (JVMS 6.5 ishl, lshl).
+abbrev pub distance_in : Width → ℤ → ℕ
+distance_in w d = unsigned_abs (int_rem_euclid d (pos (bits_of w)))
+
+-- JVMS 6.5 ishl, lshl
+abbrev pub shifted_left_in : Width → ℤ → ℤ → ℤ
+shifted_left_in w a d = int_wrap w (a *ℤ pos (2 ^ distance_in w d))
+
+-- JVMS 6.5 ishr, lshr: divided, rounding down.
+abbrev pub shifted_right_in : Width → ℤ → ℤ → ℤ
+shifted_right_in w a d = int_wrap w (int_div_euclid a (pos (2 ^ distance_in w d)))
+
+-- The number from 0 on that is congruent to a number of a width: from 0 to 2^32 - 1, or to 2^64 - 1.
+abbrev pub unsigned_in : Width → ℤ → ℕ
+unsigned_in w n = unsigned_abs (int_rem_euclid n (pos (2 ^ bits_of w)))
+
+-- JVMS 6.5 iushr, lushr: a negative number plus 2^32 or 2^64, divided, rounding down.
+abbrev pub shifted_right_unsigned_in : Width → ℤ → ℤ → ℤ
+shifted_right_unsigned_in w a d = int_wrap w (pos (unsigned_in w a / 2 ^ distance_in w d))
+
+-- ---- Ints
+
+abbrev pub sum : ℤ → ℤ → ℤ
+sum a b = sum_in w32 a b
+
+abbrev pub difference : ℤ → ℤ → ℤ
+difference a b = difference_in w32 a b
+
+abbrev pub product : ℤ → ℤ → ℤ
+product a b = product_in w32 a b
+
+abbrev pub negation : ℤ → ℤ
+negation a = negation_in w32 a
+
+abbrev pub quotient : ℤ → ℤ → Option ℤ
+quotient a b = quotient_in w32 a b
+
 abbrev pub distance : ℤ → ℕ
-distance d = unsigned_abs (int_rem_euclid d (pos 32))
+distance d = distance_in w32 d
 
--- JVMS 6.5 ishl
-abbrev pub shifted_left : ℤ → ℤ → ℤ
-shifted_left a d = wrap (a *ℤ pos (2 ^ distance d))
-
--- JVMS 6.5 ishr: divided, rounding down.
-abbrev pub shifted_right : ℤ → ℤ → ℤ
-shifted_right a d = wrap (int_div_euclid a (pos (2 ^ distance d)))
-
--- The number from 0 to 2^32 - 1 that is congruent to an int.
 abbrev pub unsigned_of : ℤ → ℕ
-unsigned_of n = unsigned_abs (int_rem_euclid n (pos (2 ^ 32)))
+unsigned_of n = unsigned_in w32 n
 
--- JVMS 6.5 iushr: a negative number plus 2^32, divided, rounding down.
+abbrev pub shifted_left : ℤ → ℤ → ℤ
+shifted_left a d = shifted_left_in w32 a d
+
+abbrev pub shifted_right : ℤ → ℤ → ℤ
+shifted_right a d = shifted_right_in w32 a d
+
 abbrev pub shifted_right_unsigned : ℤ → ℤ → ℤ
-shifted_right_unsigned a d = wrap (pos (unsigned_of a / 2 ^ distance d))
+shifted_right_unsigned a d = shifted_right_unsigned_in w32 a d
 
 -- JVMS 2.11.4 and 6.5 i2b, i2c, i2s: the byte, char or short that is congruent modulo 2^8 or 2^16; of a
 -- boolean, the lowest bit.
@@ -89,7 +147,43 @@ binary_result binary.And a b = int_bit_and w32 a b
 binary_result binary.Or a b = int_bit_or w32 a b
 binary_result binary.ExclusiveOr a b = int_bit_xor w32 a b
 
+abbrev pub division_result_in : Width → Division → ℤ → ℤ → Option ℤ
+division_result_in w division.Quotient a b = quotient_in w a b
+division_result_in w division.Remainder a b = remainder a b
+
 -- What two ints give, but for a divisor of 0 (JVMS 6.5 idiv, irem).
 abbrev pub division_result : Division → ℤ → ℤ → Option ℤ
-division_result division.Quotient a b = quotient a b
-division_result division.Remainder a b = remainder a b
+division_result op a b = division_result_in w32 op a b
+
+-- ---- Longs
+
+-- What two longs give (JVMS 6.5 ladd, lsub, lmul, land, lor, lxor).
+abbrev pub long_binary_result : LongBinary → ℤ → ℤ → ℤ
+long_binary_result long_binary.Add a b = sum_in w64 a b
+long_binary_result long_binary.Subtract a b = difference_in w64 a b
+long_binary_result long_binary.Multiply a b = product_in w64 a b
+long_binary_result long_binary.And a b = int_bit_and w64 a b
+long_binary_result long_binary.Or a b = int_bit_or w64 a b
+long_binary_result long_binary.ExclusiveOr a b = int_bit_xor w64 a b
+
+-- What two longs give, but for a divisor of 0 (JVMS 6.5 ldiv, lrem).
+abbrev pub long_division_result : Division → ℤ → ℤ → Option ℤ
+long_division_result op a b = division_result_in w64 op a b
+
+-- What a long gives that is shifted by an int (JVMS 6.5 lshl, lshr, lushr).
+abbrev pub long_shift_result : LongShift → ℤ → ℤ → ℤ
+long_shift_result long_shift.Left a d = shifted_left_in w64 a d
+long_shift_result long_shift.Right a d = shifted_right_in w64 a d
+long_shift_result long_shift.RightUnsigned a d = shifted_right_unsigned_in w64 a d
+
+-- JVMS 6.5 lneg
+abbrev pub long_negation : ℤ → ℤ
+long_negation a = negation_in w64 a
+
+-- JVMS 6.5 l2i: the int that is congruent to a long.
+abbrev pub int_of_long : ℤ → ℤ
+int_of_long n = wrap n
+
+-- JVMS 6.5 lcmp: 1 where the first is greater, -1 where it is less, else 0.
+abbrev pub compared : ℤ → ℤ → ℤ
+compared a b = if int_lt b a then pos 1 else (if int_lt a b then negsuc 0 else pos 0)

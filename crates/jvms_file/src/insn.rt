@@ -114,23 +114,48 @@ pub enum IntInsn {
     Conversion(Conversion),
 }
 
+/// What two longs give, always.
+#[derive(Clone, Copy, PartialEq, Eq)]
+pub enum LongBinary {
+    /// JVMS 6.5 ladd.
+    Add,
+    /// JVMS 6.5 lsub.
+    Subtract,
+    /// JVMS 6.5 lmul.
+    Multiply,
+    /// JVMS 6.5 land.
+    And,
+    /// JVMS 6.5 lor.
+    Or,
+    /// JVMS 6.5 lxor.
+    ExclusiveOr,
+}
+
+/// What a long gives that is shifted by an int.
+#[derive(Clone, Copy, PartialEq, Eq)]
+pub enum LongShift {
+    /// JVMS 6.5 lshl.
+    Left,
+    /// JVMS 6.5 lshr.
+    Right,
+    /// JVMS 6.5 lushr.
+    RightUnsigned,
+}
+
 /// The arithmetic of longs, with their conversions from and to int.
 #[derive(Clone, Copy, PartialEq, Eq)]
 pub enum LongInsn {
-    Add,
-    Subtract,
-    Multiply,
-    Divide,
-    Remainder,
+    Binary(LongBinary),
+    /// JVMS 6.5 ldiv, lrem.
+    Division(Division),
+    Shift(LongShift),
+    /// JVMS 6.5 lneg.
     Negate,
-    ShiftLeft,
-    ShiftRight,
-    ShiftRightUnsigned,
-    And,
-    Or,
-    ExclusiveOr,
+    /// JVMS 6.5 i2l.
     FromInt,
+    /// JVMS 6.5 l2i.
     ToInt,
+    /// JVMS 6.5 lcmp.
     Compare,
 }
 
@@ -559,7 +584,7 @@ pub const OPCODES: [Opcode; 202] = [
     // 96 iadd
     Opcode::Alone(Simple::Int(IntInsn::Binary(Binary::Add))),
     // 97 ladd
-    Opcode::Alone(Simple::Long(LongInsn::Add)),
+    Opcode::Alone(Simple::Long(LongInsn::Binary(LongBinary::Add))),
     // 98 fadd
     Opcode::Alone(Simple::Floating(FloatingInsn::AddFloat)),
     // 99 dadd
@@ -567,7 +592,7 @@ pub const OPCODES: [Opcode; 202] = [
     // 100 isub
     Opcode::Alone(Simple::Int(IntInsn::Binary(Binary::Subtract))),
     // 101 lsub
-    Opcode::Alone(Simple::Long(LongInsn::Subtract)),
+    Opcode::Alone(Simple::Long(LongInsn::Binary(LongBinary::Subtract))),
     // 102 fsub
     Opcode::Alone(Simple::Floating(FloatingInsn::SubtractFloat)),
     // 103 dsub
@@ -575,7 +600,7 @@ pub const OPCODES: [Opcode; 202] = [
     // 104 imul
     Opcode::Alone(Simple::Int(IntInsn::Binary(Binary::Multiply))),
     // 105 lmul
-    Opcode::Alone(Simple::Long(LongInsn::Multiply)),
+    Opcode::Alone(Simple::Long(LongInsn::Binary(LongBinary::Multiply))),
     // 106 fmul
     Opcode::Alone(Simple::Floating(FloatingInsn::MultiplyFloat)),
     // 107 dmul
@@ -583,7 +608,7 @@ pub const OPCODES: [Opcode; 202] = [
     // 108 idiv
     Opcode::Alone(Simple::Int(IntInsn::Division(Division::Quotient))),
     // 109 ldiv
-    Opcode::Alone(Simple::Long(LongInsn::Divide)),
+    Opcode::Alone(Simple::Long(LongInsn::Division(Division::Quotient))),
     // 110 fdiv
     Opcode::Alone(Simple::Floating(FloatingInsn::DivideFloat)),
     // 111 ddiv
@@ -591,7 +616,7 @@ pub const OPCODES: [Opcode; 202] = [
     // 112 irem
     Opcode::Alone(Simple::Int(IntInsn::Division(Division::Remainder))),
     // 113 lrem
-    Opcode::Alone(Simple::Long(LongInsn::Remainder)),
+    Opcode::Alone(Simple::Long(LongInsn::Division(Division::Remainder))),
     // 114 frem
     Opcode::Alone(Simple::Floating(FloatingInsn::RemainderFloat)),
     // 115 drem
@@ -607,27 +632,27 @@ pub const OPCODES: [Opcode; 202] = [
     // 120 ishl
     Opcode::Alone(Simple::Int(IntInsn::Binary(Binary::ShiftLeft))),
     // 121 lshl
-    Opcode::Alone(Simple::Long(LongInsn::ShiftLeft)),
+    Opcode::Alone(Simple::Long(LongInsn::Shift(LongShift::Left))),
     // 122 ishr
     Opcode::Alone(Simple::Int(IntInsn::Binary(Binary::ShiftRight))),
     // 123 lshr
-    Opcode::Alone(Simple::Long(LongInsn::ShiftRight)),
+    Opcode::Alone(Simple::Long(LongInsn::Shift(LongShift::Right))),
     // 124 iushr
     Opcode::Alone(Simple::Int(IntInsn::Binary(Binary::ShiftRightUnsigned))),
     // 125 lushr
-    Opcode::Alone(Simple::Long(LongInsn::ShiftRightUnsigned)),
+    Opcode::Alone(Simple::Long(LongInsn::Shift(LongShift::RightUnsigned))),
     // 126 iand
     Opcode::Alone(Simple::Int(IntInsn::Binary(Binary::And))),
     // 127 land
-    Opcode::Alone(Simple::Long(LongInsn::And)),
+    Opcode::Alone(Simple::Long(LongInsn::Binary(LongBinary::And))),
     // 128 ior
     Opcode::Alone(Simple::Int(IntInsn::Binary(Binary::Or))),
     // 129 lor
-    Opcode::Alone(Simple::Long(LongInsn::Or)),
+    Opcode::Alone(Simple::Long(LongInsn::Binary(LongBinary::Or))),
     // 130 ixor
     Opcode::Alone(Simple::Int(IntInsn::Binary(Binary::ExclusiveOr))),
     // 131 lxor
-    Opcode::Alone(Simple::Long(LongInsn::ExclusiveOr)),
+    Opcode::Alone(Simple::Long(LongInsn::Binary(LongBinary::ExclusiveOr))),
     // 132 iinc
     Opcode::Increment,
     // 133 i2l

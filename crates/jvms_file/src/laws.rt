@@ -1,14 +1,21 @@
 //! Laws about the definitions, owed to the gate: each is the contract of a function that does nothing.
 
 ghost use Rattle.std.specs.Prelude.{◌≡◌, ℕ, ◌∷◌, [], ℤ, pos, negsuc, Option, Some, None, Ok};
+ghost use Rattle.std.specs.Int.{w64};
 ghost use Rattle.jvms_file.specs.declared.insn.Narrow.TheVariants as narrow;
-ghost use Rattle.jvms_file.specs.Numbers.{wrap, IsCongruent, IsInt, quotient, remainder, shifted_left, shifted_right, shifted_right_unsigned, narrowed};
+ghost use Rattle.jvms_file.specs.Numbers.{wrap, long_wrap, IsCongruent, IsCongruentLong, IsInt, IsLong, quotient, remainder, shifted_left, shifted_right, shifted_right_unsigned, narrowed};
+ghost use Rattle.jvms_file.specs.Numbers.{quotient_in, shifted_left_in, shifted_right_unsigned_in, int_of_long, compared};
 ghost use Rattle.jvms_file.specs.Code.{insns_of};
 ghost use Rattle.jvms_file.specs.Examples.{gcd_code, gcd_insns};
 
 /// The wrapped number is an int, is congruent to the number, and is the only such number.
 pub fn wrap_is_the_congruent_int()
     ensures { (n : ℤ) → IsInt (wrap n) × IsCongruent n (wrap n) × ((m : ℤ) → IsInt m → IsCongruent n m → m ≡ wrap n) }
+{}
+
+/// The number wrapped to 64 bits is a long, is congruent to the number, and is the only such number.
+pub fn wrap_is_the_congruent_long()
+    ensures { (n : ℤ) → IsLong (long_wrap n) × IsCongruentLong n (long_wrap n) × ((m : ℤ) → IsLong m → IsCongruentLong n m → m ≡ long_wrap n) }
 {}
 
 /// Quotients and remainders at the border of the ints, and of a negative dividend.
@@ -27,4 +34,12 @@ pub fn shifts_and_narrowed_numbers()
 /// The fifteen bytes of gcd are eleven instructions.
 pub fn code_of_gcd()
     ensures { insns_of [] 49 gcd_code ≡ Ok (0 ∷ 1 ∷ 4 ∷ 5 ∷ 6 ∷ 7 ∷ 8 ∷ 9 ∷ 10 ∷ 13 ∷ 14 ∷ [], gcd_insns) }
+{}
+
+/// Quotients, shifts and conversions of longs at their borders, and the order of two.
+pub fn results_of_longs()
+    ensures least { (quotient_in w64 (negsuc 9223372036854775807) (negsuc 0) ≡ Some (negsuc 9223372036854775807)) × (remainder (negsuc 9223372036854775807) (negsuc 0) ≡ Some (pos 0)) }
+    ensures shifts { (shifted_left_in w64 (pos 1) (pos 65) ≡ pos 2) × (shifted_right_unsigned_in w64 (negsuc 0) (pos 60) ≡ pos 15) }
+    ensures low_bits { int_of_long (pos 2147483648) ≡ negsuc 2147483647 }
+    ensures order { compared (negsuc 0) (pos 1) ≡ negsuc 0 }
 {}

@@ -1,5 +1,5 @@
 -- A turn of an instruction of arrays leaves a sound state sound.
-use Rattle.std.proofs.Common.{◌≡◌, ℕ, zero, suc, ◌<◌, ◌≤◌, true, not, ◌&&◌, List, [], ◌∷◌, ◌++◌, length, replicate, take, Option, None, Some, IfSome, slice_get, refl, sym, ◌∙◌, subst, arith}
+use Rattle.std.proofs.Common.{◌≡◌, ℕ, zero, suc, ◌<◌, ◌≤◌, true, not, ◌&&◌, List, [], ◌∷◌, ◌++◌, length, replicate, take, Option, None, Some, IfSome, slice_get, refl, sym, ◌∙◌, subst, arith, ◌+◌, drop}
 use Rattle.std.specs.Prelude.{ℤ, pos, int_lt, unsigned_abs}
 use Rattle.std.specs.List.{AllByRecursion, list_all, list_any}
 use Rattle.std.proofs.lemmas.Bool.{false≢true, cond_both, not-false}
@@ -22,10 +22,11 @@ use Rattle.jvms_program.specs.Resolution.{class_exists}
 use Rattle.jvms_machine.specs.Decisions.{TurnDecision}
 use Rattle.jvms_machine.specs.State.{State, Object, instance, array, text, class_object, Thread, Frame, MethodFrame, object_at, IsValue, IsObject}
 use Rattle.jvms_machine.specs.Start.{Start}
-use Rattle.jvms_machine.specs.Locals.{is_loaded}
+use Rattle.jvms_machine.specs.Places.{is_of_kind, top_value}
+use Rattle.jvms_machine.proofs.PlaceLaws.{top_is_of_kind}
 use Rattle.jvms_machine.specs.Heap.{has_room_for_elements, next_reference, stored_as, array_of_type, array_of_class, component_type, first_element, has_dimensions, arrays_made, elements_made, new_arrays}
 use Rattle.jvms_machine.specs.Fields.{taking}
-use Rattle.jvms_machine.specs.Arrays.{with_int, with_object_of, length_decision, new_array_decision, new_class_array_decision, lengths_in, is_int, is_negative, length_of_value, counted_lengths, new_arrays_room, new_arrays_decision, measured, array_length_decision, serves, kind_of_elements, element_at, loaded, load_from, load_operands, fits_component, is_reference_kind, stored, store_to, store_operands, array_decision}
+use Rattle.jvms_machine.specs.Arrays.{with_int, with_object_of, length_decision, new_array_decision, new_class_array_decision, lengths_in, is_int, is_negative, length_of_value, counted_lengths, new_arrays_room, new_arrays_decision, measured, array_length_decision, serves, kind_of_elements, element_at, loaded, load_from, load_operands, fits_component, is_reference_kind, stored, store_to, store_operands, array_decision, element_size, store_below}
 use Rattle.jvms_machine.specs.Turn.{ElementsCanHold}
 use Rattle.jvms_machine.proofs.ListLaws.{all_at, all_replicate}
 use Rattle.jvms_machine.proofs.LimitLaws.{room_for_elements_is}
@@ -38,7 +39,7 @@ use Rattle.jvms_machine.proofs.StoredValues.{object_is, stored_is_value}
 use Rattle.jvms_machine.proofs.HeldValues.{stored_can_be_held}
 use Rattle.jvms_machine.proofs.ObjectSoundness.{put_element_is_sound}
 use Rattle.jvms_machine.proofs.NewArrays.{some_made, new_arrays_length, new_arrays_are}
-use Rattle.jvms_machine.proofs.EffectSoundness.{HasDepth, frame_is_fit, reaches_keeps, if_deep_keeps, making_keeps}
+use Rattle.jvms_machine.proofs.EffectSoundness.{HasDepth, frame_is_fit, reaches_keeps, read_keeps, if_deep_keeps, making_keeps}
 
 -- An element that is there holds a value.
 element_is_value : (heap : List Object) (elements : List Value) (n : ℤ) (v : Value) → AllByRecursion (IsValue heap) elements → element_at elements n ≡ Some v → IsValue heap v
@@ -162,38 +163,44 @@ module _ (program : List Class) (limits : Limits) (start : Start) (s : State) (t
 
   -- ---- Loads
 
-  loaded_keeps : (r : ℕ) (n : ℤ) (o : Option Value) → HasDepth frame 2 1 → ((v : Value) → o ≡ Some v → IsValue s.heap v) → KeepsSound (loaded limits s thread r n o)
-  loaded_keeps r n None depth values = throws_keeps start stands thrown.ArrayIndexOutOfBoundsException
-  loaded_keeps r n (Some v) depth values =
-      reaches_keeps program limits start s t thread frame below stands (effect.LoadElement r (unsigned_abs n)) (frame_action.Push 2 v)
-      (λ _. record { sound = stands.sound; room = (depth.there, depth.room); value = values v refl; heard = tt; can_be_made = λ _. tt })
+  loaded_keeps : (r : ℕ) (n : ℤ) (o : Option Value) → IfSome o (IsValue s.heap) → KeepsSound (loaded limits s thread frame r n o)
+  loaded_keeps r n None is = throws_keeps start stands thrown.ArrayIndexOutOfBoundsException
+  loaded_keeps r n (Some v) is =
+      read_keeps program limits start s t thread frame below stands (effect.LoadElement r (unsigned_abs n)) 2 (Some v) stands.sound is tt tt
 
-  load_from_keeps : (k : ArrayKind) (n : ℤ) (r : ℕ) (o : Object) → HasDepth frame 2 1 → IsObject program s.heap o → KeepsSound (load_from limits s thread k n r o)
-  load_from_keeps k n r (array class elements) depth is =
+  element_is : (elements : List Value) (n : ℤ) (o : Option Value) → o ≡ element_at elements n → AllByRecursion (IsValue s.heap) elements → IfSome o (IsValue s.heap)
+  element_is elements n None at values = tt
+  element_is elements n (Some v) at values = element_is_value s.heap elements n v values (sym at)
+
+  load_from_keeps : (k : ArrayKind) (n : ℤ) (r : ℕ) (o : Object) → IsObject program s.heap o → KeepsSound (load_from limits s thread frame k n r o)
+  load_from_keeps k n r (array class elements) is =
       cond_both (serves k (component_type class)) _ _ KeepsSound
-      (λ _. loaded_keeps r n (element_at elements n) depth (λ v there. element_is_value s.heap elements n v is there))
+      (λ _. loaded_keeps r n (element_at elements n) (element_is elements n (element_at elements n) refl is))
       (λ _. still t stands.sound)
-  load_from_keeps k n r (instance class fields) depth is = still t stands.sound
-  load_from_keeps k n r (text units) depth is = still t stands.sound
-  load_from_keeps k n r (class_object name) depth is = still t stands.sound
+  load_from_keeps k n r (instance class fields) is = still t stands.sound
+  load_from_keeps k n r (text units) is = still t stands.sound
+  load_from_keeps k n r (class_object name) is = still t stands.sound
 
-  load_keeps : (k : ArrayKind) (operands : List Value) → HasDepth frame 2 1 → KeepsSound (load_operands limits s thread k operands)
-  load_keeps k (value.Int n ∷ o ∷ others) depth =
-      with_object_keeps o (load_from limits s thread k n) (λ r p at. load_from_keeps k n r p depth (object_is program s.heap r p stands.sound.objects_are at))
-  load_keeps k _ depth = still t stands.sound
+  load_keeps : (k : ArrayKind) (operands : List Value) → KeepsSound (load_operands limits s thread frame k operands)
+  load_keeps k (value.Int n ∷ o ∷ others) =
+      with_object_keeps o (load_from limits s thread frame k n) (λ r p at. load_from_keeps k n r p (object_is program s.heap r p stands.sound.objects_are at))
+  load_keeps k _ = still t stands.sound
 
   -- ---- Stores
 
-  stored_keeps : (k : ArrayKind) (v : Value) (n : ℤ) (r : ℕ) (class : List ℕ) (o : Option Value) → HasDepth frame 3 0 → IsValue s.heap v → IfSome (object_at s.heap r) (ElementsCanHold (stored_as (component_type class) v)) → KeepsSound (stored program limits s thread frame.activation k v n r class o)
+  abbrev HasStored : ArrayKind → Type 0
+  HasStored k = HasDepth frame (2 + element_size k) 0
+
+  stored_keeps : (k : ArrayKind) (v : Value) (n : ℤ) (r : ℕ) (class : List ℕ) (o : Option Value) → HasStored k → IsValue s.heap v → IfSome (object_at s.heap r) (ElementsCanHold (stored_as (component_type class) v)) → KeepsSound (stored program limits s thread frame.activation k v n r class o)
   stored_keeps k v n r class None depth is holds = throws_keeps start stands thrown.ArrayIndexOutOfBoundsException
   stored_keeps k v n r class (Some old) depth is holds =
       let kept = stored_as (component_type class) v in
       cond_both (is_reference_kind k && not (fits_component program s class v)) _ _ KeepsSound
       (λ _. throws_keeps start stands thrown.ArrayStoreException)
-      (λ _. reaches_keeps program limits start s t thread frame below stands (effect.StoreElement r (unsigned_abs n) kept) (taking 3 frame.activation)
+      (λ _. reaches_keeps program limits start s t thread frame below stands (effect.StoreElement r (unsigned_abs n) kept) (taking (2 + element_size k) frame.activation)
       (λ _. record { sound = put_element_is_sound stands.sound r (unsigned_abs n) kept (stored_is_value s.heap (component_type class) v is); room = depth.there; value = tt; heard = tt; can_be_made = λ _. holds }))
 
-  store_to_keeps : (k : ArrayKind) (v : Value) (n : ℤ) (r : ℕ) (o : Object) → HasDepth frame 3 0 → object_at s.heap r ≡ Some o → is_loaded (kind_of_elements k) v ≡ true → IsValue s.heap v → KeepsSound (store_to program limits s thread frame.activation k v n r o)
+  store_to_keeps : (k : ArrayKind) (v : Value) (n : ℤ) (r : ℕ) (o : Object) → HasStored k → object_at s.heap r ≡ Some o → is_of_kind (kind_of_elements k) v ≡ true → IsValue s.heap v → KeepsSound (store_to program limits s thread frame.activation k v n r o)
   store_to_keeps k v n r (array class elements) depth at loads is =
       let type = component_type class in
       cond_both (serves k type) _ _ KeepsSound
@@ -204,12 +211,14 @@ module _ (program : List Class) (limits : Limits) (start : Start) (s : State) (t
   store_to_keeps k v n r (text units) depth at loads is = still t stands.sound
   store_to_keeps k v n r (class_object name) depth at loads is = still t stands.sound
 
-  store_keeps : (k : ArrayKind) (operands : List Value) → HasDepth frame 3 0 → AllByRecursion (IsValue s.heap) operands → KeepsSound (store_operands program limits s thread frame.activation k operands)
-  store_keeps k (v ∷ value.Int n ∷ o ∷ others) depth values =
-      cond_both (is_loaded (kind_of_elements k) v) _ _ KeepsSound
-      (λ loads. with_object_keeps o (store_to program limits s thread frame.activation k v n) (λ r p at. store_to_keeps k v n r p depth at loads values.0))
-      (λ _. still t stands.sound)
-  store_keeps k _ depth values = still t stands.sound
+  store_below_keeps : (k : ArrayKind) (v : Value) (operands : List Value) → HasStored k → is_of_kind (kind_of_elements k) v ≡ true → IsValue s.heap v → KeepsSound (store_below program limits s thread frame.activation k v operands)
+  store_below_keeps k v (value.Int n ∷ o ∷ others) depth loads is =
+      with_object_keeps o (store_to program limits s thread frame.activation k v n) (λ r p at. store_to_keeps k v n r p depth at loads is)
+  store_below_keeps k v _ depth loads is = still t stands.sound
+
+  store_keeps : (k : ArrayKind) (o : Option Value) → HasStored k → IfSome o (λ v. IsValue s.heap v × (is_of_kind (kind_of_elements k) v ≡ true)) → KeepsSound (store_operands program limits s thread frame.activation k o)
+  store_keeps k None depth is = still t stands.sound
+  store_keeps k (Some v) depth is = store_below_keeps k v (drop (element_size k) frame.activation.operands) depth is.1 is.0
 
   -- ---- The instructions that name no class
 
@@ -219,6 +228,7 @@ module _ (program : List Class) (limits : Limits) (start : Start) (s : State) (t
   array_keeps array_insn.Length =
       if_deep_keeps program limits start s t thread frame below stands 1 1 _ (λ depth. array_length_keeps frame.activation.operands depth)
   array_keeps (array_insn.Load k) =
-      if_deep_keeps program limits start s t thread frame below stands 2 1 _ (λ depth. load_keeps k frame.activation.operands depth)
+      if_deep_keeps program limits start s t thread frame below stands 2 (element_size k) _ (λ _. load_keeps k frame.activation.operands)
   array_keeps (array_insn.Store k) =
-      if_deep_keeps program limits start s t thread frame below stands 3 0 _ (λ depth. store_keeps k frame.activation.operands depth (frame_is_fit frame below stands).operands)
+      if_deep_keeps program limits start s t thread frame below stands (2 + element_size k) 0 _
+      (λ depth. store_keeps k (top_value (kind_of_elements k) frame.activation.operands) depth (top_is_of_kind s.heap (kind_of_elements k) frame.activation.operands (frame_is_fit frame below stands).operands))

@@ -1,10 +1,10 @@
 -- A turn of a call leaves a sound state sound: the frame that comes is one of the called method, with the operands of its
 -- caller as its arguments, and stands on its caller.
-use Rattle.std.proofs.Common.{◌≡◌, ℕ, ◌+◌, ◌-◌, ◌<◌, ◌≤◌, true, false, not, ◌==◌, nat_le, nat_lt, leb-false, ltb-false, eqb, eq-eqb, List, [], ◌∷◌, ◌++◌, length, replicate, reverse, take, Option, Some, None, IfSome, IsTrue, codes, slice_get, option_and_then, option_map, unwrap_or, refl, sym, ap, ◌∙◌, subst, arith, length-drop, is_some}
+use Rattle.std.proofs.Common.{◌≡◌, ℕ, ◌-◌, ◌<◌, ◌≤◌, true, false, not, ◌==◌, nat_le, nat_lt, leb-false, ltb-false, eqb, eq-eqb, List, [], ◌∷◌, ◌++◌, length, replicate, reverse, take, Option, Some, None, IfSome, IsTrue, slice_get, option_and_then, option_map, unwrap_or, refl, sym, ap, ◌∙◌, subst, arith, length-drop, is_some}
 use Rattle.std.specs.Prelude.{Result, Ok, Err}
 use Rattle.std.specs.List.{AllByRecursion}
-use Rattle.std.proofs.lemmas.Bool.{cond_both, eqb-true, cond-false, and_from, not-false}
-use Rattle.std.proofs.lemmas.Option.{same_Some, slice_get_within}
+use Rattle.std.proofs.lemmas.Bool.{cond_both, eqb-true, and_from, not-false}
+use Rattle.std.proofs.lemmas.Option.{slice_get_within}
 use Rattle.std.proofs.lemmas.List.{length-append, length-replicate, length-reverse, length-take-le}
 use Rattle.jvms_machine.specs.declared.value.Value.{Value}
 use Rattle.jvms_machine.specs.declared.value.Value.TheVariants as value
@@ -26,7 +26,6 @@ use Rattle.jvms_program.specs.declared.program.Body.{Body}
 use Rattle.jvms_program.specs.declared.program.MethodReference.{MethodReference}
 use Rattle.jvms_program.specs.declared.program.Instruction.TheVariants as instruction
 use Rattle.jvms_program.specs.Program.{IsProgram, method_at}
-use Rattle.jvms_program.specs.BuiltIn.{print_stream_class}
 use Rattle.jvms_program.specs.Resolution.{MethodFound, fits, resolved_method, method_number}
 use Rattle.jvms_machine.specs.Decisions.{TurnDecision}
 use Rattle.jvms_machine.specs.State.{State, Object, Thread, Frame, MethodFrame, object_at, class_of, IsReference, IsValue, body_at, is_synchronized_at, IsFrame, StandsOn, result_length}
@@ -48,9 +47,9 @@ use Rattle.jvms_machine.proofs.HeapGrowth.{values_grow}
 use Rattle.jvms_machine.proofs.StoredValues.{leads_is_reference}
 use Rattle.jvms_machine.proofs.LockSoundness.{IsLocked, locked_is_reference, locked_grows, can_be_locked, stands_with_lock, locking_keeps}
 use Rattle.jvms_machine.proofs.InitialisationSoundness.{asking_keeps}
-use Rattle.jvms_machine.proofs.CallDescriptors.{IsFound, resolved_is_found, resolved_is_static, selected_is_found, numbered_has_descriptor, numbered_in_class, called_has_type}
+use Rattle.jvms_machine.proofs.CallDescriptors.{IsFound, resolved_is_found, selected_is_found, numbered_has_descriptor, called_has_type}
 use Rattle.jvms_machine.proofs.EffectSoundness.{HasDepth, depth_is}
-use Rattle.jvms_machine.proofs.NativeSoundness.{HasPrinted, is_print_stream, method_has_parameters, method_is_instance, native_keeps}
+use Rattle.jvms_machine.proofs.NativeSoundness.{native_keeps}
 
 -- ---- The frame of a call
 
@@ -242,22 +241,10 @@ module _ (program : List Class) (limits : Limits) (start : Start) (s : State) (t
           (λ _. tt),
         )
 
-    -- What a native method of PrintStream prints is among the operands, if its call is of no static method.
-    printed_is_there : (found : MethodFound) (n : MethodNumber) (m : Method) → IsFound program r.descriptor found → method_number program found ≡ Some n → method_at program n ≡ Some m → m.descriptor ≡ r.descriptor → (found.class ≡ print_stream_class → is_static_call how ≡ false) → (c : Class) → slice_get program n.class ≡ Some c → same_text c.name (codes "java/io/PrintStream") ≡ true → IsProgram program → HasPrinted (taken how r.method_type) m
-    printed_is_there found n m is number m_is same dynamic c c_is named of_program =
-        let there = numbered_in_class program r.descriptor found n is number in
-        let its_class : c ≡ found.class = same_Some c found.class (sym c_is ∙ there) in
-        let stream = is_print_stream program found.class of_program is.class_is (ap (λ (d : Class). same_text d.name (codes "java/io/PrintStream")) (sym its_class) ∙ named) in
-        let in_class : slice_get found.class.methods n.method ≡ Some m = sym (ap (option_and_then (λ (d : Class). slice_get d.methods n.method)) there) ∙ m_is in
-        let type : m.method_type ≡ r.method_type = called_has_type program frame.method frame.body frame.activation.place how r n m of_program (frames_are_stack stands).0.0.0 at m_is same in
-        let as_many : length m.method_type.parameters + 1 ≡ taken how r.method_type =
-        ap (λ (k : MethodType). length k.parameters + 1) type ∙ sym (cond-false (is_static_call how) (length r.method_type.parameters) (length r.method_type.parameters + 1) (dynamic stream)) in
-        subst (λ k. HasPrinted k m) as_many (method_has_parameters found.class n.method m stream in_class)
-
-    call_keeps : (receiver : Option ℕ) → IfSome receiver (IsReference s.heap) → (found : MethodFound) (n : MethodNumber) (m : Method) → IsFound program r.descriptor found → method_number program found ≡ Some n → method_at program n ≡ Some m → m.descriptor ≡ r.descriptor → (found.class ≡ print_stream_class → is_static_call how ≡ false) → KeepsSound (call_decision program limits s t thread frame.activation receiver (taken how r.method_type) n m)
-    call_keeps receiver reference found n m is number m_is same dynamic =
+    call_keeps : (receiver : Option ℕ) → IfSome receiver (IsReference s.heap) → (found : MethodFound) (n : MethodNumber) (m : Method) → IsFound program r.descriptor found → method_number program found ≡ Some n → method_at program n ≡ Some m → m.descriptor ≡ r.descriptor → KeepsSound (call_decision program limits s t thread frame.activation receiver (taken how r.method_type) n m)
+    call_keeps receiver reference found n m is number m_is same =
         called_keeps stands n m receiver (taken how r.method_type) _ (λ body locked. decision.Makes (action.Calls n body (taken how r.method_type) locked)) reference
-        (native_keeps program limits start s t thread frame below stands (how, r, at) quiet (taken how r.method_type) m (slice_get program n.class) depth.there (printed_is_there found n m is number m_is same dynamic))
+        (native_keeps program limits start s t thread frame below stands (how, r, at) quiet (taken how r.method_type) m (slice_get program n.class) depth.there)
         (λ body locked enters. calls_keeps n m body locked m_is same enters)
 
     numbered_keeps : (found : MethodFound) (o : Option MethodNumber) (make : MethodNumber → Method → TurnDecision) → IsFound program r.descriptor found → method_number program found ≡ o → ((n : MethodNumber) (m : Method) → method_number program found ≡ Some n → method_at program n ≡ Some m → m.descriptor ≡ r.descriptor → KeepsSound (make n m)) → KeepsSound (numbered program o make)
@@ -265,46 +252,40 @@ module _ (program : List Class) (limits : Limits) (start : Start) (s : State) (t
     numbered_keeps found (Some n) make is number keeps =
         numbered_by stands n (method_at program n) make refl (λ m m_is. keeps n m number m_is (numbered_has_descriptor program r.descriptor found n m is number m_is))
 
-    -- A method of PrintStream isn't static, so no static call finds it.
-    static_is_not_of_stream : (found : MethodFound) → IsFound program r.descriptor found → found.method.flags.is_static ≡ true → found.class ≡ print_stream_class → is_static_call how ≡ false
-    static_is_not_of_stream found is static stream =
-        let instance : found.method.flags.is_static ≡ false = method_is_instance found.class is.place.0 found.method stream is.place.1 in
-        absurd (cc)
-
-    static_keeps : (found : MethodFound) → IsFound program r.descriptor found → found.method.flags.is_static ≡ true → KeepsSound (static_call_decision program limits s t thread frame.activation (taken how r.method_type) found)
-    static_keeps found is static =
+    static_keeps : (found : MethodFound) → IsFound program r.descriptor found → KeepsSound (static_call_decision program limits s t thread frame.activation (taken how r.method_type) found)
+    static_keeps found is =
         numbered_keeps found (method_number program found) _ is refl
-        (λ n m number m_is same. asking_keeps program limits start s t thread stands n.class _ (call_keeps None tt found n m is number m_is same (static_is_not_of_stream found is static)))
+        (λ n m number m_is same. asking_keeps program limits start s t thread stands n.class _ (call_keeps None tt found n m is number m_is same))
 
-    selected_keeps : (q : ℕ) → IsReference s.heap q → (o : Option MethodFound) → is_static_call how ≡ false → ((f : MethodFound) → o ≡ Some f → IsFound program r.descriptor f) → KeepsSound (selected_decision program limits s t thread frame.activation q (taken how r.method_type) o)
-    selected_keeps q reference None dynamic is = throws_keeps start stands thrown.AbstractMethodError
-    selected_keeps q reference (Some found) dynamic is =
+    selected_keeps : (q : ℕ) → IsReference s.heap q → (o : Option MethodFound) → ((f : MethodFound) → o ≡ Some f → IsFound program r.descriptor f) → KeepsSound (selected_decision program limits s t thread frame.activation q (taken how r.method_type) o)
+    selected_keeps q reference None is = throws_keeps start stands thrown.AbstractMethodError
+    selected_keeps q reference (Some found) is =
         numbered_keeps found (method_number program found) _ (is found refl) refl
-        (λ n m number m_is same. call_keeps (Some q) reference found n m (is found refl) number m_is same (λ _. dynamic))
+        (λ n m number m_is same. call_keeps (Some q) reference found n m (is found refl) number m_is same)
 
     wrong_receiver_keeps : (kind : Invoke) → KeepsSound (wrong_receiver limits s thread kind)
     wrong_receiver_keeps invoke.Interface = throws_keeps start stands thrown.IncompatibleClassChangeError
     wrong_receiver_keeps _ = still t stands.sound
 
-    object_call_keeps : (found : MethodFound) (q : ℕ) (o : Option Object) → object_at s.heap q ≡ o → IsFound program r.descriptor found → is_static_call how ≡ false → KeepsSound (object_call_decision program limits s t thread frame how r found q o)
-    object_call_keeps found q None at_q is dynamic = still t stands.sound
-    object_call_keeps found q (Some o) at_q is dynamic =
+    object_call_keeps : (found : MethodFound) (q : ℕ) (o : Option Object) → object_at s.heap q ≡ o → IsFound program r.descriptor found → KeepsSound (object_call_decision program limits s t thread frame how r found q o)
+    object_call_keeps found q None at_q is = still t stands.sound
+    object_call_keeps found q (Some o) at_q is =
         cond_both (fits program (class_of o) found.class.name) _ _ KeepsSound
-        (λ _. selected_keeps q (leads_is_reference s.heap q o at_q) (selected program frame how r (class_of o) found) dynamic (λ f f_is. selected_is_found program frame how r (class_of o) r.descriptor found f is f_is))
+        (λ _. selected_keeps q (leads_is_reference s.heap q o at_q) (selected program frame how r (class_of o) found) (λ f f_is. selected_is_found program frame how r (class_of o) r.descriptor found f is f_is))
         (λ _. wrong_receiver_keeps how)
 
-    receiver_keeps : (found : MethodFound) (o : Option Value) → IsFound program r.descriptor found → is_static_call how ≡ false → KeepsSound (receiver_call_decision program limits s t thread frame how r found o)
-    receiver_keeps found (Some (value.Reference q)) is dynamic = object_call_keeps found q (object_at s.heap q) refl is dynamic
-    receiver_keeps found (Some value.Null) is dynamic = throws_keeps start stands thrown.NullPointerException
-    receiver_keeps found _ is dynamic = still t stands.sound
+    receiver_keeps : (found : MethodFound) (o : Option Value) → IsFound program r.descriptor found → KeepsSound (receiver_call_decision program limits s t thread frame how r found o)
+    receiver_keeps found (Some (value.Reference q)) is = object_call_keeps found q (object_at s.heap q) refl is
+    receiver_keeps found (Some value.Null) is = throws_keeps start stands thrown.NullPointerException
+    receiver_keeps found _ is = still t stands.sound
 
     resolved_keeps : (o : Result MethodFound Thrown) → resolved_method program (is_static_call how) r ≡ o → KeepsSound (resolved_call_decision program limits s t thread frame how r o)
     resolved_keeps (Err class) is = throws_keeps start stands class
     resolved_keeps (Ok found) is =
         let found_is = resolved_is_found program (is_static_call how) r found is in
         cond_both (is_static_call how) _ _ KeepsSound
-        (λ static. static_keeps found found_is (resolved_is_static program r found (ap (λ b. resolved_method program b r) (sym static) ∙ is)))
-        (λ dynamic. receiver_keeps found (receiver_of r.method_type frame.activation.operands) found_is dynamic)
+        (λ _. static_keeps found found_is)
+        (λ _. receiver_keeps found (receiver_of r.method_type frame.activation.operands) found_is)
 
   pub invoke_keeps : (frame : MethodFrame) (below : List Frame) (how : Invoke) (r : MethodReference) → HasFrames (stack_frame.Call frame ∷ below) → instruction_at frame ≡ Some (instruction.Invoke how r) → IsQuiet thread → KeepsSound (invoke_decision program limits s t thread frame how r)
   unfolding invoke_decision

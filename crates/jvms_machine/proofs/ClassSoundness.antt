@@ -21,6 +21,7 @@ use Rattle.jvms_program.specs.Program.{class_named, class_number}
 use Rattle.jvms_program.specs.Resolution.{class_exists, fits}
 use Rattle.jvms_machine.specs.Decisions.{TurnDecision}
 use Rattle.jvms_machine.specs.State.{State, Object, Thread, Frame, MethodFrame, object_at, class_of, is_text, is_class_object, text_reference, class_reference, first_instance, IsReference, IsValue, IsObject}
+use Rattle.jvms_machine.specs.Places.{value_size}
 use Rattle.jvms_machine.specs.Start.{Start}
 use Rattle.jvms_machine.specs.Exceptions.{has_room_for}
 use Rattle.jvms_machine.specs.Heap.{next_reference}
@@ -93,7 +94,7 @@ module _ (program : List Class) (limits : Limits) (start : Start) (s : State) (t
   cast_keeps false = throws_keeps start stands thrown.ClassCastException
 
   -- A value that is there, in place of so many operands.
-  puts_keeps : (takes : ℕ) (v : Value) → HasDepth frame takes 1 → IsValue s.heap v → KeepsSound (reaches effect.Nothing (frame_action.Push takes v))
+  puts_keeps : (takes : ℕ) (v : Value) → HasDepth frame takes (value_size v) → IsValue s.heap v → KeepsSound (reaches effect.Nothing (frame_action.Push takes v))
   puts_keeps takes v depth is =
       reaches_keeps program limits start s t thread frame below stands effect.Nothing (frame_action.Push takes v)
       (λ _. record { sound = stands.sound; room = (depth.there, depth.room); value = is; heard = tt; can_be_made = λ _. tt })

@@ -1,6 +1,6 @@
 -- An instruction that touches more than its frame leaves a sound state sound, where what it makes of the state beside the
 -- frame is sound, and what it puts into the frame is a value there.
-use Rattle.std.proofs.Common.{◌≡◌, ℕ, ◌+◌, ◌-◌, ◌≤◌, true, nat_le, leb-true, List, [], ◌∷◌, ◌++◌, length, Option, None, Some, IsTrue, slice_get, refl, sym, ap, ◌∙◌, subst, arith}
+use Rattle.std.proofs.Common.{◌≡◌, ℕ, ◌+◌, ◌-◌, ◌≤◌, true, nat_le, leb-true, List, [], ◌∷◌, ◌++◌, length, Option, None, Some, IfSome, IsTrue, slice_get, refl, sym, ap, ◌∙◌, subst, arith}
 use Rattle.std.specs.List.{AllByRecursion, filter}
 use Rattle.std.proofs.lemmas.Bool.{cond_both, and_parts}
 use Rattle.jvms_machine.specs.declared.value.Value.{Value}
@@ -20,11 +20,13 @@ use Rattle.jvms_program.specs.declared.program.Class.{Class}
 use Rattle.jvms_program.specs.declared.key.FieldKey.{FieldKey}
 use Rattle.jvms_program.specs.Program.{IsProgram, field_key_at}
 use Rattle.jvms_machine.specs.Decisions.{TurnDecision}
-use Rattle.jvms_machine.specs.State.{State, Thread, Frame, MethodFrame, new_thread, IsObject, Sound}
+use Rattle.jvms_machine.specs.State.{State, Thread, Frame, MethodFrame, new_thread, IsObject, IsValue, Sound}
 use Rattle.jvms_machine.specs.Start.{Start}
 use Rattle.jvms_machine.specs.Limits.{are_limits}
 use Rattle.jvms_machine.specs.Activations.{HasRoom, has_depth}
+use Rattle.jvms_machine.specs.Fields.{read}
 use Rattle.jvms_machine.specs.Heap.{next_reference}
+use Rattle.jvms_machine.specs.Places.{value_size}
 use Rattle.jvms_machine.specs.Arrays.{if_deep, making}
 use Rattle.jvms_machine.specs.Actions.{call_gone_on, top_gone_on, gone_on, with_changed, event, instance_variable, static_variable, effect_items, put_field, put_static, new_objects, new_count, new_elements, affected, top_operands, operands_of, applied_to, items_of}
 use Rattle.jvms_machine.specs.Marks.{is_mark, calls_in, calls_of}
@@ -175,6 +177,17 @@ module _ (program : List Class) (limits : Limits) (start : Start) (s : State) (t
   pub if_deep_keeps : (takes gives : ℕ) (rest : TurnDecision) → (HasDepth frame takes gives → KeepsSound rest) → KeepsSound (if_deep frame takes gives rest)
   if_deep_keeps takes gives rest keeps =
       cond_both (has_depth frame.body takes gives frame.activation) rest _ KeepsSound (λ deep. keeps (depth_is frame takes gives deep)) (λ _. still t stands.sound)
+
+  -- ---- Values that are read
+
+  pub read_keeps : (what : Effect (List ℕ)) (takes : ℕ) (o : Option Value) → Sound program limits (affected program s t frame.activation.operands what) → IfSome o (IsValue (affected program s t frame.activation.operands what).heap) → IsHeardEffect s what → CanBeMade s frame.activation.operands what → KeepsSound (read frame what takes o)
+  read_keeps what takes None sound is heard can = still t stands.sound
+  read_keeps what takes (Some v) sound is heard can =
+      cond_both (has_depth frame.body takes (value_size v) frame.activation) _ _ KeepsSound
+      (λ deep.
+      let depth = depth_is frame takes (value_size v) deep in
+      reaches_keeps what (frame_action.Push takes v) (λ _. record { sound = sound; room = (depth.there, depth.room); value = is; heard = heard; can_be_made = λ _. can }))
+      (λ _. still t stands.sound)
 
   -- ---- New objects
 

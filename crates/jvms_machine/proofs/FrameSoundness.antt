@@ -1,6 +1,6 @@
 -- The action of an instruction that touches its frame alone has room in it, and leaves it with the locals and at
 -- most the operands that its code asks for, and with values of the heap in them.
-use Rattle.std.proofs.Common.{◌≡◌, ℕ, ◌+◌, ◌-◌, ◌<◌, ◌≤◌, cond, Bool, true, ◌&&◌, nat_le, nat_lt, leb-true, ltb-true, List, [], ◌∷◌, length, drop, Option, Some, None, ℤ, ◌∙◌, arith, length-set, length-drop}
+use Rattle.std.proofs.Common.{◌≡◌, ℕ, ◌+◌, ◌-◌, ◌<◌, ◌≤◌, cond, Bool, true, ◌&&◌, nat_le, nat_lt, leb-true, ltb-true, List, [], ◌∷◌, length, drop, not, Option, Some, None, IfSome, ℤ, pos, subst, sym, ◌∙◌, arith, length-drop}
 use Rattle.std.specs.List.{AllByRecursion}
 use Rattle.std.proofs.lemmas.Bool.{cond_both, and_parts}
 use Rattle.jvms_machine.specs.declared.value.Value.{Value}
@@ -18,6 +18,8 @@ use Rattle.jvms_file.specs.declared.insn.StackForm.{StackForm}
 use Rattle.jvms_file.specs.declared.insn.StackForm.TheVariants as form
 use Rattle.jvms_file.specs.declared.insn.IntInsn.{IntInsn}
 use Rattle.jvms_file.specs.declared.insn.IntInsn.TheVariants as int_insn
+use Rattle.jvms_file.specs.declared.insn.LongInsn.{LongInsn}
+use Rattle.jvms_file.specs.declared.insn.LongInsn.TheVariants as long_insn
 use Rattle.jvms_file.specs.declared.insn.Branch.{Branch}
 use Rattle.jvms_file.specs.declared.insn.Branch.TheVariants as branch
 use Rattle.jvms_file.specs.declared.insn.Simple.{Simple}
@@ -30,14 +32,17 @@ use Rattle.jvms_program.specs.declared.program.Instruction.TheVariants as instru
 use Rattle.jvms_machine.specs.State.{Activation, Object, IsValue}
 use Rattle.jvms_machine.specs.Activations.{rearranged, form_takes, form_gives, applied, HasRoom, pushes, jumps, with_local, with_depth, on_int, on_two_ints, on_given_reference, on_reference, on_two_references}
 use Rattle.jvms_machine.specs.Constants.{pushed, push_decision, constant_decision}
-use Rattle.jvms_machine.specs.Locals.{local_at, is_loaded, is_stored, is_profile_kind, load_value, load_decision, store_value, store_decision, return_to, local_decision, increment_value, increment_decision}
-use Rattle.jvms_machine.specs.Stack.{are_set, stack_decision}
+use Rattle.jvms_machine.specs.Locals.{local_at, local_value, last_local, storable_value, is_profile_kind, load_value, load_decision, store_value, store_decision, return_to, local_decision, increment_value, increment_decision}
+use Rattle.jvms_machine.specs.Stack.{are_set, parts_a_long, stack_decision}
 use Rattle.jvms_machine.specs.Arithmetic.{divided, int_decision}
+use Rattle.jvms_machine.specs.LongArithmetic.{on_long, on_two_longs, on_shift, long_divided, long_decision}
+use Rattle.jvms_machine.specs.Places.{kind_size, put_on, value_size}
 use Rattle.jvms_machine.specs.Branches.{branch_decision}
 use Rattle.jvms_machine.specs.Switches.{table_target, case_target}
 use Rattle.jvms_machine.specs.Profile.{is_outside_element, is_outside_method, is_outside_class, is_outside_array, is_outside_use}
 use Rattle.jvms_machine.specs.Steps.{beyond_unless, simple_decision, frame_decision}
-use Rattle.jvms_machine.proofs.ListLaws.{all_set, all_read, all_drop}
+use Rattle.jvms_machine.proofs.ListLaws.{all_read, all_drop}
+use Rattle.jvms_machine.proofs.PlaceLaws.{kind_is_some, local_is_whole, put_length, put_values, storable_is_whole, stored_length, stored_values}
 
 -- What a frame keeps: the locals and at most the operands that the code asks for, all of them values.
 pub record IsFit (heap : List Object) (body : Body) (a : Activation) : Type 0 where
@@ -83,11 +88,12 @@ module _ (heap : List Object) (body : Body) (a : Activation) (fit : IsFit heap b
 
   pub applied_is_fit : (act : FrameAction) → HasRoom body a act → HasValue heap act → IsFit heap body (applied act a)
   applied_is_fit (action.Push takes v) room is =
-      let short = few takes room.0 in with_operands (a.place + 1) (v ∷ drop takes a.operands) (omega arith) (is, left takes)
+      let short = few takes room.0 in
+      with_operands (a.place + 1) (put_on v (drop takes a.operands)) (subst (λ n. n ≤ body.max_stack) (sym (put_length v (drop takes a.operands))) (omega arith)) (put_values heap v (drop takes a.operands) is (left takes))
   applied_is_fit (action.Store takes n v) room is =
       let short = few takes room.0 in
       let operands_fit = fit.operands_fit in
-      record { locals_fit = length-set a.locals n v ∙ fit.locals_fit; operands_fit = omega arith; locals = all_set (IsValue heap) a.locals n v is fit.locals; operands = left takes }
+      record { locals_fit = stored_length a.locals n v ∙ fit.locals_fit; operands_fit = omega arith; locals = stored_values heap a.locals n v is fit.locals; operands = left takes }
   applied_is_fit (action.Jump takes target) room is =
       let short = few takes room in
       let operands_fit = fit.operands_fit in
@@ -139,35 +145,40 @@ module _ (heap : List Object) (body : Body) (a : Activation) (fit : IsFit heap b
   -- ---- Constants and local variables
 
   pushed_keeps : (v : Value) → IsValue heap v → KeepsFit (pushed body a v)
-  pushed_keeps v is = with_depth_keeps 0 1 (pushes 0 v) (λ there room. ((there, room), is))
+  pushed_keeps v is = with_depth_keeps 0 (value_size v) (pushes 0 v) (λ there room. ((there, room), is))
 
   push_keeps : (p : Push) → KeepsFit (push_decision body p a)
   push_keeps push.Null = pushed_keeps value.Null tt
   push_keeps (push.Int n) = pushed_keeps (value.Int n) tt
-  push_keeps (push.Long n) = tt
+  push_keeps (push.Long n) = pushed_keeps (value.Long (pos n)) tt
   push_keeps (push.Float n) = tt
   push_keeps (push.Double n) = tt
 
   local_is_value : (n : ℕ) → IsValue heap (local_at a n)
   local_is_value n = all_read (IsValue heap) a.locals n value.Unset tt fit.locals
 
+  -- A value that is loaded is of the kind, and takes the places of it.
+  load_value_keeps : (k : Kind) (o : Option Value) → IfSome o (λ v. IsValue heap v × (value_size v ≡ kind_size k)) → length a.operands - 0 + kind_size k ≤ body.max_stack → KeepsFit (load_value o)
+  load_value_keeps k None is room = tt
+  load_value_keeps k (Some v) is room = ((omega arith, subst (λ n. length a.operands - 0 + n ≤ body.max_stack) (sym is.1) room), is.0)
+
   load_keeps : (k : Kind) (n : ℕ) → KeepsFit (load_decision body k n a)
   load_keeps k n =
       keeps_if (is_profile_kind k) _ _
-      (λ _. with_local_keeps n _ (λ _. with_depth_keeps 0 1 (load_value k (local_at a n))
-      (λ there room. keeps_if (is_loaded k (local_at a n)) (pushes 0 (local_at a n)) _ (λ _. ((there, room), local_is_value n)) tt)))
+      (λ _. with_local_keeps (last_local k n) _ (λ _. with_depth_keeps 0 (kind_size k) (load_value (local_value k a n))
+      (λ there room. load_value_keeps k (local_value k a n) (local_is_whole heap k (local_at a n) (local_at a (n + 1)) (local_is_value n)) room)))
       tt
 
-  store_value_keeps : (k : Kind) (n : ℕ) (operands : List Value) → n < body.max_locals → 1 ≤ length a.operands → AllByRecursion (IsValue heap) operands → KeepsFit (store_value k n operands)
-  store_value_keeps k n [] is there values = tt
-  store_value_keeps k n (v ∷ below) is there values =
-      keeps_if (is_stored k v) (decision.Does (action.Store 1 n v)) _ (λ _. ((there, is), values.0)) tt
+  store_value_keeps : (k : Kind) (n : ℕ) (o : Option Value) → last_local k n < body.max_locals → kind_size k ≤ length a.operands → IfSome o (λ v. IsValue heap v × (value_size v ≡ kind_size k)) → KeepsFit (store_value k n o)
+  store_value_keeps k n None is there whole = tt
+  store_value_keeps k n (Some v) is there whole =
+      let some = kind_is_some k in ((there, subst (λ m. n + m ≤ body.max_locals) (sym whole.1) (omega arith)), whole.0)
 
   store_keeps : (k : Kind) (n : ℕ) → KeepsFit (store_decision body k n a)
   store_keeps k n =
       keeps_if (is_profile_kind k) _ _
-      (λ _. with_local_keeps n _ (λ is. with_depth_keeps 1 0 (store_value k n a.operands)
-      (λ there _. store_value_keeps k n a.operands is there fit.operands)))
+      (λ _. with_local_keeps (last_local k n) _ (λ is. with_depth_keeps (kind_size k) 0 (store_value k n (storable_value k a.operands))
+      (λ there _. store_value_keeps k n (storable_value k a.operands) is there (storable_is_whole heap k a.operands fit.operands))))
       tt
 
   return_to_keeps : (v : Value) → KeepsFit (return_to v)
@@ -180,7 +191,7 @@ module _ (heap : List Object) (body : Body) (a : Activation) (fit : IsFit heap b
   local_keeps local_use.Return n = with_local_keeps n _ (λ _. return_to_keeps (local_at a n))
 
   increment_value_keeps : (n : ℕ) (by : ℤ) (v : Value) → n < body.max_locals → KeepsFit (increment_value n by v)
-  increment_value_keeps n by (value.Int m) is = ((omega arith, is), tt)
+  increment_value_keeps n by (value.Int m) is = ((omega arith, omega arith), tt)
   increment_value_keeps n by _ is = tt
 
   increment_keeps : (n : ℕ) (by : ℤ) → KeepsFit (increment_decision body n by a)
@@ -191,7 +202,7 @@ module _ (heap : List Object) (body : Body) (a : Activation) (fit : IsFit heap b
   stack_keeps : (f : StackForm) → KeepsFit (stack_decision body f a)
   stack_keeps f =
       with_depth_keeps (form_takes f) (form_gives f) _
-      (λ there room. keeps_if (are_set (form_takes f) a.operands) (decision.Does (action.Rearrange f)) _ (λ _. ((there, room), tt)) tt)
+      (λ there room. keeps_if (are_set (form_takes f) a.operands && not (parts_a_long f a.operands)) (decision.Does (action.Rearrange f)) _ (λ _. ((there, room), tt)) tt)
 
   divided_keeps : (n : Option ℤ) → 2 ≤ length a.operands → length a.operands - 2 + 1 ≤ body.max_stack → KeepsFit (divided n)
   divided_keeps None there room = tt
@@ -204,6 +215,35 @@ module _ (heap : List Object) (body : Body) (a : Activation) (fit : IsFit heap b
       with_depth_keeps 2 1 _ (λ there room. on_two_ints_keeps a.operands _ (λ x y. divided_keeps _ there room))
   int_keeps int_insn.Negate = with_depth_keeps 1 1 _ (λ there room. on_int_keeps a.operands _ (λ n. ((there, room), tt)))
   int_keeps (int_insn.Conversion to) = with_depth_keeps 1 1 _ (λ there room. on_int_keeps a.operands _ (λ n. ((there, room), tt)))
+
+  -- ---- Arithmetic on longs
+
+  on_long_keeps : (operands : List Value) (f : ℤ → FrameDecision) → ((n : ℤ) → KeepsFit (f n)) → KeepsFit (on_long operands f)
+  on_long_keeps (value.Second ∷ value.Long n ∷ below) f keeps = keeps n
+  on_long_keeps _ f keeps = tt
+
+  on_two_longs_keeps : (operands : List Value) (f : ℤ → ℤ → FrameDecision) → ((m n : ℤ) → KeepsFit (f m n)) → KeepsFit (on_two_longs operands f)
+  on_two_longs_keeps (value.Second ∷ value.Long n ∷ value.Second ∷ value.Long m ∷ below) f keeps = keeps m n
+  on_two_longs_keeps _ f keeps = tt
+
+  on_shift_keeps : (operands : List Value) (f : ℤ → ℤ → FrameDecision) → ((m n : ℤ) → KeepsFit (f m n)) → KeepsFit (on_shift operands f)
+  on_shift_keeps (value.Int n ∷ value.Second ∷ value.Long m ∷ below) f keeps = keeps m n
+  on_shift_keeps _ f keeps = tt
+
+  long_divided_keeps : (n : Option ℤ) → 4 ≤ length a.operands → length a.operands - 4 + 2 ≤ body.max_stack → KeepsFit (long_divided n)
+  long_divided_keeps None there room = tt
+  long_divided_keeps (Some n) there room = ((there, room), tt)
+
+  long_keeps : (i : LongInsn) → KeepsFit (long_decision body i a)
+  long_keeps (long_insn.Binary op) =
+      with_depth_keeps 4 2 _ (λ there room. on_two_longs_keeps a.operands _ (λ x y. ((there, room), tt)))
+  long_keeps (long_insn.Division op) =
+      with_depth_keeps 4 2 _ (λ there room. on_two_longs_keeps a.operands _ (λ x y. long_divided_keeps _ there room))
+  long_keeps (long_insn.Shift op) = with_depth_keeps 3 2 _ (λ there room. on_shift_keeps a.operands _ (λ n d. ((there, room), tt)))
+  long_keeps long_insn.Negate = with_depth_keeps 2 2 _ (λ there room. on_long_keeps a.operands _ (λ n. ((there, room), tt)))
+  long_keeps long_insn.FromInt = with_depth_keeps 1 2 _ (λ there room. on_int_keeps a.operands _ (λ n. ((there, room), tt)))
+  long_keeps long_insn.ToInt = with_depth_keeps 2 1 _ (λ there room. on_long_keeps a.operands _ (λ n. ((there, room), tt)))
+  long_keeps long_insn.Compare = with_depth_keeps 4 1 _ (λ there room. on_two_longs_keeps a.operands _ (λ x y. ((there, room), tt)))
 
   -- ---- Branches and switches
 
@@ -232,7 +272,7 @@ module _ (heap : List Object) (body : Body) (a : Activation) (fit : IsFit heap b
   simple_keeps (simple.Increment n by) = increment_keeps n by
   simple_keeps (simple.Stack f) = stack_keeps f
   simple_keeps (simple.Int i) = int_keeps i
-  simple_keeps (simple.Long i) = tt
+  simple_keeps (simple.Long i) = long_keeps i
   simple_keeps (simple.Floating i) = tt
   simple_keeps (simple.Array i) = beyond_keeps (is_outside_array i)
   simple_keeps (simple.Return i) = tt
@@ -241,7 +281,7 @@ module _ (heap : List Object) (body : Body) (a : Activation) (fit : IsFit heap b
   constant_keeps : (c : Loadable) → KeepsFit (constant_decision body c a)
   constant_keeps (loadable.Integer n) = pushed_keeps (value.Int n) tt
   constant_keeps (loadable.Float n) = tt
-  constant_keeps (loadable.Long n) = tt
+  constant_keeps (loadable.Long n) = pushed_keeps (value.Long n) tt
   constant_keeps (loadable.Double n) = tt
   constant_keeps (loadable.String units) = tt
   constant_keeps (loadable.Class name) = tt

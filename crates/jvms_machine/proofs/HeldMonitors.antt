@@ -173,14 +173,14 @@ left_new r h monitors e =
     (λ _. none_new monitors (remove_entry (λ q. q == r) monitors) (removed_references (IsHeldIn monitors) r monitors (own_held monitors)))
     (λ _. none_new_with r (record { owner = h.owner; count = h.count - 1 }) monitors (ap is_none e)))
 
--- Where a monitor was held, it comes to be free as it is freed, and nothing else.
+-- A held monitor that is freed is free, and no other is.
 pub freed_new : (r : ℕ) (monitors : List (ℕ × Hold)) → newly_held monitors (freed_monitor r monitors) ≡ []
 freed_new r monitors = none_new monitors (freed_monitor r monitors) (removed_references (IsHeldIn monitors) r monitors (own_held monitors))
 
 pub freed_old : (heap : List Object) (threads : List Thread) (r : ℕ) (h : Hold) (monitors : List (ℕ × Hold)) → AreMonitors heap threads monitors → monitor_at monitors r ≡ Some h → newly_held (freed_monitor r monitors) monitors ≡ r ∷ []
 freed_old heap threads r h monitors are e = one_old heap threads r monitors are (ap is_none e)
 
--- Where it was free, it comes to be held as it is taken again, and nothing else.
+-- A free monitor that is taken again is held, and no other is.
 pub retaken_new : (t : ℕ) (w : Wait) (monitors : List (ℕ × Hold)) → monitor_at monitors w.reference ≡ None → newly_held monitors (retaken_monitor t w monitors) ≡ w.reference ∷ []
 retaken_new t w monitors e = one_new monitors w.reference (record { owner = t; count = w.count }) monitors (ap is_none e) (own_held monitors)
 

@@ -26,6 +26,7 @@ pub mod NewArrays
 pub mod ObjectSoundness
 pub mod OpeningSoundness
 pub mod RetakeSoundness
+pub mod PlaceLaws
 pub mod ReturnSoundness
 pub mod RunLaws
 pub mod SearchLaws

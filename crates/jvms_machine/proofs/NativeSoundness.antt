@@ -1,10 +1,8 @@
 -- A turn that calls a native method of a built-in class leaves a sound state sound. What it prints is among the operands of
 -- its call.
-use Rattle.std.proofs.Common.{◌≡◌, ℕ, ◌+◌, ◌≤◌, Bool, true, false, ◌&&◌, nat_lt, List, ◌∷◌, ◌++◌, length, Option, None, Some, slice_get, codes, refl, sym, ap, ◌∙◌, subst, arith}
+use Rattle.std.proofs.Common.{◌≡◌, ℕ, ◌≤◌, Bool, true, ◌&&◌, nat_lt, List, ◌∷◌, ◌++◌, length, Option, None, Some, slice_get, codes, refl, arith}
 use Rattle.std.specs.List.{AllByRecursion}
-use Rattle.std.specs.Cmp.Lexicographic.{same_text as texts_are_same}
 use Rattle.std.proofs.lemmas.Bool.{cond_both, ltb-true}
-use Rattle.std.proofs.lemmas.Option.{same_Some}
 use Rattle.jvms_machine.specs.declared.value.Value.{Value}
 use Rattle.jvms_machine.specs.declared.value.Value.TheVariants as value
 use Rattle.jvms_machine.specs.declared.machine.Limits.{Limits}
@@ -14,12 +12,9 @@ use Rattle.jvms_machine.specs.declared.action.Printed.TheVariants as printed
 use Rattle.jvms_machine.specs.declared.action.Effect.{Effect}
 use Rattle.jvms_machine.specs.declared.action.Effect.TheVariants as effect
 use Rattle.jvms_file.specs.Names.{same_text}
-use Rattle.jvms_file.specs.Descriptors.{field_type_from, parameters_from, method_type_of}
 use Rattle.jvms_program.specs.declared.program.Class.{Class}
 use Rattle.jvms_program.specs.declared.program.Method.{Method}
 use Rattle.jvms_program.specs.declared.thrown.Thrown.TheVariants as thrown
-use Rattle.jvms_program.specs.BuiltIn.{built_in_classes, print_stream_class}
-use Rattle.jvms_program.specs.Program.{IsProgram, class_named}
 use Rattle.jvms_machine.specs.Decisions.{TurnDecision}
 use Rattle.jvms_machine.specs.State.{State, Object, instance, array, text, class_object, Thread, Frame, MethodFrame, object_at, same_object, IsAtInvoke, IsReference, IsValue, Sound}
 use Rattle.jvms_machine.specs.Start.{Start}
@@ -28,8 +23,8 @@ use Rattle.jvms_machine.specs.Fields.{reaches, taking}
 use Rattle.jvms_machine.specs.Threads.{thread_of, start_decision, join_decision, thread_native_decision}
 use Rattle.jvms_machine.specs.Actions.{affected}
 use Rattle.jvms_machine.specs.Turn.{CanBeMade}
-use Rattle.jvms_machine.specs.Natives.{prints, object_printed, top_printed, print_decision, native_of_class}
-use Rattle.jvms_machine.proofs.ListLaws.{all_at}
+use Rattle.jvms_machine.specs.Natives.{prints, object_printed, value_printed, print_decision, native_of_class}
+use Rattle.jvms_machine.specs.Places.{whole_top}
 use Rattle.jvms_machine.proofs.SearchLaws.{none_passes}
 use Rattle.jvms_machine.proofs.LimitLaws.{limits_have_room}
 use Rattle.jvms_machine.proofs.StartedThreads.{started_is_sound}
@@ -40,84 +35,36 @@ use Rattle.jvms_machine.proofs.ObjectSoundness.{printed_is_sound}
 use Rattle.jvms_machine.proofs.EffectSoundness.{frame_is_fit, reaches_keeps}
 use Rattle.jvms_machine.proofs.WaitSoundness.{object_native_keeps}
 
--- ---- The methods of PrintStream
-
--- Whether a method ends a line alone.
-abbrev pub is_empty_line : Method → Bool
-is_empty_line m = same_text m.name (codes "println") && same_text m.descriptor (codes "()V")
-
--- A call with so many operands has those that are printed, and the receiver.
-abbrev pub HasPrinted : ℕ → Method → Type 0
-HasPrinted takes m = (1 ≤ takes) × (is_empty_line m ≡ false → 2 ≤ takes)
-
-abbrev HasParameters : Method → Type 0
-HasParameters m = HasPrinted (length m.method_type.parameters + 1) m
-
--- By computing: each method of PrintStream but println()V has a parameter.
-methods_have_parameters : AllByRecursion HasParameters print_stream_class.methods
-unfolding field_type_from parameters_from method_type_of
-methods_have_parameters =
-    ((omega arith, λ _. omega arith), ((omega arith, λ _. omega arith), ((omega arith, λ _. omega arith), ((omega arith, λ _. omega arith), ((omega arith, λ no. absurd (cc)), tt)))))
-
--- And none is static.
-methods_are_instance : AllByRecursion (λ (m : Method). m.flags.is_static ≡ false) print_stream_class.methods
-methods_are_instance = (refl, (refl, (refl, (refl, (refl, tt)))))
-
--- A program has the built-in PrintStream by its name.
-named_in : (own : List Class) → class_named (built_in_classes ++ own) (codes "java/io/PrintStream") ≡ Some print_stream_class
-unfolding built_in_classes
-named_in own = refl
-
--- So a class of a program with its name is it.
-pub is_print_stream : (program : List Class) (c : Class) → IsProgram program → class_named program c.name ≡ Some c → same_text c.name (codes "java/io/PrintStream") ≡ true → c ≡ print_stream_class
-is_print_stream program c is named same =
-    let its_name : c.name ≡ codes "java/io/PrintStream" = texts_are_same c.name (codes "java/io/PrintStream") (sym same) in
-    let here : class_named program (codes "java/io/PrintStream") ≡ Some c = subst (λ name. class_named program name ≡ Some c) its_name named in
-    let there : class_named program (codes "java/io/PrintStream") ≡ Some print_stream_class =
-    subst (λ (classes : List Class). class_named classes (codes "java/io/PrintStream") ≡ Some print_stream_class) (sym is.built_ins.1) (named_in is.built_ins.0) in
-    same_Some c print_stream_class (sym here ∙ there)
-
--- What is at a place of its methods.
-pub method_has_parameters : (c : Class) (i : ℕ) (m : Method) → c ≡ print_stream_class → slice_get c.methods i ≡ Some m → HasPrinted (length m.method_type.parameters + 1) m
-method_has_parameters c i m is at = all_at HasParameters print_stream_class.methods i m (sym (ap (λ (d : Class). slice_get d.methods i) is) ∙ at) methods_have_parameters
-
-pub method_is_instance : (c : Class) (i : ℕ) (m : Method) → c ≡ print_stream_class → slice_get c.methods i ≡ Some m → m.flags.is_static ≡ false
-method_is_instance c i m is at =
-    all_at (λ (k : Method). k.flags.is_static ≡ false) print_stream_class.methods i m (sym (ap (λ (d : Class). slice_get d.methods i) is) ∙ at) methods_are_instance
-
 -- ---- The turn
 
 module _ (program : List Class) (limits : Limits) (start : Start) (s : State) (t : ℕ) (thread : Thread) (frame : MethodFrame) (below : List Frame) (stands : Stands program limits s t thread (stack_frame.Call frame ∷ below)) where
   abbrev KeepsSound : TurnDecision → Type 0
   KeepsSound d = Keeps program limits start s t d
 
-  -- What is known of so many operands, if the classes are a program.
-  abbrev AreThere : ℕ → Type 0
-  AreThere takes = IsProgram program → takes ≤ length frame.activation.operands
-
-  prints_keeps : (takes : ℕ) (what : Printed) (ends_line : Bool) → AreThere takes → KeepsSound (prints frame.activation takes what ends_line)
+  prints_keeps : (takes : ℕ) (what : Printed) (ends_line : Bool) → takes ≤ length frame.activation.operands → KeepsSound (prints frame.activation takes what ends_line)
   prints_keeps takes what ends_line there =
       reaches_keeps program limits start s t thread frame below stands (effect.Prints what ends_line) (taking takes frame.activation)
-      (λ of_program. record { sound = printed_is_sound stands.sound (s.output ++ line_bytes s.heap what ends_line); room = there of_program; value = tt; heard = tt; can_be_made = λ _. tt })
+      (λ _. record { sound = printed_is_sound stands.sound (s.output ++ line_bytes s.heap what ends_line); room = there; value = tt; heard = tt; can_be_made = λ _. tt })
 
-  object_printed_keeps : (ends_line : Bool) (r : ℕ) (o : Option Object) → AreThere 2 → KeepsSound (object_printed frame.activation ends_line r o)
-  object_printed_keeps ends_line r None there = still t stands.sound
-  object_printed_keeps ends_line r (Some (text units)) there = prints_keeps 2 (printed.Text r) ends_line there
-  object_printed_keeps ends_line r (Some (instance class fields)) there = still t stands.sound
-  object_printed_keeps ends_line r (Some (array class elements)) there = still t stands.sound
-  object_printed_keeps ends_line r (Some (class_object name)) there = still t stands.sound
+  object_printed_keeps : (takes : ℕ) (ends_line : Bool) (r : ℕ) (o : Option Object) → takes ≤ length frame.activation.operands → KeepsSound (object_printed frame.activation takes ends_line r o)
+  object_printed_keeps takes ends_line r None there = still t stands.sound
+  object_printed_keeps takes ends_line r (Some (text units)) there = prints_keeps takes (printed.Text r) ends_line there
+  object_printed_keeps takes ends_line r (Some (instance class fields)) there = still t stands.sound
+  object_printed_keeps takes ends_line r (Some (array class elements)) there = still t stands.sound
+  object_printed_keeps takes ends_line r (Some (class_object name)) there = still t stands.sound
 
-  top_printed_keeps : (ends_line : Bool) (operands : List Value) → AreThere 2 → KeepsSound (top_printed s frame.activation ends_line operands)
-  top_printed_keeps ends_line (value.Int n ∷ others) there = prints_keeps 2 (printed.Int n) ends_line there
-  top_printed_keeps ends_line (value.Null ∷ others) there = prints_keeps 2 printed.Null ends_line there
-  top_printed_keeps ends_line (value.Reference r ∷ others) there = object_printed_keeps ends_line r (object_at s.heap r) there
-  top_printed_keeps ends_line _ there = still t stands.sound
+  value_printed_keeps : (takes : ℕ) (ends_line : Bool) (o : Option Value) → takes ≤ length frame.activation.operands → KeepsSound (value_printed s frame.activation takes ends_line o)
+  value_printed_keeps takes ends_line (Some (value.Int n)) there = prints_keeps takes (printed.Int n) ends_line there
+  value_printed_keeps takes ends_line (Some (value.Long n)) there = prints_keeps takes (printed.Long n) ends_line there
+  value_printed_keeps takes ends_line (Some value.Null) there = prints_keeps takes printed.Null ends_line there
+  value_printed_keeps takes ends_line (Some (value.Reference r)) there = object_printed_keeps takes ends_line r (object_at s.heap r) there
+  value_printed_keeps takes ends_line _ there = still t stands.sound
 
-  print_keeps : (takes : ℕ) (m : Method) → takes ≤ length frame.activation.operands → (IsProgram program → HasPrinted takes m) → KeepsSound (print_decision s frame.activation m)
-  print_keeps takes m there has =
-      cond_both (is_empty_line m) _ _ KeepsSound
-      (λ _. prints_keeps 1 printed.Nothing true (λ of_program. let one = (has of_program).0 in omega arith))
-      (λ more. top_printed_keeps (same_text m.name (codes "println")) frame.activation.operands (λ of_program. let two = (has of_program).1 more in omega arith))
+  print_keeps : (takes : ℕ) (m : Method) → takes ≤ length frame.activation.operands → KeepsSound (print_decision s frame.activation takes m)
+  print_keeps takes m there =
+      cond_both (same_text m.name (codes "println") && same_text m.descriptor (codes "()V")) _ _ KeepsSound
+      (λ _. prints_keeps takes printed.Nothing true there)
+      (λ _. value_printed_keeps takes (same_text m.name (codes "println")) (whole_top frame.activation.operands) there)
 
   -- ---- The methods of Thread
 
@@ -163,11 +110,11 @@ module _ (program : List Class) (limits : Limits) (start : Start) (s : State) (t
   thread_native_keeps m _ values there = still t stands.sound
 
   -- A native method that takes so many operands.
-  pub native_keeps : IsAtInvoke (stack_frame.Call frame ∷ below) → IsQuiet thread → (takes : ℕ) (m : Method) (o : Option Class) → takes ≤ length frame.activation.operands → ((c : Class) → o ≡ Some c → same_text c.name (codes "java/io/PrintStream") ≡ true → IsProgram program → HasPrinted takes m) → KeepsSound (native_of_class limits s t thread frame.activation m o)
-  native_keeps at_invoke quiet takes m None there has = still t stands.sound
-  native_keeps at_invoke quiet takes m (Some c) there has =
+  pub native_keeps : IsAtInvoke (stack_frame.Call frame ∷ below) → IsQuiet thread → (takes : ℕ) (m : Method) (o : Option Class) → takes ≤ length frame.activation.operands → KeepsSound (native_of_class limits s t thread frame.activation takes m o)
+  native_keeps at_invoke quiet takes m None there = still t stands.sound
+  native_keeps at_invoke quiet takes m (Some c) there =
       cond_both (same_text c.name (codes "java/io/PrintStream")) _ _ KeepsSound
-      (λ is. print_keeps takes m there (has c refl is))
+      (λ _. print_keeps takes m there)
       (λ _. cond_both (same_text c.name (codes "java/lang/Thread")) _ _ KeepsSound
       (λ _. thread_native_keeps m frame.activation.operands (frame_is_fit frame below stands).operands (λ some. some))
       (λ _. cond_both (same_text c.name (codes "java/lang/Object")) _ _ KeepsSound

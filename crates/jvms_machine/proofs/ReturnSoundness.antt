@@ -1,8 +1,8 @@
 -- A turn of a return leaves a sound state sound: the thread ends, or its caller goes on with the result, for which it has
 -- room.
-use Rattle.std.proofs.Common.{◌≡◌, ℕ, ◌+◌, ◌≤◌, true, ◌&&◌, ◌==◌, List, [], ◌∷◌, length, drop, Option, Some, None, IfSome, slice_get, count_by, refl, sym, ap, ◌∙◌, subst, arith}
+use Rattle.std.proofs.Common.{◌≡◌, ℕ, ◌+◌, ◌≤◌, true, ◌==◌, nat_le, List, [], ◌∷◌, length, drop, Option, Some, None, IfSome, slice_get, count_by, refl, sym, ap, ◌∙◌, subst, arith}
 use Rattle.std.specs.List.{AllByRecursion}
-use Rattle.std.proofs.lemmas.Bool.{cond_both, and_parts}
+use Rattle.std.proofs.lemmas.Bool.{cond_both}
 use Rattle.std.proofs.lemmas.Option.{same_Some, slice_get_within}
 use Rattle.jvms_machine.specs.declared.value.Value.{Value}
 use Rattle.jvms_machine.specs.declared.machine.Limits.{Limits}
@@ -23,8 +23,9 @@ use Rattle.jvms_program.specs.Program.{method_at}
 use Rattle.jvms_machine.specs.Decisions.{TurnDecision}
 use Rattle.jvms_machine.specs.State.{State, Object, Thread, Frame, MethodFrame, IsValue, IsFrame, IsStack, IsWait, StandsOn, result_length, is_initialisation_of, Sound}
 use Rattle.jvms_machine.specs.Start.{Start}
-use Rattle.jvms_machine.specs.Locals.{is_loaded}
-use Rattle.jvms_machine.specs.Returns.{gives_kind, gives_nothing, returns_to, returned_decision, return_top_decision, return_decision, method_return_decision}
+use Rattle.jvms_machine.specs.Locals.{is_profile_kind}
+use Rattle.jvms_machine.specs.Places.{kind_of_type, kind_size, top_value, value_size}
+use Rattle.jvms_machine.specs.Returns.{gives_kind, gives_nothing, method_return_decision, return_decision, return_top_decision, return_value_decision, returned_decision, returns_to, same_kind}
 use Rattle.jvms_machine.specs.Actions.{with_unlock, changed_to, ended, with_returned, returned_to, caller_gone_on, returned, with_changed, applied_to, items_of}
 use Rattle.jvms_machine.specs.Marks.{calls, calls_in, calls_of}
 use Rattle.jvms_machine.specs.Turn.{HasRoomFor}
@@ -34,17 +35,26 @@ use Rattle.jvms_machine.proofs.ThreadChanges.{Stands, thread_is, frames_are_stac
 use Rattle.jvms_machine.proofs.KeptStates.{IsLeft, Keeps, still}
 use Rattle.jvms_machine.proofs.LockSoundness.{stands_with_unlock, unlocked_heap}
 use Rattle.jvms_machine.proofs.UnlockSoundness.{unlocking_keeps}
+use Rattle.jvms_machine.proofs.PlaceLaws.{IsWhole, put_length, put_values, top_is_whole, type_units}
 
 -- ---- The caller of a call that returns
 
--- A result is one that a method of this type gives.
+-- A result takes the places of one that a method of this type gives.
 abbrev IsResultOf : ResultType → Option Value → Type 0
 IsResultOf type None = Unit {0}
-IsResultOf type (Some v) = result_length type ≡ 1
+IsResultOf type (Some v) = result_length type ≡ value_size v
 
-gives_one : (type : ResultType) (k : Kind) → gives_kind type k ≡ true → result_length type ≡ 1
-gives_one result_type.Void k gives = absurd (cc)
-gives_one (result_type.Value t) k gives = refl
+same_size : (k other : Kind) → same_kind k other ≡ true → kind_size k ≡ kind_size other
+same_size kind.Int kind.Int is = refl
+same_size kind.Long kind.Long is = refl
+same_size kind.Float kind.Float is = refl
+same_size kind.Double kind.Double is = refl
+same_size kind.Reference kind.Reference is = refl
+same_size k other is = cc
+
+gives_size : (type : ResultType) (k : Kind) → gives_kind type k ≡ true → result_length type ≡ kind_size k
+gives_size result_type.Void k gives = absurd (cc)
+gives_size (result_type.Value t) k gives = sym (type_units t) ∙ same_size (kind_of_type t) k gives
 
 -- The caller has room for it.
 has_room_for_result : (program : List Class) (frame : MethodFrame) (m : Method) (result : Option Value) (f : Frame) (below : List Frame) → method_at program frame.method ≡ Some m → IsResultOf m.method_type.result result → StandsOn program (stack_frame.Call frame) f → HasRoomFor result (f ∷ below)
@@ -52,14 +62,15 @@ has_room_for_result program frame m None f below m_is gives on = tt
 has_room_for_result program frame m (Some v) (stack_frame.Initialisation class called) below m_is gives on = tt
 has_room_for_result program frame m (Some v) (stack_frame.Call lower) below m_is gives on =
     let same : on.0 ≡ m = same_Some on.0 m (sym on.1 ∙ m_is) in
-    let one : result_length on.0.method_type.result ≡ 1 = ap (λ (k : Method). result_length k.method_type.result) same ∙ gives in
+    let its_size : result_length on.0.method_type.result ≡ value_size v = ap (λ (k : Method). result_length k.method_type.result) same ∙ gives in
     let room : length lower.activation.operands + result_length on.0.method_type.result ≤ lower.body.max_stack = on.2.3 in
     omega arith
 
 -- The caller with the result on top of its operands is a frame.
 returned_operands : (heap : List Object) (result : Option Value) (lower : MethodFrame) (below : List Frame) → HasRoomFor result (stack_frame.Call lower ∷ below) → length lower.activation.operands ≤ lower.body.max_stack → IfSome result (IsValue heap) → AllByRecursion (IsValue heap) lower.activation.operands → (length (with_returned result lower.activation.operands) ≤ lower.body.max_stack) × AllByRecursion (IsValue heap) (with_returned result lower.activation.operands)
 returned_operands heap None lower below room few is values = (few, values)
-returned_operands heap (Some v) lower below room few is values = (omega arith, (is, values))
+returned_operands heap (Some v) lower below room few is values =
+    (subst (λ n. n ≤ lower.body.max_stack) (sym (put_length v lower.activation.operands)) room, put_values heap v lower.activation.operands is values)
 
 pub returned_frames : (program : List Class) (heap : List Object) (result : Option Value) (f : Frame) (below : List Frame) → HasRoomFor result (f ∷ below) → IfSome result (IsValue heap) → AllByRecursion (IsFrame program heap) (f ∷ below) → AllByRecursion (IsFrame program heap) (caller_gone_on result (f ∷ below))
 returned_frames program heap result (stack_frame.Initialisation class called) below room is all = all
@@ -150,19 +161,24 @@ module _ (program : List Class) (limits : Limits) (start : Start) (s : State) (t
   returned_keeps frame below m result stands m_is gives result_is =
       unlocking_keeps program limits start s t thread frame below stands _ (λ unlock is_left. returns_to_keeps frame below m result stands m_is gives result_is unlock is_left)
 
-  return_top_keeps : (frame : MethodFrame) (below : List Frame) (m : Method) (k : Kind) (operands : List Value) → HasFrames (stack_frame.Call frame ∷ below) → method_at program frame.method ≡ Some m → AllByRecursion (IsValue s.heap) operands → KeepsSound (return_top_decision limits s t frame below m.method_type.result k operands)
-  return_top_keeps frame below m k [] stands m_is values = still t stands.sound
-  return_top_keeps frame below m k (v ∷ vs) stands m_is values =
-      cond_both (is_loaded k v && gives_kind m.method_type.result k) _ _ KeepsSound
-      (λ both. returned_keeps frame below m (Some v) stands m_is (gives_one m.method_type.result k (and_parts (is_loaded k v) (gives_kind m.method_type.result k) both).1) values.0)
+  return_value_keeps : (frame : MethodFrame) (below : List Frame) (m : Method) (k : Kind) (o : Option Value) → HasFrames (stack_frame.Call frame ∷ below) → method_at program frame.method ≡ Some m → IsWhole s.heap k o → KeepsSound (return_value_decision limits s t frame below m.method_type.result k o)
+  return_value_keeps frame below m k None stands m_is whole = still t stands.sound
+  return_value_keeps frame below m k (Some v) stands m_is whole =
+      cond_both (gives_kind m.method_type.result k) _ _ KeepsSound
+      (λ gives. returned_keeps frame below m (Some v) stands m_is (gives_size m.method_type.result k gives ∙ sym whole.1) whole.0)
+      (λ _. still t stands.sound)
+
+  return_top_keeps : (frame : MethodFrame) (below : List Frame) (m : Method) (k : Kind) → HasFrames (stack_frame.Call frame ∷ below) → method_at program frame.method ≡ Some m → AllByRecursion (IsValue s.heap) frame.activation.operands → KeepsSound (return_top_decision limits s t frame below m.method_type.result k)
+  return_top_keeps frame below m k stands m_is values =
+      cond_both (nat_le (kind_size k) (length frame.activation.operands)) _ _ KeepsSound
+      (λ _. return_value_keeps frame below m k (top_value k frame.activation.operands) stands m_is (top_is_whole s.heap k frame.activation.operands values))
       (λ _. still t stands.sound)
 
   return_keeps : (frame : MethodFrame) (below : List Frame) (m : Method) (how : ReturnInsn) → HasFrames (stack_frame.Call frame ∷ below) → method_at program frame.method ≡ Some m → AllByRecursion (IsValue s.heap) frame.activation.operands → KeepsSound (return_decision limits s t frame below m.method_type.result how)
   return_keeps frame below m returns.Void stands m_is values =
       cond_both (gives_nothing m.method_type.result) _ _ KeepsSound (λ _. returned_keeps frame below m None stands m_is tt tt) (λ _. still t stands.sound)
-  return_keeps frame below m (returns.Value kind.Int) stands m_is values = return_top_keeps frame below m kind.Int frame.activation.operands stands m_is values
-  return_keeps frame below m (returns.Value kind.Reference) stands m_is values = return_top_keeps frame below m kind.Reference frame.activation.operands stands m_is values
-  return_keeps frame below m (returns.Value _) stands m_is values = still t stands.sound
+  return_keeps frame below m (returns.Value k) stands m_is values =
+      cond_both (is_profile_kind k) _ _ KeepsSound (λ _. return_top_keeps frame below m k stands m_is values) (λ _. still t stands.sound)
 
   pub method_return_keeps : (frame : MethodFrame) (below : List Frame) (how : ReturnInsn) (o : Option Method) → HasFrames (stack_frame.Call frame ∷ below) → method_at program frame.method ≡ o → AllByRecursion (IsValue s.heap) frame.activation.operands → KeepsSound (method_return_decision limits s t frame below how o)
   method_return_keeps frame below how None stands m_is values = still t stands.sound

@@ -1,26 +1,28 @@
 -- What an entry starts with.
 use Rattle.std.proofs.Common.{◌≡◌, Bool, true, false, List, [], ◌∷◌, subst, arith, cond}
-use Rattle.std.specs.Prelude.{Option, Some, None, ℤ, map}
+use Rattle.std.specs.Prelude.{Option, Some, None, map}
 use Rattle.std.specs.Option.{option_map}
 use Rattle.std.specs.List.{AllByRecursion}
-use Rattle.jvms_machine.specs.declared.value.Value.TheVariants as value
 use Rattle.jvms_program.specs.declared.program.Class.{Class}
+use Rattle.jvms_machine.specs.declared.machine.Argument.{Argument}
+use Rattle.jvms_machine.specs.declared.machine.Argument.TheVariants as argument
 use Rattle.jvms_machine.specs.declared.machine.Entry.{Entry}
 use Rattle.jvms_machine.specs.declared.machine.Entry.TheVariants as entry
 use Rattle.jvms_program.specs.declared.number.MethodNumber.{MethodNumber}
 use Rattle.jvms_file.specs.Names.{is_initializer_name}
 use Rattle.jvms_program.specs.Resolution.{MethodFound, method_number}
-use Rattle.jvms_machine.specs.Start.{Start, IsStart, IsArgument, start_of, found_start, entry_arguments, resolved_entry, takes_arguments}
+use Rattle.jvms_machine.specs.Places.{places_of}
+use Rattle.jvms_machine.specs.Start.{Start, IsStart, IsArgument, argument_value, start_of, found_start, entry_arguments, resolved_entry, takes_arguments}
 
--- Ints are arguments.
-ints_are_arguments : (ns : List ℤ) → AllByRecursion IsArgument (map value.Int ns)
-ints_are_arguments [] = tt
-ints_are_arguments (n ∷ ns) = (tt, ints_are_arguments ns)
+-- The places of arguments hold what arguments may.
+places_are_arguments : (arguments : List Argument) → AllByRecursion IsArgument (places_of (map argument_value arguments))
+places_are_arguments [] = tt
+places_are_arguments (argument.Int n ∷ arguments) = (tt, places_are_arguments arguments)
+places_are_arguments (argument.Long n ∷ arguments) = (tt, (tt, places_are_arguments arguments))
 
--- So are an entry's.
 arguments_of_entry : (e : Entry) → AllByRecursion IsArgument (entry_arguments e)
 arguments_of_entry (entry.Main class) = ((omega arith, omega arith), tt)
-arguments_of_entry (entry.Static class name descriptor arguments) = ints_are_arguments arguments
+arguments_of_entry (entry.Static class name descriptor arguments) = places_are_arguments arguments
 
 -- A start that is given for an entry has its arguments.
 given : (e : Entry) (start : Start) (o : Option MethodNumber) → option_map (λ n. record { method = n; arguments = entry_arguments e }) o ≡ Some start → IsStart start

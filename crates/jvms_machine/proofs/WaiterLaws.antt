@@ -16,7 +16,7 @@ use Rattle.jvms_machine.proofs.ThreadChanges.{AreAwake, owners_awake}
 pub awake_waits_not : (threads : List Thread) (t r : ℕ) (thread : Thread) → slice_get threads t ≡ Some thread → thread.waits ≡ None → waits_for r (slice_get threads t) ≡ false
 awake_waits_not threads t r thread at awake = ap (waits_for r) at ∙ ap (is_wait_for r) awake
 
--- A thread that comes to wait for an object waits for no other.
+-- A thread that begins to wait for an object waits for no other.
 pub put_waits : (threads : List Thread) (t : ℕ) (after : Thread) (w : Wait) → after.waits ≡ Some w → (u q : ℕ) → (w.reference == q) ≡ false → waits_for q (slice_get threads u) ≡ false → waits_for q (slice_get (slice_set threads t after) u) ≡ false
 put_waits [] t after w is u q other not_yet = not_yet
 put_waits (v ∷ vs) zero after w is zero q other not_yet = ap (is_wait_for q) is ∙ other

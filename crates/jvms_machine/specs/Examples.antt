@@ -3,6 +3,7 @@ use Rattle.std.specs.Prelude.{ℕ, true, List, [], ◌∷◌, ◌++◌, replicat
 use Rattle.std.specs.Option.{option_map}
 use Rattle.jvms_file.specs.declared.fault.ClassFault.{ClassFault}
 use Rattle.jvms_file.specs.declared.class_file.ClassFile.{ClassFile}
+use Rattle.jvms_machine.specs.declared.machine.Argument.TheVariants as argument
 use Rattle.jvms_machine.specs.declared.machine.Entry.{Entry}
 use Rattle.jvms_machine.specs.declared.machine.Entry.TheVariants as entry
 use Rattle.jvms_machine.specs.declared.machine.Limits.{Limits}
@@ -19,7 +20,7 @@ default_limits = record { objects = 1000000; elements = 10000000; threads = 64; 
 
 -- G.gcd.(II)I with 48 and 36
 abbrev pub gcd_entry : Entry
-gcd_entry = entry.Static (codes "G") (codes "gcd") (codes "(II)I") (pos 48 ∷ pos 36 ∷ [])
+gcd_entry = entry.Static (codes "G") (codes "gcd") (codes "(II)I") (argument.Int (pos 48) ∷ argument.Int (pos 36) ∷ [])
 
 -- The run of so many choices of thread 0, if the bytes spell a class with the entry.
 abbrev pub run_of_bytes : List ℕ → Entry → ℕ → Option RunResult

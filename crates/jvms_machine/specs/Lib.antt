@@ -15,12 +15,14 @@ pub mod Initialisation
 pub mod Limits
 pub mod Locals
 pub mod Locking
+pub mod LongArithmetic
 pub mod Marks
 pub mod Monitors
 pub mod Natives
 pub mod Objects
 pub mod Opening
 pub mod Output
+pub mod Places
 pub mod Profile
 pub mod Returns
 pub mod Run

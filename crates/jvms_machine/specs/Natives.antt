@@ -1,6 +1,6 @@
 -- The native methods of built-in classes: what System.out prints, starts and joins of threads, and waits and notifications.
 -- Each is done in the turn of its call.
-use Rattle.std.specs.Prelude.{ℕ, Bool, true, ◌&&◌, if◌then◌else◌, List, ◌∷◌, Option, Some, None, codes}
+use Rattle.std.specs.Prelude.{ℕ, Bool, true, ◌&&◌, if◌then◌else◌, Option, Some, None, codes}
 use Rattle.jvms_machine.specs.declared.value.Value.{Value}
 use Rattle.jvms_machine.specs.declared.value.Value.TheVariants as value
 use Rattle.jvms_machine.specs.declared.machine.BadCause.TheVariants as cause
@@ -16,36 +16,38 @@ use Rattle.jvms_machine.specs.Decisions.{TurnDecision, bad, never_seen}
 use Rattle.jvms_machine.specs.State.{State, Thread, Activation, Object, text, object_at}
 use Rattle.jvms_machine.specs.Exceptions.{throws}
 use Rattle.jvms_machine.specs.Fields.{reaches, taking}
+use Rattle.jvms_machine.specs.Places.{whole_top}
 use Rattle.jvms_machine.specs.Threads.{thread_native_decision}
 use Rattle.jvms_machine.specs.Waiting.{object_native_decision}
 
--- What a print takes: the receiver, and, of all but println()V, what is printed.
+-- A print takes all operands of its call: the receiver, and, of all but println()V, what is printed.
 abbrev pub prints : Activation → ℕ → Printed → Bool → TurnDecision
 prints a takes what ends_line = reaches (effect.Prints what ends_line) (taking takes a)
 
 -- Strings print; an object that is none is of a wrong kind.
-abbrev pub object_printed : Activation → Bool → ℕ → Option Object → TurnDecision
-object_printed a ends_line r (Some (text units)) = prints a 2 (printed.Text r) ends_line
-object_printed a ends_line r _ = bad cause.Kind
+abbrev pub object_printed : Activation → ℕ → Bool → ℕ → Option Object → TurnDecision
+object_printed a takes ends_line r (Some (text units)) = prints a takes (printed.Text r) ends_line
+object_printed a takes ends_line r _ = bad cause.Kind
 
--- What is on top is printed.
-abbrev pub top_printed : State → Activation → Bool → List Value → TurnDecision
-top_printed s a ends_line (value.Int n ∷ below) = prints a 2 (printed.Int n) ends_line
-top_printed s a ends_line (value.Null ∷ below) = prints a 2 printed.Null ends_line
-top_printed s a ends_line (value.Reference r ∷ below) = object_printed a ends_line r (object_at s.heap r)
-top_printed s a ends_line _ = never_seen
+-- The value on top is printed.
+abbrev pub value_printed : State → Activation → ℕ → Bool → Option Value → TurnDecision
+value_printed s a takes ends_line (Some (value.Int n)) = prints a takes (printed.Int n) ends_line
+value_printed s a takes ends_line (Some (value.Long n)) = prints a takes (printed.Long n) ends_line
+value_printed s a takes ends_line (Some value.Null) = prints a takes printed.Null ends_line
+value_printed s a takes ends_line (Some (value.Reference r)) = object_printed a takes ends_line r (object_at s.heap r)
+value_printed s a takes ends_line _ = never_seen
 
 -- print and println of PrintStream.
-abbrev pub print_decision : State → Activation → Method → TurnDecision
-print_decision s a m =
-    if same_text m.name (codes "println") && same_text m.descriptor (codes "()V") then prints a 1 printed.Nothing true
-    else top_printed s a (same_text m.name (codes "println")) a.operands
+abbrev pub print_decision : State → Activation → ℕ → Method → TurnDecision
+print_decision s a takes m =
+    if same_text m.name (codes "println") && same_text m.descriptor (codes "()V") then prints a takes printed.Nothing true
+    else value_printed s a takes (same_text m.name (codes "println")) (whole_top a.operands)
 
 -- Native methods are those of PrintStream, of Thread and of Object; any other has no body.
-abbrev pub native_of_class : Limits → State → ℕ → Thread → Activation → Method → Option Class → TurnDecision
-native_of_class limits s t thread a m None = never_seen
-native_of_class limits s t thread a m (Some c) =
-    if same_text c.name (codes "java/io/PrintStream") then print_decision s a m
+abbrev pub native_of_class : Limits → State → ℕ → Thread → Activation → ℕ → Method → Option Class → TurnDecision
+native_of_class limits s t thread a takes m None = never_seen
+native_of_class limits s t thread a takes m (Some c) =
+    if same_text c.name (codes "java/io/PrintStream") then print_decision s a takes m
     else (if same_text c.name (codes "java/lang/Thread") then thread_native_decision limits s thread a m a.operands
     else (if same_text c.name (codes "java/lang/Object") then object_native_decision limits s t thread a m a.operands
     else throws limits s thread thrown.UnsatisfiedLinkError))

@@ -1,4 +1,4 @@
--- What is printed (own): an int in decimal, a string in UTF-8, null as its name; and the end of a line.
+-- What is printed (own): an int or a long in decimal, a string in UTF-8, null as its name; and the end of a line.
 use Rattle.std.specs.Prelude.{ℕ, ◌+◌, ◌-◌, ◌*◌, Bool, true, false, ◌&&◌, nat_le, if◌then◌else◌, List, [], ◌∷◌, ◌++◌, Option, Some, codes, encode_utf8}
 use Rattle.std.specs.List.{flat_map}
 use Rattle.std.specs.Fmt.{signed_decimal}
@@ -32,6 +32,7 @@ object_bytes _ = []
 abbrev pub printed_bytes : List Object → Printed → List ℕ
 printed_bytes heap printed.Nothing = []
 printed_bytes heap (printed.Int n) = signed_decimal n
+printed_bytes heap (printed.Long n) = signed_decimal n
 printed_bytes heap printed.Null = codes "null"
 printed_bytes heap (printed.Text r) = object_bytes (object_at heap r)
 

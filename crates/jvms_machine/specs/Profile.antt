@@ -1,5 +1,5 @@
--- What names a type outside of the profile: float and double for good, and long until a last stage; and the classes of
--- which no object is made (own). Instructions of these kinds of value are told in the files of their families.
+-- Types outside of the profile, float and double, and the classes of which no object is made (own).
+-- The files of their families decide the instructions of these types.
 use Rattle.std.specs.Prelude.{ℕ, Bool, true, false, ◌||◌, List, Option, Some, None, codes}
 use Rattle.std.specs.List.{list_any}
 use Rattle.jvms_file.specs.declared.descriptor.Primitive.TheVariants as primitive
@@ -22,18 +22,17 @@ use Rattle.jvms_program.specs.Resolution.{class_type}
 
 -- ---- Types and descriptors
 
--- A float, double or long, or an array of them.
+-- A float or double, or an array of them.
 abbrev pub is_outside_element : Element → Bool
 is_outside_element (element.Primitive primitive.Float) = true
 is_outside_element (element.Primitive primitive.Double) = true
-is_outside_element (element.Primitive primitive.Long) = true
 is_outside_element _ = false
 
 abbrev pub is_outside_result : ResultType → Bool
 is_outside_result result_type.Void = false
 is_outside_result (result_type.Value t) = is_outside_element t.element
 
--- Whether a method's descriptor names a float, a double or a long anywhere.
+-- Whether a method's descriptor names a float or a double anywhere.
 abbrev pub is_outside_method : MethodType → Bool
 is_outside_method t = list_any (λ p. is_outside_element p.element) t.parameters || is_outside_result t.result
 
@@ -41,7 +40,7 @@ abbrev pub is_outside_type : Option FieldType → Bool
 is_outside_type None = false
 is_outside_type (Some t) = is_outside_element t.element
 
--- Whether the class of a name is an array of floats, doubles or longs.
+-- Whether the class of a name is an array of floats or doubles.
 abbrev pub is_outside_class : List ℕ → Bool
 is_outside_class name = is_outside_type (class_type name)
 
@@ -50,16 +49,14 @@ is_outside_class name = is_outside_type (class_type name)
 abbrev pub is_outside_kind : ArrayKind → Bool
 is_outside_kind array_kind.Float = true
 is_outside_kind array_kind.Double = true
-is_outside_kind array_kind.Long = true
 is_outside_kind _ = false
 
 abbrev pub is_outside_component : ArrayType → Bool
 is_outside_component array_type.Float = true
 is_outside_component array_type.Double = true
-is_outside_component array_type.Long = true
 is_outside_component _ = false
 
--- Loads, stores and newarray of float, double and long.
+-- Loads, stores and newarray of float and double.
 abbrev pub is_outside_array : ArrayInsn → Bool
 is_outside_array (array.Load k) = is_outside_kind k
 is_outside_array (array.Store k) = is_outside_kind k

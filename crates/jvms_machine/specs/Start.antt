@@ -1,13 +1,15 @@
 -- Where a run begins: the method that an entry names, and its arguments.
-use Rattle.std.specs.Prelude.{ℕ, ◌<◌, ◌≤◌, Bool, true, false, ◌==◌, ◌&&◌, if◌then◌else◌, List, [], ◌∷◌, length, map, Option, Some, None, is_some, codes, Result, Ok, Err}
+use Rattle.std.specs.Prelude.{ℕ, ◌<◌, ◌≤◌, Bool, true, false, ◌==◌, ◌&&◌, if◌then◌else◌, List, [], ◌∷◌, map, Option, Some, None, is_some, codes, Result, Ok, Err}
 use Rattle.std.specs.Option.{option_map}
-use Rattle.std.specs.List.{AllByRecursion, list_all}
+use Rattle.std.specs.List.{AllByRecursion}
 use Rattle.jvms_machine.specs.declared.value.Value.{Value}
 use Rattle.jvms_machine.specs.declared.value.Value.TheVariants as value
 use Rattle.jvms_file.specs.declared.descriptor.Primitive.TheVariants as primitive
 use Rattle.jvms_file.specs.declared.descriptor.Element.{Element}
 use Rattle.jvms_file.specs.declared.descriptor.Element.TheVariants as element
 use Rattle.jvms_file.specs.declared.descriptor.FieldType.{FieldType}
+use Rattle.jvms_machine.specs.declared.machine.Argument.{Argument}
+use Rattle.jvms_machine.specs.declared.machine.Argument.TheVariants as argument
 use Rattle.jvms_machine.specs.declared.machine.Entry.{Entry}
 use Rattle.jvms_machine.specs.declared.machine.Entry.TheVariants as entry
 use Rattle.jvms_program.specs.declared.number.MethodNumber.{MethodNumber}
@@ -16,15 +18,18 @@ use Rattle.jvms_program.specs.declared.program.MethodReference.{MethodReference}
 use Rattle.jvms_file.specs.Names.{is_initializer_name}
 use Rattle.jvms_file.specs.Descriptors.{method_type_of, method_type}
 use Rattle.jvms_program.specs.Resolution.{MethodFound, resolved_method, method_number}
+use Rattle.jvms_machine.specs.Places.{places_of}
 
 -- What is handed to a machine: the entry's method and its arguments, beside program and limits.
 pub record Start : Type 0 where
   pub method : MethodNumber
   pub arguments : List Value
 
--- Arguments are ints, or references that are there from the opening on.
+-- The places of arguments hold ints, longs, or references that are there from the opening on.
 abbrev pub IsArgument : Value → Type 0
 IsArgument (value.Int n) = Unit {0}
+IsArgument (value.Long n) = Unit {0}
+IsArgument value.Second = Unit {0}
 IsArgument (value.Reference r) = (0 < r) × (r ≤ 4)
 IsArgument _ = ⊥
 
@@ -43,10 +48,14 @@ entry_reference (entry.Main class) =
 entry_reference (entry.Static class name descriptor arguments) =
     record { is_interface = false; class = class; name = name; descriptor = descriptor; method_type = method_type descriptor }
 
+abbrev pub argument_value : Argument → Value
+argument_value (argument.Int n) = value.Int n
+argument_value (argument.Long n) = value.Long n
+
 -- Reference 4 is the argument of main: an array of no strings.
 abbrev pub entry_arguments : Entry → List Value
 entry_arguments (entry.Main class) = value.Reference 4 ∷ []
-entry_arguments (entry.Static class name descriptor arguments) = map value.Int arguments
+entry_arguments (entry.Static class name descriptor arguments) = places_of (map argument_value arguments)
 
 -- An int, byte, char, short or boolean.
 abbrev pub is_int_type : FieldType → Bool
@@ -60,12 +69,25 @@ is_int_type t = t.dimensions == 0 && is_int_element t.element
     is_int_element (element.Primitive primitive.Boolean) = true
     is_int_element _ = false
 
--- Int parameters, as many as there are arguments; main's are as they are.
+abbrev pub is_long_type : FieldType → Bool
+is_long_type t = t.dimensions == 0 && is_long_element t.element
+  where
+    is_long_element : Element → Bool
+    is_long_element (element.Primitive primitive.Long) = true
+    is_long_element _ = false
+
+-- Each argument is of its parameter's type.
+abbrev pub are_arguments_of : List FieldType → List Argument → Bool
+are_arguments_of [] [] = true
+are_arguments_of (t ∷ types) (argument.Int n ∷ arguments) = is_int_type t && are_arguments_of types arguments
+are_arguments_of (t ∷ types) (argument.Long n ∷ arguments) = is_long_type t && are_arguments_of types arguments
+are_arguments_of _ _ = false
+
+-- An argument for each parameter, which is an int or a long; main's are as they are.
 abbrev pub takes_arguments : Entry → Bool
 takes_arguments (entry.Main class) = true
 takes_arguments (entry.Static class name descriptor arguments) =
-    is_some (method_type_of descriptor) && list_all is_int_type (method_type descriptor).parameters
-    && length (method_type descriptor).parameters == length arguments
+    is_some (method_type_of descriptor) && are_arguments_of (method_type descriptor).parameters arguments
 
 abbrev pub found_start : List Class → Entry → Option MethodFound → Option Start
 found_start program e None = None

@@ -9,7 +9,7 @@ use jvms_program::thrown::Thrown;
 use std::alloc::AllocError;
 
 /// What an instruction does that touches its frame alone (JVMS 6.5). What it takes it takes off the top of the
-/// operands.
+/// operands; `takes` counts places, of which a long has two.
 #[derive(Clone, Copy, PartialEq, Eq)]
 pub enum FrameAction {
     /// Takes so many operands, puts a value on top, and goes on to the next instruction.
@@ -17,7 +17,7 @@ pub enum FrameAction {
     /// Takes so many operands, stores a value in a local variable, and goes on to the next instruction.
     Store { takes: u8, local: u16, value: Value },
     /// Takes so many operands, and goes on at a place.
-    Jump { takes: u8, target: usize },
+    Jump { takes: u16, target: usize },
     /// Rearranges the top operands, and goes on to the next instruction.
     Rearrange(StackForm),
     /// Puts the return address of the next instruction on top, and goes on at a place.
@@ -71,6 +71,7 @@ impl<T: Copy> Clone for NewObject<T> {
 pub enum Printed {
     Nothing,
     Int(i32),
+    Long(i64),
     Null,
     /// The string of this reference.
     Text { reference: u32 },

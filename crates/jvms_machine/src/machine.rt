@@ -5,6 +5,13 @@ use held::items::Items;
 /// A thread's number; thread 0 runs the entry.
 pub type ThreadId = u32;
 
+/// An argument of an entry.
+#[derive(Clone, Copy, Debug, PartialEq, Eq)]
+pub enum Argument {
+    Int(i32),
+    Long(i64),
+}
+
 /// Where a run begins.
 #[derive(Debug, PartialEq, Eq, Drop)]
 pub enum Entry {
@@ -12,13 +19,13 @@ pub enum Entry {
     Main {
         class: Items<u16>,
     },
-    /// A static method with int arguments.
+    /// A static method with arguments that are ints and longs.
     Static {
         class: Items<u16>,
         name: Items<u16>,
         /// The descriptor as it is written.
         descriptor: Items<u16>,
-        arguments: Items<i32>,
+        arguments: Items<Argument>,
     },
 }
 

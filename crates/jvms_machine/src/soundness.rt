@@ -28,7 +28,7 @@ pub fn the_opening_state_is_sound()
     ensures { (program : List Class) (limits : Limits) → IsTrue (are_limits limits) → Sound program limits (opening program) }
 {}
 
-/// What an entry starts with are arguments: ints, or references that are there from the opening on.
+/// An entry starts with arguments: ints, longs, or references that are there from the opening on.
 pub fn an_entry_gives_a_start()
     ensures { (program : List Class) (entry : Entry) (start : Start) → start_of program entry ≡ Some start → IsStart start }
 {}

@@ -112,7 +112,7 @@ thread_is_spelled = (
 )
 
 print_stream_is_spelled : IsSpelledClass print_stream_class
-print_stream_is_spelled = (tt, ((refl, tt), ((refl, tt), ((refl, tt), ((refl, tt), ((refl, tt), tt))))))
+print_stream_is_spelled = (tt, ((refl, tt), ((refl, tt), ((refl, tt), ((refl, tt), ((refl, tt), ((refl, tt), ((refl, tt), tt))))))))
 
 object_is_spelled : IsSpelledClass object_class
 object_is_spelled = (tt, ((refl, (tt, tt)), ((refl, tt), ((refl, tt), ((refl, tt), tt)))))

@@ -130,8 +130,10 @@ throwable_class =
 abbrev pub print_stream_class : Class
 print_stream_class =
     class_with object [] []
-    (native (codes "print") (codes "(I)V") ∷ native (codes "print") (codes "(Ljava/lang/String;)V")
-    ∷ native (codes "println") (codes "(I)V") ∷ native (codes "println") (codes "(Ljava/lang/String;)V")
+    (native (codes "print") (codes "(I)V") ∷ native (codes "print") (codes "(J)V")
+    ∷ native (codes "print") (codes "(Ljava/lang/String;)V")
+    ∷ native (codes "println") (codes "(I)V") ∷ native (codes "println") (codes "(J)V")
+    ∷ native (codes "println") (codes "(Ljava/lang/String;)V")
     ∷ native (codes "println") (codes "()V") ∷ [])
     (codes "java/io/PrintStream")
 

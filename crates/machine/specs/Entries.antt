@@ -1,17 +1,20 @@
 -- What an entry asks of a descriptor, told from its text.
-use Rattle.std.specs.Prelude.{ℕ, zero, suc, Bool, false, ◌==◌, ◌&&◌, ◌||◌, List, [], ◌∷◌, is_some}
+use Rattle.std.specs.Prelude.{ℕ, Bool, false, ◌==◌, ◌&&◌, ◌||◌, List, [], ◌∷◌, is_some}
 use Rattle.jvms_file.specs.Descriptors.{method_type_of}
+use Rattle.jvms_machine.specs.declared.machine.Argument.{Argument}
+use Rattle.jvms_machine.specs.declared.machine.Argument.TheVariants as argument
 
--- I, B, C, S or Z.
-abbrev pub is_int_letter : ℕ → Bool
-is_int_letter u = u == 73 || u == 66 || u == 67 || u == 83 || u == 90
+-- The letter of an argument's type: I, B, C, S or Z of an int, J of a long.
+abbrev pub is_letter_of : Argument → ℕ → Bool
+is_letter_of (argument.Int n) u = u == 73 || u == 66 || u == 67 || u == 83 || u == 90
+is_letter_of (argument.Long n) u = u == 74
 
--- So many such letters and then a closing parenthesis.
-unfoldable pub has_letters : List ℕ → ℕ → Bool
-has_letters [] count = false
-has_letters (u ∷ us) zero = u == 41
-has_letters (u ∷ us) (suc count) = is_int_letter u && has_letters us count
+-- Such a letter for each argument, and then a closing parenthesis.
+unfoldable pub has_letters : List ℕ → List Argument → Bool
+has_letters [] arguments = false
+has_letters (u ∷ us) [] = u == 41
+has_letters (u ∷ us) (one ∷ arguments) = is_letter_of one u && has_letters us arguments
 
-abbrev pub takes_ints : List ℕ → ℕ → Bool
-takes_ints [] count = false
-takes_ints (u ∷ us) count = is_some (method_type_of (u ∷ us)) && has_letters us count
+abbrev pub takes_all : List ℕ → List Argument → Bool
+takes_all [] arguments = false
+takes_all (u ∷ us) arguments = is_some (method_type_of (u ∷ us)) && has_letters us arguments

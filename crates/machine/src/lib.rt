@@ -16,7 +16,7 @@ mod turn;
 
 pub use classes::FieldName;
 pub use fault::MachineFault;
-pub use jvms_machine::machine::{Entry, Limits, Outcome, Status, ThreadId};
+pub use jvms_machine::machine::{Argument, Entry, Limits, Outcome, Status, ThreadId};
 pub use jvms_machine::state::{Hold, Initialisation};
 pub use machine::{Machine, admits};
 pub use run::RunStop;

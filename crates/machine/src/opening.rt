@@ -1,14 +1,14 @@
 //! The opening of a machine.
 
-ghost use Rattle.std.specs.Prelude.{◌≡◌, ◌++◌, ◌∷◌, [], map, slice_get, IfOk, None, Some};
-ghost use Rattle.jvms_machine.specs.declared.value.Value.TheVariants as value;
-ghost use Rattle.jvms_machine.specs.Start.{entry_arguments};
+ghost use Rattle.std.specs.Prelude.{◌≡◌, ◌++◌, ◌∷◌, [], map, slice_get, IfOk, None, OnOk, Some};
+ghost use Rattle.jvms_machine.specs.Places.{places_of};
+ghost use Rattle.jvms_machine.specs.Start.{argument_value, entry_arguments};
 ghost use Rattle.jvms_machine.specs.Opening.{opening_heap, opening_initialisation, opening_static};
 ghost use Rattle.jvms_machine.specs.State.{new_thread, static_fields};
 ghost use Rattle.machine.specs.Started.{with_arguments, opened};
 
 use heap::{Heap, Statics};
-use jvms_machine::machine::{Entry, Limits};
+use jvms_machine::machine::{Argument, Entry, Limits};
 use jvms_machine::state::Initialisation;
 use jvms_machine::value::Value;
 use jvms_program::number::MethodNumber;
@@ -22,15 +22,30 @@ use std::alloc::{AllocError, Global};
 /// The reference of main's argument, an array of no strings.
 const NO_STRINGS: u32 = 4;
 
-/// Ints as values.
-fn ints(alloc: Global, numbers: &[i32]) -> Result<Vec<Value>, AllocError>
-    ensures { IfOk result (λ values. values.items ≡ map value.Int numbers.now) }
+/// Appends the places of an argument: a long has two.
+fn put_argument(places: &mut Vec<Value>, argument: Argument) -> Result<(), AllocError>
+    ensures { OnOk result (places.new.items ≡ places.old.items ++ places_of (argument_value argument ∷ [])) }
 {
-    let mut values = Vec::new(alloc);
-    for number in numbers {
-        values.push(Value::Int(*number))?;
+    match argument {
+        Argument::Int(n) => places.push(Value::Int(n))?,
+        Argument::Long(n) => {
+            places.push(Value::Long(n))?;
+            places.push(Value::Second)?;
+        }
     }
-    Ok(values)
+    Ok(())
+}
+
+/// Returns the places of all arguments.
+#[tactic(auto, using(crate::proofs::EntryLaws::places_of_first))]
+fn argument_places(alloc: Global, arguments: &[Argument]) -> Result<Vec<Value>, AllocError>
+    ensures { IfOk result (λ places. places.items ≡ places_of (map argument_value arguments.now)) }
+{
+    let mut places = Vec::new(alloc);
+    for argument in arguments {
+        put_argument(&mut places, *argument)?;
+    }
+    Ok(places)
 }
 
 /// The arguments of an entry's method.
@@ -39,7 +54,7 @@ fn arguments(alloc: Global, entry: &Entry) -> Result<Vec<Value>, AllocError>
 {
     match entry {
         Entry::Main { .. } => Ok(vec![in alloc; Value::Reference(NO_STRINGS)]?),
-        Entry::Static { arguments, .. } => ints(alloc, arguments.as_slice()),
+        Entry::Static { arguments, .. } => argument_places(alloc, arguments.as_slice()),
     }
 }
 

@@ -4,12 +4,12 @@ ghost use Rattle.std.specs.Prelude.{◌≡◌};
 ghost use Rattle.std.specs.Option.{option_map};
 ghost use Rattle.jvms_machine.specs.Start.{start_of, takes_arguments as takes, entry_reference, resolved_entry as resolved};
 ghost use Rattle.classes.specs.MethodNames.{reference};
-ghost use Rattle.machine.specs.Entries.{is_int_letter, has_letters, takes_ints};
+ghost use Rattle.machine.specs.Entries.{is_letter_of, has_letters, takes_all};
 ghost use Rattle.machine.specs.Started.{with_arguments};
 
 use classes::MethodNames;
 use descriptor::{is_initializer_name, is_method_descriptor};
-use jvms_machine::machine::Entry;
+use jvms_machine::machine::{Argument, Entry};
 use jvms_program::number::MethodNumber;
 use program::Program;
 
@@ -22,37 +22,40 @@ const MAIN_DESCRIPTOR: [u16; 22] = [
     86,
 ];
 
-/// Whether a unit is the letter of an int, byte, char, short or boolean.
-fn is_int_letter(unit: u16) -> bool
-    ensures { result ≡ is_int_letter unit }
+/// The letter of a long.
+const LONG: u16 = b'J' as u16;
+
+/// Returns whether a unit is the letter of an argument's type: of an int, byte, char, short or boolean, or of a long.
+fn is_letter_of(argument: Argument, unit: u16) -> bool
+    ensures { result ≡ is_letter_of argument unit }
 {
-    matches!(unit, 73 | 66 | 67 | 83 | 90)
+    match argument {
+        Argument::Int(_) => matches!(unit, 73 | 66 | 67 | 83 | 90),
+        Argument::Long(_) => unit == LONG,
+    }
 }
 
-/// Whether a text has so many such letters and then a closing parenthesis at its front.
+/// Returns whether a text has such a letter for each argument and then a closing parenthesis at its front.
 #[tactic(auto, unfolding(crate::specs::Entries::has_letters))]
-fn has_letters(text: &[u16], count: usize) -> bool
-    ensures { result ≡ has_letters text.now count }
+fn has_letters(text: &[u16], arguments: &[Argument]) -> bool
+    ensures { result ≡ has_letters text.now arguments.now }
 {
-    match text {
-        [] => false,
-        [unit, rest @ ..] => {
-            if count == 0 {
-                *unit == 41
-            } else {
-                is_int_letter(*unit) && has_letters(rest, count - 1)
-            }
+    match (text, arguments) {
+        ([], _) => false,
+        ([unit, ..], []) => *unit == 41,
+        ([unit, rest @ ..], [argument, arguments @ ..]) => {
+            is_letter_of(*argument, *unit) && has_letters(rest, arguments)
         }
     }
 }
 
-/// Whether a descriptor's parameters are so many ints, bytes, chars, shorts and booleans.
-fn takes_ints(descriptor: &[u16], count: usize) -> bool
-    ensures { result ≡ takes_ints descriptor.now count }
+/// Returns whether a descriptor's parameters are of the types of the arguments.
+fn takes_all(descriptor: &[u16], arguments: &[Argument]) -> bool
+    ensures { result ≡ takes_all descriptor.now arguments.now }
 {
     match descriptor {
         [] => false,
-        [_, behind @ ..] => is_method_descriptor(descriptor) && has_letters(behind, count),
+        [_, behind @ ..] => is_method_descriptor(descriptor) && has_letters(behind, arguments),
     }
 }
 
@@ -66,7 +69,7 @@ fn takes_arguments(entry: &Entry) -> bool
             descriptor,
             arguments,
             ..
-        } => takes_ints(descriptor.as_slice(), arguments.len()),
+        } => takes_all(descriptor.as_slice(), arguments.as_slice()),
     }
 }
 

@@ -140,12 +140,13 @@ impl<'p> Parts<'p> {
         }
     }
 
-    /// The value of a constant in a field of a type. A float, a double or a long stays unset.
+    /// Returns the value of a constant in a field of a type. A float or a double stays unset.
     fn constant_value(&self, t: &FieldType, constant: &Loadable) -> Value
         ensures { result ≡ constant_value self.now.state.heap t.now constant.now }
     {
         match constant {
             Loadable::Integer(n) => stored_in_field(t, Value::Int(*n)),
+            Loadable::Long(n) => Value::Long(*n),
             Loadable::String(units) => self.text_value(units.as_slice()),
             _ => Value::Unset,
         }

@@ -1,9 +1,9 @@
 //! Words of decisions: what a turn comes to, before it is made.
 
-ghost use Rattle.std.specs.Prelude.{◌≡◌, ◌+◌, ◌<◌, ◌^◌};
+ghost use Rattle.std.specs.Prelude.{◌≡◌, ◌+◌, ◌<◌, ◌^◌, Some};
 ghost use Rattle.jvms_machine.specs.Activations.{has_depth as is_deep};
 ghost use Rattle.jvms_machine.specs.Decisions.{bad as bad_turn, never_seen as no_turn, outcome_of};
-ghost use Rattle.jvms_machine.specs.Fields.{reaches as reaching, taking as takes_on};
+ghost use Rattle.jvms_machine.specs.Fields.{reaches as reaching, read as reads, taking as takes_on};
 ghost use Rattle.machine_parts.specs.Decided.{seen, seen_effect};
 
 use frames::Frame;
@@ -11,6 +11,7 @@ use held::shared::Text;
 use jvms_file::insn::ArrayType;
 use jvms_machine::action::{Action, Decision, Effect, FrameAction};
 use jvms_machine::machine::{BadCause, Outcome};
+use jvms_machine::value::Value;
 use jvms_program::program::Body;
 
 /// A text of an action: one that stands in the program, or the class of an array that is told by one, which no turn
@@ -67,9 +68,26 @@ pub fn reaches<'p>(effect: Effect<ActionText<'p>>, action: FrameAction) -> Decid
     Decision::Makes(Action::Reaches(effect, action))
 }
 
+/// A value that is read, in place of n operands, if there is room for its places.
+#[inline(always)]
+pub fn read<'p>(
+    frame: &Frame,
+    effect: Effect<ActionText<'p>>,
+    takes: u8,
+    value: Value,
+) -> Decided<'p>
+    ensures { seen result ≡ reads frame.now (seen_effect effect.entry) takes (Some value) }
+{
+    if has_depth(frame, takes, exec::value_size(value)) {
+        reaches(effect, FrameAction::Push { takes, value })
+    } else {
+        bad(BadCause::Depth)
+    }
+}
+
 /// On to the next instruction, with so many operands taken.
 #[inline(always)]
-pub fn taking(takes: u8, frame: &Frame) -> FrameAction
+pub fn taking(takes: u16, frame: &Frame) -> FrameAction
     requires { frame.now.activation.place + 1 < 2 ^ 64 }
     ensures { result ≡ takes_on takes frame.now.activation }
 {

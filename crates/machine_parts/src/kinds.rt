@@ -1,11 +1,14 @@
-//! The kind of value that a type's values are on the stack (JVMS 2.11.1).
+//! The kind of value that a type's values are on the stack, and the places that they take (JVMS 2.11.1).
 
-ghost use Rattle.std.specs.Prelude.{◌≡◌};
-ghost use Rattle.jvms_machine.specs.Returns.{kind_of_element as element_kind, kind_of_type as type_kind};
+ghost use Rattle.std.specs.Prelude.{◌≡◌, ◌≤◌};
+ghost use Rattle.jvms_file.specs.Descriptors.{units_of};
+ghost use Rattle.jvms_machine.specs.Places.{kind_of_element as element_kind, kind_of_type as type_kind};
 
+use exec::kind_size;
 use jvms_file::descriptor::{Element, FieldType, Primitive};
 use jvms_file::insn::Kind;
 
+#[inline(always)]
 fn kind_of_element(element: &Element) -> Kind
     ensures { result ≡ element_kind element.now }
 {
@@ -19,6 +22,7 @@ fn kind_of_element(element: &Element) -> Kind
 }
 
 /// The kind of value that a type's values are on the stack.
+#[inline(always)]
 pub fn kind_of_type(t: &FieldType) -> Kind
     ensures { result ≡ type_kind t.now }
 {
@@ -27,4 +31,13 @@ pub fn kind_of_type(t: &FieldType) -> Kind
     } else {
         Kind::Reference
     }
+}
+
+/// Returns how many places the values of a type take.
+#[inline(always)]
+pub fn type_size(t: &FieldType) -> u8
+    ensures exact { result ≡ units_of t.now }
+    ensures few { result ≤ 2 }
+{
+    kind_size(kind_of_type(t))
 }

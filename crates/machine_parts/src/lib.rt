@@ -16,9 +16,9 @@ mod stored;
 mod waiting;
 
 pub use decision::{
-    ActionText, Decided, Reached, bad, has_depth, never_seen, outcome, reaches, taking,
+    ActionText, Decided, Reached, bad, has_depth, never_seen, outcome, reaches, read, taking,
 };
-pub use kinds::kind_of_type;
+pub use kinds::{kind_of_type, type_size};
 pub use locks::{acquire_item, release_item};
 pub use marks::push_listed;
 pub use monitor_use::{Entering, Locking, Unlocking};

@@ -4,7 +4,7 @@
 use crate::programs::{LIMITS, entry, program_of};
 use crate::results::results_after;
 use jvms_machine::value::Value;
-use machine::{Entry, Limits, Machine, Outcome, admits};
+use machine::{Argument, Entry, Limits, Machine, Outcome, admits};
 use program::Program;
 use std::alloc::{AllocError, Global};
 use std::process::Abort;
@@ -52,7 +52,7 @@ fn admitted(
     program: &Program,
     threads: u32,
     class: &str,
-    arguments: &[i32],
+    arguments: &[Argument],
 ) -> Result<bool, AllocError> {
     let entry = entry(alloc, class, "add", "(II)I", arguments)?;
     Ok(admits(program, Limits { threads, ..LIMITS }, &entry))
@@ -60,11 +60,13 @@ fn admitted(
 
 /// Returns whether what can be run is admitted, and what has no thread, no class, or too few arguments.
 fn all_admitted(alloc: Global, program: &Program) -> Result<[bool; 4], AllocError> {
+    let two = [Argument::Int(20), Argument::Int(22)];
+    let one = [Argument::Int(20)];
     Ok([
-        admitted(alloc, program, 1, "R", &[20, 22])?,
-        admitted(alloc, program, 0, "R", &[20, 22])?,
-        admitted(alloc, program, 1, "H", &[20, 22])?,
-        admitted(alloc, program, 1, "R", &[20])?,
+        admitted(alloc, program, 1, "R", &two)?,
+        admitted(alloc, program, 0, "R", &two)?,
+        admitted(alloc, program, 1, "H", &two)?,
+        admitted(alloc, program, 1, "R", &one)?,
     ])
 }
 
@@ -108,7 +110,13 @@ fn answers(
 fn assert_answers(rt: &impl Abort, alloc: Global, program: &Program) -> Result<(), Fail> {
     let admitted = all_admitted(alloc, program)?;
     assert_eq!(rt; admitted, [true, false, false, false]);
-    let entry = entry(alloc, "R", "add", "(II)I", &[20, 22])?;
+    let entry = entry(
+        alloc,
+        "R",
+        "add",
+        "(II)I",
+        &[Argument::Int(20), Argument::Int(22)],
+    )?;
     let (opening_is_bare, (taken, next)) = answers(alloc, program, &entry)?;
     assert!(rt; opening_is_bare);
     assert_eq!(rt; taken, [0, 3, 4]);
@@ -125,7 +133,13 @@ fn a_machine_answers(rt: HostRuntime) -> Result<(), Fail> {
 /// Asserts that a machine and a copy of it return 7, whenever the copy is made. After nine turns there are a string,
 /// its monitor, an array and a static field with a value.
 fn assert_copies(rt: &impl Abort, alloc: Global, program: &Program) -> Result<(), Fail> {
-    let entry = entry(alloc, "P", "add", "(II)I", &[3, 4])?;
+    let entry = entry(
+        alloc,
+        "P",
+        "add",
+        "(II)I",
+        &[Argument::Int(3), Argument::Int(4)],
+    )?;
     let seven = Some(Value::Int(7));
     for turns in 0..12 {
         let results = results_after(alloc, program, &entry, turns)?;

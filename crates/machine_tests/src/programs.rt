@@ -5,7 +5,7 @@ use fixtures::texts::units;
 use held::items::Items;
 use jasmin_reader::read;
 use linker::{ClassFile, link};
-use machine::{Entry, Limits};
+use machine::{Argument, Entry, Limits};
 use program::Program;
 use std::alloc::{AllocError, Global};
 use std::test::Fail;
@@ -39,7 +39,7 @@ pub fn entry(
     class: &str,
     name: &str,
     descriptor: &str,
-    arguments: &[i32],
+    arguments: &[Argument],
 ) -> Result<Entry, AllocError> {
     Ok(Entry::Static {
         class: units(alloc, class)?,

@@ -5,9 +5,11 @@ use Rattle.std.specs.List.{flat_map}
 use Rattle.jvms_machine.specs.declared.value.Value.{Value}
 use Rattle.jvms_machine.specs.declared.value.Value.TheVariants as value
 
--- `I:n`, `null`, `R:n`, `ret:i`, and `-` where nothing was stored.
+-- `I:n`, `J:n` and `+` for a long and its second place, `null`, `R:n`, `ret:i`, and `-` where nothing was stored.
 abbrev pub value_text : Value → List ℕ
 value_text (value.Int n) = codes "I:" ++ signed_decimal n
+value_text (value.Long n) = codes "J:" ++ signed_decimal n
+value_text value.Second = codes "+"
 value_text value.Null = codes "null"
 value_text (value.Reference r) = codes "R:" ++ decimal r
 value_text (value.ReturnAddress i) = codes "ret:" ++ decimal i

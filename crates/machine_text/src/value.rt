@@ -18,7 +18,7 @@ fn put_number(out: &mut String, number: u64) -> Result<(), AllocError>
 }
 
 /// Appends a signed number in decimal.
-fn put_signed(out: &mut String, number: i32) -> Result<(), AllocError>
+fn put_signed(out: &mut String, number: i64) -> Result<(), AllocError>
     ensures { OnOk result (string_bytes out.new ≡ string_bytes out.old ++ signed_decimal number) }
 {
     let mut buffer = Buffer::new();
@@ -40,6 +40,15 @@ fn put_int(out: &mut String, number: i32) -> Result<(), AllocError>
         ++ value_text (Value.Int number)) }
 {
     out.push_str("I:")?;
+    put_signed(out, i64::from(number))
+}
+
+/// Appends a long: `J:n`.
+fn put_long(out: &mut String, number: i64) -> Result<(), AllocError>
+    ensures { OnOk result (string_bytes out.new ≡ string_bytes out.old
+        ++ value_text (Value.Long number)) }
+{
+    out.push_str("J:")?;
     put_signed(out, number)
 }
 
@@ -49,6 +58,8 @@ pub(crate) fn put_value(out: &mut String, value: Value) -> Result<(), AllocError
 {
     match value {
         Value::Int(number) => put_int(out, number),
+        Value::Long(number) => put_long(out, number),
+        Value::Second => out.push_str("+"),
         Value::Null => out.push_str("null"),
         Value::Reference(reference) => put_counted(out, "R:", u64::from(reference)),
         Value::ReturnAddress(place) => put_counted(out, "ret:", place as u64),

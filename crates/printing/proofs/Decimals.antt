@@ -21,13 +21,20 @@ unfolding digits
 has_digit n =
     either (n / 10 == 0) (digit_glyph false (n % 10) ∷ []) (digits_onto 63 10 false (n / 10) (digit_glyph false (n % 10) ∷ [])) (omega arith) (more_digits 63 (n / 10) (digit_glyph false (n % 10)) [])
 
-int_written : (n : ℤ) → 0 < length (signed_decimal n)
-int_written (pos n) = has_digit n
-int_written (negsuc n) = omega arith
+number_written : (n : ℤ) → 0 < length (signed_decimal n)
+number_written (pos n) = has_digit n
+number_written (negsuc n) = omega arith
 
 -- So an int isn't printed as nothing.
 pub int_printed : {T E : Type 0} (heap : List Object) (what : Printed) (n : ℤ) (r : Result T E) → what ≡ printed.Int n → printed_bytes heap what ≡ [] → IsOk r
 int_printed heap what n r is none =
-    let some = int_written n in
+    let some = number_written n in
+    let e : signed_decimal n ≡ [] = ap (printed_bytes heap) (sym is) ∙ none in
+    absurd (omega (arith, ap length e))
+
+-- Nor is a long.
+pub long_printed : {T E : Type 0} (heap : List Object) (what : Printed) (n : ℤ) (r : Result T E) → what ≡ printed.Long n → printed_bytes heap what ≡ [] → IsOk r
+long_printed heap what n r is none =
+    let some = number_written n in
     let e : signed_decimal n ≡ [] = ap (printed_bytes heap) (sym is) ∙ none in
     absurd (omega (arith, ap length e))

@@ -21,6 +21,15 @@ pub fn put_int(out: &mut Vec<u8>, n: i32) -> Result<(), AllocError>
     out.extend_from_slice(buffer.format(n).as_bytes())
 }
 
+/// Puts a long in decimal behind the other bytes. Without memory for it nothing changes.
+pub fn put_long(out: &mut Vec<u8>, n: i64) -> Result<(), AllocError>
+    ensures ok { OnOk result (out.new.items ≡ out.old.items ++ signed_decimal n) }
+    ensures err { OnErr result (out.new.items ≡ out.old.items) }
+{
+    let mut buffer = Buffer::new();
+    out.extend_from_slice(buffer.format(n).as_bytes())
+}
+
 /// Puts null's name behind the other bytes. Without memory for it nothing changes.
 pub fn put_null(out: &mut Vec<u8>) -> Result<(), AllocError>
     ensures ok { OnOk result (out.new.items ≡ out.old.items ++ codes "null") }
@@ -39,7 +48,7 @@ pub fn put_line_end(out: &mut Vec<u8>) -> Result<(), AllocError>
 
 /// Puts what is printed behind the other bytes. Without memory for it nothing changes. `text` is the string that is
 /// printed, if one is.
-#[tactic(auto, using(crate::proofs::Decimals::int_printed))]
+#[tactic(auto, using(crate::proofs::Decimals::int_printed, crate::proofs::Decimals::long_printed))]
 fn put_printed(out: &mut Vec<u8>, what: Printed, text: Option<&[u16]>) -> Result<(), AllocError>
     ensures ok { (heap : List Object) → IsTheString heap what (option_copied text.entry)
         → OnOk result (out.new.items ≡ out.old.items ++ printed_bytes heap what) }
@@ -50,6 +59,7 @@ fn put_printed(out: &mut Vec<u8>, what: Printed, text: Option<&[u16]>) -> Result
     match what {
         Printed::Nothing => Ok(()),
         Printed::Int(n) => put_int(out, n),
+        Printed::Long(n) => put_long(out, n),
         Printed::Null => put_null(out),
         Printed::Text { reference: _ } => put_text(out, text.unwrap_or(&[])),
     }

@@ -7,7 +7,7 @@
 //! - `source`: a class of the program, in Jasmin. `with GROUP`: the sources of a group.
 //! - `code DESCRIPTOR`: the lines of a static method `m` of a class `M`, which is a class of the program, and the entry.
 //!   Its limits are 6 operands and 3 locals, if the lines don't begin with others.
-//! - `entry CLASS`: its main; `entry C.m.D ARGUMENT ..`: a static method.
+//! - `entry CLASS`: its main; `entry C.m.D ARGUMENT ..`: a static method. An argument that ends with `J` is a long.
 //! - `limits`: words of `objects N`, `elements N`, `threads N`, `frames N`.
 //! - `choices`: thread numbers, each maybe with how often it is chosen, as `0 1x3`. Where there are none, thread 0 is
 //!   chosen while it is enabled.

@@ -3,7 +3,7 @@
 use cases::Case;
 use fixtures::texts::units;
 use held::items::Items;
-use machine::{Entry, Limits, ThreadId};
+use machine::{Argument, Entry, Limits, ThreadId};
 use std::alloc::{AllocError, Global};
 
 /// Limits that no case passes but those that are about them.
@@ -71,6 +71,14 @@ pub fn limits(case: &Case<'_>) -> Limits {
     limits_of(case.words("limits").unwrap_or(""))
 }
 
+/// Parses an argument: a long if its word ends with `J`, else an int.
+fn argument_of(word: &str) -> Argument {
+    match word.strip_suffix('J') {
+        Some(digits) => Argument::Long(digits.parse::<i64>().unwrap_or(0)),
+        None => Argument::Int(word.parse::<i32>().unwrap_or(0)),
+    }
+}
+
 /// The entry that words name, with its arguments: a static method, `C.m.D`, or the main of a class.
 fn entry_of(alloc: Global, words: &str) -> Result<Entry, AllocError> {
     let mut words = words.split_whitespace();
@@ -82,7 +90,7 @@ fn entry_of(alloc: Global, words: &str) -> Result<Entry, AllocError> {
     };
     let mut arguments = Vec::new(alloc);
     for word in words {
-        arguments.push(word.parse::<i32>().unwrap_or(0))?;
+        arguments.push(argument_of(word))?;
     }
     Ok(Entry::Static {
         class,

@@ -17,6 +17,8 @@ pub fn name(alloc: Global, units: &[u16]) -> Result<String, AllocError> {
 pub fn value(alloc: Global, value: Value) -> Result<String, AllocError> {
     match value {
         Value::Int(n) => format!(in alloc; "I:{n}"),
+        Value::Long(n) => format!(in alloc; "J:{n}"),
+        Value::Second => String::from_str(alloc, "+"),
         Value::Null => String::from_str(alloc, "null"),
         Value::Reference(reference) => format!(in alloc; "R:{reference}"),
         Value::ReturnAddress(place) => format!(in alloc; "ret:{place}"),

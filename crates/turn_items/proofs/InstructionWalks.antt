@@ -1,6 +1,6 @@
 -- What holds of each thing that an instruction beyond its frame may come to, if it touches no variable and calls
 -- nothing, holds of its decision; so it is with first calls, initialisations, returns and pending exceptions.
-use Rattle.std.proofs.Common.{Bool, List, None, Option, Some, [], codes, false, length, nat_le, not, refl, true, ℕ, ◌&&◌, ◌==◌, ◌∷◌, ◌≡◌}
+use Rattle.std.proofs.Common.{Bool, List, None, Option, Some, [], codes, false, length, nat_le, not, refl, true, ℕ, ◌==◌, ◌∷◌, ◌≡◌}
 use Rattle.std.proofs.lemmas.Bool.{cond_both}
 use Rattle.std.specs.List.{list_all, list_any}
 use Rattle.std.specs.Prelude.{int_lt, pos, unsigned_abs, ℤ}
@@ -9,7 +9,6 @@ use Rattle.jvms_file.specs.declared.insn.ArrayType.{ArrayType}
 use Rattle.jvms_file.specs.declared.insn.ClassUse.{ClassUse}
 use Rattle.jvms_file.specs.declared.insn.ClassUse.TheVariants as class_use
 use Rattle.jvms_file.specs.declared.insn.Kind.{Kind}
-use Rattle.jvms_file.specs.declared.insn.Kind.TheVariants as kind
 use Rattle.jvms_file.specs.declared.insn.ReturnInsn.{ReturnInsn}
 use Rattle.jvms_file.specs.declared.insn.ReturnInsn.TheVariants as returns
 use Rattle.jvms_program.specs.Program.{class_named, class_number, method_at}
@@ -30,12 +29,13 @@ use Rattle.jvms_machine.specs.Exceptions.{has_room_for}
 use Rattle.jvms_machine.specs.Fields.{reaches, taking}
 use Rattle.jvms_machine.specs.Heap.{array_of_class, array_of_type, arrays_made, elements_made, has_dimensions, has_room_for_elements}
 use Rattle.jvms_machine.specs.Initialisation.{asked_superclass, initialisation_decision, initializer_call, initializer_decision, initializer_of, superclass_decision}
-use Rattle.jvms_machine.specs.Locals.{is_loaded}
+use Rattle.jvms_machine.specs.Locals.{is_profile_kind}
 use Rattle.jvms_machine.specs.Locking.{enter_object, exit_object, monitor_enter_decision, monitor_exit_decision, on_top_object}
 use Rattle.jvms_machine.specs.Monitors.{fails_to_unlock, is_empty, leaving, unlocking}
 use Rattle.jvms_machine.specs.Objects.{cast, class_decision, held_or_made, instance_of_number, is_instantiable, loadable_decision, made_if_room, new_instance_decision, told_instance, with_class_of}
+use Rattle.jvms_machine.specs.Places.{kind_size, top_value}
 use Rattle.jvms_machine.specs.Profile.{is_outside_method}
-use Rattle.jvms_machine.specs.Returns.{gives_kind, gives_nothing, method_return_decision, return_decision, return_top_decision, returned_decision, returns_to}
+use Rattle.jvms_machine.specs.Returns.{gives_kind, gives_nothing, method_return_decision, return_decision, return_top_decision, return_value_decision, returned_decision, returns_to}
 use Rattle.jvms_machine.specs.Start.{Start}
 use Rattle.jvms_machine.specs.State.{Frame, MethodFrame, Object, State, Thread, array, class_object, class_of, class_reference, instance, object_at, text, text_reference}
 use Rattle.jvms_machine.specs.Unwinding.{failed_with, handler_decision, handler_of, object_decision, throw_decision, throw_top, throwable_decision, top_decision, unwinding_decision}
@@ -88,15 +88,19 @@ module _ (program : List Class) (limits : Limits) (s : State) (t : ℕ) (frames 
     returned_has result =
         unlocking_has f.monitor (fails_to_unlock limits s f.method below) (returns_to f.method below result) (pops.fails f below is) (λ unlock. pops.returned f below result unlock is)
 
-    return_top_has : (type : ResultType) (k : Kind) (operands : List Value) → P (return_top_decision limits s t f below type k operands)
-    return_top_has type k [] = pops.unmade _
-    return_top_has type k (v ∷ others) = cond_both (is_loaded k v && gives_kind type k) _ _ P (λ _. returned_has (Some v)) (λ _. pops.unmade _)
+    return_value_has : (type : ResultType) (k : Kind) (o : Option Value) → P (return_value_decision limits s t f below type k o)
+    return_value_has type k None = pops.unmade _
+    return_value_has type k (Some v) = cond_both (gives_kind type k) _ _ P (λ _. returned_has (Some v)) (λ _. pops.unmade _)
+
+    return_top_has : (type : ResultType) (k : Kind) → P (return_top_decision limits s t f below type k)
+    return_top_has type k =
+        cond_both (nat_le (kind_size k) (length f.activation.operands)) _ _ P
+        (λ _. return_value_has type k (top_value k f.activation.operands))
+        (λ _. pops.unmade _)
 
     return_has : (type : ResultType) (how : ReturnInsn) → P (return_decision limits s t f below type how)
     return_has type returns.Void = cond_both (gives_nothing type) _ _ P (λ _. returned_has None) (λ _. pops.unmade _)
-    return_has type (returns.Value kind.Int) = return_top_has type kind.Int f.activation.operands
-    return_has type (returns.Value kind.Reference) = return_top_has type kind.Reference f.activation.operands
-    return_has type (returns.Value _) = pops.unmade _
+    return_has type (returns.Value k) = cond_both (is_profile_kind k) _ _ P (λ _. return_top_has type k) (λ _. pops.unmade _)
 
     pub method_return_has : (how : ReturnInsn) (o : Option Method) → P (method_return_decision limits s t f below how o)
     method_return_has how None = pops.unmade _

@@ -4,8 +4,8 @@ use Rattle.std.proofs.lemmas.Bool.{cond-false, cond-true, cond_both}
 use Rattle.std.proofs.lemmas.Option.{same_Some}
 use Rattle.std.specs.List.{filter}
 use Rattle.std.specs.Prelude.{Err, Ok, Result}
+use Rattle.jvms_file.specs.Descriptors.{parameter_units}
 use Rattle.jvms_file.specs.Names.{same_text}
-use Rattle.jvms_file.specs.declared.descriptor.MethodType.{MethodType}
 use Rattle.jvms_file.specs.declared.insn.Invoke.{Invoke}
 use Rattle.jvms_file.specs.declared.insn.Invoke.TheVariants as invoke
 use Rattle.jvms_program.specs.Program.{method_at}
@@ -22,7 +22,8 @@ use Rattle.jvms_machine.specs.Activations.{has_depth}
 use Rattle.jvms_machine.specs.Calls.{are_of_call, call_decision, invoke_decision, is_static_call, object_call_decision, receiver_call_decision, receiver_of, resolved_call_decision, selected, selected_decision, static_call_decision, taken, wrong_receiver}
 use Rattle.jvms_machine.specs.Decisions.{TurnDecision, never_seen}
 use Rattle.jvms_machine.specs.Fields.{reaches, taking}
-use Rattle.jvms_machine.specs.Natives.{native_of_class, object_printed, print_decision, prints, top_printed}
+use Rattle.jvms_machine.specs.Natives.{native_of_class, object_printed, print_decision, prints, value_printed}
+use Rattle.jvms_machine.specs.Places.{whole_top}
 use Rattle.jvms_machine.specs.State.{Frame, MethodFrame, Object, State, Thread, array, class_object, class_of, instance, monitor_at, object_at, result_length, text}
 use Rattle.jvms_machine.specs.Steps.{instruction_at}
 use Rattle.jvms_machine.specs.Threads.{join_decision, start_decision, thread_native_decision, thread_of}
@@ -70,24 +71,25 @@ module _ (program : List Class) (limits : Limits) (s : State) (t : ℕ) (thread 
   prints_has : (takes : ℕ) (what : Printed) (ends_line : Bool) → JoinsNone → P (prints frame.activation takes what ends_line)
   prints_has takes what ends_line none = goes_on_with (effect.Prints what ends_line) takes (λ known. sym (none known)) refl
 
-  object_printed_has : (ends_line : Bool) (r : ℕ) (o : Option Object) → JoinsNone → P (object_printed frame.activation ends_line r o)
-  object_printed_has ends_line r None none = call_tests.unmade (outcome.Bad cause.Kind)
-  object_printed_has ends_line r (Some (text units)) none = prints_has 2 (printed.Text r) ends_line none
-  object_printed_has ends_line r (Some (instance class fields)) none = call_tests.unmade (outcome.Bad cause.Kind)
-  object_printed_has ends_line r (Some (array class elements)) none = call_tests.unmade (outcome.Bad cause.Kind)
-  object_printed_has ends_line r (Some (class_object name)) none = call_tests.unmade (outcome.Bad cause.Kind)
+  object_printed_has : (takes : ℕ) (ends_line : Bool) (r : ℕ) (o : Option Object) → JoinsNone → P (object_printed frame.activation takes ends_line r o)
+  object_printed_has takes ends_line r None none = call_tests.unmade (outcome.Bad cause.Kind)
+  object_printed_has takes ends_line r (Some (text units)) none = prints_has takes (printed.Text r) ends_line none
+  object_printed_has takes ends_line r (Some (instance class fields)) none = call_tests.unmade (outcome.Bad cause.Kind)
+  object_printed_has takes ends_line r (Some (array class elements)) none = call_tests.unmade (outcome.Bad cause.Kind)
+  object_printed_has takes ends_line r (Some (class_object name)) none = call_tests.unmade (outcome.Bad cause.Kind)
 
-  top_printed_has : (ends_line : Bool) (operands : List Value) → JoinsNone → P (top_printed s frame.activation ends_line operands)
-  top_printed_has ends_line (value.Int n ∷ others) none = prints_has 2 (printed.Int n) ends_line none
-  top_printed_has ends_line (value.Null ∷ others) none = prints_has 2 printed.Null ends_line none
-  top_printed_has ends_line (value.Reference r ∷ others) none = object_printed_has ends_line r (object_at s.heap r) none
-  top_printed_has ends_line _ none = call_unmade
+  value_printed_has : (takes : ℕ) (ends_line : Bool) (o : Option Value) → JoinsNone → P (value_printed s frame.activation takes ends_line o)
+  value_printed_has takes ends_line (Some (value.Int n)) none = prints_has takes (printed.Int n) ends_line none
+  value_printed_has takes ends_line (Some (value.Long n)) none = prints_has takes (printed.Long n) ends_line none
+  value_printed_has takes ends_line (Some value.Null) none = prints_has takes printed.Null ends_line none
+  value_printed_has takes ends_line (Some (value.Reference r)) none = object_printed_has takes ends_line r (object_at s.heap r) none
+  value_printed_has takes ends_line _ none = call_unmade
 
-  print_has : (m : Method) → JoinsNone → P (print_decision s frame.activation m)
-  print_has m none =
+  print_has : (takes : ℕ) (m : Method) → JoinsNone → P (print_decision s frame.activation takes m)
+  print_has takes m none =
       cond_both (same_text m.name (codes "println") && same_text m.descriptor (codes "()V")) _ _ P
-      (λ _. prints_has 1 printed.Nothing true none)
-      (λ _. top_printed_has (same_text m.name (codes "println")) frame.activation.operands none)
+      (λ _. prints_has takes printed.Nothing true none)
+      (λ _. value_printed_has takes (same_text m.name (codes "println")) (whole_top frame.activation.operands) none)
 
   -- ---- The methods of Object
 
@@ -147,12 +149,12 @@ module _ (program : List Class) (limits : Limits) (s : State) (t : ℕ) (thread 
       (λ waits. join_has (thread_of s.threads q) (λ known. of_class.joining known named waits q others is))
   thread_native_has m c _ of_class named is = call_unmade
 
-  native_has : (m : Method) (o : Option Class) → ((c : Class) → o ≡ Some c → AreJoinsOf m c) → P (native_of_class limits s t thread frame.activation m o)
-  native_has m None of_class = call_unmade
-  native_has m (Some c) of_class =
+  native_has : (takes : ℕ) (m : Method) (o : Option Class) → ((c : Class) → o ≡ Some c → AreJoinsOf m c) → P (native_of_class limits s t thread frame.activation takes m o)
+  native_has takes m None of_class = call_unmade
+  native_has takes m (Some c) of_class =
       let joins_of = of_class c refl in
       cond_both (same_text c.name (codes "java/io/PrintStream")) _ _ P
-      (λ stream. print_has m
+      (λ stream. print_has takes m
       (λ known. joins_of.elsewhere known (ap (λ name. same_text name (codes "java/lang/Thread")) (texts_are_same c.name (codes "java/io/PrintStream") (sym stream)))))
       (λ _. cond_both (same_text c.name (codes "java/lang/Thread")) _ _ P
       (λ named. thread_native_has m c frame.activation.operands joins_of named refl)
@@ -165,7 +167,7 @@ module _ (program : List Class) (limits : Limits) (s : State) (t : ℕ) (thread 
   call_has : (receiver : Option ℕ) (takes : ℕ) (n : MethodNumber) (m : Method) → (m.flags.is_native ≡ true → (c : Class) → slice_get program n.class ≡ Some c → AreJoinsOf m c) → P (call_decision program limits s t thread frame.activation receiver takes n m)
   call_has receiver takes n m of_class =
       called_has program limits s t thread P call_tests n m receiver takes _ (λ body locked. decision.Makes (action.Calls n body takes locked))
-      (λ native. native_has m (slice_get program n.class) (of_class native))
+      (λ native. native_has takes m (slice_get program n.class) (of_class native))
       (λ body locked. leaves.calls n body takes locked)
 
   module _ (how : Invoke) (r : MethodReference) (at : instruction_at frame ≡ Some (instruction.Invoke how r)) (below : List Frame) (top : IsOnTop s t thread frame below) where
@@ -200,7 +202,7 @@ module _ (program : List Class) (limits : Limits) (s : State) (t : ℕ) (thread 
     -- A call that isn't static, of what is selected for its receiver.
     module _ (q : ℕ) (receiver_is : receiver_of r.method_type frame.activation.operands ≡ Some (value.Reference q)) where
       -- Without arguments the receiver is on top.
-      top_is_receiver : (p : ℕ) (others : List Value) → length r.method_type.parameters ≡ 0 → frame.activation.operands ≡ value.Reference p ∷ others → p ≡ q
+      top_is_receiver : (p : ℕ) (others : List Value) → parameter_units r.method_type ≡ 0 → frame.activation.operands ≡ value.Reference p ∷ others → p ≡ q
       top_is_receiver p others none operands =
           let here : slice_get frame.activation.operands 0 ≡ Some (value.Reference p) = ap (λ (vs : List Value). slice_get vs 0) operands in
           let there : slice_get frame.activation.operands 0 ≡ Some (value.Reference q) = subst (λ (k : ℕ). slice_get frame.activation.operands k ≡ Some (value.Reference q)) none receiver_is in
@@ -222,7 +224,7 @@ module _ (program : List Class) (limits : Limits) (s : State) (t : ℕ) (thread 
                 let method_is = is_start_or_join found.class n.method m of_thread (in_its_class found n m is number m_is) native in
                 let stands : Stands program limits s t thread (stack_frame.Call frame ∷ below) = record { sound = known.1; given_out = top.given_out; awake = top.awake; frames_are = top.frames_are } in
                 let type : m.method_type ≡ r.method_type = called_has_type program frame.method frame.body frame.activation.place how r n m known.0 (frames_are_stack stands).0.0.0 at m_is m_descriptor in
-                let none : length r.method_type.parameters ≡ 0 = sym (ap (λ (k : MethodType). length k.parameters) type) ∙ method_is.arguments in
+                let none : parameter_units r.method_type ≡ 0 = sym (ap parameter_units type) ∙ method_is.arguments in
                 let its_join = is_the_join found thread_named (sym m_name ∙ method_is.name_is waits) (is.descriptor_is ∙ sym m_descriptor ∙ method_is.descriptor_is) in
                 told true its_join ∙ ap (λ (k : ℕ). join_items t (ended_thread_of s.threads k)) (sym (top_is_receiver p others none operands));
           }

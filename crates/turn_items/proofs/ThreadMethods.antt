@@ -1,9 +1,9 @@
 -- What is known of the native methods of Thread, in a program: start and join, both of an object and without arguments.
-use Rattle.std.proofs.Common.{Bool, List, Some, [], ap, codes, eq-eqb, eqb, false, length, option_and_then, option_map, refl, slice_get, subst, sym, true, ℕ, ◌&&◌, ◌++◌, ◌∙◌, ◌∷◌, ◌≡◌}
+use Rattle.std.proofs.Common.{Bool, List, Some, [], ap, codes, eq-eqb, eqb, false, option_and_then, option_map, refl, slice_get, subst, sym, true, ℕ, ◌&&◌, ◌++◌, ◌∙◌, ◌∷◌, ◌≡◌}
 use Rattle.std.proofs.lemmas.Bool.{and_from, and_parts}
 use Rattle.std.proofs.lemmas.Option.{option_and_then_some, same_Some}
 use Rattle.std.specs.List.{AllByRecursion}
-use Rattle.jvms_file.specs.Descriptors.{field_type_from, method_type_of, parameters_from}
+use Rattle.jvms_file.specs.Descriptors.{field_type_from, method_type_of, parameter_units, parameters_from}
 use Rattle.jvms_file.specs.Names.{same_text}
 use Rattle.jvms_program.specs.BuiltIn.{built_in_classes, thread_class}
 use Rattle.jvms_program.specs.Program.{IsProgram, class_named, class_number, declared_number, method_at}
@@ -19,7 +19,7 @@ use Rattle.std.specs.Cmp.Lexicographic.{same_text as texts_are_same}
 
 -- A native method takes no arguments, and is join, if it isn't start.
 pub record IsStartOrJoin (m : Method) : Type 0 where
-  pub arguments : length m.method_type.parameters ≡ 0
+  pub arguments : parameter_units m.method_type ≡ 0
   pub name_is : same_text m.name (codes "start") ≡ false → m.name ≡ codes "join"
   pub descriptor_is : m.descriptor ≡ codes "()V"
 

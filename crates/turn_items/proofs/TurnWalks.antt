@@ -114,10 +114,10 @@ module _ (program : List Class) (limits : Limits) (start : Start) (s : State) (t
       unfolding reaching_decision
       array_reached i = array_has i
 
-      field_reached : (how : FieldUse) (r : FieldReference) → P [] (resolved_access t how frame.activation.operands (resolved_field program (is_static_use how) r)) (reaching_decision program limits s t thread frame below (instruction.Field how r))
+      field_reached : (how : FieldUse) (r : FieldReference) → P [] (resolved_access t how r.field_type frame.activation.operands (resolved_field program (is_static_use how) r)) (reaching_decision program limits s t thread frame below (instruction.Field how r))
       unfolding reaching_decision
       field_reached how r =
-          let accesses = resolved_access t how frame.activation.operands (resolved_field program (is_static_use how) r) in
+          let accesses = resolved_access t how r.field_type frame.activation.operands (resolved_field program (is_static_use how) r) in
           field_has program limits s t thread frame accesses (P [] accesses) (leaves.calls frame below [] accesses top) how r refl
 
       invoke_reached : (how : Invoke) (r : MethodReference) → instruction_at frame ≡ Some (instruction.Invoke how r) → P (join_items t (joined_for program s frame how r (receiver_reference how r frame.activation.operands))) [] (reaching_decision program limits s t thread frame below (instruction.Invoke how r))
@@ -157,7 +157,7 @@ module _ (program : List Class) (limits : Limits) (start : Start) (s : State) (t
       instruction_has (instruction.Lookup w) at = frame_has (instruction.Lookup w) none_seen
       instruction_has (instruction.Constant c) at = frame_has (instruction.Constant c) (loadable_has program limits s t thread (P [] []) leaves.actions frame c)
       instruction_has (instruction.Field how r) at =
-          beyond_has [] (resolved_access t how frame.activation.operands (resolved_field program (is_static_use how) r)) (instruction.Field how r) (is_outside_element r.field_type.element) (field_reached how r)
+          beyond_has [] (resolved_access t how r.field_type frame.activation.operands (resolved_field program (is_static_use how) r)) (instruction.Field how r) (is_outside_element r.field_type.element) (field_reached how r)
       instruction_has (instruction.Invoke how r) at =
           beyond_has (join_items t (joined_for program s frame how r (receiver_reference how r frame.activation.operands))) [] (instruction.Invoke how r) (is_outside_method r.method_type) (invoke_reached how r at)
       instruction_has (instruction.Class how name) at = frame_has (instruction.Class how name) (class_has program limits s t thread (P [] []) leaves.actions frame how name)

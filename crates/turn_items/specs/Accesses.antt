@@ -1,6 +1,7 @@
 -- The reads and writes of a turn, told from the states before and after it (JVMS 6.5 getfield, getstatic, putfield,
 -- putstatic, and the loads and stores of arrays): each is of a load or store that succeeds.
-use Rattle.std.specs.Prelude.{Bool, Err, List, None, Ok, Option, Result, Some, [], false, if◌then◌else◌, slice_get, true, unsigned_abs, ℕ, ◌∷◌}
+use Rattle.std.specs.Prelude.{Bool, Err, List, None, Ok, Option, Result, Some, [], drop, false, if◌then◌else◌, slice_get, true, unsigned_abs, ℕ, ◌∷◌}
+use Rattle.jvms_file.specs.declared.descriptor.FieldType.{FieldType}
 use Rattle.jvms_file.specs.declared.insn.ArrayInsn.{ArrayInsn}
 use Rattle.jvms_file.specs.declared.insn.ArrayInsn.TheVariants as array_insn
 use Rattle.jvms_file.specs.declared.insn.FieldUse.{FieldUse}
@@ -14,11 +15,13 @@ use Rattle.jvms_program.specs.declared.program.Class.{Class}
 use Rattle.jvms_program.specs.declared.program.Instruction.{Instruction}
 use Rattle.jvms_program.specs.declared.program.Instruction.TheVariants as instruction
 use Rattle.jvms_program.specs.declared.thrown.Thrown.{Thrown}
-use Rattle.jvms_machine.specs.Fields.{is_static_use}
+use Rattle.jvms_machine.specs.Arrays.{element_size}
+use Rattle.jvms_machine.specs.Fields.{is_static_use, object_of_use}
 use Rattle.jvms_machine.specs.State.{MethodFrame, State}
 use Rattle.jvms_machine.specs.Steps.{instruction_at}
 use Rattle.jvms_machine.specs.declared.trace.Item.{Item}
 use Rattle.jvms_machine.specs.declared.trace.Item.TheVariants as item
+use Rattle.jvms_machine.specs.declared.trace.Variable.{Variable}
 use Rattle.jvms_machine.specs.declared.trace.Variable.TheVariants as variable
 use Rattle.jvms_machine.specs.declared.value.Value.{Value}
 use Rattle.jvms_machine.specs.declared.value.Value.TheVariants as value
@@ -33,31 +36,38 @@ is_access _ = false
 abbrev pub of_program : FieldKey → Item → List Item
 of_program key i = if is_built_in key.class then [] else i ∷ []
 
--- The object of getfield is on top of the operands, that of putfield below the value.
-abbrev pub field_access : ℕ → FieldUse → FieldKey → List Value → List Item
-field_access t field_use.GetStatic key operands = of_program key (item.Read t (variable.Static key))
-field_access t field_use.PutStatic key operands = of_program key (item.Write t (variable.Static key))
-field_access t field_use.Get key (value.Reference r ∷ below) = of_program key (item.Read t (variable.Instance r key))
-field_access t field_use.Put key (v ∷ value.Reference r ∷ below) = of_program key (item.Write t (variable.Instance r key))
-field_access t how key operands = []
+-- The reference names the object whose field is the variable.
+abbrev pub of_object : FieldKey → (Variable → Item) → Option Value → List Item
+of_object key make (Some (value.Reference r)) = of_program key (make (variable.Instance r key))
+of_object key make o = []
+
+-- The object of getfield is on top of the operands, that of putfield below the places of the value.
+abbrev pub field_access : ℕ → FieldUse → FieldType → FieldKey → List Value → List Item
+field_access t field_use.GetStatic type key operands = of_program key (item.Read t (variable.Static key))
+field_access t field_use.PutStatic type key operands = of_program key (item.Write t (variable.Static key))
+field_access t field_use.Get type key operands = of_object key (λ v. item.Read t v) (object_of_use field_use.Get type operands)
+field_access t field_use.Put type key operands = of_object key (λ v. item.Write t v) (object_of_use field_use.Put type operands)
 
 -- The field is the one that its reference resolves to, with the class that declares it.
-abbrev pub resolved_access : ℕ → FieldUse → List Value → Result FieldFound Thrown → List Item
-resolved_access t how operands (Err class) = []
-resolved_access t how operands (Ok found) = field_access t how (field_key found.class found.field) operands
+abbrev pub resolved_access : ℕ → FieldUse → FieldType → List Value → Result FieldFound Thrown → List Item
+resolved_access t how type operands (Err class) = []
+resolved_access t how type operands (Ok found) = field_access t how type (field_key found.class found.field) operands
 
--- The index is on top of the array; what is stored is on top of both.
+-- The index is on top of the array.
+abbrev pub of_element : (Variable → Item) → List Value → List Item
+of_element make (value.Int n ∷ value.Reference r ∷ below) = make (variable.Element r (unsigned_abs n)) ∷ []
+of_element make operands = []
+
+-- A load has them on top of the operands, a store below the places of its value.
 abbrev pub array_access : ℕ → ArrayInsn → List Value → List Item
-array_access t (array_insn.Load k) (value.Int n ∷ value.Reference r ∷ below) =
-    item.Read t (variable.Element r (unsigned_abs n)) ∷ []
-array_access t (array_insn.Store k) (v ∷ value.Int n ∷ value.Reference r ∷ below) =
-    item.Write t (variable.Element r (unsigned_abs n)) ∷ []
+array_access t (array_insn.Load k) operands = of_element (λ v. item.Read t v) operands
+array_access t (array_insn.Store k) operands = of_element (λ v. item.Write t v) (drop (element_size k) operands)
 array_access t i operands = []
 
 -- What an instruction reads or writes with these operands, if it succeeds.
 abbrev pub access_of : List Class → ℕ → List Value → Option Instruction → List Item
 access_of program t operands (Some (instruction.Field how r)) =
-    resolved_access t how operands (resolved_field program (is_static_use how) r)
+    resolved_access t how r.field_type operands (resolved_field program (is_static_use how) r)
 access_of program t operands (Some (instruction.Simple (simple.Array i))) = array_access t i operands
 access_of program t operands i = []
 

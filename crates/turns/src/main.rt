@@ -4,7 +4,7 @@
 
 use class_file::read;
 use held::items::Items;
-use jvms_machine::machine::{Entry, Limits, Status};
+use jvms_machine::machine::{Argument, Entry, Limits, Status};
 use jvms_machine::value::Value;
 use linker::link;
 use machine::{Machine, is_enabled};
@@ -71,7 +71,7 @@ fn entry_of(alloc: Global, rounds: i32) -> Option<Entry> {
         class: text(alloc, "Nested")?,
         name: text(alloc, "f")?,
         descriptor: text(alloc, "(I)I")?,
-        arguments: Items::from_vec(vec![in alloc; rounds].ok()?),
+        arguments: Items::from_vec(vec![in alloc; Argument::Int(rounds)].ok()?),
     })
 }
 

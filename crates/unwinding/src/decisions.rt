@@ -202,6 +202,7 @@ pub fn throw_decision<'p>(parts: &Parts<'p>, thread: &Thread, frame: &Frame) -> 
     match frame.top() {
         Value::Reference(reference) => throwable_decision(parts, thread, reference),
         Value::Null => parts.throws(thread, Thrown::NullPointerException),
-        Value::Int(_) | Value::ReturnAddress(_) | Value::Unset => bad(BadCause::Kind),
+        Value::Int(_) | Value::Long(_) | Value::Second | Value::ReturnAddress(_) | Value::Unset =>
+            bad(BadCause::Kind),
     }
 }

@@ -1,7 +1,7 @@
 //! The components of arrays (JVMS 2.4), as the names of their classes tell them.
 
 ghost use Rattle.std.specs.Prelude.{◌≡◌, drop};
-ghost use Rattle.jvms_machine.specs.Arrays.{serves as serving, kind_of_elements as element_kind, is_reference_kind as is_references};
+ghost use Rattle.jvms_machine.specs.Arrays.{serves as serving, is_reference_kind as is_references};
 ghost use Rattle.jvms_machine.specs.Heap.{component_class as class_of_components, component_type as type_of_components};
 ghost use Rattle.jvms_program.specs.Resolution.{class_exists};
 ghost use Rattle.jvms_file.specs.declared.descriptor.Element.TheVariants as element;
@@ -10,7 +10,7 @@ ghost use Rattle.exec_ref.specs.Asked.{of_element};
 
 use descriptor::{Innermost, Spelled, field_in};
 use jvms_file::descriptor::Primitive;
-use jvms_file::insn::{ArrayKind, Kind};
+use jvms_file::insn::ArrayKind;
 
 /// What stands behind the bracket of an array's class.
 #[inline(always)]
@@ -60,7 +60,8 @@ fn serves_primitive(kind: ArrayKind, primitive: Primitive) -> bool
         ArrayKind::Byte => primitive == Primitive::Byte || primitive == Primitive::Boolean,
         ArrayKind::Char => primitive == Primitive::Char,
         ArrayKind::Short => primitive == Primitive::Short,
-        ArrayKind::Reference | ArrayKind::Long | ArrayKind::Float | ArrayKind::Double => false,
+        ArrayKind::Long => primitive == Primitive::Long,
+        ArrayKind::Reference | ArrayKind::Float | ArrayKind::Double => false,
     }
 }
 
@@ -72,20 +73,6 @@ pub(crate) fn serves(kind: ArrayKind, t: Spelled<'_>) -> bool
     match t.innermost {
         Innermost::Primitive(primitive) if t.dimensions == 0 => serves_primitive(kind, primitive),
         _ => is_reference_kind(kind),
-    }
-}
-
-/// The kind of value that an instruction of a kind loads or stores.
-#[inline(always)]
-pub(crate) fn kind_of_elements(kind: ArrayKind) -> Kind
-    ensures { result ≡ element_kind kind }
-{
-    match kind {
-        ArrayKind::Reference => Kind::Reference,
-        ArrayKind::Long => Kind::Long,
-        ArrayKind::Float => Kind::Float,
-        ArrayKind::Double => Kind::Double,
-        ArrayKind::Int | ArrayKind::Byte | ArrayKind::Char | ArrayKind::Short => Kind::Int,
     }
 }
 

@@ -1,24 +1,23 @@
 //! Loads and stores of arrays' elements (JVMS 6.5 aaload to saload, aastore to sastore).
 
-ghost use Rattle.std.specs.Prelude.{◌≡◌, ◌+◌, ◌<◌, ◌^◌};
+ghost use Rattle.std.specs.Prelude.{◌≡◌, ◌+◌, ◌<◌, ◌≤◌, ◌^◌, drop, length};
 ghost use Rattle.std.specs.Option.{option_and_then};
-ghost use Rattle.jvms_machine.specs.Arrays.{if_deep, fits_component as fits_into, load_operands, store_operands};
+ghost use Rattle.jvms_machine.specs.Arrays.{if_deep, element_size as size_of_elements, fits_component as fits_into, kind_of_elements as element_kind, load_operands, store_below as stores_below, store_operands};
+ghost use Rattle.jvms_machine.specs.Places.{top_value as value_on_top};
 ghost use Rattle.jvms_machine.specs.State.{object_at};
 ghost use Rattle.exec_ref.specs.Asked.{element_by, loads_from, stores_to};
 ghost use Rattle.machine_parts.specs.Decided.{seen};
 
-use super::components::{
-    component_class, component_type, is_reference_kind, kind_of_elements, serves,
-};
-use exec::is_loaded;
+use super::components::{component_class, component_type, is_reference_kind, serves};
+use exec::{element_size, kind_of_elements, top_value};
 use frames::Frame;
 use jvms_file::insn::ArrayKind;
-use jvms_machine::action::{Effect, FrameAction};
+use jvms_machine::action::Effect;
 use jvms_machine::machine::BadCause;
 use jvms_machine::value::Value;
 use jvms_program::thrown::Thrown;
 use machine_parts::{
-    Decided, Parts, bad, has_depth, never_seen, reaches, stored_in_component, taking,
+    Decided, Parts, bad, has_depth, never_seen, reaches, read, stored_in_component, taking,
 };
 use machine_thread::Thread;
 
@@ -38,11 +37,12 @@ fn element_at(parts: &Parts, reference: u32, n: i32) -> Option<Value>
 fn load_from<'p>(
     parts: &Parts<'p>,
     thread: &Thread,
+    frame: &Frame,
     kind: ArrayKind,
     n: i32,
     reference: u32,
 ) -> Decided<'p>
-    ensures { seen result ≡ loads_from parts.now.limits parts.now.state thread.now kind n reference }
+    ensures { seen result ≡ loads_from parts.now.limits parts.now.state thread.now frame.now kind n reference }
 {
     let Some(class) = parts.heap.class_of(reference) else {
         return never_seen();
@@ -57,10 +57,7 @@ fn load_from<'p>(
         None => parts.throws(thread, Thrown::ArrayIndexOutOfBoundsException),
         Some(value) => {
             let index = n.unsigned_abs();
-            reaches(
-                Effect::LoadElement { reference, index },
-                FrameAction::Push { takes: 2, value },
-            )
+            read(frame, Effect::LoadElement { reference, index }, 2, value)
         }
     }
 }
@@ -73,18 +70,19 @@ pub(crate) fn load_decision<'p>(
     frame: &Frame,
     kind: ArrayKind,
 ) -> Decided<'p>
-    ensures { seen result ≡ if_deep frame.now 2 1 (load_operands parts.now.limits parts.now.state thread.now kind frame.now.activation.operands) }
+    ensures { seen result ≡ if_deep frame.now 2 (size_of_elements kind) (load_operands parts.now.limits parts.now.state thread.now frame.now kind frame.now.activation.operands) }
 {
-    if !has_depth(frame, 2, 1) {
+    if !has_depth(frame, 2, element_size(kind)) {
         return bad(BadCause::Depth);
     }
     let (array, Value::Int(n)) = frame.top_two() else {
         return bad(BadCause::Kind);
     };
     match array {
-        Value::Reference(reference) => load_from(parts, thread, kind, n, reference),
+        Value::Reference(reference) => load_from(parts, thread, frame, kind, n, reference),
         Value::Null => parts.throws(thread, Thrown::NullPointerException),
-        Value::Int(_) | Value::ReturnAddress(_) | Value::Unset => bad(BadCause::Kind),
+        Value::Int(_) | Value::Long(_) | Value::Second | Value::ReturnAddress(_) | Value::Unset =>
+            bad(BadCause::Kind),
     }
 }
 
@@ -136,7 +134,31 @@ fn store_to<'p>(
         index: n.unsigned_abs(),
         value: stored_in_component(component, value),
     };
-    reaches(stored, taking(3, frame))
+    reaches(stored, taking(2 + u16::from(element_size(kind)), frame))
+}
+
+/// Below a value that is stored lie the index, and then the array.
+#[inline(always)]
+fn store_below<'p>(
+    parts: &Parts<'p>,
+    thread: &Thread,
+    frame: &Frame,
+    kind: ArrayKind,
+    value: Value,
+) -> Decided<'p>
+    requires place { frame.now.activation.place + 1 < 2 ^ 64 }
+    requires there { 2 + size_of_elements kind ≤ length frame.now.activation.operands }
+    ensures { seen result ≡ stores_below parts.now.program parts.now.limits parts.now.state thread.now frame.now.activation kind value (drop (size_of_elements kind) frame.now.activation.operands) }
+{
+    let (array, Value::Int(n)) = frame.two_below(usize::from(element_size(kind))) else {
+        return bad(BadCause::Kind);
+    };
+    match array {
+        Value::Reference(reference) => store_to(parts, thread, frame, kind, value, n, reference),
+        Value::Null => parts.throws(thread, Thrown::NullPointerException),
+        Value::Int(_) | Value::Long(_) | Value::Second | Value::ReturnAddress(_) | Value::Unset =>
+            bad(BadCause::Kind),
+    }
 }
 
 /// A store: the value is on top, the index below it, and then the array.
@@ -148,20 +170,13 @@ pub(crate) fn store_decision<'p>(
     kind: ArrayKind,
 ) -> Decided<'p>
     requires { frame.now.activation.place + 1 < 2 ^ 64 }
-    ensures { seen result ≡ if_deep frame.now 3 0 (store_operands parts.now.program parts.now.limits parts.now.state thread.now frame.now.activation kind frame.now.activation.operands) }
+    ensures { seen result ≡ if_deep frame.now (2 + size_of_elements kind) 0 (store_operands parts.now.program parts.now.limits parts.now.state thread.now frame.now.activation kind (value_on_top (element_kind kind) frame.now.activation.operands)) }
 {
-    if !has_depth(frame, 3, 0) {
+    if !has_depth(frame, 2 + element_size(kind), 0) {
         return bad(BadCause::Depth);
     }
-    let (array, Value::Int(n), value) = frame.top_three() else {
-        return bad(BadCause::Kind);
-    };
-    if !is_loaded(kind_of_elements(kind), value) {
-        return bad(BadCause::Kind);
-    }
-    match array {
-        Value::Reference(reference) => store_to(parts, thread, frame, kind, value, n, reference),
-        Value::Null => parts.throws(thread, Thrown::NullPointerException),
-        Value::Int(_) | Value::ReturnAddress(_) | Value::Unset => bad(BadCause::Kind),
+    match top_value(kind_of_elements(kind), frame) {
+        None => bad(BadCause::Kind),
+        Some(value) => store_below(parts, thread, frame, kind, value),
     }
 }

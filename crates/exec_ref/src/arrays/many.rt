@@ -32,7 +32,12 @@ fn is_negative(value: Value) -> bool
 {
     match value {
         Value::Int(n) => n < 0,
-        Value::Null | Value::Reference(_) | Value::ReturnAddress(_) | Value::Unset => false,
+        Value::Long(_)
+        | Value::Second
+        | Value::Null
+        | Value::Reference(_)
+        | Value::ReturnAddress(_)
+        | Value::Unset => false,
     }
 }
 
@@ -42,7 +47,12 @@ pub(crate) fn length_of_value(value: Value) -> usize
 {
     match value {
         Value::Int(n) => n.unsigned_abs() as usize,
-        Value::Null | Value::Reference(_) | Value::ReturnAddress(_) | Value::Unset => 0,
+        Value::Long(_)
+        | Value::Second
+        | Value::Null
+        | Value::Reference(_)
+        | Value::ReturnAddress(_)
+        | Value::Unset => 0,
     }
 }
 

@@ -1,18 +1,21 @@
 //! The operands of a call (JVMS 6.5 invokeinterface, invokespecial, invokestatic, invokevirtual): its arguments, and
 //! below them the receiver, if it has one.
 
-ghost use Rattle.std.specs.Prelude.{◌≡◌, ◌<◌, ◌≤◌, false, length, MatchOption, Some, slice_get};
+ghost use Rattle.jvms_file.specs.Descriptors.{parameter_units as units};
+ghost use Rattle.jvms_file.specs.declared.descriptor.MethodType.{MethodType as MeantType};
+ghost use Rattle.std.specs.Prelude.{◌≡◌, ◌+◌, ◌≤◌, false, length, MatchOption, Some, slice_get};
 ghost use Rattle.jvms_machine.specs.State.{result_length};
 ghost use Rattle.jvms_machine.specs.Activations.{has_depth};
-ghost use Rattle.jvms_machine.specs.Calls.{is_static_call as is_static, taken as takes_of, are_of_types as of_types, is_receiver as receives, receiver_of, are_of_call as of_call};
+ghost use Rattle.jvms_machine.specs.Calls.{is_static_call as is_static, taken as takes_of, are_of_types as of_types, receiver_of, are_of_call as of_call};
 ghost use Rattle.invoke.specs.Calling.{Takes};
 
-use exec::is_loaded;
+use descriptor::parameter_units;
+use exec::is_of_kind;
 use frames::Frame;
 use jvms_file::descriptor::{FieldType, MethodType, ResultType};
 use jvms_file::insn::{Invoke, Kind};
 use jvms_machine::value::Value;
-use machine_parts::kind_of_type;
+use machine_parts::{kind_of_type, type_size};
 
 /// Whether a call has no receiver.
 pub(crate) fn is_static_call(how: Invoke) -> bool
@@ -24,11 +27,11 @@ pub(crate) fn is_static_call(how: Invoke) -> bool
     }
 }
 
-/// How many operands a call takes.
-fn taken(how: Invoke, t: &MethodType) -> usize
-    ensures { result ≡ takes_of how t.now }
+/// Returns how many operands a call takes whose arguments take this many.
+fn taken(how: Invoke, arguments: usize) -> usize
+    requires { arguments ≤ 65535 }
+    ensures { (t : MeantType) → arguments ≡ units t → result ≡ takes_of how t }
 {
-    let arguments = t.parameters.as_slice().len();
     if is_static_call(how) {
         arguments
     } else {
@@ -42,7 +45,7 @@ fn given(t: &ResultType) -> usize
 {
     match t {
         ResultType::Void => 0,
-        ResultType::Value(_) => 1,
+        ResultType::Value(t) => usize::from(type_size(t)),
     }
 }
 
@@ -50,8 +53,12 @@ fn given(t: &ResultType) -> usize
 pub(crate) fn taken_from(frame: &Frame, how: Invoke, t: &MethodType) -> Option<u16>
     ensures { MatchOption result (has_depth frame.now.body (takes_of how t.now) (result_length t.now.result) frame.now.activation ≡ false) (λ takes. Takes frame.now how t.now takes) }
 {
-    let takes = taken(how, t);
+    let arguments = parameter_units(t);
     let height = usize::from(frame.height());
+    if arguments > height {
+        return None;
+    }
+    let takes = taken(how, arguments);
     let most = usize::from(frame.body().max_stack);
     if takes <= height && height - takes + given(&t.result) <= most {
         Some(takes as u16)
@@ -60,40 +67,44 @@ pub(crate) fn taken_from(frame: &Frame, how: Invoke, t: &MethodType) -> Option<u
     }
 }
 
-/// Whether values are of the kinds of as many types, each of its own.
-fn are_of_types(types: &[FieldType], values: &[Value]) -> bool
-    requires { length types.now ≡ length values.now }
-    ensures { result ≡ of_types types.now values.now }
+/// Whether the places of values are of the kinds of types, each value of its own.
+fn are_of_types(types: &[FieldType], places: &[Value]) -> bool
+    ensures { result ≡ of_types types.now places.now }
 {
-    for (i, t) in types.iter().enumerate() {
-        if !is_loaded(kind_of_type(t), values[i]) {
-            return false;
+    let mut rest = places;
+    for t in types {
+        let kind = kind_of_type(t);
+        match rest {
+            [value @ Value::Long(_), Value::Second, behind @ ..] if is_of_kind(kind, *value) => {
+                rest = behind;
+            }
+            [] | [Value::Long(_), ..] => return false,
+            [value, behind @ ..] if is_of_kind(kind, *value) => rest = behind,
+            [_, ..] => return false,
         }
     }
-    true
+    rest.is_empty()
 }
 
 /// What lies below the arguments of a call that has a receiver.
-pub(crate) fn receiver(t: &MethodType, frame: &Frame) -> Value
-    requires { length t.now.parameters < length frame.now.activation.operands }
+#[inline(always)]
+pub(crate) fn receiver(t: &MethodType, frame: &Frame, takes: u16) -> Value
+    requires is { takes ≡ units t.now + 1 }
+    requires there { takes ≤ length frame.now.activation.operands }
     ensures { receiver_of t.now frame.now.activation.operands ≡ Some result }
 {
-    frame.operand(t.parameters.as_slice().len())
-}
-
-/// Whether a call has no receiver, or one that is a reference or null.
-fn is_receiver(how: Invoke, t: &MethodType, frame: &Frame) -> bool
-    requires { takes_of how t.now ≤ length frame.now.activation.operands }
-    ensures { result ≡ receives how (receiver_of t.now frame.now.activation.operands) }
-{
-    is_static_call(how) || is_loaded(Kind::Reference, receiver(t, frame))
+    frame.operand(usize::from(takes) - 1)
 }
 
 /// Whether the operands of a call are of the kinds that its descriptor names, and the receiver is a reference or null.
-pub(crate) fn are_of_call(how: Invoke, t: &MethodType, frame: &Frame) -> bool
-    requires { takes_of how t.now ≤ length frame.now.activation.operands }
+pub(crate) fn are_of_call(how: Invoke, t: &MethodType, frame: &Frame, takes: u16) -> bool
+    requires takes { Takes frame.now how t.now takes }
     ensures { result ≡ of_call how t.now frame.now.activation.operands }
 {
     let types = t.parameters.as_slice();
-    are_of_types(types, frame.arguments(types.len())) && is_receiver(how, t, frame)
+    if is_static_call(how) {
+        return are_of_types(types, frame.arguments(usize::from(takes)));
+    }
+    are_of_types(types, frame.arguments(usize::from(takes) - 1))
+        && is_of_kind(Kind::Reference, receiver(t, frame, takes))
 }

@@ -1,0 +1,106 @@
+//! The places that values take (JVMS 2.6.1, 2.6.2): a long takes two.
+
+ghost use Rattle.std.specs.Prelude.{◌≡◌, ◌≤◌};
+ghost use Rattle.jvms_machine.specs.Arrays.{element_size as size_of_elements, kind_of_elements as element_kind};
+ghost use Rattle.jvms_machine.specs.Places.{is_of_kind as of_kind, kind_size as size_of_kind, top_value as value_on_top, value_size as size_of_value};
+
+use frames::Frame;
+use jvms_file::insn::{ArrayKind, Kind};
+use jvms_machine::value::Value;
+
+/// How many places a value takes.
+#[inline(always)]
+pub fn value_size(value: Value) -> u8
+    ensures { result ≡ size_of_value value }
+{
+    match value {
+        Value::Long(_) => 2,
+        Value::Int(_)
+        | Value::Second
+        | Value::Null
+        | Value::Reference(_)
+        | Value::ReturnAddress(_)
+        | Value::Unset => 1,
+    }
+}
+
+/// How many places the values of a kind take.
+#[inline(always)]
+pub fn kind_size(kind: Kind) -> u8
+    ensures exact { result ≡ size_of_kind kind }
+    ensures few { result ≤ 2 }
+{
+    match kind {
+        Kind::Long | Kind::Double => 2,
+        Kind::Int | Kind::Float | Kind::Reference => 1,
+    }
+}
+
+/// Returns the kind of value that an instruction on arrays of a kind loads or stores.
+#[inline(always)]
+pub fn kind_of_elements(kind: ArrayKind) -> Kind
+    ensures { result ≡ element_kind kind }
+{
+    match kind {
+        ArrayKind::Reference => Kind::Reference,
+        ArrayKind::Long => Kind::Long,
+        ArrayKind::Float => Kind::Float,
+        ArrayKind::Double => Kind::Double,
+        ArrayKind::Int | ArrayKind::Byte | ArrayKind::Char | ArrayKind::Short => Kind::Int,
+    }
+}
+
+/// Returns how many places an element takes among the operands that an instruction on arrays of a kind loads or stores.
+#[inline(always)]
+pub fn element_size(kind: ArrayKind) -> u8
+    ensures exact { result ≡ size_of_elements kind }
+    ensures few { result ≤ 2 }
+{
+    kind_size(kind_of_elements(kind))
+}
+
+/// Whether a value is of a kind: an int, a long, or a reference or null.
+#[inline(always)]
+pub fn is_of_kind(kind: Kind, value: Value) -> bool
+    ensures { result ≡ of_kind kind value }
+{
+    match value {
+        Value::Int(_) => kind == Kind::Int,
+        Value::Long(_) => kind == Kind::Long,
+        Value::Null | Value::Reference(_) => kind == Kind::Reference,
+        Value::Second | Value::ReturnAddress(_) | Value::Unset => false,
+    }
+}
+
+/// The long on top of the operands, if there is one.
+#[inline(always)]
+fn top_long(frame: &Frame) -> Option<Value>
+    ensures { result ≡ value_on_top Kind.Long frame.now.activation.operands }
+{
+    if frame.height() < 2 {
+        return None;
+    }
+    match frame.top_two() {
+        (Value::Long(n), Value::Second) => Some(Value::Long(n)),
+        _ => None,
+    }
+}
+
+/// The value of a kind on top of the operands, if there is one.
+#[inline(always)]
+pub fn top_value(kind: Kind, frame: &Frame) -> Option<Value>
+    ensures { result ≡ value_on_top kind frame.now.activation.operands }
+{
+    if kind == Kind::Long {
+        return top_long(frame);
+    }
+    if frame.height() < 1 {
+        return None;
+    }
+    let value = frame.top();
+    if is_of_kind(kind, value) {
+        Some(value)
+    } else {
+        None
+    }
+}
