@@ -7,6 +7,7 @@ use crate::help::{
     TRACE_HELP,
 };
 use crate::program_words::{ProgramWords, most_of, program_words};
+use crate::refusals::explanation_of;
 use crate::syntax::{FILE, INPUT, OUTPUT, SCHEDULE, SERIAL, SPECIFICATION, TRACE, syntax};
 use clap::ArgMatches;
 use jvms_machine::machine::Entry;
@@ -35,7 +36,7 @@ pub enum Command<'a> {
     Asm(AsmWords<'a>),
     /// To print the source that the class of a FILE is listed as.
     List(&'a str),
-    /// To print how the program, or one command, is used.
+    /// To print how the program, or one command, is used, or what a refusal's code means.
     Help(&'static str),
     /// To print which program this is.
     Version,
@@ -129,8 +130,8 @@ fn asks_help(word: &str) -> bool {
     word == "--help" || word == "-h"
 }
 
-/// How a command is used.
-fn help_of(command: &str) -> Option<Command<'static>> {
+/// Returns the help of a command, or `None` if no command has this name.
+fn usage_of(command: &str) -> Option<Command<'static>> {
     match command {
         "eval" => Some(Command::Help(EVAL_HELP)),
         "run" => Some(Command::Help(RUN_HELP)),
@@ -141,6 +142,17 @@ fn help_of(command: &str) -> Option<Command<'static>> {
         "asm" => Some(Command::Help(ASM_HELP)),
         "list" => Some(Command::Help(LIST_HELP)),
         _ => None,
+    }
+}
+
+/// Returns what `help` prints about a word: the help of a command, or what a refusal's code means.
+fn help_of(word: &str) -> Option<Command<'static>> {
+    match usage_of(word) {
+        Some(usage) => Some(usage),
+        None => match explanation_of(word) {
+            Some(explanation) => Some(Command::Help(explanation)),
+            None => None,
+        },
     }
 }
 
@@ -160,7 +172,7 @@ fn text_command(words: &[String]) -> Option<Command<'static>> {
     match words {
         [word] => text_of(word.as_str()),
         [first, second] if first.as_str() == "help" => help_of(second.as_str()),
-        [first, second] if asks_help(second.as_str()) => help_of(first.as_str()),
+        [first, second] if asks_help(second.as_str()) => usage_of(first.as_str()),
         _ => None,
     }
 }

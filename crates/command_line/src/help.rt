@@ -17,7 +17,8 @@ Usage: jvmx COMMAND WORDS
   check          reads what threads did and tells whether methods were atomic
   asm            writes the class file of a source
   list           prints a class file as a source
-  help           prints this text; help COMMAND, how that command is used
+  help           prints this text; help COMMAND, how that command is used;
+                 help CODE, what the code of a refusal means
   -h, --help     prints this text; behind a command, how that command is used
   -V, --version  prints the program's name and version
 
@@ -25,8 +26,8 @@ Exit status: 0; 1 where a run didn't finish, an exception wasn't caught or
 methods weren't atomic; 2 where words or inputs are refused; 3 where memory ran
 out or a file, standard output or standard error failed.
 
-A refusal is one line on standard error, jvmx: FILE: CODE NAME. docs/REFUSALS.md
-says what each code means and what usually causes it.
+A refusal is one line on standard error, jvmx: FILE: CODE NAME. jvmx help CODE
+says what the code means and what usually causes it.
 
 Example: jvmx eval --entry 'G.gcd.(II)I' --args 48,36 examples/G.j
 ";
@@ -67,7 +68,7 @@ for each thread T that ended with an exception, of class C; then status S turns
 N, with S one of Finished, Running, Stalled, Deadlocked.
 
 Exit status: 0 where the status is Finished and no exception is uncaught, else
-1; 2 and 3 as jvmx --help says. docs/REFUSALS.md explains the codes of refusals.
+1; 2 and 3 as jvmx --help says. jvmx help CODE explains the code of a refusal.
 
 Example: jvmx eval --entry 'G.gcd.(II)I' --args 48,36 examples/G.j
 prints 12
@@ -116,7 +117,7 @@ line that jvmx check prints. C is written as names are in --entry.
 
 Exit status: 0 where the status is Finished, no exception is uncaught and, with
 --spec, no cycle was found, else 1; 2 and 3 as jvmx --help says.
-docs/REFUSALS.md explains the codes of refusals.
+jvmx help CODE explains the code of a refusal.
 
 Example: jvmx run --entry LostUpdate --sched rr:1 examples/threads/LostUpdate.j
 prints 1, though each of two threads adds 1
@@ -151,7 +152,7 @@ thread begins to wait, and acq as it takes the monitor again. Calls of notify
 and notifyAll have none.
 
 Exit status: 0 where the status is Finished and no exception is uncaught, else
-1; 2 and 3 as jvmx --help says. docs/REFUSALS.md explains the codes of refusals.
+1; 2 and 3 as jvmx --help says. jvmx help CODE explains the code of a refusal.
 
 Example: jvmx trace --entry LostUpdate examples/threads/LostUpdate.j
 ";
@@ -186,8 +187,7 @@ program writes isn't printed.
 step, back, goto, continue, rcontinue and pick answer 'at P of N STATUS, thread
 T OUTCOME': the position, the number of turns, the machine's status, and what
 the last turn before the position came to. A line that can't be carried out is
-answered by 'fault CODE NAME' and changes nothing. docs/REFUSALS.md explains the
-codes.
+answered by 'fault CODE NAME' and changes nothing. jvmx help CODE explains it.
 
 Exit status: 0, whatever the session shows; 2 and 3 as jvmx --help says.
 
@@ -242,7 +242,7 @@ summary: for the first job with a cycle, and for the first of each status but
 Finished, the commands that run it again and debug it.
 
 Exit status: 0 where all jobs of the table are atomic and Finished, else 1; 2
-and 3 as jvmx --help says. docs/REFUSALS.md explains the codes of refusals.
+and 3 as jvmx --help says. jvmx help CODE explains the code of a refusal.
 
 Example: jvmx campaign --entry LostUpdate --spec examples/threads/atomic.spec \\
   --jobs 100 examples/threads/LostUpdate.j
@@ -287,7 +287,7 @@ A is that of event E. With --serial, behind an atomic verdict, a line an event:
 its number, a space, and its line of the trace.
 
 Exit status: 0 where the trace is atomic, 1 where a cycle was found; 2 and 3 as
-jvmx --help says. docs/REFUSALS.md explains the codes of refusals.
+jvmx --help says. jvmx help CODE explains the code of a refusal.
 
 Example: jvmx check --spec examples/threads/atomic.spec --serial /tmp/trace
 ";
@@ -304,8 +304,8 @@ Usage: jvmx asm IN OUT
 A refusal leaves OUT as it is: the class is written to OUT.part, which then
 takes the place of OUT.
 
-Exit status: 0; 2 and 3 as jvmx --help says. docs/REFUSALS.md explains the
-codes of refusals: J01 to J12 of a source's line, A01 to A08 of its class.
+Exit status: 0; 2 and 3 as jvmx --help says. jvmx help CODE explains the
+code of a refusal: J01 to J12 of a source's line, A01 to A08 of its class.
 
 Example: jvmx asm examples/G.j G.class
 ";
@@ -323,8 +323,8 @@ Standard output: a source that means what the class means, one statement a
 line, instruction n under the label Ln where something leads to it. Attributes
 that don't run, as line numbers, aren't listed.
 
-Exit status: 0; 2 and 3 as jvmx --help says. docs/REFUSALS.md explains the
-codes of refusals: L01 and L02 say why a class can't be written as a source.
+Exit status: 0; 2 and 3 as jvmx --help says. jvmx help CODE explains the
+code of a refusal: L01 and L02 say why a class can't be written as a source.
 
 Example: jvmx list examples/G.class
 ";

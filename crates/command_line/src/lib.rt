@@ -7,6 +7,7 @@ mod entry;
 mod fault;
 mod help;
 mod program_words;
+mod refusals;
 mod syntax;
 
 pub use campaign::CampaignWords;
