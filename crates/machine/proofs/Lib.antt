@@ -4,6 +4,7 @@ mod Deciding
 mod EntryLaws
 mod Made
 mod OnLaws
+mod Others
 pub mod RunLaws
 mod Sites
 mod StatusLaws

@@ -1,20 +1,21 @@
 //! The machine.
 
-ghost use Rattle.std.specs.Prelude.{◌≡◌, ◌≤◌, ◌++◌, length, IsOk, IfOk, OnOk, OnErr, is_ok};
+ghost use Rattle.std.specs.Prelude.{◌≡◌, ◌≤◌, ◌++◌, length, IsOk, IsTrue, IfOk, OnOk, OnErr, is_ok};
 ghost use Rattle.jvms_machine.specs.Opening.{made as made_by};
 ghost use Rattle.jvms_machine.specs.State.{Sound};
 ghost use Rattle.machine_parts.specs.Machine.{row_of, with_state, TakesNone};
+ghost use Rattle.machine.specs.Others.{LeavesOthers};
 ghost use Rattle.machine.specs.Runs.{RanOn};
 ghost use Rattle.machine.specs.Started.{IsNew};
 ghost use Rattle.trace.specs.Recording.{recorded};
 
 use crate::fault::MachineFault;
 use crate::limits::are_limits;
-use crate::making::step;
+use crate::making::{Turn, step};
 use crate::opening::open;
+use crate::peek::peek;
 use crate::running::step_on;
 use crate::start::start_of;
-use crate::turn::peek;
 use jvms_machine::machine::{Entry, Limits, Outcome, ThreadId};
 use jvms_machine::value::Value;
 use machine_parts::Parts;
@@ -110,7 +111,8 @@ impl<'p> Machine<'p> {
         ensures no_items { OnErr result (recording.new ≡ recording.old) }
         ensures none { TakesNone self.old t → IsOk result }
     {
-        step(&mut self.parts, t, recording)
+        let turn = self.step_watched(t, recording)?;
+        Ok(turn.outcome)
     }
 
     /// Makes turns of a thread one after another, at most so many, and tells how many. Each ran, and behind one that
@@ -121,6 +123,26 @@ impl<'p> Machine<'p> {
         ensures ran { RanOn result t (length self.old.state.threads) self.old recording.old self.new recording.new }
     {
         step_on(&mut self.parts, t, most, recording)
+    }
+
+    /// Takes the turn of a thread as `step_recorded` does, and returns its outcome and whether it was quiet: each other
+    /// thread whose turn isn't Bad is then as enabled as it was, and its turn isn't Bad. Without memory nothing
+    /// changes.
+    #[inline(always)]
+    pub fn step_watched(
+        &mut self,
+        t: ThreadId,
+        recording: &mut Recording,
+    ) -> Result<Turn, AllocError>
+        ensures outcome { IfOk result (λ turn. turn.outcome ≡ (row_of self.old t).outcome) }
+        ensures state { OnOk result (self.new ≡ with_state self.old (row_of self.old t).state) }
+        ensures items { OnOk result (recording.new ≡ recorded recording.old (row_of self.old t).items) }
+        ensures others { IfOk result (λ turn. IsTrue turn.is_quiet → LeavesOthers self.old t self.new) }
+        ensures kept { OnErr result (self.new ≡ self.old) }
+        ensures no_items { OnErr result (recording.new ≡ recording.old) }
+        ensures none { TakesNone self.old t → IsOk result }
+    {
+        step(&mut self.parts, t, recording)
     }
 
     /// What the turn of a thread would come to, with nothing changed. It takes no memory.

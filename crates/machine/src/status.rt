@@ -8,7 +8,7 @@ ghost use Rattle.machine.specs.CanTurn.{HaveTheirCode};
 ghost use Rattle.machine.specs.Statuses.{any_thread};
 
 use crate::machine::Machine;
-use crate::turn::peek;
+use crate::peek::peek;
 use jvms_machine::machine::{Outcome, Status};
 use machine_parts::Parts;
 
@@ -24,7 +24,9 @@ pub fn is_enabled(outcome: Outcome) -> bool
     }
 }
 
-fn is_bad(outcome: Outcome) -> bool
+/// Whether a thread whose next turn comes to this can't go on.
+#[inline]
+pub fn is_bad(outcome: Outcome) -> bool
     ensures { result ≡ bad outcome }
 {
     matches!(outcome, Outcome::Bad { .. })

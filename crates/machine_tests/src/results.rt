@@ -12,7 +12,7 @@ use trace::Recording;
 fn result_of(machine: &mut Machine<'_>) -> Result<Option<Value>, AllocError> {
     let mut recording = Recording::of_nothing();
     let _ = machine.step_on(0, 99, &mut recording);
-    let _ = machine.step_recorded(0, &mut recording)?;
+    let _ = machine.step_watched(0, &mut recording)?;
     Ok(machine.result())
 }
 

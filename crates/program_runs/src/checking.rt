@@ -47,7 +47,7 @@ fn check_some(
     ensures empty { OnOk result (trace.new ≡ []) }
 {
     let mut recording = Recording::taken_from(alloc, trace);
-    let counted = count_turns(machine, chooser, most, &mut recording);
+    let counted = count_turns(alloc, machine, chooser, most, &mut recording);
     recording.give_back(trace);
     let turns = counted?;
     feed_items(checker, trace.items())?;

@@ -1,2 +1,3 @@
 pub mod Choices
 pub mod Endings
+pub mod Kept

@@ -6,10 +6,11 @@ ghost use Rattle.machine.specs.Runs.{run_of};
 ghost use Rattle.runs.specs.Choices.{choices_from, chooser_behind, BrokeOff};
 ghost use Rattle.trace.specs.Recording.{recorded};
 
+use crate::kept::Kept;
 use crate::turn::{take_turn, take_turns_on};
 use machine::Machine;
 use schedule::Chooser;
-use std::alloc::AllocError;
+use std::alloc::{AllocError, Global};
 use trace::Recording;
 
 /// Takes the turns that a chooser gives, at most `most` of them, and returns their number. Unlike `take_turns`,
@@ -19,6 +20,7 @@ use trace::Recording;
 ///
 /// Memory ran out. The turns of some first choices were taken, maybe of none or of all.
 pub fn count_turns(
+    alloc: Global,
     machine: &mut Machine<'_>,
     chooser: &mut Chooser,
     most: u64,
@@ -32,14 +34,15 @@ pub fn count_turns(
     // Without memory, the turns of some first choices were taken.
     ensures broken { OnErr result (BrokeOff machine.old (choices_from most chooser.old machine.old) machine.new recording.old recording.new) }
 {
+    let mut kept = Kept::new(alloc);
     let mut made = 0;
     while made < most {
-        let on = take_turns_on(machine, chooser, most - made, recording);
+        let on = take_turns_on(machine, chooser, &mut kept, most - made, recording);
         made += on.times;
         if made == most {
             return Ok(made);
         }
-        let Some(_taken) = take_turn(machine, chooser, recording)? else {
+        let Some(_taken) = take_turn(machine, chooser, &mut kept, recording)? else {
             return Ok(made);
         };
         made += 1;

@@ -78,7 +78,7 @@ pub fn ending_after(alloc: Global, machine: &Machine<'_>, turns: u64) -> Result<
 }
 
 /// Takes the turns that a chooser gives, at most `most` of them, and returns how the run ends. Keeps no choices,
-/// outcomes or items, so a run takes no memory for them, however long it is.
+/// outcomes or items, so a run takes no memory for them, however long it is. A seeded run lists the enabled threads.
 pub fn run_to_end(
     alloc: Global,
     machine: &mut Machine<'_>,
@@ -88,6 +88,6 @@ pub fn run_to_end(
     ensures ending { IfOk result (λ ending. ending ≡ ending_of most chooser.old machine.old) }
     ensures chooser { OnOk result (chooser.new ≡ chooser_behind most chooser.old machine.old) }
 {
-    let turns = count_turns(machine, chooser, most, &mut Recording::of_nothing())?;
+    let turns = count_turns(alloc, machine, chooser, most, &mut Recording::of_nothing())?;
     ending_after(alloc, machine, turns)
 }

@@ -3,6 +3,7 @@
 
 mod counted;
 mod ending;
+mod kept;
 mod turn;
 mod turns;
 

@@ -1,9 +1,14 @@
 //! The next turns of a run.
 
-ghost use Rattle.std.specs.Prelude.{◌≡◌, ◌≤◌, IfOk, OnErr};
+ghost use Rattle.std.specs.Prelude.{◌≡◌, ◌≤◌, true, length, IfOk, IsTrue, OnErr, OnOk};
+ghost use Rattle.jvms_machine.specs.Status.{is_enabled};
 ghost use Rattle.runs.specs.Choices.{AreTurnsOn, IsNextTurn, IsTurn};
+ghost use Rattle.runs.specs.Kept.{IsKept};
+ghost use Rattle.schedule.specs.Choosers.{is_seeded};
+ghost use Rattle.schedule.specs.Enabled.{can_go_on};
 
-use machine::{Machine, Outcome, ThreadId, is_enabled};
+use crate::kept::Kept;
+use machine::{Machine, Outcome, ThreadId, Turn, is_enabled};
 use schedule::{Candidate, Chooser};
 use std::alloc::AllocError;
 use trace::Recording;
@@ -27,11 +32,14 @@ pub(crate) struct TurnsOn {
 pub(crate) fn take_turns_on(
     machine: &mut Machine<'_>,
     chooser: &mut Chooser,
+    kept: &mut Kept,
     most: u64,
     recording: &mut Recording,
 ) -> TurnsOn
+    requires { IsKept machine.old kept.old }
     ensures most { result.times ≤ most }
     ensures taken { AreTurnsOn machine.old chooser.old recording.old result.thread result.times machine.new chooser.new recording.new }
+    ensures enabled { IsKept machine.new kept.new }
 {
     let Some(Candidate { thread, turns }) = chooser.candidate(machine) else {
         return TurnsOn {
@@ -39,52 +47,119 @@ pub(crate) fn take_turns_on(
             times: 0,
         };
     };
+    if kept.suspects(thread) {
+        return TurnsOn { thread, times: 0 };
+    }
+    kept.forget();
     let times = machine.step_on(thread, most.min(turns), recording);
     chooser.count(thread, times);
     TurnsOn { thread, times }
 }
 
 /// Takes one turn of the thread that the chooser predicts, and returns the thread and the outcome. Returns `None`,
-/// with nothing changed, if the chooser predicts no thread, or one that isn't enabled.
+/// with nothing changed, if the chooser predicts no thread, or one that isn't enabled, or wasn't when it was predicted
+/// last.
 ///
 /// Decides that turn once, and inspects no other thread. On an error, the machine and the items are unchanged.
 fn take_candidate(
     machine: &mut Machine<'_>,
     chooser: &mut Chooser,
+    kept: &mut Kept,
     recording: &mut Recording,
 ) -> Result<Option<Taken>, AllocError>
     ensures taken { IfOk result (λ taken. IsTurn machine.old chooser.old recording.old taken machine.new chooser.new recording.new) }
+    ensures forgotten { kept.new.is_current ≡ kept.old.is_current }
     ensures kept { OnErr result (machine.new ≡ machine.old) }
     ensures no_items { OnErr result (recording.new ≡ recording.old) }
 {
     let Some(Candidate { thread, .. }) = chooser.candidate(machine) else {
         return Ok(None);
     };
+    if kept.suspects(thread) {
+        return Ok(None);
+    }
     let outcome = machine.step_recorded(thread, recording)?;
     if !is_enabled(outcome) {
+        kept.suspect = Some(thread);
         return Ok(None);
     }
     chooser.count(thread, 1);
     Ok(Some((thread, outcome)))
 }
 
-/// Takes the turn of the chooser's next choice, and returns the choice and the outcome. Returns `None` if there is
-/// no choice. Then, as on an error, the machine and the items are unchanged.
-pub(crate) fn take_turn(
+/// Returns whether the same threads are enabled before and after a turn of a thread: the turn was quiet and took place,
+/// the thread is enabled after it, and there are as many threads as before.
+#[inline(always)]
+fn leaves_enabled(turn: Turn, machine: &Machine<'_>, thread: ThreadId, threads: usize) -> bool
+    ensures quiet { IsTrue result → IsTrue turn.is_quiet }
+    ensures was { IsTrue result → is_enabled turn.outcome ≡ true }
+    ensures threads { IsTrue result → length machine.now.state.threads ≡ threads }
+    ensures is { IsTrue result → can_go_on machine.now thread ≡ true }
+{
+    turn.is_quiet
+        && is_enabled(turn.outcome)
+        && machine.thread_count() == threads
+        && is_enabled(machine.peek(thread))
+}
+
+/// Takes the turn of the thread that the next random word names, and returns the thread and the outcome. Returns `None`
+/// if no thread is enabled. Then, as on an error, the machine and the items are unchanged.
+///
+/// Fast path of a seeded run: after a quiet turn, inspects its thread alone.
+#[inline(always)]
+fn take_by_word(
     machine: &mut Machine<'_>,
     chooser: &mut Chooser,
+    kept: &mut Kept,
     recording: &mut Recording,
 ) -> Result<Option<Taken>, AllocError>
+    requires seeded { IsTrue (is_seeded chooser.old) }
+    requires enabled { IsKept machine.old kept.old }
     ensures taken { IfOk result (λ taken. IsNextTurn machine.old chooser.old recording.old taken machine.new chooser.new recording.new) }
+    ensures enabled { OnOk result (IsKept machine.new kept.new) }
     ensures kept { OnErr result (machine.new ≡ machine.old) }
     ensures no_items { OnErr result (recording.new ≡ recording.old) }
 {
-    if let Some(taken) = take_candidate(machine, chooser, recording)? {
+    kept.refresh(machine)?;
+    let Some(thread) = chooser.next_by_word(kept.threads.as_slice()) else {
+        return Ok(None);
+    };
+    let threads = machine.thread_count();
+    let turn = machine.step_watched(thread, recording)?;
+    if !leaves_enabled(turn, machine, thread, threads) {
+        kept.forget();
+    }
+    Ok(Some((thread, turn.outcome)))
+}
+
+/// Takes the turn of the chooser's next choice, and returns the choice and the outcome. Returns `None` if there is
+/// no choice. Then, as on an error, the machine and the items are unchanged.
+#[inline(always)]
+pub(crate) fn take_turn(
+    machine: &mut Machine<'_>,
+    chooser: &mut Chooser,
+    kept: &mut Kept,
+    recording: &mut Recording,
+) -> Result<Option<Taken>, AllocError>
+    requires { IsKept machine.old kept.old }
+    ensures taken { IfOk result (λ taken. IsNextTurn machine.old chooser.old recording.old taken machine.new chooser.new recording.new) }
+    ensures enabled { OnOk result (IsKept machine.new kept.new) }
+    ensures kept { OnErr result (machine.new ≡ machine.old) }
+    ensures no_items { OnErr result (recording.new ≡ recording.old) }
+{
+    if chooser.is_seeded() {
+        return take_by_word(machine, chooser, kept, recording);
+    }
+    kept.forget();
+    if let Some(taken) = take_candidate(machine, chooser, kept, recording)? {
         return Ok(Some(taken));
     }
     let Some(thread) = chooser.next(machine) else {
         return Ok(None);
     };
+    if kept.suspects(thread) {
+        kept.suspect = None;
+    }
     let outcome = machine.step_recorded(thread, recording)?;
     Ok(Some((thread, outcome)))
 }

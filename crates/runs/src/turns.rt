@@ -6,6 +6,7 @@ ghost use Rattle.machine.specs.Runs.{run_of};
 ghost use Rattle.runs.specs.Choices.{choices_from, chooser_behind, BrokeOff};
 ghost use Rattle.trace.specs.Recording.{recorded};
 
+use crate::kept::Kept;
 use crate::turn::{TurnsOn, take_turn, take_turns_on};
 use held::items::Items;
 use machine::{Machine, ThreadId};
@@ -72,16 +73,17 @@ pub fn take_turns(
 {
     let mut choices = Vec::new(alloc);
     let mut outcomes = OutcomeList::new(alloc);
+    let mut kept = Kept::new(alloc);
     let mut made = 0;
     while made < most {
-        let on = take_turns_on(machine, chooser, most - made, recording);
+        let on = take_turns_on(machine, chooser, &mut kept, most - made, recording);
         put_choices(&mut choices, on)?;
         outcomes.push_ran(on.times as usize)?;
         made += on.times;
         if made == most {
             return Ok(turns_of(choices, outcomes));
         }
-        let Some((thread, outcome)) = take_turn(machine, chooser, recording)? else {
+        let Some((thread, outcome)) = take_turn(machine, chooser, &mut kept, recording)? else {
             return Ok(turns_of(choices, outcomes));
         };
         choices.push(thread)?;

@@ -1,9 +1,9 @@
 -- The thread that round robin predicts, which is next if it is enabled.
-use Rattle.std.proofs.Common.{◌≡◌, ℕ, zero, suc, ◌+◌, ◌-◌, ◌<◌, ◌≤◌, Bool, true, false, nat_lt, min, ◌==◌, List, Option, Some, None, refl, sym, ◌∙◌, ap, arith, subst, if◌then◌else◌}
+use Rattle.std.proofs.Common.{◌≡◌, ℕ, zero, suc, ◌+◌, ◌-◌, ◌<◌, ◌≤◌, Bool, true, false, nat_lt, min, ◌==◌, List, Some, None, refl, sym, ◌∙◌, ap, arith}
 use Rattle.std.specs.List.{find, range_with_len}
 use Rattle.std.proofs.lemmas.Bool.Decides.{nat_tests}
 use Rattle.rand_pcg.specs.Lcg.{Lcg}
-use Rattle.schedule.specs.Choosers.{Chooser, Listed, RoundRobin, Seeded, after_choice, counted, counted_times, enabled_of, next, next_of, round_robin, stays, IsNextFor}
+use Rattle.schedule.specs.Choosers.{Chooser, Listed, RoundRobin, Seeded, after_choice, counted, counted_times, enabled_of, next, next_of, round_robin, IsNextFor}
 use Rattle.schedule.proofs.Ranges.{next_of_within, range_more, range_none, stays_enabled}
 
 -- The last thread stays the choice while it is enabled and has turns left.

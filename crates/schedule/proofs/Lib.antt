@@ -4,3 +4,4 @@ mod Choices
 mod Ranges
 mod Spelling
 mod Texts
+mod Words

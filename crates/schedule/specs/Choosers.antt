@@ -120,3 +120,10 @@ asks (Listed threads) = false
 asks (RoundRobin quantum thread turns) = true
 asks (Seeded generator) = true
 asks Alone = false
+
+-- Random words name the chooser's threads.
+abbrev pub is_seeded : Chooser → Bool
+is_seeded (Listed threads) = false
+is_seeded (RoundRobin quantum thread turns) = false
+is_seeded (Seeded generator) = true
+is_seeded Alone = false

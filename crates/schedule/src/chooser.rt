@@ -1,11 +1,11 @@
 //! Choosers: each gives the thread of the next turn.
 
-ghost use Rattle.std.specs.Prelude.{ℕ, List, ◌≡◌, ◌≤◌, ◌↔◌, length, IfOk, IfSome, IsErrOf, MatchOption};
+ghost use Rattle.std.specs.Prelude.{ℕ, List, ◌≡◌, ◌≤◌, ◌↔◌, length, IfOk, IfSome, IsErrOf, IsTrue, MatchOption};
 ghost use Rattle.schedule.specs.Schedules as schedules;
 ghost use Rattle.schedule.specs.Schedules.{Schedule, Listed, RoundRobin, Spells, WritesSeed};
 ghost use Rattle.schedule.specs.Enabled.{enabled_threads};
 ghost use Rattle.schedule.specs.Rules.{shown};
-ghost use Rattle.schedule.specs.Choosers.{opened, enabled_of, by_word, counted_times, next, Alone, Seeded, IsNextFor, IsSeeded};
+ghost use Rattle.schedule.specs.Choosers.{opened, enabled_of, by_word, counted_times, is_seeded, next, Alone, Seeded, IsNextFor, IsSeeded};
 
 use crate::fault::ScheduleFault;
 use crate::list::{ListLeft, listed};
@@ -96,6 +96,19 @@ fn next_by_word<T: Threads>(generator: &mut Lcg64Xsh32, threads: &T) -> Option<T
         return None;
     }
     enabled_at(threads, generator.next_word() % enabled)
+}
+
+/// Returns the enabled thread that a generator's next word names, of a list of them. Without an enabled thread, takes no
+/// word.
+#[tactic(auto, using(crate::proofs::Words::no_word, crate::proofs::Words::word_names))]
+fn word_among(generator: &mut Lcg64Xsh32, enabled: &[ThreadId]) -> Option<ThreadId>
+    ensures { (result, Seeded generator.new) ≡ by_word generator.old enabled.now }
+{
+    let count = enabled.len();
+    if count == 0 {
+        return None;
+    }
+    enabled.get(generator.next_word() as usize % count).copied()
 }
 
 /// Predicts thread 0, which is the next choice as long as it is enabled. Returns `None` if there are no threads.
@@ -199,6 +212,27 @@ impl Chooser {
             Rule::RoundRobin(turns) => turns.next(threads),
             Rule::Seeded(generator) => next_by_word(generator, threads),
             Rule::Alone => alone(threads),
+        }
+    }
+
+    /// Returns whether random words name the threads.
+    pub fn is_seeded(&self) -> bool
+        ensures { result ≡ is_seeded self.now }
+    {
+        matches!(self.rule, Rule::Seeded(_))
+    }
+
+    /// Returns the thread that the next random word names among the enabled threads, which are listed in rising order.
+    /// Without an enabled thread, takes no word and returns `None`.
+    pub fn next_by_word(&mut self, enabled: &[ThreadId]) -> Option<ThreadId>
+        requires { IsTrue (is_seeded self.old) }
+        ensures choice { result ≡ (next self.old enabled.now).0 }
+        ensures after { self.new ≡ (next self.old enabled.now).1 }
+        ensures seeded { IsTrue (is_seeded self.new) }
+    {
+        match &mut self.rule {
+            Rule::Seeded(generator) => word_among(generator, enabled),
+            Rule::Listed(_) | Rule::RoundRobin(_) | Rule::Alone => None,
         }
     }
 

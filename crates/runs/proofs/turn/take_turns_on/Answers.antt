@@ -6,6 +6,9 @@ use Rattle.runs.proofs.turn.take_turns_on.Goals as goal
 pub returns-in_default-clause-taken : goal.returns-in_default-clause-taken
 returns-in_default-clause-taken c = none_on c.args.machine.now c.args.chooser.now c.args.recording.now 0
 
+pub returns-then-suspects-clause-taken : goal.returns-then-suspects-clause-taken
+returns-then-suspects-clause-taken c = none_on c.args.machine.now c.args.chooser.now c.args.recording.now _
+
 pub returns-clause-taken : goal.returns-clause-taken
 returns-clause-taken c =
     let most = c.step_on-times.ensures.most in

@@ -1,0 +1,79 @@
+-- Quiet turns leave the other threads as enabled as they were.
+use Rattle.std.proofs.Common.{ap, false, refl, subst, sym, true, ℕ, ◌∙◌, ◌≡◌}
+use Rattle.std.specs.Borrow.{Bor}
+use Rattle.std.specs.Prelude.{◌≢◌, Err, IfOk, Ok, OnOk, Result}
+use Rattle.enabled_laws.proofs.QuietTurns.{quiet_leaves_enabled}
+use Rattle.enabled_laws.specs.Quiet.{is_quiet, is_quiet_decision, is_quiet_effect}
+use Rattle.jvms_machine.specs.declared.action.Action.{Action}
+use Rattle.jvms_machine.specs.declared.action.Action.TheVariants as action
+use Rattle.jvms_machine.specs.declared.action.Decision.{Decision}
+use Rattle.jvms_machine.specs.declared.action.Decision.TheVariants as decision
+use Rattle.jvms_machine.specs.declared.action.Effect.{Effect}
+use Rattle.jvms_machine.specs.declared.action.Effect.TheVariants as effect
+use Rattle.jvms_machine.specs.Status.{is_bad}
+use Rattle.jvms_program.specs.declared.program.Body.{Body}
+use Rattle.machine_parts.specs.Decided.{seen, seen_action, seen_effect}
+use Rattle.machine_parts.specs.Machine.{Machine, IsMachine, decision_of, row_of, with_state}
+use Rattle.machine_parts.specs.declared.decision.ActionText.{ActionText}
+use Rattle.machine.specs.declared.making.Turn.{Turn}
+use Rattle.machine.specs.Others.{IsLeft, IsQuietTurn, LeavesOthers}
+
+-- ---- The texts of an action don't matter.
+
+effect_seen : (what : Effect ActionText) → is_quiet_effect (seen_effect what) ≡ is_quiet_effect what
+effect_seen effect.Nothing = refl
+effect_seen (effect.GetField r n) = refl
+effect_seen (effect.PutField r n v) = refl
+effect_seen (effect.GetStatic n) = refl
+effect_seen (effect.PutStatic n v) = refl
+effect_seen (effect.LoadElement r i) = refl
+effect_seen (effect.StoreElement r i v) = refl
+effect_seen (effect.Makes what) = refl
+effect_seen (effect.Prints what ends_line) = refl
+effect_seen (effect.Locks monitor) = refl
+effect_seen (effect.Unlocks monitor) = refl
+effect_seen (effect.Starts r u) = refl
+effect_seen (effect.Joins u) = refl
+effect_seen (effect.Notifies r all) = refl
+
+action_seen : (act : Action (Bor Body) ActionText) → is_quiet (seen_action act) ≡ is_quiet act
+action_seen (action.Goes act) = refl
+action_seen (action.Reaches what act) = effect_seen what
+action_seen (action.Begins class) = refl
+action_seen (action.Finishes class) = refl
+action_seen (action.Enters method code locked) = refl
+action_seen (action.Ends method result unlock) = refl
+action_seen (action.Calls method code takes locked) = refl
+action_seen (action.Returns method result unlock) = refl
+action_seen (action.Initialises method code) = refl
+action_seen (action.Throws r) = refl
+action_seen (action.Catches r target) = refl
+action_seen (action.Unwinds method last unlock) = refl
+action_seen (action.FailsToUnlock method e last) = refl
+action_seen (action.FailsInitialisation class e last) = refl
+action_seen (action.Waits w) = refl
+action_seen (action.Retakes w) = refl
+action_seen (action.Raises e) = refl
+action_seen (action.Fails e) = refl
+
+decision_seen : (d : Decision (Bor Body) ActionText) → is_quiet_decision (seen d) ≡ is_quiet_decision d
+decision_seen (decision.Unmade o) = refl
+decision_seen (decision.Makes act) = action_seen act
+
+-- The decision that was made is quiet.
+pub decided_quietly : (m : Machine) (t : ℕ) (what : Decision (Bor Body) ActionText) → seen what ≡ decision_of m t → is_quiet_decision what ≡ true → IsQuietTurn m t
+decided_quietly m t what told quiet = ap is_quiet_decision (sym told) ∙ decision_seen what ∙ quiet
+
+-- A quiet turn leaves each other thread as enabled as it was.
+pub quiet_leaves : (m after : Machine) (t : ℕ) → IsMachine m → IsQuietTurn m t → after ≡ with_state m (row_of m t).state → LeavesOthers m t after
+quiet_leaves m after t is quiet made = subst (LeavesOthers m t) (sym made) (λ u other fit. left u other fit)
+  where
+    left : (u : ℕ) → u ≢ t → is_bad (row_of m u).outcome ≡ false → IsLeft m (with_state m (row_of m t).state) u
+    left u other fit =
+        let both = quiet_leaves_enabled m.program m.limits m.start m.state t u is.classes is.limits is.start is.sound other quiet fit in
+        record { enabled = both.0; fit = both.1 }
+
+-- So it is of a machine that is seen so, in a turn for which there was memory.
+pub others_left : {E : Type 0} (seen m after : Machine) (t : ℕ) (r : Result Turn E) → seen ≡ m → IsMachine seen → IfOk r (λ turn. turn.is_quiet ≡ true → IsQuietTurn seen t) → OnOk r (after ≡ with_state seen (row_of seen t).state) → IfOk r (λ turn. turn.is_quiet ≡ true → LeavesOthers m t after)
+others_left seen m after t (Ok turn) same is tells made = λ quiet. subst (λ (n : Machine). LeavesOthers n t after) same (quiet_leaves seen after t is (tells quiet) made)
+others_left seen m after t (Err e) same is tells made = tt
