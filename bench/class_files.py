@@ -39,20 +39,26 @@ class Pool:
         return u2(len(self.entries) + 1) + b"".join(self.entries)
 
 
-def code(pool, stack, local, instructions):
-    content = u2(stack) + u2(local) + u4(len(instructions)) + instructions + u2(0) + u2(0)
+def counted(parts):
+    return u2(len(parts)) + b"".join(parts)
+
+
+def code(pool, stack, local, instructions, handlers=(), attributes=()):
+    content = u2(stack) + u2(local) + u4(len(instructions)) + instructions + counted(handlers) + counted(attributes)
     return u2(pool.text("Code")) + u4(len(content)) + content
 
 
-def method(pool, name, descriptor, stack, local, instructions):
-    return u2(0x0009) + u2(pool.text(name)) + u2(pool.text(descriptor)) + u2(1) + code(pool, stack, local, instructions)
+def method(pool, name, descriptor, stack, local, instructions, handlers=(), attributes=()):
+    head = u2(0x0009) + u2(pool.text(name)) + u2(pool.text(descriptor)) + u2(1)
+    return head + code(pool, stack, local, instructions, handlers, attributes)
 
 
-def class_file(pool, name, methods, attributes):
-    this, above = pool.name(name), pool.name("java/lang/Object")
+def class_file(pool, name, methods, attributes, fields=(), interfaces=(), above="java/lang/Object", flags=0x0021):
+    this, above = pool.name(name), pool.name(above)
+    named = [u2(pool.name(interface)) for interface in interfaces]
     return (
-        u4(0xCAFEBABE) + u2(0) + u2(49) + pool.spelled() + u2(0x0021) + u2(this) + u2(above) + u2(0) + u2(0)
-        + u2(len(methods)) + b"".join(methods) + u2(len(attributes)) + b"".join(attributes)
+        u4(0xCAFEBABE) + u2(0) + u2(49) + pool.spelled() + u2(flags) + u2(this) + u2(above) + counted(named)
+        + counted(fields) + counted(methods) + counted(attributes)
     )
 
 
@@ -155,4 +161,5 @@ def main():
         (folder / f"{name}.class").write_bytes(make())
 
 
-main()
+if __name__ == "__main__":
+    main()
