@@ -57,13 +57,13 @@ def long_zeros(size, _):
 @shape("0")
 def breakpoints(size, _):
     """breakpoints of one place"""
-    return session(f"break {PLACE} 3\n" * (size // 16 // 38) + "continue\n")
+    return session(f"break {PLACE} 3\n" * (size // 4 // 38) + "continue\n")
 
 
 @shape("0")
 def breakpoints_passed(size, _):
     """breakpoints at a place that isn't met, and a run past them"""
-    count = size // 16 // 32
+    count = size // 4 // 32
     text = main_of(LOOP, method("f", BODY))
     return session("break M.f.()I 0\n" * count + "continue\n", {"M.j": text}, "--max", "2000")
 
@@ -71,7 +71,7 @@ def breakpoints_passed(size, _):
 @shape("0")
 def breakpoints_deleted(size, _):
     """breakpoints that are added and then deleted from the first on"""
-    count = size // 16 // 50
+    count = size // 4 // 50
     return session(f"break {PLACE} 3\n" * count + "".join(f"delete {n + 1}\n" for n in range(count)))
 
 
@@ -95,5 +95,5 @@ def flipped_script(random):
     """a script of the debugger with bytes changed"""
     commands = f"step 8,threads,back 1,frames 0,class M,object 1,break {PLACE} 1,continue,pick 0,trace,".replace(",", "\n")
     made = session("")
-    made.script = flipped(commands.encode() * 3, random)
+    made.script = flipped(commands.encode() * 3, random, 4, 128)
     return made

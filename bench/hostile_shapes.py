@@ -58,9 +58,9 @@ def part_count(size, part):
     return max(1, size // len(part))
 
 
-def flipped(data, random, most=8):
-    """Returns bytes of which a few were changed."""
+def flipped(data, random, most=8, below=256):
+    """Returns bytes of which a few were changed to some below a number."""
     changed = bytearray(data)
     for _ in range(random.randint(1, most)):
-        changed[random.randrange(len(changed))] = random.randrange(256)
+        changed[random.randrange(len(changed))] = random.randrange(below)
     return bytes(changed)

@@ -319,25 +319,27 @@ def example(random, pattern):
 @trial
 def flipped_source(random):
     """sources of the examples with bytes changed"""
-    return asm_of(flipped(example(random, "*.j"), random))
+    return asm_of(flipped(example(random, "*.j"), random, 2, 128))
 
 
 @trial
 def moved_lines(random):
-    """sources of the examples with lines repeated, left out and moved"""
+    """sources of the examples, a line of which was moved, left out or repeated"""
     lines = example(random, "*.j").splitlines(True)
-    kept = sorted(random.choices(lines, k=len(lines)), key=lines.index)
-    return asm_of(b"".join(random.choices(lines, k=5) + kept))
+    moved = lines.pop(random.randrange(len(lines)))
+    for _ in range(random.randrange(3)):
+        lines.insert(random.randrange(len(lines)), moved)
+    return asm_of(b"".join(lines))
 
 
 @trial
 def flipped_trace(random):
     """a short trace with bytes changed"""
     trace = SMALL * 5 + "rd 1 7.C.x.I\nwr 2 7[3]\nacq 1 9\nrel 1 9\nfork 1 2\njoin 1 2\n"
-    return checked("atomic *\n", flipped(trace.encode(), random, 3))
+    return checked("atomic *\n", flipped(trace.encode(), random, 2, 128))
 
 
 @trial
 def flipped_spec(random):
     """a short specification with bytes changed"""
-    return checked(flipped(b"atomic C.m.()V\nplain *\natomic C.*\n#\n\nplain C.m\n", random, 3), SMALL)
+    return checked(flipped(b"atomic C.m.()V\nplain *\natomic C.*\n#\n\nplain C.m\n", random, 2, 128), SMALL)
