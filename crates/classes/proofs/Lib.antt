@@ -12,3 +12,4 @@ pub mod WayLaws
 pub mod AlongLaws
 pub mod NamesLaws
 pub mod SlotLaws
+pub mod StartLaws

@@ -1,11 +1,13 @@
 -- Slots of fields, as they are counted class by class.
-use Rattle.std.specs.Prelude.{ℕ, Bool, true, false, not, ◌+◌, ◌*◌, ◌<◌, ◌≤◌, ◌^◌, List, length, Option, Some, None}
+use Rattle.std.specs.Prelude.{◌≡◌, ℕ, Bool, true, false, not, ◌+◌, ◌-◌, ◌*◌, ◌<◌, ◌≤◌, ◌^◌, List, [], ◌∷◌, length, Option, Some, None, slice_get, unwrap_or}
 use Rattle.std.specs.List.{AllByRecursion, count_by, position_from}
 use Rattle.std.specs.Option.{option_map, option_or}
 use Rattle.jvms_program.specs.declared.key.FieldKey.{FieldKey}
 use Rattle.jvms_program.specs.declared.program.Class.{Class}
 use Rattle.jvms_program.specs.declared.program.Field.{Field}
-use Rattle.jvms_program.specs.Slots.{keys_where, same_key}
+use Rattle.jvms_program.specs.Program.{class_number}
+use Rattle.jvms_program.specs.Slots.{keys_where, same_key, slot_of, static_slot_of}
+use Rattle.classes.specs.declared.slot_starts.FieldStarts.{FieldStarts}
 
 -- Whether a field is static, or whether it isn't.
 abbrev pub is_static_or_not : Bool → Field → Bool
@@ -35,3 +37,43 @@ pub record AreCountable (program : List Class) : Type 0 where
   pub most : ℕ
   pub within : AllByRecursion (λ c. length c.fields ≤ most) program
   pub fit : length program * most < 2 ^ 64
+
+-- ---- Where the slots of each class's fields start
+
+-- How many static fields classes have, or how many instance fields.
+abbrev pub count_of_all : Bool → List Class → ℕ
+count_of_all static [] = 0
+count_of_all static (c ∷ cs) = count_of static c + count_of_all static cs
+
+-- The total of the class of a number, if there is one.
+abbrev pub total_or_zero : List ℕ → Option ℕ → ℕ
+total_or_zero totals None = 0
+total_or_zero totals (Some number) = unwrap_or (slice_get totals number) 0
+
+-- The total of a superclass.
+abbrev pub total_above : List Class → List ℕ → Option (List ℕ) → ℕ
+total_above program totals None = 0
+total_above program totals (Some superclass) = total_or_zero totals (class_number program superclass)
+
+-- The slots of a class's static fields are consecutive from a start on, or those of its instance fields.
+pub record AreSlotsFrom (static : Bool) (c : Class) (slot : FieldKey → Option ℕ) (start : ℕ) : Type 0 where
+  pub each : (key : FieldKey) (place : ℕ) → place_among static key c ≡ Some place → slot key ≡ Some (start + place)
+  pub fit : start + length c.fields < 2 ^ 64
+
+-- A class's total: how many instance fields its superclasses have and it has. Its own slots come last.
+pub record IsTotal (program : List Class) (c : Class) (total : ℕ) : Type 0 where
+  pub within : count_of false c ≤ total
+  pub slots : AreSlotsFrom false c (slot_of program c.name) (total - count_of false c)
+
+-- The total of each class that its name finds.
+pub record AreTotals (program : List Class) (totals : List ℕ) : Type 0 where
+  pub each : (n : ℕ) (c : Class) (total : ℕ) → slice_get program n ≡ Some c → class_number program c.name ≡ Some n → slice_get totals n ≡ Some total → IsTotal program c total
+
+-- The slots of a class's fields start there.
+pub record AreStarts (program : List Class) (c : Class) (starts : FieldStarts) : Type 0 where
+  pub statics : AreSlotsFrom true c (static_slot_of program) starts.statics
+  pub instances : AreSlotsFrom false c (slot_of program c.name) starts.instances
+
+-- Where the slots of each class's fields start. Of some classes nothing is known.
+pub record AreStartsOf (program : List Class) (starts : List (Option FieldStarts)) : Type 0 where
+  pub each : (n : ℕ) (c : Class) (s : FieldStarts) → slice_get program n ≡ Some c → slice_get starts n ≡ Some (Some s) → AreStarts program c s

@@ -6,3 +6,4 @@ pub mod SelectLaws
 pub mod SelectionLaws
 pub mod SpecialLaws
 pub mod ResolutionLaws
+pub mod FieldSlotLaws
