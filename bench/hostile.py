@@ -53,20 +53,10 @@ KNOWN = {
     "missing_fields",
     "missing_methods",
     "missing_in_interfaces",
-    # The slot of each field is found by its name (classes::slots): among the fields of its class, and up its superclasses.
-    "instance_fields",
-    "field_chain",
-    # The slot of a static field is counted over all static fields before it, those of other classes too.
-    "static_fields",
-    "static_field_each",
-    # The reads of a variable since its last write are a list that is searched by thread (accesses::lasts).
-    "threads_that_read",
     # The end of a transaction visits all live ones behind it (atom_order::graph, close_at).
     "open_in_order",
     # A link that leads back moves all live ones behind it (atom_order::graph, link_at).
     "moved_back",
-    # The table of variables hashes by a fixed seed (indexmap's FoldHasher), so keys can be chosen for one place.
-    "same_hash",
     # Each pick copies the choices up to the position (debugger::pick, choices_with).
     "picks",
     # A breakpoint that is deleted is looked for by its number, and those behind it move (debugger::breakpoints).

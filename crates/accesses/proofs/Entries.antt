@@ -1,56 +1,16 @@
 -- Entries that are found, added and made ready.
-use Rattle.std.proofs.Common.{◌≡◌, ℕ, zero, suc, ◌+◌, ◌==◌, Bool, true, false, cond, not, if◌then◌else◌, List, [], ◌∷◌, ◌++◌, map, set, Option, Some, None, MatchOption, Result, Ok, Err, OnOk, refl, sym, ap, ◌∙◌, subst, true≢false, slice_get, is_some, arith}
-use Rattle.std.specs.List.{AllByRecursion, position, position_from, position_or_len}
-use Rattle.std.specs.Map.{keys_of, lookup, values_of}
-use Rattle.std.proofs.lemmas.Iterator.Adapters.{position_from-zero}
+use Rattle.std.proofs.Common.{◌≡◌, ℕ, zero, suc, true, false, List, [], ◌∷◌, ◌++◌, map, Option, Some, None, MatchOption, Result, Ok, Err, OnOk, refl, sym, ap, ◌∙◌, subst, true≢false, slice_get}
+use Rattle.std.specs.Map.{values_of}
 use Rattle.std.proofs.lemmas.Option.{none-some, same_Some}
-use Rattle.indexmap.specs.IndexMap.{set_value_at}
-use Rattle.jvms_machine.proofs.SearchLaws.{none_passes}
 use Rattle.accesses.specs.Accesses.{Access, Last, Place, main_at}
-use Rattle.accesses.specs.Kept.{HasSpare, beside_last, kept_at, kept_in, main_lasts, replaced}
-use Rattle.accesses.specs.OnePlace.{one_place, same_keys}
+use Rattle.accesses.specs.Kept.{HasSpare, beside_last, kept_at, kept_in, main_lasts}
 use Rattle.accesses.specs.Places.{place_of}
-use Rattle.accesses.specs.Rooms.{HasRoomAt, IsEntryOf, IsReady}
+use Rattle.accesses.specs.Rooms.{HasRoomAt, IsEntryOf, IsReady, set_value_at}
 use Rattle.accesses.specs.declared.lasts.Lasts.{Lasts}
-use Rattle.accesses.specs.declared.lasts.Noted.{Noted}
 use Rattle.accesses.specs.declared.place.Place.{Place as Key}
 
 abbrev Table : Type 0
 Table = List (Key × Lasts)
-
--- ---- Options
-
-pub none_of : {X : Type 0} (o : Option X) → false ≡ is_some o → o ≡ None
-none_of None is = refl
-none_of (Some x) is = absurd (true≢false (sym is))
-
--- ---- The access of a thread among those beside the main one
-
-abbrev of_thread : Noted → Noted → Bool
-of_thread n m = m.thread == n.thread
-
-replaced_from : (n : Noted) (ms : List Noted) (o i : ℕ) → position_from (of_thread n) o ms ≡ Some i → (j : ℕ) × (i ≡ o + j) × (replaced n ms ≡ set ms j n)
-replaced_from n [] o i is = absurd (none-some i is)
-replaced_from n (m ∷ ms) o i is = by (of_thread n m) (replaced_from n ms (o + 1) i) is
-  where
-    by : (b : Bool) → (position_from (of_thread n) (o + 1) ms ≡ Some i → (j : ℕ) × (i ≡ (o + 1) + j) × (replaced n ms ≡ set ms j n)) → cond b (Some o) (position_from (of_thread n) (o + 1) ms) ≡ Some i
-        → (j : ℕ) × (i ≡ o + j) × ((if b then n ∷ ms else m ∷ replaced n ms) ≡ set (m ∷ ms) j n)
-    by true rest at = let same : o ≡ i = same_Some o i at in (0, omega arith, refl)
-    by false rest at = let w = rest at in let far : i ≡ (o + 1) + w.0 = w.1 in (suc w.0, omega arith, ap (λ (xs : List Noted). m ∷ xs) w.2)
-
-pub replaced_there : (n : Noted) (ms : List Noted) (i : ℕ) → Some i ≡ position (of_thread n) ms → set ms i n ≡ replaced n ms
-replaced_there n ms i is =
-    let w = replaced_from n ms 0 i (sym (position_from-zero (of_thread n) ms) ∙ sym is) in
-    let far : i ≡ 0 + w.0 = w.1 in
-    let same : i ≡ w.0 = omega arith in
-    ap (λ (j : ℕ). set ms j n) same ∙ sym w.2
-
-replaced_all : (n : Noted) (ms : List Noted) → AllByRecursion (λ m. of_thread n m ≡ false) ms → ms ++ n ∷ [] ≡ replaced n ms
-replaced_all n [] all = refl
-replaced_all n (m ∷ ms) all = ap (λ (xs : List Noted). m ∷ xs) (replaced_all n ms all.1) ∙ sym (ap (λ (b : Bool). if b then n ∷ ms else m ∷ replaced n ms) all.0)
-
-pub replaced_last : (n : Noted) (ms : List Noted) → None ≡ position (of_thread n) ms → ms ++ n ∷ [] ≡ replaced n ms
-replaced_last n ms is = replaced_all n ms (none_passes (of_thread n) ms (sym is))
 
 -- ---- Entries by place
 
@@ -115,36 +75,6 @@ found_map P Q f (Some x) is = f x is
 
 pub found_out : {X : Type 0} (P : X → Type 0) (xs : List X) (i : ℕ) (x : X) → slice_get xs i ≡ Some x → IsFound xs i P → P x
 found_out P xs i x at is = subst (λ (o : Option _). MatchOption o ⊥ P) at is
-
-passes_from : (q : Key) (es : Table) (o i : ℕ) → position_from (same_keys q) o (keys_of es) ≡ Some i → (j : ℕ) × (i ≡ o + j) × IsFound es j (λ e. same_keys q e.0 ≡ true)
-passes_from q [] o i is = absurd (none-some i is)
-passes_from q (e ∷ es) o i is = by (same_keys q e.0) refl (passes_from q es (o + 1) i) is
-  where
-    by : (b : Bool) → same_keys q e.0 ≡ b → (position_from (same_keys q) (o + 1) (keys_of es) ≡ Some i → (j : ℕ) × (i ≡ (o + 1) + j) × IsFound es j (λ d. same_keys q d.0 ≡ true)) → cond b (Some o) (position_from (same_keys q) (o + 1) (keys_of es)) ≡ Some i
-        → (j : ℕ) × (i ≡ o + j) × IsFound (e ∷ es) j (λ d. same_keys q d.0 ≡ true)
-    by true passes rest at = let same : o ≡ i = same_Some o i at in (0, omega arith, passes)
-    by false passes rest at = let w = rest at in let far : i ≡ (o + 1) + w.0 = w.1 in (suc w.0, omega arith, w.2)
-
-pub entry_found : (q : Key) (es : Table) (i : ℕ) → Some i ≡ position (same_keys q) (keys_of es) → IsEntryOf es i (place_of q)
-entry_found q es i is =
-    let w = passes_from q es 0 i (sym (position_from-zero (same_keys q) (keys_of es)) ∙ sym is) in
-    let far : i ≡ 0 + w.0 = w.1 in
-    let same : w.0 ≡ i = omega arith in
-    subst (λ (j : ℕ). IsEntryOf es j (place_of q)) same
-    (found_map (λ e. same_keys q e.0 ≡ true) (λ e. place_of e.0 ≡ place_of q) (λ e one. sym (one_place (place_of q) (place_of e.0) one)) (slice_get es w.0) w.2)
-
--- A new entry is the last.
-pub entry_added : (q : Key) (es : Table) (l : Lasts) → lookup (same_keys q) es ≡ None → IsEntryOf (es ++ (q, l) ∷ []) (position_or_len (same_keys q) (keys_of es)) (place_of q)
-entry_added q [] l is = refl
-entry_added q (e ∷ es) l is = by (same_keys q e.0) (entry_added q es l) is
-  where
-    by : (b : Bool) → (lookup (same_keys q) es ≡ None → IsEntryOf (es ++ (q, l) ∷ []) (position_or_len (same_keys q) (keys_of es)) (place_of q)) → cond b (Some e.1) (lookup (same_keys q) es) ≡ None
-        → IsEntryOf (e ∷ (es ++ (q, l) ∷ [])) (cond (not b) (1 + position_or_len (same_keys q) (keys_of es)) 0) (place_of q)
-    by true rest none = absurd (none-some e.1 (sym none))
-    by false rest none =
-        let n = position_or_len (same_keys q) (keys_of es) in
-        let next : suc n ≡ 1 + n = omega arith in
-        subst (λ (m : ℕ). IsEntryOf (e ∷ (es ++ (q, l) ∷ [])) m (place_of q)) next (rest none)
 
 -- The entry of a value.
 pub entry_at : (es : Table) (i : ℕ) (l : Lasts) → Some l ≡ slice_get (values_of es) i → (e : Key × Lasts) × (slice_get es i ≡ Some e) × (l ≡ e.1)

@@ -5,3 +5,5 @@ pub mod Found
 pub mod Members
 pub mod Noted
 pub mod Noting
+pub mod Tabled
+pub mod Ways

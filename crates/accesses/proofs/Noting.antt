@@ -1,6 +1,5 @@
 -- What is kept once an access is noted.
 use Rattle.std.proofs.Common.{◌≡◌, ℕ, zero, suc, ◌==◌, Bool, true, false, if◌then◌else◌, List, [], ◌∷◌, ◌++◌, map, Some, ◌⊎◌, inl, inr, ⊎_elim, refl, sym, ap, ◌∙◌, subst, true≢false, slice_get}
-use Rattle.indexmap.specs.IndexMap.{set_value_at}
 use Rattle.std.proofs.lemmas.Bool.{eqb-true}
 use Rattle.std.proofs.lemmas.Option.{none-some, same_Some}
 use Rattle.jvms_machine.specs.declared.trace.Item.{Item}
@@ -11,6 +10,7 @@ use Rattle.accesses.specs.Accesses.{Access, IsNoted, Last, OfThread, Place, Take
 use Rattle.accesses.specs.Kept.{IsBesideNoted, IsMainNoted, IsNotedIn, beside_last, kept_at, kept_in, main_last, main_lasts, replaced}
 use Rattle.accesses.specs.OnePlace.{place_itself}
 use Rattle.accesses.specs.Places.{place_of}
+use Rattle.accesses.specs.Rooms.{set_value_at}
 use Rattle.accesses.specs.declared.lasts.Lasts.{Lasts}
 use Rattle.accesses.specs.declared.lasts.Noted.{Noted}
 use Rattle.accesses.specs.declared.place.Place.{Place as Key}

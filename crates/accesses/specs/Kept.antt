@@ -1,6 +1,6 @@
 -- What is kept of a trace, by place: the last main access, and the last one beside it by each thread since (Velodrome,
 -- section 4: the last write of a variable, and the last read of it by each thread; of threads and monitors own).
-use Rattle.std.specs.Prelude.{◌≡◌, ◌<◌, ◌==◌, Bool, true, false, if◌then◌else◌, List, [], ◌∷◌, ◌++◌, map, Option, Some, None, vec_len, vec_capacity}
+use Rattle.std.specs.Prelude.{◌≡◌, ◌<◌, ◌==◌, Bool, true, false, if◌then◌else◌, List, [], ◌∷◌, ◌++◌, map, Option, Some, None, length}
 use Rattle.accesses.specs.Accesses.{Place, Last, main_at, beside_at, last_of}
 use Rattle.accesses.specs.Places.{place_of}
 use Rattle.accesses.specs.declared.place.Place.{Place as Key}
@@ -32,7 +32,7 @@ replaced n (m ∷ ms) = if m.thread == n.thread then n ∷ ms else m ∷ replace
 
 -- One beside has room for one more.
 abbrev pub HasSpare : Lasts → Type 0
-HasSpare l = vec_len l.beside < vec_capacity l.beside
+HasSpare l = length l.beside.items < l.beside.capacity
 
 -- A main access was noted: it is all that is kept at its place.
 pub record IsMainNoted (n : Noted) (old new : Lasts) : Type 0 where

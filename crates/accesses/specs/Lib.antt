@@ -1,7 +1,11 @@
 pub mod Accesses
+pub mod ByThread
 pub mod Kept
 pub mod Links
 pub mod OnePlace
+pub mod Ordered
 pub mod Places
+pub mod Room
 pub mod Rooms
+pub mod Tables
 pub mod Touches

@@ -1,5 +1,5 @@
 -- Keys of places are one where their test says so: the laws that the table of them needs (own).
-use Rattle.std.proofs.Common.{◌≡◌, ℕ, Bool, true, false, ◌==◌, List, refl, sym, ap, ◌∙◌, subst, true≢false, IsTrue}
+use Rattle.std.proofs.Common.{◌≡◌, ℕ, Bool, true, false, ◌==◌, List, refl, sym, ap, ◌∙◌, subst, true≢false}
 use Rattle.std.specs.Cmp.{IsEquivalence}
 use Rattle.std.specs.Cmp.Lexicographic.{bytes_decides}
 use Rattle.std.proofs.lemmas.Bool.{and_from, and_parts, eq-eqb, eqb-true}
@@ -10,7 +10,7 @@ use Rattle.jvms_machine.specs.declared.trace.Variable.{Variable}
 use Rattle.jvms_machine.specs.declared.trace.Variable.TheVariants as variable
 use Rattle.velodrome.specs.Conflicts.{same_variable}
 use Rattle.accesses.specs.Accesses.{Place, OfThread, OfMonitor, OfVariable, same_place}
-use Rattle.accesses.specs.Places.{place_of, key_input}
+use Rattle.accesses.specs.Places.{place_of}
 use Rattle.accesses.specs.declared.place.Place.{Place as Key}
 use Rattle.accesses.specs.declared.place.Place.TheVariants as key
 
@@ -106,5 +106,5 @@ key_again (key.OfThread t) = refl
 key_again (key.OfMonitor r) = refl
 key_again (key.OfVariable v) = refl
 
-pub alike_keys : (a b : Key) → IsTrue (same_keys a b) → key_input a ≡ key_input b
-alike_keys a b same = ap key_input (sym (key_again a) ∙ ap key_of (one_place (place_of a) (place_of b) same) ∙ key_again b)
+pub one_key_of : (a b : Key) → same_keys a b ≡ true → a ≡ b
+one_key_of a b same = sym (key_again a) ∙ ap key_of (one_place (place_of a) (place_of b) same) ∙ key_again b

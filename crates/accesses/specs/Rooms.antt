@@ -1,5 +1,5 @@
 -- What is remembered of a trace, and the room for an item (own).
-use Rattle.std.specs.Prelude.{◌≡◌, ℕ, false, List, [], ◌∷◌, Option, Some, None, slice_get, MatchOption}
+use Rattle.std.specs.Prelude.{◌≡◌, ℕ, zero, suc, false, List, [], ◌∷◌, Option, Some, None, slice_get, MatchOption}
 use Rattle.jvms_machine.specs.declared.trace.Item.{Item}
 use Rattle.velodrome.specs.Conflicts.{thread_of}
 use Rattle.accesses.specs.Accesses.{Access, Last, OfThread, Place, main_at, accesses_beside}
@@ -8,7 +8,6 @@ use Rattle.accesses.specs.Links.{AreAt}
 use Rattle.accesses.specs.Places.{place_of}
 use Rattle.accesses.specs.Touches.{touched_at}
 use Rattle.accesses.specs.declared.place.Place.{Place as Key}
-use Rattle.indexmap.specs.IndexMap.{set_value_at}
 use Rattle.accesses.specs.declared.lasts.Lasts.{Lasts}
 use Rattle.accesses.specs.declared.lasts.Noted.{Noted}
 use Rattle.accesses.specs.declared.slot.Slot.{Slot}
@@ -43,6 +42,12 @@ AreReady es _ _ = ⊥
 pub record HasRoom (r : Remembered) (i : Item) : Type 0 where
   pub own : IsReady r.entries r.own (main_at (OfThread (thread_of i)))
   pub touched : AreReady r.entries r.touched (accesses_beside i)
+
+-- An entry keeps something else.
+abbrev pub set_value_at : List (Key × Lasts) → ℕ → Lasts → List (Key × Lasts)
+set_value_at [] n l = []
+set_value_at (e ∷ es) zero l = (e.0, l) ∷ es
+set_value_at (e ∷ es) (suc n) l = e ∷ set_value_at es n l
 
 -- An access was noted at an entry.
 pub record IsNotedAt (s : Slot) (n : Noted) (old new : List (Key × Lasts)) : Type 0 where

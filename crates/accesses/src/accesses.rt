@@ -1,7 +1,6 @@
 //! The last accesses of a trace.
 
 ghost use Rattle.std.specs.Prelude.{◌≡◌, ℕ, [], ◌∷◌, false, None, Some, IfOk, IfSome, OnOk, MatchOption, slice_get};
-ghost use Rattle.indexmap.specs.IndexMap.{get};
 ghost use Rattle.velodrome.specs.Conflicts.{thread_of};
 ghost use Rattle.accesses.specs.Accesses.{AreLinks, IsNoted, OfThread, Place as Kind, accesses_beside, main_at};
 ghost use Rattle.accesses.specs.Kept.{HasSpare, kept_at, kept_in};
@@ -17,9 +16,9 @@ use crate::lasts::{Lasts, Noted};
 use crate::place::Place;
 use crate::slot::Slot;
 use crate::sums::sum_of_touched;
+use crate::table::Table;
 use crate::touch::{Touch, own, thread_of, touched, touches_mainly};
 use atom_order::Link;
-use indexmap::IndexMap;
 use jvms_machine::trace::Item;
 use std::alloc::{AllocError, Global};
 use std::marker::Model;
@@ -28,7 +27,7 @@ use std::marker::Model;
 /// Contracts see them by place, with the entries that were made ready for an item.
 #[derive(Drop)]
 pub struct Accesses {
-    lasts: IndexMap<Place, Lasts>,
+    lasts: Table,
     /// The entry that was made ready for an item as one of its thread.
     own: usize,
     /// The entry that was made ready for what the item's thread touches.
@@ -53,7 +52,7 @@ impl Accesses {
         ensures { kept_of result ≡ [] }
     {
         Accesses {
-            lasts: IndexMap::new(alloc),
+            lasts: Table::new(alloc),
             own: 0,
             touched: None,
             threads: Guesses::new(alloc),
@@ -139,8 +138,8 @@ impl Accesses {
     fn lasts_at(&self, place: &Place) -> Option<&Lasts>
         ensures { MatchOption result (AreAt (kept_of self.now) (place_of place.now) []) (λ l. AreAt (kept_of self.now) (place_of place.now) (kept_at (place_of place.now) l.now)) }
     {
-        let index = self.lasts.get_index_of(place)?;
-        let (_, lasts) = self.lasts.get_index(index)?;
+        let index = self.lasts.index_of(place)?;
+        let (_, lasts) = self.lasts.get(index)?;
         Some(lasts)
     }
 
@@ -164,7 +163,7 @@ impl Accesses {
         if let Some(_) = of_thread(&self.lasts, guess, thread) {
             return Ok(guess);
         }
-        let index = enter(&mut self.lasts, Place::OfThread(thread), self.alloc)?;
+        let index = self.lasts.enter(Place::OfThread(thread))?;
         self.threads.note(thread, index)?;
         Ok(index)
     }
@@ -194,7 +193,7 @@ impl Accesses {
     {
         let is_main = touches_mainly(item);
         if !is_main {
-            make_room(&mut self.lasts, index)?;
+            self.lasts.make_room(index)?;
         }
         self.touched = Some(Slot { index, is_main });
         Ok(())
@@ -226,9 +225,9 @@ impl Accesses {
         ensures places { (n : ℕ) (p : Kind) → IsEntryOf self.old.entries n p → IsEntryOf self.new.entries n p }
     {
         let is_main = touch.is_main;
-        let index = enter(&mut self.lasts, touch.place, self.alloc)?;
+        let index = self.lasts.enter(touch.place)?;
         if !is_main {
-            make_room(&mut self.lasts, index)?;
+            self.lasts.make_room(index)?;
         }
         Ok(Slot { index, is_main })
     }
@@ -247,60 +246,10 @@ impl Accesses {
             index: self.own,
             is_main: true,
         };
-        note_at(&mut self.lasts, own, noted);
+        self.lasts.note_at(own, noted);
         match self.touched {
-            Some(slot) => note_at(&mut self.lasts, slot, noted),
+            Some(slot) => self.lasts.note_at(slot, noted),
             None => {}
         }
-    }
-}
-
-/// The entry of a place, which is made if there is none yet.
-fn enter(
-    lasts: &mut IndexMap<Place, Lasts>,
-    place: Place,
-    alloc: Global,
-) -> Result<usize, AllocError>
-    ensures same { kept_in lasts.new.entries ≡ kept_in lasts.old.entries }
-    ensures at { IfOk result (λ n. IsEntryOf lasts.new.entries n (place_of place)) }
-    ensures places { (n : ℕ) (p : Kind) → IsEntryOf lasts.old.entries n p → IsEntryOf lasts.new.entries n p }
-{
-    match lasts.get_index_of(&place) {
-        Some(index) => Ok(index),
-        None => add(lasts, place, alloc),
-    }
-}
-
-/// The entry of a place that has none yet: it is put behind the others.
-fn add(lasts: &mut IndexMap<Place, Lasts>, place: Place, alloc: Global) -> Result<usize, AllocError>
-    requires { get same_keys lasts.old place ≡ None }
-    ensures same { kept_in lasts.new.entries ≡ kept_in lasts.old.entries }
-    ensures at { IfOk result (λ n. IsEntryOf lasts.new.entries n (place_of place)) }
-    ensures places { (n : ℕ) (p : Kind) → IsEntryOf lasts.old.entries n p → IsEntryOf lasts.new.entries n p }
-{
-    let (index, _) = lasts.insert_full(place, Lasts::new(alloc))?;
-    Ok(index)
-}
-
-/// Takes the memory for one more access beside the main one of an entry.
-fn make_room(lasts: &mut IndexMap<Place, Lasts>, index: usize) -> Result<(), AllocError>
-    ensures same { kept_in lasts.new.entries ≡ kept_in lasts.old.entries }
-    ensures room { OnOk result (HasRoomAt lasts.new.entries index) }
-    ensures places { (n : ℕ) (p : Kind) → IsEntryOf lasts.old.entries n p → IsEntryOf lasts.new.entries n p }
-{
-    match lasts.get_index_mut(index) {
-        Some(last) => last.reserve(),
-        None => Ok(()),
-    }
-}
-
-/// Notes an access at its entry.
-fn note_at(lasts: &mut IndexMap<Place, Lasts>, slot: Slot, noted: Noted)
-    requires { MatchOption (slice_get lasts.old.entries slot.index) ⊥ (λ e. slot.is_main ≡ false → HasSpare e.1) }
-    ensures { IsNotedAt slot noted lasts.old.entries lasts.new.entries }
-{
-    match lasts.get_index_mut(slot.index) {
-        Some(last) => last.note(slot.is_main, noted),
-        None => {}
     }
 }

@@ -7,23 +7,18 @@ ghost use Rattle.accesses.specs.Links.{AreAt};
 ghost use Rattle.accesses.specs.Rooms.{IsEntryOf, IsTouchedAt};
 
 use crate::lasts::Lasts;
-use crate::place::{Place, is_thread};
+use crate::place::is_thread;
+use crate::table::Table;
 use crate::touch::is_touched;
-use indexmap::IndexMap;
 use jvms_machine::machine::ThreadId;
 use jvms_machine::trace::Item;
 
 /// What an entry keeps, if it is a thread's.
-pub fn of_thread<'m>(
-    lasts: &'m IndexMap<Place, Lasts>,
-    index: usize,
-    thread: ThreadId,
-) -> Option<&'m Lasts>
+pub fn of_thread<'m>(lasts: &'m Table, index: usize, thread: ThreadId) -> Option<&'m Lasts>
     ensures entry { IfSome result (λ l. IsEntryOf lasts.now.entries index (OfThread thread)) }
     ensures kept { IfSome result (λ l. AreAt (kept_in lasts.now.entries) (OfThread thread) (kept_at (OfThread thread) l.now)) }
 {
-    let _count = lasts.len();
-    let (place, found) = lasts.get_index(index)?;
+    let (place, found) = lasts.get(index)?;
     if is_thread(place, thread) {
         Some(found)
     } else {
@@ -32,15 +27,10 @@ pub fn of_thread<'m>(
 }
 
 /// What an entry keeps, if it is of what an item's thread touches besides.
-pub fn of_touched<'m>(
-    lasts: &'m IndexMap<Place, Lasts>,
-    index: usize,
-    item: &Item,
-) -> Option<&'m Lasts>
+pub fn of_touched<'m>(lasts: &'m Table, index: usize, item: &Item) -> Option<&'m Lasts>
     ensures { IfSome result (λ l. IsTouchedAt lasts.now.entries index item.now l.now) }
 {
-    let _count = lasts.len();
-    let (place, found) = lasts.get_index(index)?;
+    let (place, found) = lasts.get(index)?;
     if is_touched(item, place) {
         Some(found)
     } else {

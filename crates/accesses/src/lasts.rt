@@ -1,10 +1,10 @@
 //! The last accesses of one place.
 
-ghost use Rattle.std.specs.Prelude.{◌≡◌, ◌==◌, ◌++◌, [], None, OnOk, false, map};
-ghost use Rattle.std.specs.List.{position};
+ghost use Rattle.std.specs.Prelude.{◌≡◌, ◌++◌, [], None, OnOk, false};
 ghost use Rattle.accesses.specs.Kept.{HasSpare, IsNotedIn, IsMainNoted, IsBesideNoted};
 ghost use Rattle.accesses.specs.Links.{link_from, links_of, main_links};
 
+use crate::by_thread::ByThread;
 use atom_order::Link;
 use jvms_machine::machine::ThreadId;
 use std::alloc::{AllocError, Global};
@@ -23,7 +23,7 @@ pub struct Noted {
 
 impl Noted {
     /// The link from it to an event of a number.
-    fn link(self, number: u64) -> Link
+    pub fn link(self, number: u64) -> Link
         ensures { result ≡ link_from number self }
     {
         Link {
@@ -41,8 +41,8 @@ impl Noted {
 pub struct Lasts {
     /// The last main access.
     pub main: Option<Noted>,
-    /// Those beside it since then, in no order that matters.
-    pub beside: Vec<Noted>,
+    /// Those beside it since then, by thread.
+    pub beside: ByThread,
 }
 
 impl Lasts {
@@ -53,7 +53,7 @@ impl Lasts {
     {
         Lasts {
             main: None,
-            beside: Vec::new(alloc),
+            beside: ByThread::new(alloc),
         }
     }
 
@@ -63,7 +63,7 @@ impl Lasts {
         ensures beside { self.new.beside.items ≡ self.old.beside.items }
         ensures room { OnOk result (HasSpare self.new) }
     {
-        self.beside.reserve(1)
+        self.beside.reserve()
     }
 
     /// Notes an access in the place of those that it is against, and of the one of its thread.
@@ -86,22 +86,12 @@ impl Lasts {
         self.beside.clear();
     }
 
-    /// Where the access beside the main one of a thread stands.
-    fn index_of(&self, thread: ThreadId) -> Option<usize>
-        ensures { result ≡ position (λ n. n.thread == thread) self.now.beside.items }
-    {
-        self.beside.iter().position(|last| last.thread == thread)
-    }
-
     /// Notes an access beside the main one in the place of that of its thread.
     fn note_beside(&mut self, noted: Noted)
         requires { HasSpare self.old }
         ensures { IsBesideNoted noted self.old self.new }
     {
-        match self.index_of(noted.thread) {
-            Some(index) => self.beside[index] = noted,
-            None => self.beside.push_reserved(noted),
-        }
+        self.beside.note(noted);
     }
 
     /// Adds the links to an event of a number: from all accesses, or from the main one alone.
@@ -115,7 +105,7 @@ impl Lasts {
     {
         self.push_main(number, links)?;
         if is_main {
-            return self.push_beside(number, links);
+            return self.beside.push_links(number, links);
         }
         Ok(())
     }
@@ -125,16 +115,6 @@ impl Lasts {
         ensures { OnOk result (links.new.items ≡ links.old.items ++ main_links number self.now.main) }
     {
         if let Some(last) = self.main {
-            links.push(last.link(number))?;
-        }
-        Ok(())
-    }
-
-    /// Adds the links from the accesses beside it.
-    fn push_beside(&self, number: u64, links: &mut Vec<Link>) -> Result<(), AllocError>
-        ensures { OnOk result (links.new.items ≡ links.old.items ++ map (link_from number) self.now.beside.items) }
-    {
-        for last in &self.beside {
             links.push(last.link(number))?;
         }
         Ok(())

@@ -2,6 +2,7 @@
 #![tactic(auto)]
 
 mod accesses;
+mod by_thread;
 mod guesses;
 mod indexed;
 mod lasts;
@@ -9,7 +10,9 @@ pub mod laws;
 mod place;
 mod slot;
 mod sums;
+mod table;
 mod touch;
 
 pub use accesses::Accesses;
 pub use sums::{sum_of_item, sum_of_touched};
+pub use touch::thread_of;

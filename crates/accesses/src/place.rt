@@ -1,18 +1,20 @@
 //! Where events meet.
 
-ghost use Rattle.std.specs.Prelude.{◌≡◌, ◌++◌, fold, IfOk};
-ghost use Rattle.std.specs.Hash as fed;
-ghost use Rattle.std.specs.Cmp.{partial_equiv_from_equiv};
-ghost use Rattle.accesses.specs.Places.{place_of, key_input, variable_input, field_input};
+ghost use Rattle.std.specs.Prelude.{◌≡◌, refl, IfOk};
+ghost use Rattle.std.specs.Cmp.{partial_equiv_from_equiv, partial_order_from_agreeing_total};
+ghost use Rattle.std.specs.Cmp.Lexicographic.{slice_cmp};
+ghost use Rattle.std.specs.Ordering.{as_partial_cmp, nat_cmp, ordering_then};
+ghost use Rattle.accesses.specs.Places.{place_of};
 ghost use Rattle.accesses.specs.Accesses.{OfThread, OfMonitor, OfVariable, same_place};
 ghost use Rattle.velodrome.specs.Conflicts.{same_variable};
-ghost use Rattle.accesses.specs.OnePlace.{keys_equiv, alike_keys};
+ghost use Rattle.accesses.specs.OnePlace.{keys_equiv};
+ghost use Rattle.accesses.specs.Ordered.{cmp_is_same, field_of, first_of, kind_of, numbers_cmp, place_cmp, place_total, second_of};
 
 use jvms_machine::machine::ThreadId;
 use jvms_machine::trace::Variable;
 use jvms_program::key::FieldKey;
 use std::alloc::AllocError;
-use std::hash::{Hash, Hasher};
+use std::cmp::Ordering;
 
 /// Where events meet: a thread, an object's monitor, or a variable.
 #[derive(Debug, Drop)]
@@ -43,23 +45,121 @@ impl Eq for Place {
     ghost laws = { keys_equiv };
 }
 
-impl Hash for Place {
-    ghost hash_input = { key_input };
+impl PartialOrd for Place {
+    ghost partial_cmp = { as_partial_cmp place_cmp };
 
-    ghost respects_eq = { alike_keys };
+    ghost laws = { partial_order_from_agreeing_total place_cmp place_total (λ x y. refl) cmp_is_same };
 
-    fn hash<H: Hasher>(&self, state: &mut H) {
+    fn partial_cmp(&self, other: &Place) -> Option<Ordering> {
+        Some(self.cmp(other))
+    }
+}
+
+impl Ord for Place {
+    ghost cmp = { place_cmp };
+
+    ghost total = { place_total };
+
+    ghost matches_partial_cmp = { λ x y. refl };
+
+    ghost matches_eq = { cmp_is_same };
+
+    fn cmp(&self, other: &Place) -> Ordering {
+        let numbers = self.compared_by_numbers(other);
+        let names = then_texts(numbers, self.name(), other.name());
+        let classes = then_texts(names, self.class(), other.class());
+        then_texts(classes, self.descriptor(), other.descriptor())
+    }
+}
+
+impl Place {
+    /// Returns a number for each kind of places.
+    fn kind(&self) -> u8
+        ensures { result ≡ kind_of self.now }
+    {
         match self {
-            Place::OfThread(thread) => {
-                state.write_u8(0);
-                thread.hash(state);
-            }
-            Place::OfMonitor(reference) => {
-                state.write_u8(1);
-                reference.hash(state);
-            }
-            Place::OfVariable(variable) => hash_variable(variable, state),
+            Place::OfThread(_) => 0,
+            Place::OfMonitor(_) => 1,
+            Place::OfVariable(Variable::Instance { .. }) => 2,
+            Place::OfVariable(Variable::Static { .. }) => 3,
+            Place::OfVariable(Variable::Element { .. }) => 4,
         }
+    }
+
+    /// Returns its thread or its reference: 0 if it has none.
+    fn first(&self) -> u32
+        ensures { result ≡ first_of self.now }
+    {
+        match self {
+            Place::OfThread(thread) => *thread,
+            Place::OfMonitor(reference) => *reference,
+            Place::OfVariable(Variable::Instance { reference, .. }) => *reference,
+            Place::OfVariable(Variable::Static { .. }) => 0,
+            Place::OfVariable(Variable::Element { reference, .. }) => *reference,
+        }
+    }
+
+    /// Returns the index of its element: 0 if it is none.
+    fn second(&self) -> u32
+        ensures { result ≡ second_of self.now }
+    {
+        match self {
+            Place::OfVariable(Variable::Element { index, .. }) => *index,
+            _ => 0,
+        }
+    }
+
+    /// Returns the name of its field: none if it has no field.
+    fn name(&self) -> &[u16]
+        ensures { result.now ≡ (field_of self.now).name }
+    {
+        match self {
+            Place::OfVariable(Variable::Instance { field, .. }) => field.name.as_slice(),
+            Place::OfVariable(Variable::Static { field }) => field.name.as_slice(),
+            _ => &[],
+        }
+    }
+
+    /// Returns the class of its field: none if it has no field.
+    fn class(&self) -> &[u16]
+        ensures { result.now ≡ (field_of self.now).class }
+    {
+        match self {
+            Place::OfVariable(Variable::Instance { field, .. }) => field.class.as_slice(),
+            Place::OfVariable(Variable::Static { field }) => field.class.as_slice(),
+            _ => &[],
+        }
+    }
+
+    /// Returns the descriptor of its field: none if it has no field.
+    fn descriptor(&self) -> &[u16]
+        ensures { result.now ≡ (field_of self.now).descriptor }
+    {
+        match self {
+            Place::OfVariable(Variable::Instance { field, .. }) => field.descriptor.as_slice(),
+            Place::OfVariable(Variable::Static { field }) => field.descriptor.as_slice(),
+            _ => &[],
+        }
+    }
+
+    /// Compares kinds and numbers.
+    fn compared_by_numbers(&self, other: &Place) -> Ordering
+        ensures { result ≡ numbers_cmp self.now other.now }
+    {
+        let kinds = self.kind().cmp(&other.kind());
+        let firsts = self.first().cmp(&other.first());
+        let seconds = self.second().cmp(&other.second());
+        kinds.then(firsts).then(seconds)
+    }
+}
+
+/// Returns an order, or where it is none that of two texts.
+fn then_texts<'x>(order: Ordering, one: &'x [u16], other: &'x [u16]) -> Ordering
+    ensures { result ≡ ordering_then order (slice_cmp nat_cmp one.now other.now) }
+{
+    match order {
+        Ordering::Equal => Ord::cmp(&one, &other),
+        decided => decided,
     }
 }
 
@@ -93,37 +193,6 @@ pub fn is_variable(place: &Place, variable: &Variable) -> bool
     }
 }
 
-/// Hashes a variable.
-fn hash_variable<H: Hasher>(variable: &Variable, state: &mut H)
-    ensures { state.new ≡ fold H.write state.old (variable_input variable.now) }
-{
-    match variable {
-        Variable::Instance { reference, field } => {
-            state.write_u8(2);
-            reference.hash(state);
-            hash_field(field, state);
-        }
-        Variable::Static { field } => {
-            state.write_u8(3);
-            hash_field(field, state);
-        }
-        Variable::Element { reference, index } => {
-            state.write_u8(4);
-            reference.hash(state);
-            index.hash(state);
-        }
-    }
-}
-
-/// Hashes the key of a field.
-fn hash_field<H: Hasher>(field: &FieldKey, state: &mut H)
-    ensures { state.new ≡ fold H.write state.old (field_input field.now) }
-{
-    field.class.as_slice().hash(state);
-    field.name.as_slice().hash(state);
-    field.descriptor.as_slice().hash(state);
-}
-
 /// The key of a field once more: its texts have one more owner.
 fn share_field(field: &FieldKey) -> Result<FieldKey, AllocError>
     ensures { IfOk result (λ k. k ≡ field.now) }
@@ -151,5 +220,16 @@ pub fn share_variable(variable: &Variable) -> Result<Variable, AllocError>
             reference: *reference,
             index: *index,
         }),
+    }
+}
+
+/// Returns a place once more: its texts have one more owner.
+pub fn share_place(place: &Place) -> Result<Place, AllocError>
+    ensures { IfOk result (λ p. p ≡ place.now) }
+{
+    match place {
+        Place::OfThread(thread) => Ok(Place::OfThread(*thread)),
+        Place::OfMonitor(reference) => Ok(Place::OfMonitor(*reference)),
+        Place::OfVariable(variable) => Ok(Place::OfVariable(share_variable(variable)?)),
     }
 }

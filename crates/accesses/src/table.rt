@@ -1,0 +1,174 @@
+//! The table of places. Its entries stay where they are, so one that was found is found again by its index. A place is looked
+//! up by an order of places, whose time no choice of places makes worse.
+
+ghost use Rattle.std.specs.Prelude.{◌≡◌, ℕ, [], false, None, Some, IfOk, IfSome, OnOk, OnErr, MatchOption, slice_get};
+ghost use Rattle.std.specs.BTreeMap.{BTreeMap as Map, Updates};
+ghost use Rattle.std.specs.Map.{lookup};
+ghost use Rattle.accesses.specs.Accesses.{Place as Kind};
+ghost use Rattle.accesses.specs.Kept.{HasSpare, kept_at, kept_in};
+ghost use Rattle.accesses.specs.Links.{AreAt};
+ghost use Rattle.accesses.specs.OnePlace.{same_keys};
+ghost use Rattle.accesses.specs.Ordered.{place_cmp};
+ghost use Rattle.accesses.specs.Places.{place_of};
+ghost use Rattle.accesses.specs.Rooms.{HasRoomAt, IsEntryOf, IsNotedAt};
+ghost use Rattle.accesses.specs.Tables.{IsIndexed, Tells};
+ghost use Rattle.accesses.specs.declared.place.Place.{Place as Key};
+
+use crate::lasts::{Lasts, Noted};
+use crate::place::{Place, share_place};
+use crate::slot::Slot;
+use std::alloc::{AllocError, Global};
+use std::collections::BTreeMap;
+use std::marker::Model;
+
+/// What is kept at each place, in the order in which places were entered.
+#[derive(Drop)]
+pub struct Table {
+    /// Where the entry of each place stands.
+    index: BTreeMap<Place, usize>,
+    entries: Vec<(Place, Lasts)>,
+    alloc: Global,
+}
+
+impl Model for Table {
+    ghost use Rattle.accesses.specs.Tables.{Entries, IsIndexed};
+
+    ghost Value = { Entries };
+
+    ghost view = { λ t. record { entries = t.entries.items } };
+
+    ghost invariant = { λ t. IsIndexed t.index t.entries.items };
+}
+
+impl Table {
+    /// No place yet.
+    pub fn new(alloc: Global) -> Self
+        ensures { result.entries ≡ [] }
+    {
+        Table {
+            index: BTreeMap::new(alloc),
+            entries: Vec::new(alloc),
+            alloc,
+        }
+    }
+
+    /// Returns the index of a place's entry.
+    pub fn index_of(&self, place: &Place) -> Option<usize>
+        ensures { Tells self.now.entries place.now result }
+    {
+        self.index.get(place).copied()
+    }
+
+    /// Returns the entry at an index: its place, and what is kept there.
+    pub fn get(&self, index: usize) -> Option<(&Place, &Lasts)>
+        ensures entry { MatchOption result (slice_get self.now.entries index ≡ None) (λ e. slice_get self.now.entries index ≡ Some (e.0.now, e.1.now)) }
+        ensures kept { IfSome result (λ e. AreAt (kept_in self.now.entries) (place_of e.0.now) (kept_at (place_of e.0.now) e.1.now)) }
+    {
+        if index >= self.entries.len() {
+            return None;
+        }
+        let entry = &self.entries[index];
+        Some((&entry.0, &entry.1))
+    }
+
+    /// Returns the index of a place's entry, which is made if there is none yet.
+    pub fn enter(&mut self, place: Place) -> Result<usize, AllocError>
+        ensures same { kept_in self.new.entries ≡ kept_in self.old.entries }
+        ensures at { IfOk result (λ n. IsEntryOf self.new.entries n (place_of place)) }
+        ensures places { (n : ℕ) (p : Kind) → IsEntryOf self.old.entries n p → IsEntryOf self.new.entries n p }
+    {
+        match self.index_of(&place) {
+            Some(index) => Ok(index),
+            None => self.add(place),
+        }
+    }
+
+    /// Makes the entry of a place that has none yet: it is put behind the others.
+    fn add(&mut self, place: Place) -> Result<usize, AllocError>
+        requires { lookup (same_keys place) self.old.entries ≡ None }
+        ensures same { kept_in self.new.entries ≡ kept_in self.old.entries }
+        ensures at { IfOk result (λ n. IsEntryOf self.new.entries n (place_of place)) }
+        ensures places { (n : ℕ) (p : Kind) → IsEntryOf self.old.entries n p → IsEntryOf self.new.entries n p }
+    {
+        add_in(&mut self.index, &mut self.entries, place, self.alloc)
+    }
+
+    /// Takes the memory for one more access beside the main one of an entry.
+    pub fn make_room(&mut self, index: usize) -> Result<(), AllocError>
+        ensures same { kept_in self.new.entries ≡ kept_in self.old.entries }
+        ensures room { OnOk result (HasRoomAt self.new.entries index) }
+        ensures places { (n : ℕ) (p : Kind) → IsEntryOf self.old.entries n p → IsEntryOf self.new.entries n p }
+    {
+        make_room_in(&mut self.entries, index)
+    }
+
+    /// Notes an access at its entry.
+    pub fn note_at(&mut self, slot: Slot, noted: Noted)
+        requires { MatchOption (slice_get self.old.entries slot.index) ⊥ (λ e. slot.is_main ≡ false → HasSpare e.1) }
+        ensures { IsNotedAt slot noted self.old.entries self.new.entries }
+    {
+        note_in(&mut self.entries, slot, noted);
+    }
+}
+
+/// Makes the entry of a place that has none yet.
+fn add_in(
+    index: &mut BTreeMap<Place, usize>,
+    entries: &mut Vec<(Place, Lasts)>,
+    place: Place,
+    alloc: Global,
+) -> Result<usize, AllocError>
+    requires indexed { IsIndexed index.old entries.old.items }
+    requires none { lookup (same_keys place) entries.old.items ≡ None }
+    ensures indexed { IsIndexed index.new entries.new.items }
+    ensures same { kept_in entries.new.items ≡ kept_in entries.old.items }
+    ensures at { IfOk result (λ n. IsEntryOf entries.new.items n (place_of place)) }
+    ensures places { (n : ℕ) (p : Kind) → IsEntryOf entries.old.items n p → IsEntryOf entries.new.items n p }
+{
+    entries.reserve(1)?;
+    let count = entries.len();
+    note_index(index, &place, count)?;
+    entries.push_reserved((place, Lasts::new(alloc)));
+    Ok(count)
+}
+
+/// Notes where the entry of a place stands.
+fn note_index(
+    index: &mut BTreeMap<Place, usize>,
+    place: &Place,
+    count: usize,
+) -> Result<(), AllocError>
+    ensures err { OnErr result (index.new.entries ≡ index.old.entries) }
+    ensures ok { OnOk result (Updates place_cmp index.old index.new place.now (Some count)) }
+{
+    let key = share_place(place)?;
+    index.insert(key, count)?;
+    Ok(())
+}
+
+/// Takes the memory for one more access beside the main one of an entry.
+fn make_room_in(entries: &mut Vec<(Place, Lasts)>, index: usize) -> Result<(), AllocError>
+    ensures indexed { (m : Map Key ℕ) → IsIndexed m entries.old.items → IsIndexed m entries.new.items }
+    ensures same { kept_in entries.new.items ≡ kept_in entries.old.items }
+    ensures room { OnOk result (HasRoomAt entries.new.items index) }
+    ensures places { (n : ℕ) (p : Kind) → IsEntryOf entries.old.items n p → IsEntryOf entries.new.items n p }
+{
+    if index >= entries.len() {
+        return Ok(());
+    }
+    let entry = &mut entries[index];
+    entry.1.reserve()
+}
+
+/// Notes an access at its entry.
+fn note_in(entries: &mut Vec<(Place, Lasts)>, slot: Slot, noted: Noted)
+    requires { MatchOption (slice_get entries.old.items slot.index) ⊥ (λ e. slot.is_main ≡ false → HasSpare e.1) }
+    ensures indexed { (m : Map Key ℕ) → IsIndexed m entries.old.items → IsIndexed m entries.new.items }
+    ensures noted { IsNotedAt slot noted entries.old.items entries.new.items }
+{
+    if slot.index >= entries.len() {
+        return;
+    }
+    let entry = &mut entries[slot.index];
+    entry.1.note(slot.is_main, noted);
+}
