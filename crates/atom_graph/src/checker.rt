@@ -1,10 +1,11 @@
 //! The checker.
 
-ghost use Rattle.std.specs.Prelude.{◌≡◌, ℕ, true, List, [], length, IfOk, MatchOption};
+ghost use Rattle.std.specs.Prelude.{◌≡◌, ℕ, true, List, [], length, map, IfOk, MatchOption};
 ghost use Rattle.velodrome.specs.Conflicts.{thread_of};
 ghost use Rattle.velodrome.specs.Cycles.{AreAtomic, IsCycle};
 ghost use Rattle.velodrome.specs.Reach.{AreReached};
 ghost use Rattle.velodrome.specs.Rearrangements.{IsRearrangement, IsSerial};
+ghost use Rattle.velodrome.specs.Specification.{is_atomic as atomic_by};
 ghost use Rattle.velodrome.specs.Transactions.{is_event};
 ghost use Rattle.velodrome.specs.Verdicts.{IsVerdict};
 ghost use Rattle.jvms_machine.specs.declared.trace.Item.TheVariants.{Enter, Exit};
@@ -17,6 +18,7 @@ use crate::walked::Walked;
 use crate::watch::Watch;
 use atom_spec::Spec;
 use held::items::Items;
+use held::shared::Shared;
 use jvms_machine::machine::ThreadId;
 use jvms_machine::trace::Item;
 use jvms_program::key::MethodKey;
@@ -132,6 +134,27 @@ impl Checker {
             events: self.walked.transactions.len() as u64,
             transactions: self.walked.begun,
         }
+    }
+
+    /// Returns the items that were fed, in order.
+    pub fn items(&self) -> &[Shared<Item>]
+        ensures { result.now ≡ self.now.items }
+    {
+        self.walked.items.as_slice()
+    }
+
+    /// Returns the number of the transaction of each event, in the order of the events.
+    pub fn transactions(&self) -> &[u64]
+        ensures { result.now ≡ map (λ e. e.transaction) (walk_of self.now).events }
+    {
+        self.walked.transactions.as_slice()
+    }
+
+    /// Returns whether the specification calls a method atomic.
+    pub fn is_atomic(&self, method: &MethodKey) -> bool
+        ensures { result ≡ atomic_by self.now.lines method.now }
+    {
+        self.walked.courses.is_atomic(method)
     }
 
     /// How many transactions open ones reach, while no cycle was found.

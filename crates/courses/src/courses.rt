@@ -1,6 +1,7 @@
 //! What the threads have open.
 
 ghost use Rattle.std.specs.Prelude.{◌≡◌, ℕ, [], None, Some, drop, OnOk, if◌then◌else◌};
+ghost use Rattle.velodrome.specs.Specification.{is_atomic as atomic_by};
 ghost use Rattle.velodrome.specs.Transactions.{entered, exited, has_atomic, is_innermost};
 ghost use Rattle.courses.specs.Courses.{course_in, IsChanged};
 ghost use Rattle.courses.specs.Seen.{HasRoom};
@@ -45,6 +46,13 @@ impl Courses {
             threads: BTreeMap::new(alloc),
             alloc,
         }
+    }
+
+    /// Returns whether the specification calls a method atomic.
+    pub fn is_atomic(&self, method: &MethodKey) -> bool
+        ensures { result ≡ atomic_by self.now.lines method.now }
+    {
+        self.spec.is_atomic(method)
     }
 
     /// Whether a method is the innermost open one of a thread.

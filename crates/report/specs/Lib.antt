@@ -1,2 +1,4 @@
+pub mod CycleTexts
+pub mod Marks
 pub mod SerialTexts
 pub mod VerdictTexts

@@ -1,12 +1,18 @@
 //! Texts for readers: of what was found of a trace, and of the debugger's answers to a script.
 #![tactic(auto)]
 
+mod actor;
+mod cycle;
+mod events;
 mod number;
 mod serial;
+mod told;
 mod verdict;
 
+pub use cycle::explain;
 pub use debugger_script::{
     NoPrompt, Prompt, ScriptFault, fault_text, run_prompted, run_script, view_text,
 };
+pub use events::is_event;
 pub use serial::serial_lines;
 pub use verdict::verdict_line;

@@ -3,20 +3,13 @@
 ghost use Rattle.std.specs.Prelude.{◌≡◌, ◌-◌, ◌++◌, IfOk, OnOk, map, slice_get};
 ghost use Rattle.std.specs.List.{flat_map};
 ghost use Rattle.std.specs.String.{string_bytes};
-ghost use Rattle.velodrome.specs.Transactions.{is_event as is_event_item};
 ghost use Rattle.report.specs.SerialTexts.{event_line, events_of as events_in, serial_text};
 
+use crate::events::is_event;
 use crate::number::put_number;
 use jvms_machine::trace::Item;
 use std::alloc::{AllocError, Global};
 use trace_text::put_line;
-
-/// Whether an item is an event, and no mark.
-fn is_event(item: &Item) -> bool
-    ensures { result ≡ is_event_item item.now }
-{
-    !matches!(item, Item::Enter { .. } | Item::Exit { .. })
-}
 
 /// The events of a trace, in order.
 fn events_of<'i>(alloc: Global, items: &'i [Item]) -> Result<Vec<&'i Item>, AllocError>

@@ -1,23 +1,14 @@
 //! The line of a verdict.
 
 ghost use Rattle.std.specs.Prelude.{◌≡◌, ◌++◌, IfOk, OnOk, codes};
-ghost use Rattle.std.specs.Fmt.{decimal};
 ghost use Rattle.std.specs.List.{flat_map};
 ghost use Rattle.std.specs.String.{string_bytes};
 ghost use Rattle.report.specs.VerdictTexts.{counts_text, cycle_text, number_text, verdict_text};
 
-use crate::number::put_number;
+use crate::number::{put_counted, put_number};
 use atom_graph::Counts;
 use std::alloc::{AllocError, Global};
 use velodrome::verdict::Verdict;
-
-/// Puts a word and a number behind a text.
-fn put_counted(out: &mut String, word: &str, number: u64) -> Result<(), AllocError>
-    ensures { OnOk result (string_bytes out.new ≡ string_bytes out.old ++ word.now ++ decimal number) }
-{
-    out.push_str(word)?;
-    put_number(out, number)
-}
 
 /// Puts the counts of a trace behind a text.
 fn put_counts(out: &mut String, counts: Counts) -> Result<(), AllocError>

@@ -1,5 +1,5 @@
 -- What is said of a trace's text (own): the verdict of the walk of its items, or the first fault.
-use Rattle.std.specs.Prelude.{◌≡◌, ℕ, ◌+◌, Bool, true, false, List, [], ◌∷◌, ◌++◌, length, Option, Some, None, Err}
+use Rattle.std.specs.Prelude.{◌≡◌, ℕ, ◌+◌, Bool, true, false, cond, List, [], ◌∷◌, ◌++◌, length, Option, Some, None, Err}
 use Rattle.std.specs.Io.KnownBytes.{Appends}
 use Rattle.jvms_machine.specs.declared.trace.Item.{Item}
 use Rattle.velodrome.specs.declared.verdict.Verdict.{Verdict}
@@ -14,8 +14,10 @@ use Rattle.atom_graph.specs.declared.counts.Counts.{Counts}
 use Rattle.atom_graph.specs.declared.fault.FeedFault.{FeedFault}
 use Rattle.atom_graph.specs.declared.fault.FeedFault.TheVariants as feed
 use Rattle.atom_graph.specs.Checking.{Fed, fault_of, walk_of, with_item}
+use Rattle.report.specs.CycleTexts.{explanation}
 use Rattle.report.specs.SerialTexts.{serial_text}
 use Rattle.report.specs.VerdictTexts.{verdict_text}
+use Rattle.trace_check.specs.declared.details.Details.{Details}
 use Rattle.trace_check.specs.declared.fault.CheckFault.{CheckFault}
 use Rattle.trace_check.specs.declared.fault.CheckFault.TheVariants as check
 
@@ -54,32 +56,41 @@ counts_of w = record { events = length w.events; transactions = w.transactions }
 abbrev pub AreSerialLines : Walk → List Item → List ℕ → Type 0
 AreSerialLines w items part = (numbers : List ℕ) × IsSerial w.events numbers × (part ≡ serial_text items numbers)
 
--- What stands behind the line of a verdict: the events in a serial order, where these were asked for and there is one.
-abbrev pub IsPart : Walk → List Item → Bool → Verdict → List ℕ → Type 0
-IsPart w items false v part = part ≡ []
-IsPart w items true (verdict.Cycle first_at transactions pairs) part = part ≡ []
-IsPart w items true (verdict.Atomic order) part = AreSerialLines w items part
+-- What follows the line of an atomic trace: the events in a serial order, if they are asked for.
+abbrev pub IsSerialPart : Fed → Bool → List ℕ → Type 0
+IsSerialPart fed false part = part ≡ []
+IsSerialPart fed true part = AreSerialLines (walk_of fed) fed.items part
 
-abbrev pub IsSaid : Walk → List Item → Bool → Verdict → List ℕ → Type 0
-IsSaid w items serial v said =
-    (part : List ℕ) × IsPart w items serial v part × (said ≡ verdict_text v (counts_of w) ++ part)
+-- What follows the line of a cycle: the lines that explain it, if they are asked for. No turns are known of a trace.
+abbrev pub explained_part : Fed → Bool → Verdict → List ℕ
+explained_part fed explains v =
+    cond explains (explanation (record { lines = fed.lines; items = fed.items; turns = [] }) v) []
+
+abbrev pub IsPart : Fed → Details → Verdict → List ℕ → Type 0
+IsPart fed details (verdict.Atomic order) part = IsSerialPart fed details.serial part
+IsPart fed details (verdict.Cycle first_at transactions pairs) part =
+    part ≡ explained_part fed details.explains (verdict.Cycle first_at transactions pairs)
+
+abbrev pub IsSaid : Fed → Details → Verdict → List ℕ → Type 0
+IsSaid fed details v said =
+    (part : List ℕ) × IsPart fed details v part × (said ≡ verdict_text v (counts_of (walk_of fed)) ++ part)
 
 -- The text is that of items, all of which are taken; the verdict is of their walk, and this is said.
-pub record IsChecked (lines : Specification) (text : List ℕ) (serial : Bool) (v : Verdict) (said : List ℕ) : Type 0 where
+pub record IsChecked (lines : Specification) (text : List ℕ) (details : Details) (v : Verdict) (said : List ℕ) : Type 0 where
   pub items : List Item
   pub spelled : IsTextOf text items
   pub taken : first_refused (fed_nothing lines) 1 items ≡ None
   pub judged : IsVerdict (walk_of (record { lines = lines; items = items })) v
-  pub told : IsSaid (walk_of (record { lines = lines; items = items })) items serial v said
+  pub told : IsSaid (record { lines = lines; items = items }) details v said
 
 -- What is said was written, and nothing else.
-abbrev pub Wrote : Specification → List ℕ → Bool → Option (List ℕ) → Option (List ℕ) → Verdict → Type 0
-Wrote lines text serial old new v = (said : List ℕ) × IsChecked lines text serial v said × Appends old new said
+abbrev pub Wrote : Specification → List ℕ → Details → Option (List ℕ) → Option (List ℕ) → Verdict → Type 0
+Wrote lines text details old new v = (said : List ℕ) × IsChecked lines text details v said × Appends old new said
 
 -- A beginning of it was written.
-abbrev pub WroteBeginning : Specification → List ℕ → Bool → Option (List ℕ) → Option (List ℕ) → Type 0
-WroteBeginning lines text serial old new =
-    (v : Verdict) × (said : List ℕ) × IsChecked lines text serial v said × AppendsBeginning old new said
+abbrev pub WroteBeginning : Specification → List ℕ → Details → Option (List ℕ) → Option (List ℕ) → Type 0
+WroteBeginning lines text details old new =
+    (v : Verdict) × (said : List ℕ) × IsChecked lines text details v said × AppendsBeginning old new said
 
 -- ---- Faults
 

@@ -2,10 +2,12 @@
 #![tactic(auto)]
 
 mod checking;
+mod details;
 mod fault;
 mod feeding;
 mod saying;
 
 pub use checking::check;
+pub use details::Details;
 pub use fault::CheckFault;
 pub use saying::Checked;

@@ -5,14 +5,15 @@ ghost use Rattle.std.specs.String.{string_bytes};
 ghost use Rattle.velodrome.specs.Cycles.{AreAtomic};
 ghost use Rattle.velodrome.specs.Verdicts.{IsVerdict};
 ghost use Rattle.atom_graph.specs.Checking.{walk_of};
-ghost use Rattle.trace_check.specs.Checks.{AreSerialLines, IsChecked, IsFault, IsPart, IsSaid};
+ghost use Rattle.trace_check.specs.Checks.{AreSerialLines, IsChecked, IsFault, IsPart, IsSaid, IsSerialPart, explained_part};
 
+use crate::details::Details;
 use crate::fault::CheckFault;
 use crate::feeding::fed;
 use atom_graph::Checker;
 use atom_spec::Spec;
 use jvms_machine::trace::Item;
-use report::{serial_lines, verdict_line};
+use report::{explain, serial_lines, verdict_line};
 use std::alloc::{AllocError, Global};
 use velodrome::verdict::Verdict;
 
@@ -20,7 +21,7 @@ use velodrome::verdict::Verdict;
 #[derive(Debug, Drop)]
 pub struct Checked {
     pub verdict: Verdict,
-    /// The verdict's line, and the lines of the events in a serial order where these were asked for and there is one.
+    /// The verdict's line, and the lines that were asked for.
     pub text: String,
 }
 
@@ -36,56 +37,89 @@ fn atomic_part(alloc: Global, checker: &Checker, items: &[Item]) -> Result<Strin
     }
 }
 
-/// What stands behind the line of a verdict.
+/// Returns what follows the line of an atomic trace.
+fn serial_part(
+    alloc: Global,
+    checker: &Checker,
+    items: &[Item],
+    serial: bool,
+) -> Result<String, AllocError>
+    requires atomic { AreAtomic (walk_of checker.now).events }
+    requires items { items.now ≡ checker.now.items }
+    ensures { IfOk result (λ part. IsSerialPart checker.now serial (string_bytes part)) }
+{
+    if serial {
+        atomic_part(alloc, checker, items)
+    } else {
+        Ok(String::new(alloc))
+    }
+}
+
+/// Returns what follows the line of a cycle.
+fn explained_part(
+    alloc: Global,
+    checker: &Checker,
+    explains: bool,
+    verdict: &Verdict,
+) -> Result<String, AllocError>
+    ensures { IfOk result (λ part. string_bytes part ≡ explained_part checker.now explains verdict.now) }
+{
+    if explains {
+        explain(alloc, checker, &[], verdict)
+    } else {
+        Ok(String::new(alloc))
+    }
+}
+
+/// Returns what follows the line of a verdict.
 fn part_of(
     alloc: Global,
     checker: &Checker,
     items: &[Item],
     verdict: &Verdict,
-    serial: bool,
+    details: Details,
 ) -> Result<String, AllocError>
-    requires { IsVerdict (walk_of checker.now) verdict.now }
-    ensures { IfOk result (λ part. IsPart (walk_of checker.now) items.now serial verdict.now (string_bytes part)) }
+    requires verdict { IsVerdict (walk_of checker.now) verdict.now }
+    requires items { items.now ≡ checker.now.items }
+    ensures { IfOk result (λ part. IsPart checker.now details verdict.now (string_bytes part)) }
 {
-    if !serial {
-        return Ok(String::new(alloc));
-    }
     match verdict {
-        Verdict::Atomic { .. } => atomic_part(alloc, checker, items),
-        Verdict::Cycle { .. } => Ok(String::new(alloc)),
+        Verdict::Atomic { .. } => serial_part(alloc, checker, items, details.serial),
+        Verdict::Cycle { .. } => explained_part(alloc, checker, details.explains, verdict),
     }
 }
 
-/// What is said of the items that a checker was fed.
+/// Returns what is said of the items that a checker was fed.
 fn said_of(
     alloc: Global,
     checker: &Checker,
     items: &[Item],
-    serial: bool,
+    details: Details,
 ) -> Result<Checked, AllocError>
+    requires items { items.now ≡ checker.now.items }
     ensures verdict { IfOk result (λ c. IsVerdict (walk_of checker.now) c.verdict) }
-    ensures text { IfOk result (λ c. IsSaid (walk_of checker.now) items.now serial c.verdict (string_bytes c.text)) }
+    ensures text { IfOk result (λ c. IsSaid checker.now details c.verdict (string_bytes c.text)) }
 {
     let verdict = checker.verdict()?;
     let mut text = verdict_line(alloc, &verdict, checker.counts())?;
-    let part = part_of(alloc, checker, items, &verdict, serial)?;
+    let part = part_of(alloc, checker, items, &verdict, details)?;
     text.push_str(part.as_str())?;
     Ok(Checked { verdict, text })
 }
 
-/// What a specification says of the trace that a text is; `serial` asks for the events in a serial order too.
+/// Returns what a specification says of the trace that a text is, with the details that are asked for.
 pub(crate) fn say(
     alloc: Global,
     spec: Spec,
     text: &str,
-    serial: bool,
+    details: Details,
 ) -> Result<Checked, CheckFault>
-    ensures exact { IfOk result (λ c. IsChecked spec text.now serial c.verdict (string_bytes c.text)) }
+    ensures exact { IfOk result (λ c. IsChecked spec text.now details c.verdict (string_bytes c.text)) }
     ensures fault { IfErr result (IsFault spec text.now) }
     ensures quiet { IfErr result (λ fault. fault ≢ CheckFault.Output) }
 {
     let trace = trace_text::read(alloc, text)?;
     let checker = fed(alloc, spec, trace.items())?;
-    let checked = said_of(alloc, &checker, trace.items(), serial)?;
+    let checked = said_of(alloc, &checker, trace.items(), details)?;
     Ok(checked)
 }
