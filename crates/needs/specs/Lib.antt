@@ -1,0 +1,6 @@
+pub mod Hints
+pub mod Lacks
+pub mod Lines
+pub mod Named
+pub mod Outside
+pub mod Unmatched

@@ -1,0 +1,26 @@
+-- The lines of a specification that speak of no method of a program's classes, but for the built-in classes (own).
+use Rattle.std.specs.Prelude.{ℕ, Bool, not, ◌&&◌, List, [], ◌++◌, codes, if◌then◌else◌}
+use Rattle.std.specs.List.{flat_map, list_any}
+use Rattle.atom_spec.specs.Lines.{line_text}
+use Rattle.jvms_program.specs.declared.program.Class.{Class}
+use Rattle.jvms_program.specs.BuiltIn.{is_built_in}
+use Rattle.jvms_program.specs.Program.{key_in}
+use Rattle.velodrome.specs.declared.specification.Pattern.{Pattern}
+use Rattle.velodrome.specs.declared.specification.SpecificationLine.{SpecificationLine}
+use Rattle.velodrome.specs.Specification.{Specification, is_of}
+use Rattle.needs.specs.Lines.{needs_text}
+
+-- Whether a pattern speaks of a method of a class.
+abbrev pub matches_in : Pattern → Class → Bool
+matches_in p c = not (is_built_in c.name) && list_any (λ m. is_of p (key_in c m)) c.methods
+
+-- `spec atomic C.m matches no method`
+abbrev pub no_match_line : SpecificationLine → List ℕ
+no_match_line l = codes "spec " ++ line_text l ++ codes " matches no method\n"
+
+abbrev pub unmatched_line : List Class → SpecificationLine → List ℕ
+unmatched_line program l = if list_any (matches_in l.pattern) program then [] else no_match_line l
+
+-- What is missing: for the classes of a program, then for a specification.
+abbrev pub missing_text : List Class → Specification → List ℕ
+missing_text program lines = needs_text program ++ flat_map (unmatched_line program) lines

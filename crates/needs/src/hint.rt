@@ -1,0 +1,85 @@
+//! Why a compiler may have put an instruction there that isn't in the source.
+
+ghost use Rattle.std.specs.Prelude.{◌≡◌, ◌==◌};
+ghost use Rattle.std.specs.List.{list_any};
+ghost use Rattle.needs.specs.Hints.{hint_of, is_absence as absence, is_assertion as assertion, is_box as box_class, is_boxing as boxing, is_text_builder as text_builder};
+
+use crate::lack::Lack;
+use built_in::is_named;
+use jvms_program::thrown::Thrown;
+
+/// The unit `$`.
+const DOLLAR: u16 = 36;
+
+/// Returns whether a class isn't there.
+pub(crate) fn is_absence(lack: Lack) -> bool
+    ensures { result ≡ absence lack }
+{
+    matches!(lack, Lack::Unresolved(Thrown::NoClassDefFoundError))
+}
+
+/// Returns whether `+` on strings uses a class.
+fn is_text_builder(class: &[u16]) -> bool
+    ensures { result ≡ text_builder class.now }
+{
+    is_named(class, "java/lang/StringBuilder") || is_named(class, "java/lang/StringBuffer")
+}
+
+/// Returns whether `assert` uses a class, or a member of it.
+fn is_assertion(class: &[u16], member: &[u16]) -> bool
+    ensures { result ≡ assertion class.now member.now }
+{
+    is_named(class, "java/lang/AssertionError")
+        || is_named(class, "java/lang/Class") && is_named(member, "desiredAssertionStatus")
+}
+
+/// Returns whether the objects of a class are numbers, characters or truth values.
+fn is_box(class: &[u16]) -> bool
+    ensures { result ≡ box_class class.now }
+{
+    is_named(class, "java/lang/Integer")
+        || is_named(class, "java/lang/Long")
+        || is_named(class, "java/lang/Short")
+        || is_named(class, "java/lang/Byte")
+        || is_named(class, "java/lang/Character")
+        || is_named(class, "java/lang/Boolean")
+}
+
+/// Returns whether a method of this name makes such an object, or takes the value out of one.
+fn is_boxing(member: &[u16]) -> bool
+    ensures { result ≡ boxing member.now }
+{
+    is_named(member, "valueOf")
+        || is_named(member, "intValue")
+        || is_named(member, "longValue")
+        || is_named(member, "shortValue")
+        || is_named(member, "byteValue")
+        || is_named(member, "charValue")
+        || is_named(member, "booleanValue")
+}
+
+/// Returns whether a name has a dollar sign.
+fn has_dollar(name: &[u16]) -> bool
+    ensures { result ≡ list_any (λ u. u == 36) name.now }
+{
+    name.iter().any(|unit| *unit == DOLLAR)
+}
+
+/// Returns why a compiler may have put an instruction there that names a class, and a member of this name or an empty one.
+pub(crate) fn hint_of(lack: Lack, class: &[u16], member: &[u16]) -> &'static str
+    ensures { result.now ≡ hint_of lack class.now member.now }
+{
+    if is_text_builder(class) {
+        " (+ on strings)"
+    } else if is_assertion(class, member) {
+        " (assert)"
+    } else if is_box(class) && is_boxing(member) {
+        " (boxing)"
+    } else if is_named(class, "java/lang/Enum") {
+        " (enum)"
+    } else if is_absence(lack) && has_dollar(class) {
+        " (a class of another file)"
+    } else {
+        ""
+    }
+}

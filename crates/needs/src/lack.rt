@@ -1,0 +1,118 @@
+//! What an instruction needs that isn't there.
+
+ghost use Rattle.std.specs.Prelude.{◌≡◌};
+ghost use Rattle.std.specs.Result.{result_err};
+ghost use Rattle.jvms_machine.specs.Calls.{is_static_call as static_call};
+ghost use Rattle.jvms_machine.specs.Fields.{is_static_use as static_use};
+ghost use Rattle.jvms_program.specs.Resolution.{resolved_field, resolved_method};
+ghost use Rattle.needs.specs.Lacks.{absence, constant_error, first_lack, lack_of, resolution_error};
+
+use crate::outside::is_outside;
+use jvms_file::insn::{FieldUse, Invoke};
+use jvms_program::program::{FieldReference, Instruction, Loadable, MethodReference};
+use jvms_program::thrown::Thrown;
+use program::Program;
+
+/// Why an instruction doesn't run.
+#[derive(Clone, Copy, Debug, PartialEq, Eq)]
+pub enum Lack {
+    /// What it names can't be resolved: an error of this class is thrown.
+    Unresolved(Thrown),
+    /// It is outside of the profile.
+    OutOfProfile,
+}
+
+/// Returns what is thrown if no class has this name.
+fn absence(program: &Program, name: &[u16]) -> Option<Thrown>
+    ensures { result ≡ absence program.now name.now }
+{
+    if program.has_class(name) {
+        None
+    } else {
+        Some(Thrown::NoClassDefFoundError)
+    }
+}
+
+/// Returns what is thrown if what a constant names isn't there.
+fn constant_error(program: &Program, constant: &Loadable) -> Option<Thrown>
+    ensures { result ≡ constant_error program.now constant.now }
+{
+    match constant {
+        Loadable::Class(name) => absence(program, name.as_slice()),
+        _ => None,
+    }
+}
+
+/// Returns whether an instruction names a static field.
+fn is_static_use(how: FieldUse) -> bool
+    ensures { result ≡ static_use how }
+{
+    matches!(how, FieldUse::GetStatic | FieldUse::PutStatic)
+}
+
+/// Returns whether an instruction calls a static method.
+fn is_static_call(how: Invoke) -> bool
+    ensures { result ≡ static_call how }
+{
+    matches!(how, Invoke::Static)
+}
+
+/// Returns the error of a resolution that failed.
+fn error_of(resolved: Result<(usize, usize), Thrown>) -> Option<Thrown>
+    ensures { result ≡ result_err resolved }
+{
+    match resolved {
+        Ok(_) => None,
+        Err(error) => Some(error),
+    }
+}
+
+/// Returns what is thrown if a field can't be resolved.
+fn field_error(program: &Program, how: FieldUse, field: &FieldReference) -> Option<Thrown>
+    ensures { result ≡ result_err (resolved_field program.now (static_use how) field.now) }
+{
+    error_of(program.resolve_field(is_static_use(how), field))
+}
+
+/// Returns what is thrown if a method can't be resolved.
+fn method_error(program: &Program, how: Invoke, method: &MethodReference) -> Option<Thrown>
+    ensures { result ≡ result_err (resolved_method program.now (static_call how) method.now) }
+{
+    error_of(program.resolve_method(is_static_call(how), method))
+}
+
+/// Returns what is thrown if what an instruction names can't be resolved.
+fn resolution_error(program: &Program, instruction: &Instruction) -> Option<Thrown>
+    ensures { result ≡ resolution_error program.now instruction.now }
+{
+    match instruction {
+        Instruction::Field(how, field) => field_error(program, *how, field.get()),
+        Instruction::Invoke(how, method) => method_error(program, *how, method.get()),
+        Instruction::Class(_, name) | Instruction::MultiNewArray(_, name) => {
+            absence(program, name.as_slice())
+        }
+        Instruction::Constant(constant) => constant_error(program, constant.get()),
+        _ => None,
+    }
+}
+
+/// Returns the first of two reasons why an instruction doesn't run.
+fn first_lack(error: Option<Thrown>, is_outside: bool) -> Option<Lack>
+    ensures { result ≡ first_lack error is_outside }
+{
+    match error {
+        Some(error) => Some(Lack::Unresolved(error)),
+        None if is_outside => Some(Lack::OutOfProfile),
+        None => None,
+    }
+}
+
+/// Returns what an instruction needs that isn't there, if it needs anything.
+pub(crate) fn lack_of(program: &Program, instruction: &Instruction) -> Option<Lack>
+    ensures { result ≡ lack_of program.now instruction.now }
+{
+    first_lack(
+        resolution_error(program, instruction),
+        is_outside(instruction),
+    )
+}

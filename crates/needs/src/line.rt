@@ -1,0 +1,124 @@
+//! The line of an instruction that needs what isn't there.
+
+ghost use Rattle.std.specs.Prelude.{◌≡◌, ◌++◌, OnOk};
+ghost use Rattle.std.specs.Option.{option_map};
+ghost use Rattle.std.specs.String.{string_bytes};
+ghost use Rattle.escapes.specs.Keys.{member_text};
+ghost use Rattle.needs.specs.Lines.{error_text, hint_text, lack_text, named_text, need_line, place_text, reason_text};
+
+use crate::hint::{hint_of, is_absence};
+use crate::lack::Lack;
+use crate::named::{class_named, member_named};
+use crate::number::put_number;
+use escapes::{MethodKey, put_method, put_name};
+use jvms_program::program::Instruction;
+use jvms_program::thrown::Thrown;
+use std::alloc::AllocError;
+
+/// Returns the name of an error that resolution throws.
+fn error_name(error: Thrown) -> &'static str
+    ensures { result.now ≡ error_text error }
+{
+    match error {
+        Thrown::NoClassDefFoundError => "NoClassDefFoundError",
+        Thrown::NoSuchFieldError => "NoSuchFieldError",
+        Thrown::NoSuchMethodError => "NoSuchMethodError",
+        Thrown::IncompatibleClassChangeError => "IncompatibleClassChangeError",
+        _ => "LinkageError",
+    }
+}
+
+/// Returns the name of what an instruction needs.
+fn lack_name(lack: Lack) -> &'static str
+    ensures { result.now ≡ lack_text lack }
+{
+    match lack {
+        Lack::Unresolved(error) => error_name(error),
+        Lack::OutOfProfile => "OutOfProfile",
+    }
+}
+
+/// Appends a member: `C.m.D`.
+pub(crate) fn put_member(
+    out: &mut String,
+    class: &[u16],
+    name: &[u16],
+    descriptor: &[u16],
+) -> Result<(), AllocError>
+    ensures { OnOk result (string_bytes out.new ≡ string_bytes out.old ++ member_text class.now name.now descriptor.now) }
+{
+    put_name(out, class)?;
+    out.push_str(".")?;
+    put_name(out, name)?;
+    out.push_str(".")?;
+    put_name(out, descriptor)
+}
+
+/// Appends what is named after a space: a class, or a member if its class is there.
+fn put_named(
+    out: &mut String,
+    lack: Lack,
+    class: Option<&[u16]>,
+    member: Option<(&[u16], &[u16])>,
+) -> Result<(), AllocError>
+    ensures { OnOk result (string_bytes out.new ≡ string_bytes out.old
+        ++ named_text lack (option_map (λ c. c.now) class.entry) (option_map (λ m. (m.0.now, m.1.now)) member.entry)) }
+{
+    let Some(class) = class else {
+        return Ok(());
+    };
+    out.push_str(" ")?;
+    match member {
+        Some((name, descriptor)) if !is_absence(lack) => put_member(out, class, name, descriptor),
+        _ => put_name(out, class),
+    }
+}
+
+/// Returns why a compiler may have put an instruction there.
+fn hint_text(lack: Lack, class: Option<&[u16]>, member: Option<(&[u16], &[u16])>) -> &'static str
+    ensures { result.now
+        ≡ hint_text lack (option_map (λ c. c.now) class.entry) (option_map (λ m. (m.0.now, m.1.now)) member.entry) }
+{
+    match (class, member) {
+        (None, _) => "",
+        (Some(class), None) => hint_of(lack, class, &[]),
+        (Some(class), Some((name, _))) => hint_of(lack, class, name),
+    }
+}
+
+/// Appends the place of a method's instruction.
+fn put_place(out: &mut String, method: &MethodKey, place: usize) -> Result<(), AllocError>
+    ensures { OnOk result (string_bytes out.new ≡ string_bytes out.old ++ place_text method.now place) }
+{
+    put_method(out, method)?;
+    out.push_str(" @")?;
+    put_number(out, place)?;
+    out.push_str(" ")
+}
+
+/// Appends what an instruction needs.
+fn put_reason(out: &mut String, lack: Lack, instruction: &Instruction) -> Result<(), AllocError>
+    ensures { OnOk result (string_bytes out.new ≡ string_bytes out.old ++ reason_text lack instruction.now) }
+{
+    let class = class_named(instruction);
+    let member = member_named(instruction);
+    out.push_str(lack_name(lack))?;
+    put_named(out, lack, class, member)?;
+    out.push_str(hint_text(lack, class, member))
+}
+
+/// Appends the line of a method's instruction that needs what isn't there.
+pub(crate) fn put_need_line(
+    out: &mut String,
+    method: &MethodKey,
+    place: usize,
+    instruction: &Instruction,
+    lack: Lack,
+) -> Result<(), AllocError>
+    ensures { OnOk result (string_bytes out.new ≡ string_bytes out.old
+        ++ need_line method.now place instruction.now lack) }
+{
+    put_place(out, method, place)?;
+    put_reason(out, lack, instruction)?;
+    out.push_str("\n")
+}

@@ -1,0 +1,27 @@
+//! All that is missing.
+
+ghost use Rattle.std.specs.Prelude.{◌≡◌, IfOk};
+ghost use Rattle.std.specs.String.{string_bytes};
+ghost use Rattle.needs.specs.Unmatched.{missing_text};
+
+use crate::lines::put_needs;
+use crate::unmatched::put_unmatched;
+use atom_spec::SpecificationLine;
+use program::Program;
+use std::alloc::{AllocError, Global};
+
+/// Returns what is missing: a line for each instruction of the classes that aren't built in that needs what isn't there,
+/// and a line for each of a specification's lines that speaks of none of their methods. The text is empty if nothing is
+/// missing.
+pub fn missing_text(
+    alloc: Global,
+    program: &Program,
+    lines: &[SpecificationLine],
+) -> Result<String, AllocError>
+    ensures { IfOk result (λ text. string_bytes text ≡ missing_text program.now lines.now) }
+{
+    let mut text = String::new(alloc);
+    put_needs(&mut text, program)?;
+    put_unmatched(&mut text, program, lines)?;
+    Ok(text)
+}
