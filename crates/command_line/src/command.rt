@@ -3,12 +3,14 @@
 use crate::campaign::{CampaignWords, campaign_words};
 use crate::fault::WordsFault;
 use crate::help::{
-    ASM_HELP, CAMPAIGN_HELP, CHECK_HELP, DEBUG_HELP, EVAL_HELP, HELP, LIST_HELP, RUN_HELP,
-    TRACE_HELP,
+    ASM_HELP, CAMPAIGN_HELP, CHECK_HELP, DEBUG_HELP, EVAL_HELP, HELP, LIST_HELP, NEEDS_HELP,
+    RUN_HELP, TRACE_HELP,
 };
-use crate::program_words::{ProgramWords, most_of, program_words};
+use crate::program_words::{
+    ProgramNames, ProgramWords, most_of, names_without_entry, program_words,
+};
 use crate::refusals::explanation_of;
-use crate::syntax::{FILE, INPUT, OUTPUT, SCHEDULE, SERIAL, SPECIFICATION, TRACE, syntax};
+use crate::syntax::{EXPLAIN, FILE, INPUT, OUTPUT, SCHEDULE, SERIAL, SPECIFICATION, TRACE, syntax};
 use clap::ArgMatches;
 use jvms_machine::machine::Entry;
 use std::alloc::Global;
@@ -24,7 +26,7 @@ pub enum Command<'a> {
     Eval(ProgramWords<'a>),
     /// To run a program and print what it writes.
     Run(RunWords<'a>),
-    /// To run a program and print the trace of its threads. Its words name no specification.
+    /// To run a program and print the trace of its threads. Its words name no specification, and ask for no explanation.
     Trace(RunWords<'a>),
     /// To debug a run of a program. Its words are those of `trace`.
     Debug(RunWords<'a>),
@@ -36,6 +38,8 @@ pub enum Command<'a> {
     Asm(AsmWords<'a>),
     /// To print the source that the class of a FILE is listed as.
     List(&'a str),
+    /// To print what class files use that isn't there.
+    Needs(NeedsWords<'a>),
     /// To print how the program, or one command, is used, or what a refusal's code means.
     Help(&'static str),
     /// To print which program this is.
@@ -52,6 +56,8 @@ pub struct RunWords<'a> {
     pub most: TurnLimit,
     /// The file that says which methods are to be atomic, if one does.
     pub spec: Option<&'a str>,
+    /// Whether the run is explained.
+    pub explains: bool,
 }
 
 /// The words of `check`.
@@ -63,6 +69,8 @@ pub struct CheckWords<'a> {
     pub trace: &'a str,
     /// Whether the events of an atomic trace are printed in a serial order.
     pub serial: bool,
+    /// Whether a cycle is explained.
+    pub explains: bool,
 }
 
 /// The words of `asm`.
@@ -74,6 +82,15 @@ pub struct AsmWords<'a> {
     pub output: &'a str,
 }
 
+/// The words of `needs`.
+#[derive(Debug, Drop)]
+pub struct NeedsWords<'a> {
+    /// The file that says which methods are to be atomic, if one does.
+    pub spec: Option<&'a str>,
+    /// The class files and sources. No entry is named.
+    pub names: ProgramNames<'a>,
+}
+
 /// Returns the command `eval`. Its entry is no main class.
 fn eval_command<'a>(alloc: Global, matches: &ArgMatches<'a>) -> Result<Command<'a>, WordsFault> {
     let words = program_words(alloc, matches)?;
@@ -83,24 +100,23 @@ fn eval_command<'a>(alloc: Global, matches: &ArgMatches<'a>) -> Result<Command<'
     }
 }
 
-/// The words of a command that runs a program, with this specification.
-fn run_words<'a>(
-    alloc: Global,
-    matches: &ArgMatches<'a>,
-    spec: Option<&'a str>,
-) -> Result<RunWords<'a>, WordsFault> {
+/// Returns the words that the commands that run a program have in common.
+fn run_words<'a>(alloc: Global, matches: &ArgMatches<'a>) -> Result<RunWords<'a>, WordsFault> {
     Ok(RunWords {
         program: program_words(alloc, matches)?,
         schedule: matches.get_str(SCHEDULE).unwrap_or(DEFAULT_SCHEDULE),
         most: most_of(matches)?,
-        spec,
+        spec: None,
+        explains: false,
     })
 }
 
 /// Returns the command `run`.
 fn run_command<'a>(alloc: Global, matches: &ArgMatches<'a>) -> Result<Command<'a>, WordsFault> {
-    let spec = matches.get_str(SPECIFICATION);
-    Ok(Command::Run(run_words(alloc, matches, spec)?))
+    let mut words = run_words(alloc, matches)?;
+    words.spec = matches.get_str(SPECIFICATION);
+    words.explains = matches.get_flag(EXPLAIN);
+    Ok(Command::Run(words))
 }
 
 /// Returns the command `check`.
@@ -109,20 +125,31 @@ fn check_command<'a>(matches: &ArgMatches<'a>) -> Result<Command<'a>, WordsFault
         spec: matches.get_str(SPECIFICATION).ok_or(WordsFault::Words)?,
         trace: matches.get_str(TRACE).ok_or(WordsFault::Words)?,
         serial: matches.get_flag(SERIAL),
+        explains: matches.get_flag(EXPLAIN),
     }))
 }
 
-/// Returns the command `asm`.
+/// Returns the command `asm`. Its files have different names, so that no source is replaced by its class.
 fn asm_command<'a>(matches: &ArgMatches<'a>) -> Result<Command<'a>, WordsFault> {
-    Ok(Command::Asm(AsmWords {
-        input: matches.get_str(INPUT).ok_or(WordsFault::Words)?,
-        output: matches.get_str(OUTPUT).ok_or(WordsFault::Words)?,
-    }))
+    let input = matches.get_str(INPUT).ok_or(WordsFault::Words)?;
+    let output = matches.get_str(OUTPUT).ok_or(WordsFault::Words)?;
+    if input == output {
+        return Err(WordsFault::Words);
+    }
+    Ok(Command::Asm(AsmWords { input, output }))
 }
 
 /// The FILE of `list`.
 fn list_word<'a>(matches: &ArgMatches<'a>) -> Result<&'a str, WordsFault> {
     matches.get_str(FILE).ok_or(WordsFault::Words)
+}
+
+/// Returns the command `needs`.
+fn needs_command<'a>(alloc: Global, matches: &ArgMatches<'a>) -> Result<Command<'a>, WordsFault> {
+    Ok(Command::Needs(NeedsWords {
+        spec: matches.get_str(SPECIFICATION),
+        names: names_without_entry(alloc, matches)?,
+    }))
 }
 
 /// Whether a word asks for help.
@@ -141,6 +168,7 @@ fn usage_of(command: &str) -> Option<Command<'static>> {
         "check" => Some(Command::Help(CHECK_HELP)),
         "asm" => Some(Command::Help(ASM_HELP)),
         "list" => Some(Command::Help(LIST_HELP)),
+        "needs" => Some(Command::Help(NEEDS_HELP)),
         _ => None,
     }
 }
@@ -186,12 +214,13 @@ fn matched<'a>(
     match name {
         "eval" => eval_command(alloc, matches),
         "run" => run_command(alloc, matches),
-        "trace" => Ok(Command::Trace(run_words(alloc, matches, None)?)),
-        "debug" => Ok(Command::Debug(run_words(alloc, matches, None)?)),
+        "trace" => Ok(Command::Trace(run_words(alloc, matches)?)),
+        "debug" => Ok(Command::Debug(run_words(alloc, matches)?)),
         "campaign" => Ok(Command::Campaign(campaign_words(alloc, matches)?)),
         "check" => check_command(matches),
         "asm" => asm_command(matches),
         "list" => Ok(Command::List(list_word(matches)?)),
+        "needs" => needs_command(alloc, matches),
         _ => Err(WordsFault::Words),
     }
 }
@@ -201,7 +230,7 @@ fn matched<'a>(
 ///
 /// P04 where they are no such line: an option that is unknown, comes twice, or has no value; a value that
 /// begins with `-` and isn't joined by `=`; no FILE; an entry, an argument or a number out of its form; a main class
-/// in `eval`, or with arguments. A schedule isn't read here.
+/// in `eval`, or with arguments; an OUT of `asm` with the name of its IN. A schedule isn't read here.
 pub fn command_of<'a>(alloc: Global, words: &'a [String]) -> Result<Command<'a>, WordsFault> {
     if let Some(command) = text_command(words) {
         return Ok(command);

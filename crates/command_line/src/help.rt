@@ -17,14 +17,15 @@ Usage: jvmx COMMAND WORDS
   check          reads what threads did and tells whether methods were atomic
   asm            writes the class file of a source
   list           prints a class file as a source
+  needs          prints what class files use that isn't there
   help           prints this text; help COMMAND, how that command is used;
                  help CODE, what the code of a refusal means
   -h, --help     prints this text; behind a command, how that command is used
   -V, --version  prints the program's name and version
 
-Exit status: 0; 1 where a run didn't finish, an exception wasn't caught or
-methods weren't atomic; 2 where words or inputs are refused; 3 where memory ran
-out or a file, standard output or standard error failed.
+Exit status: 0; 1 where a run didn't finish, an exception wasn't caught, methods
+weren't atomic or needs found something; 2 where words or inputs are refused; 3
+where memory ran out or a file, standard output or standard error failed.
 
 A refusal is one line on standard error, jvmx: FILE: CODE NAME. jvmx help CODE
 says what the code means and what usually causes it.
@@ -78,7 +79,8 @@ prints 12
 pub const RUN_HELP: &str = "\
 jvmx run: runs a program and prints what it writes
 
-Usage: jvmx run --entry E [--args N,N] [--sched S] [--max N] [--spec F] FILE...
+Usage: jvmx run --entry E [--args N,N] [--sched S] [--max N] [--spec F]
+                [--explain] FILE...
 
   --entry E   where the program begins (required). Without a dot it is a class,
               whose method main([Ljava/lang/String;)V runs on no strings; else a
@@ -99,6 +101,7 @@ Usage: jvmx run --entry E [--args N,N] [--sched S] [--max N] [--spec F] FILE...
               (default: 1000000)
   --spec F    which methods are to be atomic, as jvmx help check says: tells
               whether they were
+  --explain   tells more on standard error, as said below
   FILE...     the classes of the program, as jvmx help eval says
 
 Options and FILEs stand in any order. --max=9 is --max 9, and behind -- all
@@ -114,6 +117,15 @@ Standard output: the bytes that the program writes. Standard error: uncaught T C
 for each thread T that ended with an exception, of class C; then status S turns
 N, with S one of Finished, Running, Stalled, Deadlocked; with --spec, then the
 line that jvmx check prints. C is written as names are in --entry.
+
+With --explain, a cycle's line is followed by one for each of its transactions:
+its thread, its outermost atomic method (or the method it was in, if none is
+atomic), its first and its last event. Then come its edges: A before B, and an
+event of each that conflict, with their lines of the trace. 'at turn K' is the
+turn that gave an event: in jvmx debug, goto K. If the status is Deadlocked or
+Stalled, a line follows for each thread: what its next turn comes to, and where
+it is. At most 64 transactions and edges are explained. The turns are taken
+twice, and the whole trace is kept in memory.
 
 Exit status: 0 where the status is Finished, no exception is uncaught and, with
 --spec, no cycle was found, else 1; 2 and 3 as jvmx --help says.
@@ -252,7 +264,7 @@ Example: jvmx campaign --entry LostUpdate --spec examples/threads/atomic.spec \\
 pub const CHECK_HELP: &str = "\
 jvmx check: reads what threads did and tells whether methods were atomic
 
-Usage: jvmx check --spec F [--serial] TRACE
+Usage: jvmx check --spec F [--serial] [--explain] TRACE
 
   --spec F  which methods are to be atomic (required): lines atomic P or plain
             P, with P one of
@@ -265,6 +277,8 @@ Usage: jvmx check --spec F [--serial] TRACE
             lines and lines that begin with # are skipped. Names are written as
             in --entry (jvmx help eval)
   --serial  where the trace is atomic, also prints its events in a serial order
+  --explain where there is a cycle, also prints its transactions and the events
+            that conflict, as jvmx help run says; turns aren't known
   TRACE     the trace, as jvmx trace prints it (jvmx help trace has its lines)
 
 Options and TRACE stand in any order. --spec=F is --spec F, and behind -- a word
@@ -299,7 +313,7 @@ jvmx asm: writes the class file of a source in Jasmin
 Usage: jvmx asm IN OUT
 
   IN   the source, in UTF-8, of at most 67108864 bytes, whatever its name
-  OUT  the class file, version 49.0, that is written
+  OUT  the class file, version 49.0, that is written. Its name isn't that of IN
 
 A refusal leaves OUT as it is: the class is written to OUT.part, which then
 takes the place of OUT.
@@ -327,6 +341,49 @@ Exit status: 0; 2 and 3 as jvmx --help says. jvmx help CODE explains the
 code of a refusal: L01 and L02 say why a class can't be written as a source.
 
 Example: jvmx list examples/G.class
+";
+
+/// `jvmx needs --help`
+pub const NEEDS_HELP: &str = "\
+jvmx needs: prints what class files use that isn't there
+
+Usage: jvmx needs [--spec F] FILE...
+
+  --spec F  a specification, as jvmx help check says: names those of its lines
+            that match no method of the FILEs
+  FILE...   the classes of the program, as jvmx help eval says
+
+Options and FILEs stand in any order. --spec=F is --spec F, and behind -- all
+words are FILEs.
+
+Standard output: a line for each instruction that can't run, in the order of the
+FILEs, of their methods and of the instructions,
+  C.m.D @N NoClassDefFoundError C
+  C.m.D @N NoSuchMethodError C.m.D
+  C.m.D @N NoSuchFieldError C.x.D
+  C.m.D @N IncompatibleClassChangeError C.m.D
+  C.m.D @N OutOfProfile
+for instruction N of the method that the line begins with, from 0: no FILE has
+the class and it isn't built in; the class has no such member; the member is or
+isn't static, or the class is or isn't an interface, against what the
+instruction asks for; jvmx doesn't have the instruction, as those of float and
+double. OutOfProfile is followed by what the instruction names, if it names
+something. A line ends with why a compiler may have put the instruction there:
+  (+ on strings)             write print twice
+  (assert)                   write if and throw
+  (boxing)                   write int or another primitive type
+  (enum)                     write ints
+  (a class of another file)  name the FILE of that class too
+Then a line for each line of the specification that matches no method,
+  spec atomic C.m matches no method
+
+The program isn't run. What needs a superclass that isn't there is refused, K02.
+
+Exit status: 0 where nothing is printed, else 1; 2 and 3 as jvmx --help says.
+jvmx help CODE explains the code of a refusal.
+
+Example: jvmx needs --spec examples/threads/atomic.spec \\
+  examples/threads/LostUpdate.j
 ";
 
 /// `jvmx --version`

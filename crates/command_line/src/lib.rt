@@ -11,10 +11,10 @@ mod refusals;
 mod syntax;
 
 pub use campaign::CampaignWords;
-pub use command::{AsmWords, CheckWords, Command, RunWords, command_of};
+pub use command::{AsmWords, CheckWords, Command, NeedsWords, RunWords, command_of};
 pub use fault::WordsFault;
 pub use help::{
-    ASM_HELP, CAMPAIGN_HELP, CHECK_HELP, DEBUG_HELP, EVAL_HELP, HELP, LIST_HELP, RUN_HELP,
-    TRACE_HELP, VERSION,
+    ASM_HELP, CAMPAIGN_HELP, CHECK_HELP, DEBUG_HELP, EVAL_HELP, HELP, LIST_HELP, NEEDS_HELP,
+    RUN_HELP, TRACE_HELP, VERSION,
 };
 pub use program_words::{ProgramNames, ProgramWords};

@@ -21,6 +21,7 @@ pub struct ProgramWords<'a> {
 /// What the words name of a program, as they have it.
 #[derive(Debug, Drop)]
 pub struct ProgramNames<'a> {
+    /// The entry. It is empty in `needs`, which has none.
     pub entry: &'a str,
     /// The arguments of the entry, if the words have any.
     pub arguments: Option<&'a str>,
@@ -69,6 +70,18 @@ pub(crate) fn program_words<'a>(
             arguments: matches.get_str(ARGUMENTS),
             files: files_of(alloc, matches)?,
         },
+    })
+}
+
+/// Returns the names of a program of which no entry is asked.
+pub(crate) fn names_without_entry<'a>(
+    alloc: Global,
+    matches: &ArgMatches<'a>,
+) -> Result<ProgramNames<'a>, WordsFault> {
+    Ok(ProgramNames {
+        entry: "",
+        arguments: None,
+        files: files_of(alloc, matches)?,
     })
 }
 

@@ -21,6 +21,9 @@ pub(crate) const SPECIFICATION: &str = "spec";
 /// The flag `--serial`.
 pub(crate) const SERIAL: &str = "serial";
 
+/// The flag `--explain`.
+pub(crate) const EXPLAIN: &str = "explain";
+
 /// The option `--jobs`.
 pub(crate) const JOBS: &str = "jobs";
 
@@ -94,9 +97,11 @@ fn scheduled_syntax<'a>(alloc: Global, name: &'a str) -> Result<Command<'a>, All
         .arg(option(alloc, MOST))
 }
 
-/// `run --entry E [--args N,N] [--sched S] [--max N] [--spec F] FILE...`
+/// `run --entry E [--args N,N] [--sched S] [--max N] [--spec F] [--explain] FILE...`
 fn run_syntax<'a>(alloc: Global) -> Result<Command<'a>, AllocError> {
-    scheduled_syntax(alloc, "run")?.arg(option(alloc, SPECIFICATION))
+    scheduled_syntax(alloc, "run")?
+        .arg(option(alloc, SPECIFICATION))?
+        .arg(flag(alloc, EXPLAIN))
 }
 
 /// `campaign --entry E [--args N,N] --spec F --jobs N [--seed N] [--workers N] [--max N] [--stop] [--summary] FILE...`
@@ -111,12 +116,13 @@ fn campaign_syntax<'a>(alloc: Global) -> Result<Command<'a>, AllocError> {
         .arg(flag(alloc, SUMMARY))
 }
 
-/// `check --spec F [--serial] TRACE`
+/// `check --spec F [--serial] [--explain] TRACE`
 fn check_syntax<'a>(alloc: Global) -> Result<Command<'a>, AllocError> {
     let specification = option(alloc, SPECIFICATION).required(true);
     bare(alloc, "check")
         .arg(specification)?
         .arg(flag(alloc, SERIAL))?
+        .arg(flag(alloc, EXPLAIN))?
         .arg(file(alloc, TRACE))
 }
 
@@ -135,6 +141,13 @@ fn asm_syntax<'a>(alloc: Global) -> Result<Command<'a>, AllocError> {
 /// `list FILE`
 fn list_syntax<'a>(alloc: Global) -> Result<Command<'a>, AllocError> {
     bare(alloc, "list").arg(file(alloc, FILE))
+}
+
+/// `needs [--spec F] FILE...`
+fn needs_syntax<'a>(alloc: Global) -> Result<Command<'a>, AllocError> {
+    bare(alloc, "needs")
+        .arg(option(alloc, SPECIFICATION))?
+        .arg(files(alloc))
 }
 
 /// Adds a command to others, if there was memory for it.
@@ -164,7 +177,8 @@ fn with_runs<'a>(alloc: Global, commands: Command<'a>) -> Result<Command<'a>, Al
 fn with_texts<'a>(alloc: Global, commands: Command<'a>) -> Result<Command<'a>, AllocError> {
     let commands = with(commands, check_syntax(alloc))?;
     let commands = with(commands, asm_syntax(alloc))?;
-    with(commands, list_syntax(alloc))
+    let commands = with(commands, list_syntax(alloc))?;
+    with(commands, needs_syntax(alloc))
 }
 
 /// All commands.

@@ -2,3 +2,4 @@ pub mod Evaluation
 pub mod Faults
 pub mod Limits
 pub mod Lines
+pub mod Missing

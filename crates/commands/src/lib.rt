@@ -8,6 +8,7 @@ mod fault;
 mod files;
 mod limits;
 mod lines;
+pub mod needing;
 pub mod perform;
 mod progress;
 mod reading;

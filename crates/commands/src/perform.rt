@@ -5,17 +5,21 @@ use crate::eval::eval;
 use crate::files::Files;
 use crate::limits::DEFAULT_LIMITS;
 use crate::lines::ending_lines;
+use crate::needing::write_missing;
 use crate::reading::{read_input, read_inputs, read_source, read_spec, read_text};
 use crate::refusal::Refusal;
 use crate::run::run;
 use crate::terminal::{Terminal, TerminalPrompt};
 use crate::tracing::write_trace;
-use atom_spec::Spec;
-use command_line::{AsmWords, CheckWords, Command, ProgramWords, RunWords, VERSION, command_of};
+use atom_spec::{Spec, SpecificationLine};
+use command_line::{
+    AsmWords, CheckWords, Command, NeedsWords, ProgramWords, RunWords, VERSION, command_of,
+};
 use debugger_script::{NoPrompt, Prompt};
 use debugging::debug;
+use explaining::ExplainedRun;
 use inputs::{Input, class_of};
-use judge::{Judged, RunSummary};
+use judge::Judged;
 use jvms_machine::machine::Status;
 use listing::{ClassFile, list};
 use program_runs::Judgement;
@@ -27,7 +31,7 @@ use std::rt::Clock;
 use std::sync::Wait;
 use std::thread::Threads;
 use trace::{ByteIn, ByteOut};
-use trace_check::check;
+use trace_check::{Details, check};
 use velodrome::verdict::Verdict;
 
 /// Returns whether a run finished, and no exception is uncaught.
@@ -112,13 +116,14 @@ fn is_cycle(verdict: &Verdict) -> bool {
     matches!(verdict, Verdict::Cycle { .. })
 }
 
-/// Returns the lines of a run: how it ended, and its verdict.
-fn run_lines(alloc: Global, run: &RunSummary) -> Result<Vec<u8>, AllocError> {
+/// Returns the lines of a run: how it ended, its verdict, and what explains it.
+fn run_lines(alloc: Global, run: &ExplainedRun) -> Result<Vec<u8>, AllocError> {
     let mut lines = ending_lines(alloc, &run.ending)?;
     if let Some(judgement) = &run.judgement {
         let line = verdict_line(alloc, &judgement.verdict, judgement.counts)?;
         lines.extend_from_slice(line.as_bytes())?;
     }
+    lines.extend_from_slice(run.explanation.as_bytes())?;
     Ok(lines)
 }
 
@@ -128,21 +133,24 @@ fn run_parts<'w, W: ByteOut>(
     words: &RunWords<'w>,
     parts: &mut RunParts,
     output: &mut W,
-) -> Result<RunSummary, Refusal<'w>> {
+) -> Result<ExplainedRun, Refusal<'w>> {
     let spec = parts.spec.take();
     let inputs = parts.inputs.as_slice();
     let chooser = &mut parts.chooser;
     let entry = &words.program.entry;
-    match run(alloc, inputs, entry, chooser, words.most, spec, output) {
+    let explains = words.explains;
+    match run(
+        alloc, inputs, entry, chooser, words.most, spec, explains, output,
+    ) {
         Ok(run) => Ok(run),
         Err(fault) => Err(Refusal::of_run(&words.program.names, fault)),
     }
 }
 
-/// Prints how a run ended and, with a specification, whether it is atomic.
+/// Prints how a run ended, with a specification whether it is atomic, and what explains the run.
 fn print_run<'w, E: ByteOut>(
     alloc: Global,
-    run: &RunSummary,
+    run: &ExplainedRun,
     errors: &mut E,
 ) -> Result<u8, Refusal<'w>> {
     errors.write_all(run_lines(alloc, run)?.as_slice())?;
@@ -243,7 +251,11 @@ fn check_text<'w, W: ByteOut>(
     text: &str,
     output: &mut W,
 ) -> Result<u8, Refusal<'w>> {
-    match check(alloc, spec, text, words.serial, output) {
+    let details = Details {
+        serial: words.serial,
+        explains: words.explains,
+    };
+    match check(alloc, spec, text, details, output) {
         Ok(verdict) => Ok(u8::from(is_cycle(&verdict))),
         Err(fault) => Err(Refusal::of_check(words.trace, fault)),
     }
@@ -299,6 +311,29 @@ fn perform_list<'w, F: Files, W: ByteOut>(
     }
 }
 
+/// Returns the lines of a specification, and none if there is no specification.
+fn lines_in(spec: &Option<Spec>) -> &[SpecificationLine] {
+    match spec {
+        Some(spec) => spec.lines(),
+        None => &[],
+    }
+}
+
+/// `needs`: prints what is missing. The specification is read first, then the FILEs.
+fn perform_needs<'w, F: Files, W: ByteOut>(
+    alloc: Global,
+    words: &NeedsWords<'w>,
+    files: &mut F,
+    output: &mut W,
+) -> Result<u8, Refusal<'w>> {
+    let spec = spec_of(alloc, files, words.spec)?;
+    let inputs = read_inputs(alloc, files, words.names.files.as_slice())?;
+    match write_missing(alloc, inputs.as_slice(), lines_in(&spec), output) {
+        Ok(is_whole) => Ok(u8::from(!is_whole)),
+        Err(fault) => Err(Refusal::of_run(&words.names, fault)),
+    }
+}
+
 /// Prints a text.
 fn print<'w, W: ByteOut>(output: &mut W, text: &str) -> Result<u8, Refusal<'w>> {
     output.write_all(text.as_bytes())?;
@@ -336,6 +371,7 @@ fn command<
         Command::Check(words) => perform_check(alloc, &words, files, output),
         Command::Asm(words) => perform_asm(alloc, words, files),
         Command::List(file) => perform_list(alloc, file, files, output),
+        Command::Needs(words) => perform_needs(alloc, &words, files, output),
         Command::Help(text) => print(output, text),
         Command::Version => print(output, VERSION),
     }
@@ -351,8 +387,8 @@ fn refuse<E: ByteOut>(alloc: Global, refusal: &Refusal<'_>, errors: &mut E) -> u
 }
 
 /// Does all of the program, on the words after its name. The answer is its exit status: 0; 1 where a run
-/// didn't finish, an exception is uncaught or a cycle was found; 2 where words or inputs are refused; 3 where memory ran
-/// out or a device failed.
+/// didn't finish, an exception is uncaught, a cycle was found or something is missing; 2 where words or inputs are refused;
+/// 3 where memory ran out or a device failed.
 pub fn perform<
     R: AllocGlobal + Clock + Eprint + Threads + Wait + Sync,
     F: Files,

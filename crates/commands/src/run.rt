@@ -1,7 +1,10 @@
 //! `run`: what a program writes.
 
-ghost use Rattle.std.specs.Prelude.{◌≡◌, ◌≢◌, ◌+◌, IfOk, IfErr, OnOk, IsErrOf, length};
+ghost use Rattle.std.specs.Prelude.{◌≡◌, ◌≢◌, ◌+◌, IfOk, IfErr, OnOk, IsErrOf, IsTrue, Ok, length};
 ghost use Rattle.std.specs.Io.KnownBytes.{Appends};
+ghost use Rattle.std.specs.String.{string_bytes};
+ghost use Rattle.explaining.specs.Explanations.{explanation_of_inputs};
+ghost use Rattle.judge.specs.Faults.{IsFault as IsJudgeFault, NamesFile as NamesInput};
 ghost use Rattle.judge.specs.Judgement.{IsJudgementOn};
 ghost use Rattle.judge.specs.Shown.{run_judged};
 ghost use Rattle.program_runs.specs.Shown.{EndsAs};
@@ -11,16 +14,51 @@ ghost use Rattle.commands.specs.Limits.{default_limits};
 use crate::fault::RunFault;
 use crate::limits::DEFAULT_LIMITS;
 use atom_spec::Spec;
+use explaining::{ExplainedRun, run_explained};
 use inputs::Input;
-use judge::RunSummary;
+use judge::JudgeFault;
 use jvms_machine::machine::Entry;
 use schedule::Chooser;
 use std::alloc::Global;
 use trace::ByteOut;
 use turn_limit::TurnLimit;
 
+/// Runs the program that class files and sources make, and explains the run if that is asked for. Else the explanation is
+/// empty.
+fn run_and_explain(
+    alloc: Global,
+    inputs: &[Input],
+    entry: &Entry,
+    chooser: &mut Chooser,
+    most: TurnLimit,
+    spec: Option<Spec>,
+    explains: bool,
+) -> Result<ExplainedRun, JudgeFault>
+    ensures ending { IfOk result (λ run.
+        EndsAs (run_judged most chooser.old default_limits inputs.now entry.now) run.ending) }
+    ensures judged { IfOk result (λ run. IsJudgementOn spec
+        (run_judged most chooser.old default_limits inputs.now entry.now) run.judgement) }
+    ensures explained { IfOk result (λ run. IsTrue explains →
+        explanation_of_inputs spec run.judgement most chooser.old default_limits inputs.now entry.now
+        ≡ Ok (string_bytes run.explanation)) }
+    ensures fault { IfErr result (λ fault.
+        IsJudgeFault fault (run_judged most chooser.old default_limits inputs.now entry.now)) }
+    ensures named { IfErr result (λ fault. NamesInput (length inputs.now) fault) }
+{
+    let limits = DEFAULT_LIMITS;
+    if explains {
+        return run_explained(alloc, inputs, limits, entry, chooser, most, spec);
+    }
+    let run = judge::run(alloc, inputs, limits, entry, chooser, most, spec)?;
+    Ok(ExplainedRun {
+        ending: run.ending,
+        judgement: run.judgement,
+        explanation: String::new(alloc),
+    })
+}
+
 /// Runs the program that class files and sources make, by the choices of a chooser, at most this number of them, and
-/// writes the bytes that it wrote. With a specification the run is judged too.
+/// writes the bytes that it wrote. With a specification the run is judged too. It is explained if that is asked for.
 pub fn run<W: ByteOut>(
     alloc: Global,
     inputs: &[Input],
@@ -28,8 +66,9 @@ pub fn run<W: ByteOut>(
     chooser: &mut Chooser,
     most: TurnLimit,
     spec: Option<Spec>,
+    explains: bool,
     output: &mut W,
-) -> Result<RunSummary, RunFault>
+) -> Result<ExplainedRun, RunFault>
     // The number of turns, the status, the uncaught exceptions and the output are those of the run by the instruction
     // table.
     ensures ending { IfOk result (λ run.
@@ -37,6 +76,11 @@ pub fn run<W: ByteOut>(
     // The verdict is that on the run's items.
     ensures judged { IfOk result (λ run. IsJudgementOn spec
         (run_judged most chooser.old default_limits inputs.now entry.now) run.judgement) }
+    // What is explained is the cycle of that verdict, on the items of that run, with the turns that it gives; and the
+    // threads of the machine after it.
+    ensures explained { IfOk result (λ run. IsTrue explains →
+        explanation_of_inputs spec run.judgement most chooser.old default_limits inputs.now entry.now
+        ≡ Ok (string_bytes run.explanation)) }
     // Exactly the output's bytes were written.
     ensures written { IfOk result (λ run.
         Appends (W.written output.old) (W.written output.new) run.ending.output) }
@@ -49,7 +93,7 @@ pub fn run<W: ByteOut>(
     ensures failed { IsErrOf result RunFault.Output → W.failures output.new ≡ W.failures output.old + 1 }
     ensures beginning { IsErrOf result RunFault.Output → WroteBeginning (run_judged most chooser.old default_limits inputs.now entry.now) (λ shown. shown.output) (W.written output.old) (W.written output.new) }
 {
-    let run = judge::run(alloc, inputs, DEFAULT_LIMITS, entry, chooser, most, spec)?;
+    let run = run_and_explain(alloc, inputs, entry, chooser, most, spec, explains)?;
     output.write_all(run.ending.output.as_slice())?;
     Ok(run)
 }

@@ -37,11 +37,11 @@ P04 Words
 
 The words are no command line: an unknown command or option, an option twice or
 without its value, no FILE, an entry that isn't C.m.D, an argument that is out
-of its parameter's range or no number, a --max above 100,000,000. A main class
-is no entry of eval, and has no --args. Put quotes round the entry: the shell
-reads its parentheses. Write a class a.b.C as a/b/C, and a negative first
-argument as --args=-7,2. jvmx help eval, jvmx help run and jvmx help check have
-the rest.
+of its parameter's range or no number, a --max above 100,000,000, an OUT of asm
+with the name of its IN. A main class is no entry of eval, and has no --args.
+Put quotes round the entry: the shell reads its parentheses. Write a class a.b.C
+as a/b/C, and a negative first argument as --args=-7,2. jvmx help eval, jvmx
+help run and jvmx help check have the rest.
 ",
     ),
     (

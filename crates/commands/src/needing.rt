@@ -1,0 +1,57 @@
+//! `needs`: what the classes of a program use that isn't there.
+
+ghost use Rattle.std.specs.Prelude.{◌≡◌, ◌≢◌, ◌+◌, IfOk, IfErr, OnOk, IsErrOf, Ok, length};
+ghost use Rattle.std.specs.String.{string_bytes};
+ghost use Rattle.judge.specs.Faults.{IsFault as IsJudgeFault, NamesFile as NamesInput};
+ghost use Rattle.commands.specs.Faults.{IsFault, NamesFile, WroteBeginning};
+ghost use Rattle.commands.specs.Missing.{HasWritten, missing_in};
+
+use crate::fault::RunFault;
+use atom_spec::SpecificationLine;
+use inputs::Input;
+use judge::{JudgeFault, program_of};
+use needs::missing_text;
+use std::alloc::Global;
+use trace::ByteOut;
+
+/// Returns the text of what is missing in the program that class files and sources make, and of a specification's lines.
+#[tactic(auto, unfolding(crate::specs::Missing::missing_in))]
+fn missing_in(
+    alloc: Global,
+    inputs: &[Input],
+    lines: &[SpecificationLine],
+) -> Result<String, JudgeFault>
+    ensures exact { IfOk result (λ text. missing_in lines.now inputs.now ≡ Ok (string_bytes text)) }
+    ensures fault { IfErr result (λ fault. IsJudgeFault fault (missing_in lines.now inputs.now)) }
+    ensures named { IfErr result (λ fault. NamesInput (length inputs.now) fault) }
+{
+    let program = program_of(alloc, inputs)?;
+    let text = missing_text(alloc, &program, lines)?;
+    Ok(text)
+}
+
+/// Writes what is missing in the program that class files and sources make, and which of a specification's lines speak of
+/// none of its methods. Returns whether nothing is missing.
+pub fn write_missing<W: ByteOut>(
+    alloc: Global,
+    inputs: &[Input],
+    lines: &[SpecificationLine],
+    output: &mut W,
+) -> Result<bool, RunFault>
+    // The text that was written is that of the program of the inputs, and the answer is whether it is empty.
+    ensures written { IfOk result (λ is_whole. HasWritten (missing_in lines.now inputs.now)
+        (W.written output.old) (W.written output.new) is_whole) }
+    ensures count { OnOk result (W.failures output.new ≡ W.failures output.old) }
+    // A fault comes only where its condition stands, and that of a file names one of these.
+    ensures fault { IfErr result (λ fault. IsFault fault (missing_in lines.now inputs.now)) }
+    ensures named { IfErr result (λ fault. NamesFile (length inputs.now) fault) }
+    ensures untouched { IfErr result (λ fault. fault ≢ RunFault.Output → output.new ≡ output.old) }
+    // Output comes only where the writer failed; then a beginning of the text was written.
+    ensures failed { IsErrOf result RunFault.Output → W.failures output.new ≡ W.failures output.old + 1 }
+    ensures beginning { IsErrOf result RunFault.Output → WroteBeginning (missing_in lines.now inputs.now) (λ text. text)
+        (W.written output.old) (W.written output.new) }
+{
+    let text = missing_in(alloc, inputs, lines)?;
+    output.write_all(text.as_bytes())?;
+    Ok(text.as_str().is_empty())
+}

@@ -1,0 +1,59 @@
+-- What is explained is the run.
+use Rattle.std.proofs.Common.{◌≡◌, ℕ, List, length, Some, None, Result, Ok, Err, refl, sym, ap, subst, ◌∙◌}
+use Rattle.std.specs.Prelude.{Option}
+use Rattle.jvms_file.specs.Results.{◌>>=◌}
+use Rattle.jvms_program.specs.declared.program.Class.{Class}
+use Rattle.jvms_machine.specs.declared.machine.Entry.{Entry}
+use Rattle.jvms_machine.specs.declared.machine.Limits.{Limits}
+use Rattle.jvms_machine.specs.Opening.{NotMade, made}
+use Rattle.jvms_machine.specs.Start.{Start}
+use Rattle.machine.specs.Started.{opened}
+use Rattle.schedule.specs.Choosers.{Chooser}
+use Rattle.velodrome.specs.Specification.{Specification}
+use Rattle.program_runs.specs.declared.feeding.Judgement.{Judgement}
+use Rattle.program_runs.specs.declared.tracing.TracedRun.{TracedRun}
+use Rattle.program_runs.specs.Shown.{EndsAs, Shown, ending_shown, program_shown, shown_in, shown_of}
+use Rattle.judge.specs.Judgement.{IsJudgement, IsJudgementOn}
+use Rattle.judge.specs.Programs.{NotRun, not_made, refused}
+use Rattle.explaining.specs.Explanations.{program_explanation, run_explanation}
+
+-- The run that is shown is that of the machine from this start.
+same_run : (most : ℕ) (chooser : Chooser) (limits : Limits) (program : List Class) (entry : Entry) (start : Start) (shown : Shown)
+    → made program limits entry ≡ Ok start → program_shown most chooser limits program entry ≡ Ok shown
+    → shown_of most chooser (opened program limits start) ≡ shown
+unfolding program_shown
+same_run most chooser limits program entry start shown is shows =
+    let both : Ok (shown_of most chooser (opened program limits start)) ≡ Ok shown =
+    sym (ap (λ r. r >>= λ s. Ok (shown_of most chooser (opened program limits s))) is) ∙ shows in cc
+
+-- What explains it.
+pub is_explanation : (lines : Option Specification) (j : Option Judgement) (most : ℕ) (chooser : Chooser) (limits : Limits) (program : List Class) (entry : Entry) (start : Start) (shown : Shown) (text : List ℕ)
+    → made program limits entry ≡ Ok start → program_shown most chooser limits program entry ≡ Ok shown
+    → text ≡ run_explanation lines j (opened program limits start) shown
+    → program_explanation lines j most chooser limits program entry ≡ Ok text
+unfolding program_explanation
+is_explanation lines j most chooser limits program entry start shown text is shows told =
+    ap (λ r. r >>= λ s. Ok (run_explanation lines j (opened program limits s) (shown_of most chooser (opened program limits s)))) is
+    ∙ ap (λ x. Ok (run_explanation lines j (opened program limits start) x)) (same_run most chooser limits program entry start shown is shows)
+    ∙ ap Ok (sym told)
+
+-- How it ended.
+pub ends_so : (run : TracedRun) (said : Result Shown NotMade) → said ≡ Ok (shown_in run) → run.ending.turns ≡ length run.choices
+    → EndsAs (refused not_made said) run.ending
+ends_so run said shows turns =
+    let P : Result Shown NotMade → Type 0 = λ r. EndsAs (refused not_made r) run.ending in
+    subst P (sym shows) (ap (λ n. record { turns = n; result = run.ending.result; output = run.ending.output; status = run.ending.status; uncaught = run.ending.uncaught }) turns)
+
+judged_so : (lines : Option Specification) (shown : Shown) (j : Option Judgement) → IsJudgement lines shown.items j
+    → IsJudgementOn lines (Ok shown) j
+judged_so None shown None is = tt
+judged_so (Some lines) shown (Some j) is = is
+judged_so None shown (Some j) is = absurd is
+judged_so (Some lines) shown None is = absurd is
+
+-- The verdict on it.
+pub is_judged : (lines : Option Specification) (shown : Shown) (j : Option Judgement) (said : Result Shown NotMade) → said ≡ Ok shown
+    → IsJudgement lines shown.items j → IsJudgementOn lines (refused not_made said) j
+is_judged lines shown j said shows is =
+    let P : Result Shown NotMade → Type 0 = λ r. IsJudgementOn lines (refused not_made r) j in
+    subst P (sym shows) (judged_so lines shown j is)

@@ -1,0 +1,10 @@
+-- The turns so far, and those of the items that are left.
+use Rattle.std.proofs.Common.{◌≡◌, ◌++◌, drop, map}
+use Rattle.std.specs.List.{filter}
+use Rattle.velodrome.specs.Transactions.{is_event}
+use Rattle.explaining.proofs.event_turns.push_events.Given as goal
+
+abbrev pub invariant-loop-item : goal.invariant-loop-item
+invariant-loop-item l =
+    l.turns.items ++ map (λ i. l.turn) (filter is_event (drop l.item-index l.items))
+    ≡ l.fn.turns.items ++ map (λ i. l.turn) (filter is_event l.items)

@@ -1,0 +1,32 @@
+-- The items of the run may be fed, and what explains it is that of the run.
+use Rattle.std.proofs.Common.{◌≡◌, ◌++◌, Ok, ap, subst, ◌∙◌}
+use Rattle.std.specs.String.{string_bytes}
+use Rattle.machine.specs.Started.{opened}
+use Rattle.program_runs.specs.Shown.{shown_in}
+use Rattle.program_runs.proofs.ShownRuns.{shown_may_be_fed}
+use Rattle.explaining.specs.EventTurns.{event_turns}
+use Rattle.explaining.specs.Explanations.{cycle_part, program_explanation, stuck_lines}
+use Rattle.explaining.proofs.Explained.{is_explanation}
+use Rattle.explaining.proofs.running.explain_program.Goals as goal
+
+pub explain_items-requires : goal.explain_items-requires
+explain_items-requires c =
+    rw c.items.ensures
+    (λ lines. shown_may_be_fed lines _ _ _ _ _ (shown_in c.in_ok-traced.traced) c.is_program.ensures c.turns.ensures.within c.in_ok-traced.ensures.shown)
+
+pub returns-clause-explained : goal.returns-clause-explained
+returns-clause-explained c =
+    let run = c.in_ok-traced.traced in
+    let replayed = c.in-Ok.ensures in
+    let m = opened c.args.program.now c.args.limits replayed.0 in
+    let lines = c.args.spec in
+    let j = c.in_ok-explained.explained.judgement in
+    let turns = c.as_slice-turns.ensures.value ∙ replayed.2 ∙ ap (event_turns 1 m) c.as_slice-choices.ensures in
+    let cycle : string_bytes c.in_ok-explained.explained.text ≡ cycle_part lines j run.trace (event_turns 1 m run.choices) =
+    c.in_ok-explained.ensures.text ∙ ap (λ items. cycle_part lines j items c.as_slice-turns.result.now) c.items.ensures
+    ∙ ap (λ ts. cycle_part lines j run.trace ts) turns in
+    let stuck = c.as_str.ensures.value ∙ replayed.3 ∙ ap (λ cs. stuck_lines m cs run.ending.uncaught run.ending.status) c.as_slice-choices.ensures in
+    let text = c.in_ok-push_str.ensures.bytes ∙ ap (λ part. part ++ c.as_str.result.now) cycle
+    ∙ ap (λ part. cycle_part lines j run.trace (event_turns 1 m run.choices) ++ part) stuck in
+    let told = is_explanation lines j c.turns.result c.args.chooser.now c.args.limits c.args.program.now c.args.entry.now replayed.0 (shown_in run) _ replayed.1 c.in_ok-traced.ensures.shown text in
+    subst (λ n. program_explanation lines j n c.args.chooser.now c.args.limits c.args.program.now c.args.entry.now ≡ Ok (string_bytes c.push_str.new.self)) c.turns.ensures.turns told

@@ -1,0 +1,3 @@
+pub mod EventTurns
+pub mod Explanations
+pub mod Throws
