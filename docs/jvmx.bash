@@ -1,0 +1,28 @@
+# Completion of jvmx for bash. Made by bench/manual.py from the texts of jvmx help.
+#
+#     source docs/jvmx.bash
+
+_jvmx() {
+    local word=${COMP_WORDS[COMP_CWORD]} words
+    if ((COMP_CWORD == 1)); then
+        words='eval run trace debug campaign check asm list needs help --help --version'
+    else
+        case ${COMP_WORDS[1]} in
+            eval) words='--entry --args --help' ;;
+            run) words='--entry --args --sched --max --spec --explain --help' ;;
+            trace) words='--entry --args --sched --max --help' ;;
+            debug) words='--entry --args --sched --max --help' ;;
+            campaign) words='--entry --args --spec --jobs --seed --workers --max --stop --summary --help' ;;
+            check) words='--spec --serial --explain --help' ;;
+            asm) words='--help' ;;
+            list) words='--help' ;;
+            needs) words='--spec --help' ;;
+            help) words='eval run trace debug campaign check asm list needs' ;;
+        esac
+        [[ $word == -* || ${COMP_WORDS[1]} == help ]] || words=
+    fi
+    mapfile -t COMPREPLY < <(compgen -W "$words" -- "$word")
+    ((COMP_CWORD > 1)) && [[ $word != -* && ${COMP_WORDS[1]} != help ]] &&
+        mapfile -t -O "${#COMPREPLY[@]}" COMPREPLY < <(compgen -f -- "$word")
+}
+complete -o filenames -F _jvmx jvmx
