@@ -1,3 +1,4 @@
 pub mod ElementLaws
 pub mod KindLaws
 pub mod Lists
+pub mod SameLaws

@@ -213,6 +213,25 @@ impl Elements {
         })
     }
 
+    /// Returns whether all elements and their kind are the same.
+    #[tactic(auto, using(crate::proofs::SameLaws::same_ints, crate::proofs::SameLaws::same_naturals, crate::proofs::SameLaws::same_longs, crate::proofs::SameLaws::same_references))]
+    pub fn is_same(&self, other: &Elements) -> bool
+        ensures values { result ≡ true → values_of self.now ≡ values_of other.now }
+        ensures kind { result ≡ true → kind_held self.now ≡ kind_held other.now }
+    {
+        match (self, other) {
+            (Elements::Ints(items), Elements::Ints(others)) => items == others,
+            (Elements::Bytes(items), Elements::Bytes(others)) => items == others,
+            (Elements::Booleans(items), Elements::Booleans(others)) => items == others,
+            (Elements::Chars(items), Elements::Chars(others)) => items == others,
+            (Elements::Shorts(items), Elements::Shorts(others)) => items == others,
+            (Elements::Longs(items), Elements::Longs(others)) => items == others,
+            (Elements::References(items), Elements::References(others)) => items == others,
+            (Elements::Nothing(count), Elements::Nothing(others)) => count == others,
+            _ => false,
+        }
+    }
+
     /// How many there are.
     #[inline(always)]
     pub fn len(&self) -> usize

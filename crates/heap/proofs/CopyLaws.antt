@@ -1,28 +1,31 @@
 -- Objects that are copied one by one.
-use Rattle.std.proofs.Common.{◌≡◌, ℕ, suc, ◌+◌, ◌<◌, List, [], ◌∷◌, ◌++◌, length, map, take, get_or, Some, slice_get, sym, ap, ◌∙◌, subst, arith}
+use Rattle.std.proofs.Common.{◌≡◌, ℕ, suc, ◌+◌, ◌<◌, List, [], ◌∷◌, ◌++◌, length, map, take, get_or, Some, slice_get, sym, ap, ◌∙◌, subst, append_assoc, arith}
 use Rattle.std.specs.List.{AllByRecursion}
 use Rattle.std.proofs.Math.Seq.{take-suc}
 use Rattle.std.proofs.lemmas.List.{map-append}
 use Rattle.std.proofs.lemmas.Option.{slice_get-get_or}
 use Rattle.jvms_program.specs.declared.program.Class.{Class}
+use Rattle.jvms_machine.specs.State.{Object}
 use Rattle.jvms_machine.proofs.ListLaws.{all_append, all_at}
 use Rattle.heap.specs.declared.held_object.HeldObject.{HeldObject}
 use Rattle.heap.specs.Held.{shown, IsKept}
 
 -- The copies so far, with one more, of the object at the next place.
 module _ (program : List Class) (objects copies new : List HeldObject) (i : ℕ) (o x : HeldObject) (within : i < length objects) (at : o ≡ get_or objects i o) (put : new ≡ copies ++ x ∷ []) where
-  pub shown_more : map (shown program) copies ≡ map (shown program) (take i objects) → shown program x ≡ shown program o → map (shown program) new ≡ map (shown program) (take (i + 1) objects)
-  shown_more before same =
-      let front = map (shown program) (take i objects) in
+  pub shown_more : (front : List Object) → map (shown program) copies ≡ front ++ map (shown program) (take i objects) → shown program x ≡ shown program o
+      → map (shown program) new ≡ front ++ map (shown program) (take (i + 1) objects)
+  shown_more front before same =
+      let so_far = map (shown program) (take i objects) in
       let one : suc i ≡ i + 1 = omega arith in
       ap (map (shown program)) put
       ∙ map-append (shown program) copies (x ∷ [])
       ∙ ap (λ l. l ++ shown program x ∷ []) before
-      ∙ ap (λ s. front ++ s ∷ []) same
-      ∙ ap (λ p. front ++ shown program p ∷ []) at
-      ∙ sym (map-append (shown program) (take i objects) (get_or objects i o ∷ []))
-      ∙ ap (map (shown program)) (sym (take-suc objects i o within))
-      ∙ ap (λ n. map (shown program) (take n objects)) one
+      ∙ append_assoc front so_far (shown program x ∷ [])
+      ∙ ap (λ s. front ++ (so_far ++ s ∷ [])) same
+      ∙ ap (λ p. front ++ (so_far ++ shown program p ∷ [])) at
+      ∙ ap (λ l. front ++ l) (sym (map-append (shown program) (take i objects) (get_or objects i o ∷ [])))
+      ∙ ap (λ l. front ++ map (shown program) l) (sym (take-suc objects i o within))
+      ∙ ap (λ n. front ++ map (shown program) (take n objects)) one
 
   pub kept_more : AllByRecursion (IsKept program) objects → AllByRecursion (IsKept program) copies → (IsKept program o → IsKept program x) → AllByRecursion (IsKept program) new
   kept_more all before same =

@@ -8,6 +8,8 @@ pub mod KeyLaws
 pub mod MakingLaws
 pub mod NamedLaws
 pub mod OpeningLaws
+pub mod SameLaws
+pub mod SavedLaws
 pub mod SlotLaws
 pub mod StaticLaws
 pub mod TakenBack

@@ -50,6 +50,17 @@ pub record Becomes (change : Object → Object) (program : List Class) (before a
   pub text_stays : (units : List ℕ) → is_text units (shown program after) ≡ is_text units (shown program before)
   pub class_stays : (name : List ℕ) → is_class_object name (shown program after) ≡ is_class_object name (shown program before)
 
+-- Two objects are shown as the same in every program, and where the first is kept, so is the second.
+pub record AreAlike (a b : HeldObject) : Type 0 where
+  pub show : (program : List Class) → shown program a ≡ shown program b
+  pub kept : (program : List Class) → IsKept program a → IsKept program b
+
+-- The objects of two lists are alike, each with the one of its place.
+abbrev pub AllAlike : List HeldObject → List HeldObject → Type 0
+AllAlike [] [] = Unit {0}
+AllAlike (x ∷ xs) (y ∷ ys) = AreAlike x y × AllAlike xs ys
+AllAlike _ _ = ⊥
+
 -- A value can be put among the elements that are held.
 abbrev pub SuitsHeld : Value → HeldObject → Type 0
 SuitsHeld v (held.Array class elements) = IsOfKind (kind_held elements) v

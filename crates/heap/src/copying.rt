@@ -1,6 +1,6 @@
 //! A heap with the same objects.
 
-ghost use Rattle.std.specs.Prelude.{◌≡◌, IfOk, map};
+ghost use Rattle.std.specs.Prelude.{◌≡◌, ◌++◌, IfOk, OnOk, map};
 ghost use Rattle.std.specs.List.{AllByRecursion};
 ghost use Rattle.heap.specs.Held.{shown, IsKept};
 
@@ -10,8 +10,28 @@ use crate::primitive_arrays::PrimitiveArrays;
 use program::Program;
 use std::alloc::{AllocError, Global};
 
-/// The same objects once more.
-fn copied(
+/// Copies objects to the end of a list.
+pub(crate) fn push_copies(
+    alloc: Global,
+    program: &Program,
+    objects: &[HeldObject],
+    copies: &mut Vec<HeldObject>,
+) -> Result<(), AllocError>
+    requires objects { AllByRecursion (IsKept program.now) objects.now }
+    requires copies { AllByRecursion (IsKept program.now) copies.old.items }
+    ensures shown { OnOk result (map (shown program.now) copies.new.items ≡ map (shown program.now) copies.old.items ++ map (shown program.now) objects.now) }
+    ensures kept { OnOk result (AllByRecursion (IsKept program.now) copies.new.items) }
+{
+    // Only for the proof: the objects are of this program.
+    let _ = program;
+    for object in objects {
+        copies.push(object.copy(alloc)?)?;
+    }
+    Ok(())
+}
+
+/// Copies objects.
+pub(crate) fn copied(
     alloc: Global,
     program: &Program,
     objects: &[HeldObject],
@@ -20,12 +40,8 @@ fn copied(
     ensures shown { IfOk result (λ copies. map (shown program.now) copies.items ≡ map (shown program.now) objects.now) }
     ensures kept { IfOk result (λ copies. AllByRecursion (IsKept program.now) copies.items) }
 {
-    // Only for the proof: the objects are of this program.
-    let _ = program;
     let mut copies = Vec::with_capacity(alloc, objects.len())?;
-    for object in objects {
-        copies.push(object.copy(alloc)?)?;
-    }
+    push_copies(alloc, program, objects, &mut copies)?;
     Ok(copies)
 }
 

@@ -1,12 +1,12 @@
 //! One object.
 
-ghost use Rattle.std.specs.Prelude.{◌≡◌, ◌<◌, ◌^◌, IfOk, IfSome, List, slice_get};
+ghost use Rattle.std.specs.Prelude.{◌≡◌, ◌<◌, ◌^◌, true, IfOk, IfSome, List, slice_get};
 ghost use Rattle.std.specs.Option.{option_map};
 ghost use Rattle.jvms_program.specs.declared.program.Class.{Class};
 ghost use Rattle.jvms_machine.specs.State.{class_of};
 ghost use Rattle.jvms_machine.specs.Heap.{with_element};
 ghost use Rattle.heap.specs.Objects.{Loads, Stores, array_class, instance_class, length_of, element_of, units_of, named_by, value_in, with_slot};
-ghost use Rattle.heap.specs.Held.{name_at, shown, IsKept, SuitsHeld, Becomes};
+ghost use Rattle.heap.specs.Held.{name_at, shown, AreAlike, IsKept, SuitsHeld, Becomes};
 
 use array_elements::Elements;
 use held::shared::Text;
@@ -62,6 +62,31 @@ impl HeldObject {
             }),
             HeldObject::Text(units) => Ok(HeldObject::Text(units.share()?)),
             HeldObject::ClassObject(name) => Ok(HeldObject::ClassObject(name.share()?)),
+        }
+    }
+
+    /// Returns whether the other object is the same, in every program.
+    pub(crate) fn is_same(&self, other: &HeldObject) -> bool
+        ensures { result ≡ true → AreAlike self.now other.now }
+    {
+        match (self, other) {
+            (
+                HeldObject::Instance { class, values },
+                HeldObject::Instance {
+                    class: other_class,
+                    values: other_values,
+                },
+            ) => class == other_class && values == other_values,
+            (
+                HeldObject::Array { class, elements },
+                HeldObject::Array {
+                    class: other_class,
+                    elements: other_elements,
+                },
+            ) => class == other_class && elements.is_same(other_elements),
+            (HeldObject::Text(units), HeldObject::Text(others)) => units == others,
+            (HeldObject::ClassObject(name), HeldObject::ClassObject(others)) => name == others,
+            _ => false,
         }
     }
 

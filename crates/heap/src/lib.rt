@@ -13,8 +13,10 @@ mod named_fields;
 mod numbered_fields;
 mod opening;
 mod primitive_arrays;
+mod saved;
 mod statics;
 mod texts;
 
 pub use heap::Heap;
+pub use saved::SavedHeap;
 pub use statics::Statics;

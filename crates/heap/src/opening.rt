@@ -34,8 +34,8 @@ fn strings(alloc: Global) -> Result<Text, AllocError>
 }
 
 impl<'p> Heap<'p> {
-    /// The heap of a program with no objects.
-    fn empty(alloc: Global, program: &'p Program) -> Result<Heap<'p>, AllocError>
+    /// Makes a heap with no objects.
+    pub fn empty(alloc: Global, program: &'p Program) -> Result<Heap<'p>, AllocError>
         ensures { IfOk result (λ h. h ≡ record { program = program.now; objects = []; elements = 0 }) }
     {
         Ok(Heap {

@@ -4,5 +4,6 @@ pub mod Decided
 pub mod Machine
 pub mod Marks
 pub mod Ready
+pub mod Saved
 pub mod Sites
 pub use Rattle.machine_thread.specs.Tops

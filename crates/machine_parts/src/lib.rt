@@ -12,6 +12,7 @@ mod marks;
 mod monitor_use;
 mod parts;
 mod raising;
+mod saved;
 mod stored;
 mod waiting;
 
@@ -23,4 +24,5 @@ pub use locks::{acquire_item, release_item};
 pub use marks::push_listed;
 pub use monitor_use::{Entering, Locking, Unlocking};
 pub use parts::Parts;
+pub use saved::SavedParts;
 pub use stored::{stored_in_component, stored_in_field};

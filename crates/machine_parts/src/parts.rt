@@ -4,6 +4,7 @@ ghost use Rattle.std.specs.Prelude.{◌≡◌, IfOk};
 ghost use Rattle.jvms_machine.specs.State.{monitor_at};
 ghost use Rattle.jvms_machine.specs.Threads.{thread_of};
 ghost use Rattle.jvms_machine.specs.Waiting.{is_waiter};
+ghost use Rattle.machine_parts.specs.Saved.{empty_heap, without_objects};
 
 use heap::{Heap, Statics};
 use jvms_machine::machine::Limits;
@@ -71,16 +72,16 @@ fn copied_threads<'p>(alloc: Global, threads: &[Thread<'p>]) -> Result<Vec<Threa
     Ok(copies)
 }
 
-/// The same objects and the same static fields once more.
-fn copied_fields<'p>(
+/// Makes a heap with no objects, and copies the static fields.
+fn fields_without_objects<'p>(
     alloc: Global,
     heap: &Heap<'p>,
     statics: &Statics<'p>,
 ) -> Result<(Heap<'p>, Statics<'p>), AllocError>
-    ensures { IfOk result (λ copies. (copies.0 ≡ heap.now) × (copies.1 ≡ statics.now)) }
+    ensures { IfOk result (λ made. (made.0 ≡ empty_heap heap.now.program) × (made.1 ≡ statics.now)) }
 {
-    let copy = heap.copy()?;
-    Ok((copy, statics.copy(alloc)?))
+    let empty = Heap::empty(alloc, heap.program())?;
+    Ok((empty, statics.copy(alloc)?))
 }
 
 /// The same monitors, held alike, and the same threads that wait, once more.
@@ -96,9 +97,9 @@ fn copied_monitors(
 }
 
 impl<'p> Parts<'p> {
-    /// The same parts once more.
-    pub fn copy(&self) -> Result<Parts<'p>, AllocError>
-        ensures { IfOk result (λ parts. parts ≡ self.now) }
+    /// Copies all parts but the objects of the heap. The copy has none.
+    pub(crate) fn copy_without_objects(&self) -> Result<Parts<'p>, AllocError>
+        ensures { IfOk result (λ parts. parts ≡ without_objects self.now) }
     {
         let alloc = self.alloc;
         let arguments = Vec::from_slice(alloc, self.arguments.as_slice())?;
@@ -106,7 +107,7 @@ impl<'p> Parts<'p> {
         let output = Vec::from_slice(alloc, self.output.as_slice())?;
         let threads = copied_threads(alloc, self.threads.as_slice())?;
         let (monitors, waiters) = copied_monitors(alloc, &self.monitors, &self.waiters)?;
-        let (heap, statics) = copied_fields(alloc, &self.heap, &self.statics)?;
+        let (heap, statics) = fields_without_objects(alloc, &self.heap, &self.statics)?;
         Ok(Parts {
             alloc,
             limits: self.limits,
@@ -121,6 +122,16 @@ impl<'p> Parts<'p> {
             output,
             result: self.result,
         })
+    }
+
+    /// Copies the parts.
+    pub fn copy(&self) -> Result<Parts<'p>, AllocError>
+        ensures { IfOk result (λ parts. parts ≡ self.now) }
+    {
+        let heap = self.heap.copy()?;
+        let mut parts = self.copy_without_objects()?;
+        parts.heap = heap;
+        Ok(parts)
     }
 
     /// The program.

@@ -1,8 +1,0 @@
-use Rattle.std.proofs.Common.{◌≡◌, map, take}
-use Rattle.std.specs.List.{AllByRecursion}
-use Rattle.heap.specs.Held.{shown, IsKept}
-use Rattle.heap.proofs.copying.copied.Given as goal
-
--- the objects so far
-abbrev pub invariant-loop-object : goal.invariant-loop-object
-invariant-loop-object l = (map (shown l.program) l.copies.items ≡ map (shown l.program) (take l.object-index l.objects)) × AllByRecursion (IsKept l.program) l.copies.items

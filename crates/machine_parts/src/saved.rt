@@ -1,0 +1,57 @@
+//! The parts of machines that are saved. They share the objects that did not change from one machine to the next.
+
+ghost use Rattle.std.specs.Prelude.{◌≡◌, IfOk};
+
+use crate::parts::Parts;
+use heap::SavedHeap;
+use std::alloc::AllocError;
+use std::marker::Model;
+
+/// The parts of a machine, saved. Contracts see the parts themselves.
+#[derive(Drop)]
+pub struct SavedParts<'p> {
+    /// All parts but the objects, of which there are none.
+    rest: Parts<'p>,
+    heap: SavedHeap<'p>,
+}
+
+impl<'p> Model for SavedParts<'p> {
+    ghost use Rattle.std.specs.Prelude.{◌≡◌};
+    ghost use Rattle.machine_parts.specs.Machine.{Machine as Seen};
+    ghost use Rattle.machine_parts.specs.Saved.{with_objects};
+
+    ghost Value = { Seen };
+
+    ghost view = { λ s. with_objects s.heap s.rest };
+
+    // The objects are of the program of the other parts.
+    ghost invariant = { λ s. s.rest.program ≡ s.heap.program };
+}
+
+/// Returns the heap of saved parts, or none.
+fn heap_of<'a, 'p>(saved: Option<&'a SavedParts<'p>>) -> Option<&'a SavedHeap<'p>> {
+    Some(&saved?.heap)
+}
+
+impl<'p> Parts<'p> {
+    /// Saves the parts. Objects that are as in earlier saved parts, in groups, are shared with them.
+    pub fn save(&self, before: Option<&SavedParts<'p>>) -> Result<SavedParts<'p>, AllocError>
+        ensures { IfOk result (λ saved. saved ≡ self.now) }
+    {
+        let heap = self.heap.save(heap_of(before))?;
+        let rest = self.copy_without_objects()?;
+        Ok(SavedParts { rest, heap })
+    }
+}
+
+impl<'p> SavedParts<'p> {
+    /// Makes parts that are as the saved ones. Those stay as they are.
+    pub fn restore(&self) -> Result<Parts<'p>, AllocError>
+        ensures { IfOk result (λ parts. parts ≡ self.now) }
+    {
+        let heap = self.heap.restore()?;
+        let mut parts = self.rest.copy_without_objects()?;
+        parts.heap = heap;
+        Ok(parts)
+    }
+}
