@@ -1,4 +1,5 @@
 mod AimLaws
+mod BreakpointLaws
 mod ChoiceLaws
 mod HitLaws
 mod MarkLaws

@@ -1,11 +1,11 @@
 -- The items after another choice in place of those that follow the position.
-use Rattle.std.proofs.Common.{◌≡◌, ℕ, ◌+◌, ◌≤◌, List, [], ◌∷◌, ◌++◌, length, take, ap, arith, ◌∙◌, sym, subst}
+use Rattle.std.proofs.Common.{◌≡◌, ℕ, ◌≤◌, List, [], ◌∷◌, ◌++◌, length, take, ap, arith, ◌∙◌, sym}
 use Rattle.std.proofs.lemmas.List.{length-append, length-take}
 use Rattle.jvms_machine.specs.declared.trace.Item.{Item}
 use Rattle.debugger.specs.declared.mark.Mark.{Mark}
 use Rattle.debugger.specs.declared.timeline.Timeline.{Timeline}
 use Rattle.debugger.specs.declared.walk.Walk.{Walk}
-use Rattle.debugger.specs.States.{Setting, items_at}
+use Rattle.debugger.specs.States.{items_at}
 use Rattle.debugger.specs.Timelines.{IsBranch, IsTimeline, setting}
 use Rattle.debugger.specs.Walks.{IsWalk}
 use Rattle.debugger.proofs.ChoiceLaws.{take_front}
@@ -28,12 +28,11 @@ is_branch t new choice is new_is =
     }
 
 -- A walk along a branch brings the items of its choices.
-pub branch_items : (t : Timeline) (new choices : List ℕ) (s : Setting) (w : Walk) (trace items all : List Item) → IsTimeline t → IsBranch t new
-    → trace ≡ items_at (setting t) t.choices.items t.far → s ≡ setting t → choices ≡ new → IsWalk s choices w → w.reach.from ≡ t.position → items ≡ w.items → all ≡ take t.here.items trace ++ items
+pub branch_items : (t : Timeline) (new : List ℕ) (w : Walk) (trace items all : List Item) → IsTimeline t → IsBranch t new
+    → trace ≡ items_at (setting t) t.choices.items t.far → IsWalk (setting t) new w → w.reach.from ≡ t.position → items ≡ w.items → all ≡ take t.here.items trace ++ items
     → all ≡ items_at (setting t) new w.reach.far
-branch_items t new choices s w trace items all is branch trace_is same_setting same_choices walk_is from items_is all_is =
+branch_items t new w trace items all is branch trace_is walk from items_is all_is =
     let g = setting t in
-    let walk : IsWalk g new w = subst (λ l. IsWalk g l w) same_choices (subst (λ x. IsWalk x choices w) same_setting walk_is) in
     let brought : items_at g new w.reach.far ≡ items_at g new t.position ++ w.items = walk.items ∙ ap (λ n. items_at g new n ++ w.items) from in
     let count : t.here.items ≡ length (items_at g t.choices.items t.position) = ap (λ (m : Mark). m.items) is.here in
     items_joined g t.choices.items new t.position t.far w.reach.far t.here.items trace w.items all is.position count (sym branch.same) trace_is brought (all_is ∙ ap (λ l. take t.here.items trace ++ l) items_is)

@@ -1,3 +1,4 @@
+pub mod Breakpoints
 pub mod Commands
 pub mod Hits
 pub mod Marks

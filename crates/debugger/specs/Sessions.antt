@@ -1,5 +1,5 @@
 -- Sessions of the debugger: what contracts see of one, and what holds of its parts.
-use Rattle.std.specs.Prelude.{◌≡◌, ℕ, ◌+◌, List, MatchResult, Result, Ok}
+use Rattle.std.specs.Prelude.{◌≡◌, ℕ, List, MatchResult, Result, Ok}
 use Rattle.jvms_program.specs.declared.program.Class.{Class}
 use Rattle.jvms_machine.specs.declared.machine.Entry.{Entry}
 use Rattle.jvms_machine.specs.declared.machine.Limits.{Limits}
@@ -41,7 +41,7 @@ session_of b = record {
   choices = b.timeline.choices.items;
   position = b.timeline.position;
   breakpoints = b.breakpoints.items;
-  next = b.next;
+  next = b.breakpoints.next;
 }
 
 abbrev pub seen : Body → Debugger
@@ -62,10 +62,6 @@ pub record IsBody (b : Body) : Type 0 where
 -- A session with other breakpoints, and the number of the next one. No turn is taken for that.
 abbrev pub with_breakpoints : Debugger → List Breakpoint → ℕ → Debugger
 with_breakpoints d breakpoints next = record d { session = record d.session { breakpoints = breakpoints; next = next }; replayed = 0 }
-
--- A session that has moved after the choice that a branch has at the position.
-abbrev pub on_branch : Session → List ℕ → Session
-on_branch x choices = record x { choices = choices; position = x.position + 1 }
 
 -- A session that has moved to where a replay is.
 abbrev pub moved_by : Debugger → Replay → Reach → Debugger

@@ -1,5 +1,5 @@
 -- The timeline of a session: its choices, the machine at its position, and its checkpoints.
-use Rattle.std.specs.Prelude.{◌≡◌, ℕ, ◌+◌, ◌≤◌, ◌<◌, ◌^◌, max, List, length, take}
+use Rattle.std.specs.Prelude.{◌≡◌, ℕ, ◌+◌, ◌≤◌, ◌<◌, ◌^◌, max, List, [], ◌∷◌, ◌++◌, length, take}
 use Rattle.std.specs.Vec.{vec_capacity}
 use Rattle.debugger.specs.declared.reach.Reach.{Reach}
 use Rattle.debugger.specs.declared.replay.Replay.{Replay}
@@ -69,6 +69,10 @@ pub record IsWalkOf (t : Timeline) (w : Walk) : Type 0 where
 pub record IsBranch (t : Timeline) (choices : List ℕ) : Type 0 where
   pub same : take t.position choices ≡ take t.position t.choices.items
   pub count : length choices ≡ t.position + 1
+
+-- The choices before the position, followed by another.
+abbrev pub branch_of : Timeline → ℕ → List ℕ
+branch_of t choice = take t.position t.choices.items ++ choice ∷ []
 
 -- A walk along a branch that begins at the position.
 pub record BeginsBranch (t : Timeline) (choices : List ℕ) (w : Walk) : Type 0 where

@@ -1,13 +1,14 @@
 //! The parts of a session, and its moves.
 
 ghost use Rattle.std.specs.Prelude.{◌≡◌, ◌+◌, ◌<◌, ◌≤◌, min, max, length, OnOk, OnErr};
-ghost use Rattle.debugger.specs.Sessions.{IsBody, moved_by, on_branch, seen, session_of};
-ghost use Rattle.debugger.specs.Timelines.{BeginsBranch, IsBranch, IsWalkOf, setting};
+ghost use Rattle.std.specs.Vec.{vec_capacity};
+ghost use Rattle.debugger.specs.Sessions.{IsBody, moved_by, seen, session_of};
+ghost use Rattle.debugger.specs.Timelines.{BeginsBranch, IsWalkOf, branch_of, setting};
 ghost use Rattle.debugger_commands.specs.Sessions.{continued, continued_back, picked};
 
+use crate::breakpoints::Breakpoints;
 use crate::timeline::Timeline;
 use crate::walk::Walk;
-use debugger_commands::Breakpoint;
 use jvms_machine::machine::ThreadId;
 use std::alloc::AllocError;
 use trace::Trace;
@@ -18,9 +19,7 @@ pub(crate) struct Body<'p> {
     pub(crate) timeline: Timeline<'p>,
     /// The items up to the timeline's `far`.
     pub(crate) trace: Trace,
-    pub(crate) breakpoints: Vec<Breakpoint>,
-    /// The number of the next breakpoint.
-    pub(crate) next: u64,
+    pub(crate) breakpoints: Breakpoints,
     /// How many turns the last command took that was not refused.
     pub(crate) replayed: u64,
 }
@@ -106,52 +105,57 @@ impl<'p> Body<'p> {
     }
 
     /// Walks along a branch, and takes its choices. Without memory nothing changes.
-    fn settle_on_branch(
-        &mut self,
-        choices: &mut Vec<ThreadId>,
-        walk: &mut Walk<'p>,
-    ) -> Result<(), AllocError>
+    fn settle_on_branch(&mut self, t: ThreadId, walk: &mut Walk<'p>) -> Result<(), AllocError>
         requires body { IsBody self.old }
-        requires branch { IsBranch self.old.timeline choices.old.items }
-        requires walk { BeginsBranch self.old.timeline choices.old.items walk.old }
+        requires room { self.old.timeline.position < vec_capacity self.old.timeline.choices }
+        requires walk { BeginsBranch self.old.timeline (branch_of self.old.timeline t) walk.old }
         ensures body { IsBody self.new }
         ensures setting { setting self.new.timeline ≡ setting self.old.timeline }
-        ensures session { OnOk result (session_of self.new
-            ≡ on_branch (session_of self.old) choices.old.items) }
+        ensures session { OnOk result (session_of self.new ≡ picked (session_of self.old) t) }
         ensures most { OnOk result (self.new.timeline.most ≡ max self.old.timeline.most
             (self.old.timeline.position + 1)) }
         ensures far { OnOk result (self.new.timeline.far ≡ self.old.timeline.position + 1) }
         ensures replayed { OnOk result (self.new.replayed ≡ 1) }
         ensures kept { OnErr result (seen self.new ≡ seen self.old) }
     {
-        walk.advance(choices, self.timeline.position + 1)?;
+        self.timeline.advance_on_branch(walk, t)?;
         self.trace
             .replace_after(self.timeline.here.items, walk.take_items())?;
         let _ = self.trace.len();
         self.replayed = walk.replay.made;
-        self.timeline.cut(choices);
+        self.timeline.cut(t);
         self.timeline.arrive(&mut walk.replay, &mut walk.reach);
         Ok(())
     }
 
-    /// Takes the choices of a branch, and moves after the one at the position. Without memory nothing changes.
-    fn take_branch(&mut self, choices: &mut Vec<ThreadId>) -> Result<(), AllocError>
+    /// Takes a branch where there is room for its choice. Without memory nothing changes.
+    fn take_branch(&mut self, t: ThreadId) -> Result<(), AllocError>
         requires body { IsBody self.old }
-        requires branch { IsBranch self.old.timeline choices.old.items }
+        requires room { self.old.timeline.position < vec_capacity self.old.timeline.choices }
         ensures body { IsBody self.new }
         ensures setting { setting self.new.timeline ≡ setting self.old.timeline }
-        ensures session { OnOk result (session_of self.new
-            ≡ on_branch (session_of self.old) choices.old.items) }
+        ensures session { OnOk result (session_of self.new ≡ picked (session_of self.old) t) }
         ensures most { OnOk result (self.new.timeline.most ≡ max self.old.timeline.most
             (self.old.timeline.position + 1)) }
         ensures far { OnOk result (self.new.timeline.far ≡ self.old.timeline.position + 1) }
         ensures replayed { OnOk result (self.new.replayed ≡ 1) }
         ensures kept { OnErr result (seen self.new ≡ seen self.old) }
     {
-        let mut walk = self.timeline.begin_branch(choices)?;
-        let settled = self.settle_on_branch(choices, &mut walk);
+        let mut walk = self.timeline.begin_branch(t)?;
+        let settled = self.settle_on_branch(t, &mut walk);
         drop(walk);
         settled
+    }
+
+    /// Takes the memory for another choice.
+    fn reserve_choice(&mut self) -> Result<(), AllocError>
+        requires { IsBody self.old }
+        ensures body { IsBody self.new }
+        ensures seen { seen self.new ≡ seen self.old }
+        ensures room { OnOk result (self.new.timeline.position
+            < vec_capacity self.new.timeline.choices) }
+    {
+        self.timeline.reserve_choice()
     }
 
     /// Cuts the choices at the position, appends one, and moves after it. Without memory nothing changes.
@@ -166,7 +170,7 @@ impl<'p> Body<'p> {
         ensures replayed { OnOk result (self.new.replayed ≡ 1) }
         ensures kept { OnErr result (seen self.new ≡ seen self.old) }
     {
-        let mut choices = self.timeline.choices_with(t)?;
-        self.take_branch(&mut choices)
+        self.reserve_choice()?;
+        self.take_branch(t)
     }
 }

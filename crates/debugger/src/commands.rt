@@ -27,7 +27,7 @@ impl Body<'_> {
         let Some(method) = method_of_place(program, place) else {
             return Err(DebugFault::NoPlace);
         };
-        if self.next > u32::MAX as u64 {
+        if self.breakpoints.next() > u32::MAX as u64 {
             return Err(DebugFault::NoBreakpoint);
         }
         match self.add_breakpoint(method, place.instruction) {
@@ -46,10 +46,10 @@ impl Body<'_> {
             (seen self.old) fault) }
         ensures kept { OnErr result (seen self.new ≡ seen self.old) }
     {
-        let Some(index) = self.breakpoint_index(k) else {
+        if !self.breakpoints.delete(k) {
             return Err(DebugFault::NoBreakpoint);
-        };
-        self.remove_breakpoint(index);
+        }
+        self.replayed = 0;
         Ok(View::Removed(k))
     }
 

@@ -1,14 +1,16 @@
 //! Hits: positions at which the thread of the next choice is at a breakpoint.
 
-ghost use Rattle.std.specs.Prelude.{◌≡◌, slice_get};
+ghost use Rattle.std.specs.Prelude.{◌≡◌, ◌&&◌, not, slice_get};
 ghost use Rattle.std.specs.List.{list_any};
 ghost use Rattle.jvms_machine.specs.declared.state.StackFrame.TheVariants as stack_frame;
+ghost use Rattle.debugger.specs.declared.breakpoints.Slot.{Slot as Seen};
 ghost use Rattle.debugger.specs.Marks.{mark_at};
 ghost use Rattle.debugger.specs.Hits.{hits};
 ghost use Rattle.debugger.specs.Timelines.{setting};
 ghost use Rattle.debugger_commands.specs.Sessions.{is_frame_at, is_thread_at};
 ghost use Rattle.std.specs.Prelude.{Some};
 
+use crate::breakpoints::{Breakpoints, Slot};
 use crate::replay::Replay;
 use crate::timeline::Timeline;
 use debugger_commands::Breakpoint;
@@ -26,16 +28,33 @@ fn is_frame_at(frame: &Frame<'_>, breakpoint: &Breakpoint) -> bool
         && frame.place() == breakpoint.instruction as usize
 }
 
-/// Returns whether it is at one of these breakpoints.
-fn is_frame_at_any(frame: &Frame<'_>, breakpoints: &[Breakpoint]) -> bool
-    ensures { result ≡ list_any (is_frame_at (Some (stack_frame.Call frame.now))) breakpoints.now }
+/// Returns whether it is at the breakpoint of a slot, where that wasn't deleted.
+fn is_frame_at_slot(frame: &Frame<'_>, slot: &Slot) -> bool
+    ensures { result ≡ is_frame_at (Some (stack_frame.Call frame.now)) slot.now.breakpoint
+        && not slot.now.is_deleted }
 {
-    breakpoints.iter().any(|b| is_frame_at(frame, b))
+    is_frame_at(frame, &slot.breakpoint) && !slot.is_deleted
+}
+
+/// Returns whether it is at the breakpoint of one of these slots, where that wasn't deleted.
+fn is_frame_at_any_slot(frame: &Frame<'_>, slots: &[Slot]) -> bool
+    ensures { result ≡ list_any (λ (s : Seen). is_frame_at (Some (stack_frame.Call frame.now))
+        s.breakpoint && not s.is_deleted) slots.now }
+{
+    slots.iter().any(|slot| is_frame_at_slot(frame, slot))
+}
+
+/// Returns whether it is at one of these breakpoints.
+fn is_frame_at_any(frame: &Frame<'_>, breakpoints: &Breakpoints) -> bool
+    ensures { result ≡ list_any (is_frame_at (Some (stack_frame.Call frame.now)))
+        breakpoints.now.items }
+{
+    is_frame_at_any_slot(frame, breakpoints.slots())
 }
 
 /// Returns whether a thread with nothing pending is at one of these breakpoints with its top frame.
-fn is_thread_at(machine: &Machine<'_>, t: ThreadId, breakpoints: &[Breakpoint]) -> bool
-    ensures { result ≡ is_thread_at breakpoints.now (slice_get machine.now.state.threads t) }
+fn is_thread_at(machine: &Machine<'_>, t: ThreadId, breakpoints: &Breakpoints) -> bool
+    ensures { result ≡ is_thread_at breakpoints.now.items (slice_get machine.now.state.threads t) }
 {
     if machine.pending(t).is_some() {
         return false;
@@ -49,10 +68,10 @@ fn is_thread_at(machine: &Machine<'_>, t: ThreadId, breakpoints: &[Breakpoint]) 
 
 impl<'p> Timeline<'p> {
     /// Returns whether a replay's position is a hit.
-    pub(crate) fn is_hit(&self, replay: &Replay<'p>, breakpoints: &[Breakpoint]) -> bool
+    pub(crate) fn is_hit(&self, replay: &Replay<'p>, breakpoints: &Breakpoints) -> bool
         requires { replay.now.mark ≡ mark_at (setting self.now) self.now.choices.items
             replay.now.position }
-        ensures { result ≡ hits (setting self.now) self.now.choices.items breakpoints.now
+        ensures { result ≡ hits (setting self.now) self.now.choices.items breakpoints.now.items
             replay.now.position }
     {
         match self.choices.get(replay.position) {

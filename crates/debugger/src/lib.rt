@@ -3,10 +3,12 @@
 
 mod body;
 mod breakpoints;
+mod checkpoint;
 mod commands;
 mod hits;
 mod mark;
 mod moves;
+mod path;
 mod pick;
 mod places;
 mod reach;

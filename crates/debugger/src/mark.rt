@@ -1,9 +1,6 @@
-//! Checkpoints.
+//! A machine at a position of a run.
 
-ghost use Rattle.std.specs.Prelude.{◌≡◌, ℕ, ◌+◌, ◌*◌, ◌^◌, ◌<◌, ◌≤◌, ◌++◌, ◌∷◌, [], length};
-ghost use Rattle.std.specs.Prelude.{slice_index_or, IfOk, OnOk};
-ghost use Rattle.std.specs.Vec.{vec_capacity};
-ghost use Rattle.debugger.specs.declared.mark.Mark.{Mark as Seen};
+ghost use Rattle.std.specs.Prelude.{◌≡◌, IfOk};
 
 use jvms_machine::machine::Outcome;
 use machine::Machine;
@@ -30,36 +27,4 @@ impl<'p> Mark<'p> {
             outcome: self.outcome,
         })
     }
-}
-
-/// Appends a copy of a mark.
-pub(crate) fn push_copy<'p>(marks: &mut Vec<Mark<'p>>, mark: &Mark<'p>) -> Result<(), AllocError>
-    ensures marks { OnOk result (marks.new.items ≡ marks.old.items ++ mark.now ∷ []) }
-    ensures room { OnOk result (vec_capacity marks.old ≤ vec_capacity marks.new) }
-{
-    marks.push(mark.copy()?)?;
-    Ok(())
-}
-
-/// Keeps each mark whose index is `first` and a multiple of `ratio`, and drops the others.
-pub(crate) fn thin(marks: &mut Vec<Mark<'_>>, first: usize, ratio: usize)
-    requires positive { 0 < ratio }
-    requires small { ratio < 2 ^ 63 }
-    ensures each { (j : ℕ) (x : Seen) → j < length marks.new.items
-        → slice_index_or marks.new.items j x
-        ≡ slice_index_or marks.old.items (first + j * ratio) x }
-    ensures kept { (j : ℕ) → j < length marks.new.items
-        → first + j * ratio < length marks.old.items }
-    ensures all { (j : ℕ) → first + j * ratio < length marks.old.items
-        → j < length marks.new.items }
-    ensures room { vec_capacity marks.new ≡ vec_capacity marks.old }
-{
-    let mut kept = 0;
-    let mut next = first;
-    while next < marks.len() {
-        marks.swap(kept, next);
-        kept += 1;
-        next += ratio;
-    }
-    marks.truncate(kept);
 }

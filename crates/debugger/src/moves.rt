@@ -5,9 +5,9 @@ ghost use Rattle.std.specs.Prelude.{IfOk, IfSome, OnOk};
 ghost use Rattle.debugger.specs.Hits.{hit_after, hits, nearest_before};
 ghost use Rattle.debugger.specs.Timelines.{IsTimeline, IsWalkOf, setting};
 
+use crate::breakpoints::Breakpoints;
 use crate::timeline::Timeline;
 use crate::walk::Walk;
-use debugger_commands::Breakpoint;
 use std::alloc::AllocError;
 
 /// The nearest hit before a position, and how many turns were taken to find it.
@@ -39,11 +39,10 @@ impl<'p> Timeline<'p> {
         ensures most { IfOk result (λ w. w.reach.most ≡ self.now.most) }
     {
         let number = place.min(self.far) / self.spacing;
-        let before = number * self.spacing;
-        if before <= self.position && self.position <= place {
-            return self.start(&self.here, self.position);
+        if number * self.spacing <= self.position && self.position <= place {
+            return self.start_here();
         }
-        self.start(&self.checkpoints[number], before)
+        self.start_at_checkpoint(number)
     }
 
     /// Continues a walk to a position.
@@ -90,7 +89,7 @@ impl<'p> Timeline<'p> {
     fn continue_to_hit(
         &self,
         walk: &mut Walk<'p>,
-        breakpoints: &[Breakpoint],
+        breakpoints: &Breakpoints,
     ) -> Result<(), AllocError>
         requires timeline { IsTimeline self.now }
         requires walk { IsWalkOf self.now walk.old }
@@ -99,7 +98,7 @@ impl<'p> Timeline<'p> {
         requires most { walk.old.reach.most ≡ self.now.most }
         ensures walk { OnOk result (IsWalkOf self.now walk.new) }
         ensures position { OnOk result (walk.new.replay.position
-            ≡ hit_after (setting self.now) self.now.choices.items breakpoints.now
+            ≡ hit_after (setting self.now) self.now.choices.items breakpoints.now.items
             self.now.position) }
         ensures most { OnOk result (walk.new.reach.most
             ≡ max self.now.most walk.new.replay.position) }
@@ -116,17 +115,17 @@ impl<'p> Timeline<'p> {
     }
 
     /// Walks to the next hit, or to the end if there is none.
-    fn walk_by_turns(&self, breakpoints: &[Breakpoint]) -> Result<Walk<'p>, AllocError>
+    fn walk_by_turns(&self, breakpoints: &Breakpoints) -> Result<Walk<'p>, AllocError>
         requires timeline { IsTimeline self.now }
         ensures walk { IfOk result (λ w. IsWalkOf self.now w) }
         ensures position { IfOk result (λ w. w.replay.position
-            ≡ hit_after (setting self.now) self.now.choices.items breakpoints.now
+            ≡ hit_after (setting self.now) self.now.choices.items breakpoints.now.items
             self.now.position) }
         ensures most { IfOk result (λ w. w.reach.most
             ≡ max self.now.most w.replay.position) }
         ensures made { IfOk result (λ w. w.replay.made + self.now.position ≤ w.replay.position) }
     {
-        let mut walk = self.start(&self.here, self.position)?;
+        let mut walk = self.start_here()?;
         match self.continue_to_hit(&mut walk, breakpoints) {
             Ok(()) => Ok(walk),
             Err(error) => {
@@ -137,11 +136,11 @@ impl<'p> Timeline<'p> {
     }
 
     /// Walks to the next hit, or to the end if there is none. Without a breakpoint no position is looked at.
-    pub(crate) fn walk_to_hit(&self, breakpoints: &[Breakpoint]) -> Result<Walk<'p>, AllocError>
+    pub(crate) fn walk_to_hit(&self, breakpoints: &Breakpoints) -> Result<Walk<'p>, AllocError>
         requires timeline { IsTimeline self.now }
         ensures walk { IfOk result (λ w. IsWalkOf self.now w) }
         ensures position { IfOk result (λ w. w.replay.position
-            ≡ hit_after (setting self.now) self.now.choices.items breakpoints.now
+            ≡ hit_after (setting self.now) self.now.choices.items breakpoints.now.items
             self.now.position) }
         ensures most { IfOk result (λ w. w.reach.most
             ≡ max self.now.most w.replay.position) }
@@ -158,7 +157,7 @@ impl<'p> Timeline<'p> {
     fn last_hit_along(
         &self,
         walk: &mut Walk<'p>,
-        breakpoints: &[Breakpoint],
+        breakpoints: &Breakpoints,
         start: usize,
         end: usize,
     ) -> Result<LastHit, AllocError>
@@ -169,8 +168,8 @@ impl<'p> Timeline<'p> {
         requires position { walk.old.replay.position ≡ start }
         requires made { walk.old.replay.made ≡ 0 }
         ensures hit { IfOk result (λ h. nearest_before (setting self.now) self.now.choices.items
-            breakpoints.now end ≡ unwrap_or h.position
-            (nearest_before (setting self.now) self.now.choices.items breakpoints.now start)) }
+            breakpoints.now.items end ≡ unwrap_or h.position
+            (nearest_before (setting self.now) self.now.choices.items breakpoints.now.items start)) }
         ensures within { IfOk result (λ h. IfSome h.position (λ p. p < end)) }
         ensures made { IfOk result (λ h. h.made + start ≡ end) }
     {
@@ -190,7 +189,7 @@ impl<'p> Timeline<'p> {
     /// Finds the last hit from the checkpoint of a number on and before an end, if there is one.
     fn last_hit(
         &self,
-        breakpoints: &[Breakpoint],
+        breakpoints: &Breakpoints,
         number: usize,
         end: usize,
     ) -> Result<LastHit, AllocError>
@@ -198,14 +197,14 @@ impl<'p> Timeline<'p> {
         requires within { end ≤ self.now.position }
         requires start { number * self.now.spacing < end }
         ensures hit { IfOk result (λ h. nearest_before (setting self.now) self.now.choices.items
-            breakpoints.now end ≡ unwrap_or h.position
-            (nearest_before (setting self.now) self.now.choices.items breakpoints.now
+            breakpoints.now.items end ≡ unwrap_or h.position
+            (nearest_before (setting self.now) self.now.choices.items breakpoints.now.items
             (number * self.now.spacing))) }
         ensures within { IfOk result (λ h. IfSome h.position (λ p. p < end)) }
         ensures made { IfOk result (λ h. h.made + number * self.now.spacing ≡ end) }
     {
         let start = number * self.spacing;
-        let mut walk = self.start(&self.checkpoints[number], start)?;
+        let mut walk = self.start_at_checkpoint(number)?;
         let hit = self.last_hit_along(&mut walk, breakpoints, start, end);
         drop(walk);
         hit
@@ -213,10 +212,10 @@ impl<'p> Timeline<'p> {
 
     /// Finds the nearest hit before the position, or 0 if there is none: from the last checkpoint before the position back
     /// to the first, from each up to the next.
-    pub(crate) fn hit_before(&self, breakpoints: &[Breakpoint]) -> Result<HitBefore, AllocError>
+    pub(crate) fn hit_before(&self, breakpoints: &Breakpoints) -> Result<HitBefore, AllocError>
         requires timeline { IsTimeline self.now }
         ensures position { IfOk result (λ h. h.position ≡ nearest_before
-            (setting self.now) self.now.choices.items breakpoints.now self.now.position) }
+            (setting self.now) self.now.choices.items breakpoints.now.items self.now.position) }
         ensures within { IfOk result (λ h. h.position ≤ self.now.position) }
         ensures made { IfOk result (λ h. h.made ≤ self.now.position) }
     {

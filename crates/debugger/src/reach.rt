@@ -7,9 +7,10 @@ ghost use Rattle.debugger.specs.Marks.{mark_at, AreMarks};
 ghost use Rattle.debugger.specs.States.{setting_of};
 ghost use Rattle.debugger.specs.Walks.{IsReach};
 
-use crate::mark::{Mark, push_copy, thin};
+use crate::checkpoint::{Checkpoint, push_saved, thin};
+use crate::mark::Mark;
+use crate::path::Path;
 use crate::replay::Replay;
-use jvms_machine::machine::ThreadId;
 use std::alloc::AllocError;
 
 /// What a walk keeps of the positions after those where its session has been.
@@ -28,7 +29,7 @@ pub(crate) struct Reach<'p> {
     /// How many times the session's spacing that is.
     pub(crate) ratio: usize,
     /// The checkpoints after `from`.
-    pub(crate) fresh: Vec<Mark<'p>>,
+    pub(crate) fresh: Vec<Checkpoint<'p>>,
 }
 
 impl<'p> Reach<'p> {
@@ -64,7 +65,7 @@ impl<'p> Reach<'p> {
     }
 
     /// Notes a greater position. The spacing doubles where it is too small for that.
-    fn grow(&mut self, choices: &[ThreadId], mark: &Mark<'p>, far: usize)
+    fn grow(&mut self, choices: &Path<'_>, mark: &Mark<'p>, far: usize)
         requires reach { IsReach (setting_of mark.now.machine) choices.now self.old }
         requires more { self.old.far < far }
         requires within { far ≤ length choices.now }
@@ -83,7 +84,7 @@ impl<'p> Reach<'p> {
     }
 
     /// Chooses the spacing for a position that a walk leads to, before the walk keeps a checkpoint.
-    pub(crate) fn aim(&mut self, choices: &[ThreadId], mark: &Mark<'p>, place: usize)
+    pub(crate) fn aim(&mut self, choices: &Path<'_>, mark: &Mark<'p>, place: usize)
         requires reach { IsReach (setting_of mark.now.machine) choices.now self.old }
         requires within { place ≤ length choices.now }
         ensures reach { IsReach (setting_of mark.now.machine) choices.now self.new }
@@ -98,10 +99,11 @@ impl<'p> Reach<'p> {
         }
     }
 
-    /// Extends to a position, up to the next one of a checkpoint.
+    /// Extends to a position, up to the next one of a checkpoint. The first checkpoint shares objects with `before`.
     pub(crate) fn extend(
         &mut self,
-        choices: &[ThreadId],
+        choices: &Path<'_>,
+        before: Option<&Checkpoint<'p>>,
         replay: &Replay<'p>,
     ) -> Result<(), AllocError>
         requires reach { IsReach (setting_of replay.now.mark.machine) choices.now self.old }
@@ -121,7 +123,7 @@ impl<'p> Reach<'p> {
         self.grow(choices, &replay.mark, replay.position);
         self.far = replay.position;
         if self.far % self.spacing == 0 {
-            push_copy(&mut self.fresh, &replay.mark)?;
+            push_saved(&mut self.fresh, &replay.mark, before)?;
         }
         Ok(())
     }

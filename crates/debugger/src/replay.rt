@@ -8,6 +8,7 @@ ghost use Rattle.debugger.specs.States.{items_at, last_outcome, setting_of};
 ghost use Rattle.debugger.specs.Walks.{IsReplay, items_between, turns_of};
 
 use crate::mark::Mark;
+use crate::path::Path;
 use jvms_machine::machine::{Outcome, ThreadId};
 use machine::Machine;
 use std::alloc::AllocError;
@@ -51,7 +52,7 @@ fn take_turns(
 }
 
 /// Returns how many consecutive choices, from a position on and before an end, name the same thread.
-fn consecutive(choices: &[ThreadId], position: usize, end: usize) -> usize
+fn consecutive(choices: &Path<'_>, position: usize, end: usize) -> usize
     requires more { position < end }
     requires within { end ≤ length choices.now }
     ensures some { 0 < result }
@@ -59,9 +60,9 @@ fn consecutive(choices: &[ThreadId], position: usize, end: usize) -> usize
     ensures same { (n : ℕ) → n ≤ result → take (position + n) choices.now
         ≡ take position choices.now ++ replicate n (slice_index choices.now position) }
 {
-    let t = choices[position];
+    let t = choices.at(position);
     let mut next = position + 1;
-    while next < end && choices[next] == t {
+    while next < end && choices.is_at(next, t) {
         next += 1;
     }
     next - position
@@ -81,7 +82,7 @@ impl<'p> Replay<'p> {
     /// Takes turns along the choices, at least one and none after an end, while they name one thread.
     pub(crate) fn advance(
         &mut self,
-        choices: &[ThreadId],
+        choices: &Path<'_>,
         end: usize,
         recording: &mut Recording,
     ) -> Result<(), AllocError>
@@ -102,7 +103,7 @@ impl<'p> Replay<'p> {
             (items_between (setting_of self.old.mark.machine) choices.now self.old.position
             self.new.position)) }
     {
-        let t = choices[self.position];
+        let t = choices.at(self.position);
         let most = consecutive(choices, self.position, end);
         let before = recording.len();
         let turns = take_turns(&mut self.mark.machine, t, most as u64, recording)?;

@@ -10,7 +10,9 @@ ghost use Rattle.debugger.specs.States.{items_at, machine_at, outcome_at, settin
 ghost use Rattle.debugger.specs.Timelines.{IsTimeline, extent, opening_extent};
 
 use crate::body::Body;
-use crate::mark::{Mark, push_copy};
+use crate::breakpoints::Breakpoints;
+use crate::checkpoint::{Checkpoint, push_saved};
+use crate::mark::Mark;
 use crate::timeline::Timeline;
 use crate::view::View;
 use debugger_commands::{Command, DebugFault};
@@ -43,12 +45,12 @@ impl<'p> Model for Session<'p> {
 }
 
 /// Makes the checkpoints of a timeline at its begin: the machine there, with room for all others.
-fn first_checkpoints<'p>(alloc: Global, here: &Mark<'p>) -> Result<Vec<Mark<'p>>, AllocError>
+fn first_checkpoints<'p>(alloc: Global, here: &Mark<'p>) -> Result<Vec<Checkpoint<'p>>, AllocError>
     ensures marks { IfOk result (λ v. v.items ≡ here.now ∷ []) }
     ensures room { IfOk result (λ v. 64 ≤ vec_capacity v) }
 {
     let mut checkpoints = Vec::with_capacity(alloc, MOST_CHECKPOINTS)?;
-    push_copy(&mut checkpoints, here)?;
+    push_saved(&mut checkpoints, here, None)?;
     Ok(checkpoints)
 }
 
@@ -107,8 +109,7 @@ impl<'p> Session<'p> {
             body: Body {
                 timeline: timeline_of(alloc, machine, choices)?,
                 trace: Trace::new(alloc),
-                breakpoints: Vec::new(alloc),
-                next: 1,
+                breakpoints: Breakpoints::new(alloc),
                 replayed: 0,
             },
         })

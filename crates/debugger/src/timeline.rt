@@ -1,12 +1,14 @@
 //! The choices of a session with the machine at its position and the checkpoints.
 
-ghost use Rattle.std.specs.Prelude.{◌≡◌, ◌+◌, ◌^◌, ◌<◌, ◌≤◌, length, max, IfOk, OnOk};
+ghost use Rattle.std.specs.Prelude.{◌≡◌, ◌+◌, ◌*◌, ◌/◌, ◌^◌, ◌<◌, ◌≤◌, length, max, IfOk, OnOk};
 ghost use Rattle.debugger.specs.Marks.{mark_at, IsSpacing};
 ghost use Rattle.debugger.specs.States.{items_at, setting_of};
 ghost use Rattle.debugger.specs.Timelines.{IsAlong, IsTimeline, IsWalkOf, extent, moved, setting};
 ghost use Rattle.debugger.specs.Walks.{IsWalk};
 
-use crate::mark::{Mark, thin};
+use crate::checkpoint::{Checkpoint, thin};
+use crate::mark::Mark;
+use crate::path::Path;
 use crate::reach::Reach;
 use crate::replay::Replay;
 use crate::walk::Walk;
@@ -30,34 +32,45 @@ pub(crate) struct Timeline<'p> {
     /// The distance between checkpoints.
     pub(crate) spacing: usize,
     /// The machine at each multiple of the spacing up to `far`.
-    pub(crate) checkpoints: Vec<Mark<'p>>,
+    pub(crate) checkpoints: Vec<Checkpoint<'p>>,
 }
 
 impl<'p> Timeline<'p> {
-    /// Begins a walk along some choices at a position that is at most `far`.
+    /// Returns the choices to walk along.
+    fn path(&self) -> Path<'_>
+        ensures { result ≡ self.now.choices.items }
+    {
+        Path {
+            before: self.choices.as_slice(),
+            after: &[],
+        }
+    }
+
+    /// Begins a walk along some choices with a mark, whose position is at most `far`.
     pub(crate) fn begin(
         &self,
-        choices: &[ThreadId],
-        mark: &Mark<'p>,
+        choices: &Path<'_>,
+        mark: Mark<'p>,
         position: usize,
         far: usize,
-    ) -> Result<Walk<'p>, AllocError>
+    ) -> Walk<'p>
         requires position { position ≤ far }
         requires far { far ≤ length choices.now }
         requires most { far ≤ self.now.most }
         requires spacing { IsSpacing self.now.most self.now.spacing }
         requires few { length (items_at (setting self.now) choices.now far) < 2 ^ 63 }
-        requires mark { mark.now ≡ mark_at (setting self.now) choices.now position }
-        ensures walk { IfOk result (λ w. IsWalk (setting self.now) choices.now w) }
-        ensures setting { IfOk result (λ w. setting_of w.replay.mark.machine ≡ setting self.now) }
-        ensures position { IfOk result (λ w. w.replay.position ≡ position) }
-        ensures made { IfOk result (λ w. w.replay.made ≡ 0) }
-        ensures places { IfOk result (λ w. (w.reach.from ≡ far)
-            × (w.reach.base ≡ self.now.spacing) × (w.reach.most ≡ self.now.most)) }
+        requires mark { mark ≡ mark_at (setting self.now) choices.now position }
+        ensures walk { IsWalk (setting self.now) choices.now result }
+        ensures setting { setting_of result.replay.mark.machine ≡ setting self.now }
+        ensures position { result.replay.position ≡ position }
+        ensures made { result.replay.made ≡ 0 }
+        ensures places { (result.reach.from ≡ far) × (result.reach.base ≡ self.now.spacing)
+            × (result.reach.most ≡ self.now.most) }
     {
-        Ok(Walk {
+        let _ = choices;
+        Walk {
             replay: Replay {
-                mark: mark.copy()?,
+                mark,
                 position,
                 made: 0,
             },
@@ -72,21 +85,45 @@ impl<'p> Timeline<'p> {
             },
             items: Trace::new(self.alloc),
             alloc: self.alloc,
-        })
+        }
     }
 
-    /// Begins a walk along the timeline's own choices at a position where the session has been.
-    pub(crate) fn start(&self, mark: &Mark<'p>, position: usize) -> Result<Walk<'p>, AllocError>
+    /// Begins a walk along the timeline's own choices with the mark of a position where the session has been.
+    fn start(&self, mark: Mark<'p>, position: usize) -> Walk<'p>
         requires timeline { IsTimeline self.now }
         requires within { position ≤ self.now.far }
-        requires mark { mark.now ≡ mark_at (setting self.now) self.now.choices.items position }
+        requires mark { mark ≡ mark_at (setting self.now) self.now.choices.items position }
+        ensures walk { IsWalkOf self.now result }
+        ensures position { result.replay.position ≡ position }
+        ensures made { result.replay.made ≡ 0 }
+        ensures most { result.reach.most ≡ self.now.most }
+    {
+        self.begin(&self.path(), mark, position, self.far)
+    }
+
+    /// Begins a walk at the position.
+    pub(crate) fn start_here(&self) -> Result<Walk<'p>, AllocError>
+        requires timeline { IsTimeline self.now }
         ensures walk { IfOk result (λ w. IsWalkOf self.now w) }
-        ensures position { IfOk result (λ w. w.replay.position ≡ position) }
+        ensures position { IfOk result (λ w. w.replay.position ≡ self.now.position) }
         ensures made { IfOk result (λ w. w.replay.made ≡ 0) }
         ensures most { IfOk result (λ w. w.reach.most ≡ self.now.most) }
     {
-        let walk = self.begin(&self.choices, mark, position, self.far)?;
-        Ok(walk)
+        let mark = self.here.copy()?;
+        Ok(self.start(mark, self.position))
+    }
+
+    /// Begins a walk at the checkpoint of a number.
+    pub(crate) fn start_at_checkpoint(&self, number: usize) -> Result<Walk<'p>, AllocError>
+        requires timeline { IsTimeline self.now }
+        requires within { number ≤ self.now.far / self.now.spacing }
+        ensures walk { IfOk result (λ w. IsWalkOf self.now w) }
+        ensures position { IfOk result (λ w. w.replay.position ≡ number * self.now.spacing) }
+        ensures made { IfOk result (λ w. w.replay.made ≡ 0) }
+        ensures most { IfOk result (λ w. w.reach.most ≡ self.now.most) }
+    {
+        let mark = self.checkpoints[number].restore()?;
+        Ok(self.start(mark, number * self.spacing))
     }
 
     /// Chooses the spacing of checkpoints for a position that a walk leads to.
@@ -97,7 +134,7 @@ impl<'p> Timeline<'p> {
         ensures replay { walk.new.replay ≡ walk.old.replay }
         ensures most { walk.new.reach.most ≡ max walk.old.reach.most place }
     {
-        walk.reach.aim(&self.choices, &walk.replay.mark, place);
+        walk.reach.aim(&self.path(), &walk.replay.mark, place);
     }
 
     /// Continues a walk: at least by one turn, and to no position after an end.
@@ -113,7 +150,7 @@ impl<'p> Timeline<'p> {
         ensures most { OnOk result (walk.new.reach.most
             ≡ max walk.old.reach.most walk.new.replay.position) }
     {
-        walk.advance(&self.choices, end)?;
+        walk.advance(&self.path(), self.checkpoints.last(), end)?;
         Ok(())
     }
 

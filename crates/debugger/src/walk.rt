@@ -4,9 +4,10 @@ ghost use Rattle.std.specs.Prelude.{◌≡◌, ◌+◌, ◌<◌, ◌≤◌, leng
 ghost use Rattle.debugger.specs.States.{setting_of};
 ghost use Rattle.debugger.specs.Walks.{IsWalk};
 
+use crate::checkpoint::Checkpoint;
+use crate::path::Path;
 use crate::reach::Reach;
 use crate::replay::Replay;
-use jvms_machine::machine::ThreadId;
 use std::alloc::{AllocError, Global};
 use std::mem;
 use trace::{Recording, Trace};
@@ -35,7 +36,7 @@ impl<'p> Walk<'p> {
     }
 
     /// Takes turns where the session has been.
-    fn advance_within(&mut self, choices: &[ThreadId], end: usize) -> Result<(), AllocError>
+    fn advance_within(&mut self, choices: &Path<'_>, end: usize) -> Result<(), AllocError>
         requires walk { IsWalk (setting_of self.old.replay.mark.machine) choices.now self.old }
         requires more { self.old.replay.position < end }
         requires within { end ≤ length choices.now }
@@ -58,7 +59,12 @@ impl<'p> Walk<'p> {
     }
 
     /// Takes turns after those of the session, up to the next position of a checkpoint.
-    fn advance_beyond(&mut self, choices: &[ThreadId], end: usize) -> Result<(), AllocError>
+    fn advance_beyond(
+        &mut self,
+        choices: &Path<'_>,
+        before: Option<&Checkpoint<'p>>,
+        end: usize,
+    ) -> Result<(), AllocError>
         requires walk { IsWalk (setting_of self.old.replay.mark.machine) choices.now self.old }
         requires more { self.old.replay.position < end }
         requires within { end ≤ length choices.now }
@@ -82,12 +88,18 @@ impl<'p> Walk<'p> {
         self.replay.advance(choices, end, &mut recording)?;
         recording.give_back(&mut self.items);
         let _ = self.items.len();
-        self.reach.extend(choices, &self.replay)?;
+        self.reach.extend(choices, before, &self.replay)?;
         Ok(())
     }
 
-    /// Takes turns along the choices: at least one, and none after an end.
-    pub(crate) fn advance(&mut self, choices: &[ThreadId], end: usize) -> Result<(), AllocError>
+    /// Takes turns along the choices: at least one, and none after an end. The first checkpoint shares objects with
+    /// `before`.
+    pub(crate) fn advance(
+        &mut self,
+        choices: &Path<'_>,
+        before: Option<&Checkpoint<'p>>,
+        end: usize,
+    ) -> Result<(), AllocError>
         requires walk { IsWalk (setting_of self.old.replay.mark.machine) choices.now self.old }
         requires more { self.old.replay.position < end }
         requires within { end ≤ length choices.now }
@@ -107,7 +119,7 @@ impl<'p> Walk<'p> {
         if self.replay.position < self.reach.far {
             self.advance_within(choices, end.min(self.reach.far))
         } else {
-            self.advance_beyond(choices, end)
+            self.advance_beyond(choices, before, end)
         }
     }
 }

@@ -9,11 +9,11 @@ returns-in-Some-Initialisation c =
     let threads = c.args.machine.now.state.threads in
     let thread = slice_get threads c.args.t in
     let at : option_and_then (λ x. slice_get x.frames 0) thread ≡ Some (stack_frame.Initialisation c.in-Some-Initialisation.field-0-0 c.in-Some-Initialisation.field-0-1) = search rules in
-    sym (at_none c.args.breakpoints.now thread (Some (stack_frame.Initialisation c.in-Some-Initialisation.field-0-0 c.in-Some-Initialisation.field-0-1)) at (λ b. refl))
+    sym (at_none c.args.breakpoints.now.items thread (Some (stack_frame.Initialisation c.in-Some-Initialisation.field-0-0 c.in-Some-Initialisation.field-0-1)) at (λ b. refl))
 
 pub returns-in-None : goal.returns-in-None
 returns-in-None c =
     let threads = c.args.machine.now.state.threads in
     let thread = slice_get threads c.args.t in
     let at : option_and_then (λ x. slice_get x.frames 0) thread ≡ None = search rules in
-    sym (at_none c.args.breakpoints.now thread None at (λ b. refl))
+    sym (at_none c.args.breakpoints.now.items thread None at (λ b. refl))

@@ -1,6 +1,5 @@
 use Rattle.std.proofs.Common.{ℕ, arith, ap, ◌∙◌}
 use Rattle.debugger_commands.specs.Sessions.{Session, hit_before}
-use Rattle.debugger.specs.Hits.{nearest_before}
 use Rattle.debugger.specs.Sessions.{session_of}
 use Rattle.debugger.specs.Timelines.{setting}
 use Rattle.debugger.proofs.HitLaws.{same_hits}
@@ -24,4 +23,4 @@ returns-clause-session c =
     let x = session_of old in
     let at : ℕ → Session = λ p. record x { position = p } in
     c.in_ok-go_to.ensures.session
-    ∙ ap at (c.in_ok-hit.ensures.position ∙ ap (λ bs. nearest_before g x.choices bs x.position) c.deref.ensures.value ∙ ap (λ test. hit_before test x.position) (same_hits g x))
+    ∙ ap at (c.in_ok-hit.ensures.position ∙ ap (λ test. hit_before test x.position) (same_hits g x))

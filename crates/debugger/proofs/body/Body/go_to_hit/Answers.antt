@@ -1,7 +1,6 @@
-use Rattle.std.proofs.Common.{◌≡◌, ℕ, ◌-◌, length, ap, ◌∙◌}
+use Rattle.std.proofs.Common.{ℕ, ◌-◌, length, ap, ◌∙◌}
 use Rattle.std.proofs.lemmas.Result.{on_ok_weaker}
 use Rattle.debugger_commands.specs.Sessions.{Session, next_hit}
-use Rattle.debugger.specs.Hits.{hit_after}
 use Rattle.debugger.specs.Sessions.{Debugger, session_of}
 use Rattle.debugger.specs.Timelines.{setting}
 use Rattle.debugger.proofs.HitLaws.{same_hits}
@@ -13,5 +12,5 @@ returns-clause-session c =
     let g = setting old.timeline in
     let x = session_of old in
     let at : ℕ → Session = λ p. record x { position = p } in
-    let there = c.in_ok-walk.ensures.position ∙ ap (λ bs. hit_after g x.choices bs x.position) c.deref.ensures.value ∙ ap (λ test. next_hit test x.position (length x.choices - x.position)) (same_hits g x) in
+    let there = c.in_ok-walk.ensures.position ∙ ap (λ test. next_hit test x.position (length x.choices - x.position)) (same_hits g x) in
     on_ok_weaker c.settle-settled.result (λ same. ap (λ (d : Debugger). d.session) same ∙ ap at there) c.settle-settled.ensures.seen

@@ -1,12 +1,23 @@
-use Rattle.std.proofs.Common.{◌≡◌, subst}
-use Rattle.std.specs.Result.{OnOk}
-use Rattle.debugger.specs.Sessions.{on_branch, session_of}
-use Rattle.debugger.proofs.PickLaws.{is_branch}
+use Rattle.std.proofs.Common.{◌≡◌, ◌+◌, ◌∙◌, ap, max, subst}
+use Rattle.std.specs.Result.{OnErr, OnOk}
+use Rattle.debugger_commands.specs.Sessions.{picked}
+use Rattle.debugger.specs.Sessions.{Debugger, seen, session_of}
 use Rattle.debugger.proofs.body.Body.pick.Goals as goal
 
-pub take_branch-requires-clause-branch : goal.take_branch-requires-clause-branch
-take_branch-requires-clause-branch c = is_branch c.args.self.now.timeline c.in_ok-choices.choices.items c.args.t c.requires.body.timeline c.in_ok-choices.ensures
+pub returns-clause-setting : goal.returns-clause-setting
+returns-clause-setting c = c.take_branch.ensures.setting ∙ ap (λ (d : Debugger). d.setting) c.in_ok-reserve_choice.ensures.seen
 
 pub returns-clause-session : goal.returns-clause-session
 returns-clause-session c =
-    subst (λ l. OnOk c.take_branch.result (session_of c.take_branch.new.self ≡ on_branch (session_of c.args.self.now) l)) c.in_ok-choices.ensures c.take_branch.ensures.session
+    subst (λ (d : Debugger). OnOk c.take_branch.result (session_of c.take_branch.new.self ≡ picked d.session c.args.t)) c.in_ok-reserve_choice.ensures.seen c.take_branch.ensures.session
+
+pub returns-clause-most : goal.returns-clause-most
+returns-clause-most c =
+    subst (λ (d : Debugger). OnOk c.take_branch.result (c.take_branch.new.self.timeline.most ≡ max d.most (d.session.position + 1))) c.in_ok-reserve_choice.ensures.seen c.take_branch.ensures.most
+
+pub returns-clause-far : goal.returns-clause-far
+returns-clause-far c =
+    subst (λ (d : Debugger). OnOk c.take_branch.result (c.take_branch.new.self.timeline.far ≡ d.session.position + 1)) c.in_ok-reserve_choice.ensures.seen c.take_branch.ensures.far
+
+pub returns-clause-kept : goal.returns-clause-kept
+returns-clause-kept c = subst (λ (d : Debugger). OnErr c.take_branch.result (seen c.take_branch.new.self ≡ d)) c.in_ok-reserve_choice.ensures.seen c.take_branch.ensures.kept

@@ -4,8 +4,8 @@ use Rattle.debugger.specs.States.{setting_of}
 use Rattle.debugger.proofs.MarkLaws.{marks_more}
 use Rattle.debugger.proofs.reach.Reach.extend.Goals as goal
 
-pub returns-in_ok-push_copy-clause-reach : goal.returns-in_ok-push_copy-clause-reach
-returns-in_ok-push_copy-clause-reach c =
+pub returns-in_ok-push_saved-clause-reach : goal.returns-in_ok-push_saved-clause-reach
+returns-in_ok-push_saved-clause-reach c =
     let now = c.grow.new.self in
     let is = c.grow.ensures.reach in
     let places = c.grow.ensures.places in
@@ -20,6 +20,6 @@ returns-in_ok-push_copy-clause-reach c =
       ratio_positive = is.ratio_positive;
       ratio_small = is.ratio_small;
       base_small = is.base_small;
-      fresh = marks_more at now.spacing (now.from / now.spacing + 1) now.far position now.fresh.items c.push_copy.new.marks.items c.args.replay.now.mark is.spacing.positive (omega (arith, places.1, c.requires.more)) c.grow.ensures.near
-          c.if-self-eq0.true c.in_ok-push_copy.ensures.marks c.requires.mark is.fresh;
+      fresh = marks_more at now.spacing (now.from / now.spacing + 1) now.far position now.fresh.items c.push_saved.new.checkpoints.items c.args.replay.now.mark is.spacing.positive (omega (arith, places.1, c.requires.more)) c.grow.ensures.near
+          c.if-self-eq0.true c.in_ok-push_saved.ensures.marks c.requires.mark is.fresh;
     }

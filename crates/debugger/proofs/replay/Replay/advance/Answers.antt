@@ -1,4 +1,4 @@
-use Rattle.std.proofs.Common.{◌≡◌, ◌+◌, ◌++◌, take, replicate, get_or, Some, refl, ap, ◌∙◌, arith}
+use Rattle.std.proofs.Common.{◌≡◌, ◌+◌, ◌++◌, take, replicate, Some, refl, ap, ◌∙◌, arith, sym}
 use Rattle.trace.specs.Recording.{recorded}
 use Rattle.debugger.specs.States.{setting_of}
 use Rattle.debugger.proofs.RunLaws.{between_more, count_added, count_more, mark_more}
@@ -11,10 +11,10 @@ returns-clause-replay c = λ fits.
     let cs = c.args.choices.now in
     let n = c.args.self.now.position in
     let k = c.in_ok-turns.turns.count in
-    let t = get_or cs n 0 in
+    let t = c.at-t.result in
     let turns = c.in_ok-turns.ensures in
     let some = c.consecutive-most.ensures in
-    let same : take (n + k) cs ≡ take n cs ++ replicate k t = some.same k turns.most in
+    let same : take (n + k) cs ≡ take n cs ++ replicate k t = some.same k turns.most ∙ ap (λ x. take n cs ++ replicate k x) (sym c.at-t.ensures) in
     let many = count_more g cs n (n + k) k t mark same c.requires.replay.mark in
     let added = count_added c.args.recording.now c.take_turns.new.recording _ c.requires.kept turns.items in
     record {
@@ -31,7 +31,7 @@ returns-clause-items c =
     let cs = c.args.choices.now in
     let n = c.args.self.now.position in
     let k = c.in_ok-turns.turns.count in
-    let t = get_or cs n 0 in
+    let t = c.at-t.result in
     let turns = c.in_ok-turns.ensures in
-    let same : take (n + k) cs ≡ take n cs ++ replicate k t = c.consecutive-most.ensures.same k turns.most in
+    let same : take (n + k) cs ≡ take n cs ++ replicate k t = c.consecutive-most.ensures.same k turns.most ∙ ap (λ x. take n cs ++ replicate k x) (sym c.at-t.ensures) in
     turns.items ∙ ap (recorded c.args.recording.now) (between_more g cs n (n + k) k t mark same c.requires.replay.mark)

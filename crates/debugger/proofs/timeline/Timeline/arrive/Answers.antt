@@ -16,14 +16,14 @@ prove-unreachable-requires c =
     let along = c.requires.along in
     let is = along.reach in
     let at = mark_at (setting t) t.choices.items in
-    let kept = c.thin.new.marks.items in
+    let kept = c.thin.new.checkpoints.items in
     let fresh : AreMarks at x.spacing (t.far / x.spacing + 1) x.far x.fresh.items = subst (λ n. AreMarks at x.spacing (n / x.spacing + 1) x.far x.fresh.items) along.from is.fresh in
     let ratio = is.ratio ∙ ap (λ k. x.ratio * k) along.base in
     let all = marks_gather at t.spacing x.ratio x.spacing t.far x.far t.checkpoints.items kept x.fresh.items (kept ++ x.fresh.items) is.ratio_positive ratio c.thin.ensures.each c.thin.ensures.kept c.thin.ensures.all refl c.requires.timeline.checkpoints fresh in
     let few : length (kept ++ x.fresh.items) ≤ 64 = marks_few at x.spacing x.most x.far (kept ++ x.fresh.items) is.spacing is.most all in
-    let kept_many = c.thin.new.marks.ok.0 in
+    let kept_many = c.thin.new.checkpoints.ok.0 in
     let fresh_many = x.fresh.ok.0 in
-    let room : vec_len c.thin.new.marks + vec_len x.fresh ≤ vec_capacity c.thin.new.marks = omega (arith, length-append kept x.fresh.items, few, kept_many, fresh_many, c.thin.ensures.room, c.requires.timeline.room) in
+    let room : vec_len c.thin.new.checkpoints + vec_len x.fresh ≤ vec_capacity c.thin.new.checkpoints = omega (arith, length-append kept x.fresh.items, few, kept_many, fresh_many, c.thin.ensures.room, c.requires.timeline.room) in
     let done = c.append.ensures.succeeds room in
     let refused : false ≡ is_ok c.append.result = c.if-prove.ensures.value in
     cc (done, refused)
@@ -40,7 +40,7 @@ returns-clause-timeline c =
     let cs = t.choices.items in
     let swapped : c.swap.new.x ≡ r.mark = c.swap.ensures.x_after in
     let there : g ≡ setting_of c.swap.new.x.machine = sym along.setting ∙ ap (λ (m : Mark). setting_of m.machine) (sym swapped) in
-    let marks : c.append.new.self.items ≡ c.thin.new.marks.items ++ x.fresh.items = search rules in
+    let marks : c.append.new.self.items ≡ c.thin.new.checkpoints.items ++ x.fresh.items = search rules in
     let fresh : AreMarks (mark_at g cs) x.spacing (t.far / x.spacing + 1) x.far x.fresh.items = subst (λ n. AreMarks (mark_at g cs) x.spacing (n / x.spacing + 1) x.far x.fresh.items) along.from is.fresh in
     let ratio = is.ratio ∙ ap (λ k. x.ratio * k) along.base in
     record {
@@ -51,7 +51,7 @@ returns-clause-timeline c =
       spacing = is.spacing;
       here = swapped ∙ along.replay.mark ∙ ap (λ s. mark_at s cs r.position) there;
       checkpoints = subst (λ s. AreMarks (mark_at s cs) x.spacing 0 x.far c.append.new.self.items) there
-          (marks_gather (mark_at g cs) t.spacing x.ratio x.spacing t.far x.far t.checkpoints.items c.thin.new.marks.items x.fresh.items
+          (marks_gather (mark_at g cs) t.spacing x.ratio x.spacing t.far x.far t.checkpoints.items c.thin.new.checkpoints.items x.fresh.items
           c.append.new.self.items is.ratio_positive ratio c.thin.ensures.each c.thin.ensures.kept c.thin.ensures.all marks timeline.checkpoints fresh);
       room = omega (arith, timeline.room, c.thin.ensures.room, c.append.ensures.capacity);
       few = subst (λ s. length (items_at s cs x.far) < 9223372036854775808) there c.requires.few;

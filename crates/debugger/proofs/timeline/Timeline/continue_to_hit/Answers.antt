@@ -8,7 +8,7 @@ use Rattle.debugger.proofs.timeline.Timeline.continue_to_hit.Goals as goal
 pub returns-then-is_hit-clause-position : goal.returns-then-is_hit-clause-position
 returns-then-is_hit-clause-position c =
     let t = c.args.self.now in
-    let test = hits (setting t) t.choices.items c.args.breakpoints.now in
+    let test = hits (setting t) t.choices.items c.args.breakpoints.now.items in
     let n = c.loop-position.position in
     let is = c.loop-position.invariant in
     let many = length t.choices.items in
@@ -20,7 +20,7 @@ returns-then-is_hit-clause-position c =
 pub loop-position-preserved : goal.loop-position-preserved
 loop-position-preserved c =
     let t = c.args.self.now in
-    let test = hits (setting t) t.choices.items c.args.breakpoints.now in
+    let test = hits (setting t) t.choices.items c.args.breakpoints.now.items in
     let n = c.loop-position.position in
     let is = c.loop-position.invariant in
     let many = length t.choices.items in
@@ -38,7 +38,7 @@ loop-position-preserved c =
 pub returns-clause-position : goal.returns-clause-position
 returns-clause-position c =
     let t = c.args.self.now in
-    let test = hits (setting t) t.choices.items c.args.breakpoints.now in
+    let test = hits (setting t) t.choices.items c.args.breakpoints.now.items in
     let n = c.loop-position.position in
     let is = c.loop-position.invariant in
     let many = length t.choices.items in

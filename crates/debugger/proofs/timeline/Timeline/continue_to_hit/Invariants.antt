@@ -5,7 +5,7 @@ use Rattle.debugger.proofs.timeline.Timeline.continue_to_hit.Given as goal
 
 abbrev pub invariant-loop-position : goal.invariant-loop-position
 invariant-loop-position l =
-    let after = hit_after (setting l.self) l.self.choices.items l.breakpoints in
+    let after = hit_after (setting l.self) l.self.choices.items l.breakpoints.items in
     record {
       walk : IsWalkOf l.self l.walk;
       position : l.walk.replay.position ≡ l.position;

@@ -5,7 +5,7 @@ use Rattle.debugger.proofs.timeline.Timeline.hit_before.Given as goal
 
 abbrev pub invariant-loop-end : goal.invariant-loop-end
 invariant-loop-end l =
-    let before = nearest_before (setting l.self) l.self.choices.items l.breakpoints in
+    let before = nearest_before (setting l.self) l.self.choices.items l.breakpoints.items in
     record {
       within : l.end ≤ l.self.position;
       hit : before l.self.position ≡ before l.end;

@@ -9,7 +9,7 @@ use Rattle.debugger.proofs.timeline.Timeline.last_hit_along.Goals.{then-is_hit, 
 pub loop-position-preserved : goal.loop-position-preserved
 loop-position-preserved c =
     let t = c.args.self.now in
-    let breakpoints = c.args.breakpoints.now in
+    let breakpoints = c.args.breakpoints.now.items in
     let test = hits (setting t) t.choices.items breakpoints in
     let first = nearest_before (setting t) t.choices.items breakpoints c.args.start in
     let n = c.loop-position.position in

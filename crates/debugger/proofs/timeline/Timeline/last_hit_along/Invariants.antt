@@ -6,7 +6,7 @@ use Rattle.debugger.proofs.timeline.Timeline.last_hit_along.Given as goal
 
 abbrev pub invariant-loop-position : goal.invariant-loop-position
 invariant-loop-position l =
-    let before = nearest_before (setting l.self) l.self.choices.items l.breakpoints in
+    let before = nearest_before (setting l.self) l.self.choices.items l.breakpoints.items in
     record {
       walk : IsWalkOf l.self l.walk;
       position : l.walk.replay.position ≡ l.position;

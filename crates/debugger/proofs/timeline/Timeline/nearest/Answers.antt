@@ -1,18 +1,12 @@
-use Rattle.std.proofs.Common.{◌≡◌, ◌+◌, ◌*◌, ◌/◌, ◌≤◌, length, ap, ◌∙◌, arith}
+use Rattle.std.proofs.Common.{◌/◌, ◌≤◌, arith}
 use Rattle.std.proofs.lemmas.Nat.{le-div}
 use Rattle.std.proofs.Math.Nat.{div-mul-le_self}
-use Rattle.debugger.specs.Marks.{mark_at}
-use Rattle.debugger.specs.Timelines.{setting}
 use Rattle.debugger.proofs.timeline.Timeline.nearest.Goals as goal
 
-pub start-requires-2-clause-mark : goal.start-requires-2-clause-mark
-start-requires-2-clause-mark c =
+pub start_at_checkpoint-requires-clause-within : goal.start_at_checkpoint-requires-clause-within
+start_at_checkpoint-requires-clause-within c =
     let t = c.args.self.now in
-    let timeline = c.requires.timeline in
-    let is = timeline.checkpoints in
     let number = c.min.result / t.spacing in
-    let many : 0 + length t.checkpoints.items ≡ t.far / t.spacing + 1 = is.many in
-    let low : number * t.spacing ≤ c.min.result = div-mul-le_self c.min.result t.spacing in
-    let within : number ≤ t.far / t.spacing = le-div number t.far t.spacing timeline.spacing.positive (omega arith) in
-    let place : 0 + number ≡ number = omega arith in
-    c.index.ensures ∙ is.each number c.index.result.now (omega arith) ∙ ap (λ n. mark_at (setting t) t.choices.items (n * t.spacing)) place
+    let low = div-mul-le_self c.min.result t.spacing in
+    let within : number ≤ t.far / t.spacing = le-div number t.far t.spacing c.requires.timeline.spacing.positive (omega (arith, low)) in
+    omega (arith, within)
