@@ -13,7 +13,8 @@ pub mod Loops
 pub mod Taken
 pub mod Moved
 pub mod Changes
-pub mod Back
+pub mod Nearest
+pub mod Ways
 pub mod Same
 pub mod Begun
 pub mod Linked

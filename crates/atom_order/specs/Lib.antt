@@ -1,3 +1,4 @@
+pub mod Distances
 pub mod Keeping
 pub mod Marking
 pub mod Reaching

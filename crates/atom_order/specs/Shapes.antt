@@ -93,10 +93,15 @@ pub record IsLinking (t : ℕ) (links : List Link) (old new : Shape) : Type 0 wh
   pub into : (y : ℕ) → into_in new y ≡ cond (y == t) (into_in old y ++ links) (into_in old y)
   pub slots : length new.into ≡ length old.into
 
--- A link closes a cycle: others lead back from where it begins to the transaction.
+-- A link closes a cycle: others lead back from where it begins to the transaction, no more than by any other way.
 pub record ClosesCycle (t : ℕ) (links : List Link) (s : Shape) (c : Closing) : Type 0 where
   pub among : IsIn c.by links
   pub way : IsTrail s.live (into_in s) t c.by.from c.trail.items
+  pub shortest : (l : Link) (others : List Link) → IsIn l links → IsTrail s.live (into_in s) t l.from others → length c.trail.items ≤ length others
+
+-- No way leads back to the transaction from where a link begins.
+abbrev pub ClosesNone : ℕ → List Link → Shape → Type 0
+ClosesNone t links s = (l : Link) (trail : List Link) → IsIn l links → IsTrail s.live (into_in s) t l.from trail → ⊥
 
 -- From a place on, those that a transaction reaches, put behind the others.
 pub record ArePushedBack (t place : ℕ) (links : List Link) (s : Shape) (numbers : List ℕ) : Type 0 where

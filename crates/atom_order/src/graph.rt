@@ -1,14 +1,15 @@
 //! The graph of live transactions.
 
 ghost use Rattle.std.specs.Prelude.{ℕ, ◌==◌, ◌||◌, ◌&&◌, not, cond, ◌≡◌, ◌<◌, ◌+◌, ◌^◌, ◌++◌, [], false, true, length, drop, get_or, IfOk, OnOk, OnErr, MatchOption};
-ghost use Rattle.std.specs.List.{find, list_any};
-ghost use Rattle.atom_order.specs.Trails.{IsTrail};
+ghost use Rattle.std.specs.List.{list_any};
 ghost use Rattle.std.specs.Ordering.{nat_cmp};
 ghost use Rattle.atom_order.specs.declared.link.Link.{Link};
 ghost use Rattle.atom_order.specs.Reaching.{is_among, marked, unheld};
 ghost use Rattle.atom_order.specs.Shapes.{no_transactions, live_links, begun, open_in, into_in, IsUsable, IsClosing, IsLinking, ClosesCycle, AreParts};
 ghost use Rattle.velodrome.specs.Cycles.{IsIn};
 ghost use Rattle.atom_order.specs.Marking.{HasMarks, has_key};
+
+mod shortest;
 
 use crate::link::{Closing, Link};
 use crate::links::Links;
@@ -306,53 +307,6 @@ impl Graph {
         Ok(())
     }
 
-    /// A link into a transaction from a marked one.
-    fn link_from(&self, transaction: u64, marks: &BTreeSet<u64>) -> Option<Link>
-        ensures { result ≡ find (λ (l : Link). has_key marks.now.keys l.from) (into_in self.now transaction) }
-    {
-        self.links_into(transaction)
-            .iter()
-            .copied()
-            .find(|link| marks.contains(&link.from))
-    }
-
-    /// The links back to a transaction at a place from one that it reaches, which are marked.
-    fn trail(&self, place: usize, from: u64, marks: &BTreeSet<u64>) -> Result<Vec<Link>, AllocError>
-        requires usable { IsUsable self.now }
-        requires place { place < length self.now.live }
-        requires marks { HasMarks marks.now.keys (marked (λ y. y == get_or self.now.live place 0) (into_in self.now) [] (drop place self.now.live)) }
-        requires from { has_key marks.now.keys from ≡ true }
-        ensures { IfOk result (λ v. IsTrail self.now.live (into_in self.now) (get_or self.now.live place 0) from v.items) }
-    {
-        let mut trail = Vec::new(self.alloc);
-        let mut at = from;
-        let mut i = self.live.len();
-        while i > place + 1 {
-            i -= 1;
-            if self.live[i] != at {
-                continue;
-            }
-            match self.link_from(at, marks) {
-                Some(link) => {
-                    trail.push(link)?;
-                    at = link.from;
-                }
-                None => continue,
-            }
-        }
-        Ok(trail)
-    }
-
-    /// A link that leads from a marked transaction.
-    fn closing_link(&self, links: &[Link], marks: &BTreeSet<u64>) -> Option<Link>
-        ensures { result ≡ find (λ (l : Link). has_key marks.now.keys l.from) links.now }
-    {
-        links
-            .iter()
-            .copied()
-            .find(|link| marks.contains(&link.from))
-    }
-
     /// Whether a link leads from a transaction at a place or behind it.
     fn leads_back(&self, links: &[Link], place: usize) -> bool
         requires { place < length self.now.live }
@@ -374,8 +328,8 @@ impl Graph {
         }
     }
 
-    /// Adds links into a live transaction, and puts what it reaches behind the others where a link leads back. Where one
-    /// closes a cycle, or without memory, nothing changes.
+    /// Adds links into a live transaction, and puts what it reaches after the others where a link leads back. Where one
+    /// closes a cycle, returns a shortest cycle that one closes. Then, and without memory, nothing changes.
     pub fn link(&mut self, transaction: u64, links: &[Link]) -> Result<Option<Closing>, AllocError>
         requires live { is_among transaction self.old.live ≡ true }
         requires usable { IsUsable self.old }
@@ -409,16 +363,11 @@ impl Graph {
             return Ok(None);
         }
         let marks = self.reached(self.live_from(place), transaction)?;
-        match self.closing_link(links, &marks) {
-            Some(by) => Ok(Some(Closing {
-                by,
-                trail: self.trail(place, by.from, &marks)?,
-            })),
-            None => {
-                self.push_back(transaction, place, &marks, links)?;
-                Ok(None)
-            }
+        if shortest::is_closing(links, &marks) {
+            return self.closing(transaction, place, links);
         }
+        self.push_back(transaction, place, &marks, links)?;
+        Ok(None)
     }
 
     /// Adds links into the transaction at a place, and puts what is marked behind the others from there on.

@@ -1,6 +1,7 @@
 //! The order of transactions and the links between those that open ones reach (Velodrome, PLDI 2008, section 4).
 #![tactic(auto)]
 
+mod distances;
 mod graph;
 mod link;
 mod links;

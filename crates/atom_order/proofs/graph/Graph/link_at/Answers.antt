@@ -1,15 +1,14 @@
 -- Links lead forward, or one closes a cycle, or what the transaction reaches is put behind the others.
-use Rattle.std.proofs.Common.{◌≡◌, ◌<◌, inl, inr, [], length, drop, get_or, set, refl, sym, ap, subst, ◌∙◌}
-use Rattle.std.proofs.lemmas.Bool.{cases_Bool, both_ways}
+use Rattle.std.proofs.Common.{◌≡◌, ℕ, ◌<◌, ◌==◌, List, [], length, drop, get_or, set, refl, sym, ap, subst, ◌∙◌}
+use Rattle.std.proofs.lemmas.Bool.{both_ways}
 use Rattle.std.proofs.lemmas.List.{length-set}
 use Rattle.velodrome.specs.Cycles.{IsIn}
 use Rattle.atom_order.specs.declared.link.Link.{Link}
-use Rattle.atom_order.specs.Reaching.{is_among}
-use Rattle.atom_order.specs.Trails.{IsTrail}
-use Rattle.atom_order.specs.Marking.{has_key}
+use Rattle.atom_order.specs.Reaching.{is_among, marked}
+use Rattle.atom_order.specs.Marking.{has_key, HasMarks}
 use Rattle.atom_order.specs.Shapes.{Shape, into_in, IsUsable, IsLinking}
 use Rattle.atom_order.proofs.Members.{among_from_in}
-use Rattle.atom_order.proofs.Back.{find_some, find_none}
+use Rattle.atom_order.proofs.Ways.{marked_closes, closed_or}
 use Rattle.atom_order.proofs.Changes.{added_at, none_in, links_forward}
 use Rattle.atom_order.proofs.graph.Graph.link_at.Goals as goal
 
@@ -39,21 +38,15 @@ returns-then-not-leads_back-clause-ok c =
     (added_at into t c.index_mut-slot.result.now c.append.new.self links slot c.index_mut-slot.ensures.value c.in_ok-append.ensures.ok)
     (length-set into t c.append.new.self))
 
-pub trail-requires-clause-from : goal.trail-requires-clause-from
-trail-requires-clause-from c = (find_some (λ (l : Link). has_key c.in_ok-marks.marks.keys l.from) c.args.links.now c.in-Some.by (sym c.in-Some.ensures)).1
-
-pub returns-in-Some-clause-ok : goal.returns-in-Some-clause-ok
-returns-in-Some-clause-ok c = (
-  refl,
-  record {
-    among = (find_some (λ (l : Link). has_key c.in_ok-marks.marks.keys l.from) c.args.links.now c.in-Some.by (sym c.in-Some.ensures)).0;
-    way = subst (λ v. IsTrail c.args.self.now.live (into_in c.args.self.now) v c.in-Some.by.from c.in_ok-trail-in-Some.field-0.items) c.requires.there c.in_ok-trail-in-Some.ensures;
-  },
-)
+pub returns-then-is_closing-clause-ok : goal.returns-then-is_closing-clause-ok
+returns-then-is_closing-clause-ok c =
+    let s = c.args.self.now in
+    let t = c.args.transaction in
+    let keys = c.in_ok-marks.marks.keys in
+    let has = subst (λ (l : List ℕ). HasMarks keys (marked (λ y. y == t) (into_in s) [] l)) c.live_from.ensures c.in_ok-marks.ensures in
+    closed_or c.closing.result _ _ _ _ c.closing.ensures
+    (marked_closes s.live (into_in s) c.args.place t c.requires.place c.requires.there c.requires.usable.leads keys c.args.links.now has (sym c.is_closing.ensures ∙ c.if-is_closing.true)) refl
 
 pub push_back-requires-clause-apart : goal.push_back-requires-clause-apart
-push_back-requires-clause-apart c = λ l h.
-    elim (cases_Bool (has_key c.in_ok-marks.marks.keys l.from)) [
-      | inl is ↦ absurd (find_none (λ (k : Link). has_key c.in_ok-marks.marks.keys k.from) c.args.links.now l (sym c.in-None.ensures) h is)
-      | inr is ↦ is
-    ]
+push_back-requires-clause-apart c =
+    none_in (λ (l : Link). has_key c.in_ok-marks.marks.keys l.from) c.args.links.now (sym c.is_closing.ensures ∙ c.if-is_closing.false)

@@ -1,0 +1,243 @@
+-- Distances along links, found in one pass over an order in which links lead forward.
+use Rattle.std.proofs.Common.{◌≡◌, ◌≢◌, ℕ, ◌+◌, ◌<◌, ◌≤◌, Bool, true, false, cond, ◌||◌, ◌==◌, ◌⊎◌, inl, inr, List, [], ◌∷◌, ◌++◌, Option, Some, None, Result, Ok, Err, IfOk, MatchOption, length, take, drop, get_or, refl, sym, ap, subst, ◌∙◌, arith}
+use Rattle.std.proofs.lemmas.Bool.{cases_eq, eq-eqb, ne_eqb, eqb-true, or_cases}
+use Rattle.std.proofs.lemmas.Bool.Decides.{nat_tests}
+use Rattle.std.proofs.lemmas.Option.{none-some, same_Some}
+use Rattle.std.proofs.lemmas.List.{take-append-drop, take_more, take_all}
+use Rattle.std.specs.Ordering.{nat_cmp}
+use Rattle.std.specs.BTreeMap.{is_at}
+use Rattle.std.specs.List.{list_any}
+use Rattle.velodrome.specs.Cycles.{IsIn}
+use Rattle.atom_order.specs.declared.distances.Near.{Near}
+use Rattle.atom_order.specs.declared.link.Link.{Link}
+use Rattle.atom_order.specs.Distances.{IsDistance, distance_in, AreDistances, IsNearest, AreFar, IsNext}
+use Rattle.atom_order.specs.Reaching.{leads_from, marked, LeadForward}
+use Rattle.atom_order.specs.Marking.{has_key, HasMarks}
+use Rattle.atom_order.specs.Trails.{IsTrail}
+use Rattle.atom_order.proofs.Members.{in_right, in_cases}
+use Rattle.atom_order.proofs.Loops.{led_same}
+use Rattle.atom_order.proofs.Marks.{link_from}
+use Rattle.atom_order.proofs.Moved.{cut_at}
+use Rattle.atom_order.proofs.Places.{at_in}
+use Rattle.atom_order.proofs.Regions.{forward_back, forward_front}
+
+module _ (live : List ℕ) (into : ℕ → List Link) (t : ℕ) where
+  abbrev pub HasTrail : ℕ → Type 0
+  HasTrail x = (trail : List Link) × IsTrail live into t x trail
+
+  -- Links lead back from each marked one.
+  pub marked_trail : (marks ys : List ℕ) → ((x : ℕ) → IsIn x marks → HasTrail x) → ((x : ℕ) → IsIn x ys → IsIn x live)
+      → (x : ℕ) → IsIn x (marked (λ y. y == t) into marks ys) → HasTrail x
+  marked_trail marks [] each lives x h = each x h
+  marked_trail marks (y ∷ ys) each lives x h =
+      marked_trail (cond ((y == t) || leads_from marks (into y)) (y ∷ marks) marks) ys (by ((y == t) || leads_from marks (into y)) refl) (λ z g. lives z (inr g)) x h
+    where
+      entered : ((y == t) || leads_from marks (into y)) ≡ true → HasTrail y
+      entered is = elim (or_cases (y == t) (leads_from marks (into y)) is) [
+        | inl same ↦ ([], eqb-true y t same)
+        | inr led ↦
+            let link = link_from marks (into y) led in
+            let more = each link.0.from link.2 in
+            (link.0 ∷ more.0, (lives y (inl refl), link.1, more.1))
+      ]
+
+      by : (b : Bool) → ((y == t) || leads_from marks (into y)) ≡ b → (z : ℕ) → IsIn z (cond b (y ∷ marks) marks) → HasTrail z
+      by true is z (inl e) = subst HasTrail (sym e) (entered is)
+      by true is z (inr g) = each z g
+      by false is z g = each z g
+
+  -- What the pass has kept, once it has seen some of the order.
+  pub record AreSoFar (seen : List ℕ) (count : ℕ) (entries : List (ℕ × ℕ)) : Type 0 where
+    pub kept : (x n : ℕ) → distance_in entries x ≡ Some n → IsDistance live into t x n × (n < count)
+    pub all : (x : ℕ) (trail : List Link) → IsIn x seen → IsTrail live into t x trail → (n : ℕ) × (distance_in entries x ≡ Some n)
+
+  pub none_so_far : (entries : List (ℕ × ℕ)) → entries ≡ [] → AreSoFar [] 0 entries
+  none_so_far entries is = record {
+    kept = λ x n at. absurd (none-some n (sym (ap (λ es. distance_in es x) is) ∙ at));
+    all = λ x trail h way. absurd h;
+  }
+
+-- ---- One pass
+
+module _ (live : List ℕ) (into : ℕ → List Link) (place t : ℕ) (less : place < length live) (is : get_or live place 0 ≡ t) (leads : LeadForward into live) where
+  abbrev region : List ℕ
+  region = drop place live
+
+  whole : take place live ++ region ≡ live
+  whole = take-append-drop place live
+
+  leads_region : LeadForward into region
+  leads_region = forward_back into (take place live) region (subst (LeadForward into) (sym whole) leads)
+
+  pub region_live : (x : ℕ) → IsIn x region → IsIn x live
+  region_live x h = subst (IsIn x) whole (in_right x (take place live) region h)
+
+  -- Links lead back only from what is there from the place on.
+  trail_region : (x : ℕ) (trail : List Link) → IsTrail live into t x trail → IsIn x region
+  trail_region x [] same = subst (IsIn x) (sym (cut_at place t live less is)) (inl same)
+  trail_region x (l ∷ trail) way =
+      let back = trail_region l.from trail way.2 in
+      elim (in_cases x (take place live) region (subst (IsIn x) (sym whole) way.0)) [
+        | inl front ↦ absurd (forward_front into (take place live) region x l (subst (LeadForward into) (sym whole) leads) front way.1 back)
+        | inr h ↦ h
+      ]
+
+  -- What a link leads from has been seen before.
+  earlier : (i y : ℕ) (l : Link) → i < length region → get_or region i 0 ≡ y → IsIn l (into y) → IsIn l.from region → IsIn l.from (take i region)
+  earlier i y l low here g h =
+      elim (in_cases l.from (take i region) (drop i region) (subst (IsIn l.from) (sym (take-append-drop i region)) h)) [
+        | inl front ↦ front
+        | inr back ↦ absurd ((subst (LeadForward into) (cut_at i y region low here)
+            (forward_back into (take i region) (drop i region) (subst (LeadForward into) (sym (take-append-drop i region)) leads_region))).0 l g
+            (subst (IsIn l.from) (cut_at i y region low here) back))
+      ]
+
+  module _ (i y : ℕ) (entries : List (ℕ × ℕ)) (low : i < length region) (here : get_or region i 0 ≡ y) (so : AreSoFar live into t (take i region) i entries) where
+    y_live : IsIn y live
+    y_live = region_live y (subst (λ v. IsIn v region) here (at_in 0 region i low))
+
+    -- A number is kept where a first link leads from, and it is no more than the others of a trail.
+    back_from : (l : Link) (others : List Link) → IsIn l (into y) → IsTrail live into t l.from others → (m : ℕ) × (distance_in entries l.from ≡ Some m) × (m ≤ length others)
+    back_from l others g way =
+        let some = so.all l.from others (earlier i y l low here g (trail_region l.from others way)) way in
+        (some.0, some.1, (so.kept l.from some.0 some.1).0.least others way)
+
+    next_is : (n : ℕ) → IsNext t y (into y) entries n → IsDistance live into t y n × (n < i + 1)
+    next_is n (inl start) =
+        let zero_is = start.1 in (
+          record { trail = []; way = start.0; long = sym start.1; least = λ others way. omega arith },
+          omega arith,
+        )
+    next_is n (inr next) =
+        let near = next.1 in
+        let nearest = next.2 in
+        let sum = next.3 in
+        let far = so.kept near.link.from near.distance nearest.at in
+        let bound = far.1 in
+        let long = far.0.long in (
+          record {
+            trail = near.link ∷ far.0.trail;
+            way = (y_live, nearest.among, far.0.way);
+            long = omega arith;
+            least = λ others way. by others way;
+          },
+          omega arith,
+        )
+      where
+        by : (others : List Link) → IsTrail live into t y others → n ≤ length others
+        by [] same = absurd (next.0 same)
+        by (k ∷ others) way =
+            let some = back_from k others way.1 way.2 in
+            let one = next.2.least k some.0 way.1 some.1 in
+            let two = some.2 in
+            let sum = next.3 in
+            omega arith
+
+    no_trail : y ≢ t → AreFar (into y) entries → (trail : List Link) → IsTrail live into t y trail → ⊥
+    no_trail other far [] same = other same
+    no_trail other far (k ∷ others) way =
+        let some = back_from k others way.1 way.2 in
+        none-some some.0 (sym (far k way.1) ∙ some.1)
+
+    seen_more : (x : ℕ) → IsIn x (take (i + 1) region) → IsIn x (take i region) ⊎ (x ≡ y)
+    seen_more x h = elim (in_cases x (take i region) (y ∷ []) (subst (IsIn x) (take_more region i 0 low ∙ ap (λ z. take i region ++ z ∷ []) here) h)) [
+      | inl front ↦ inl front
+      | inr last ↦ elim last [ inl same ↦ inr same | inr none ↦ absurd none ]
+    ]
+
+    -- A distance more is kept.
+    pub one_more : (more : List (ℕ × ℕ)) (n : ℕ) → IsNext t y (into y) entries n → ((q : ℕ) → distance_in more q ≡ cond (is_at (nat_cmp y) q) (Some n) (distance_in entries q))
+        → AreSoFar live into t (take (i + 1) region) (i + 1) more
+    one_more more n next updates = record {
+      kept = λ x m at. elim (cases_eq x y) [
+        | inl same ↦ subst (λ v. IsDistance live into t v m × (m < i + 1)) (sym same) (subst (λ v. IsDistance live into t y v × (v < i + 1)) (same_Some n m (sym (at_here x same) ∙ at)) (next_is n next))
+        | inr other ↦ let old = so.kept x m (sym (at_other x other) ∙ at) in let bound = old.1 in (old.0, omega arith)
+      ];
+      all = λ x trail h way. elim (cases_eq x y) [
+        | inl same ↦ (n, at_here x same)
+        | inr other ↦ elim (seen_more x h) [
+          | inl front ↦ let old = so.all x trail front way in (old.0, at_other x other ∙ old.1)
+          | inr same ↦ absurd (other same)
+        ]
+      ];
+    }
+      where
+        same_key : (q : ℕ) → is_at (nat_cmp y) q ≡ (q == y)
+        same_key q = grind (arith, nat_tests)
+
+        at_here : (x : ℕ) → x ≡ y → distance_in more x ≡ Some n
+        at_here x same = updates x ∙ ap (λ b. cond b (Some n) (distance_in entries x)) (same_key x ∙ eq-eqb x y same)
+
+        at_other : (x : ℕ) → x ≢ y → distance_in more x ≡ distance_in entries x
+        at_other x other = updates x ∙ ap (λ b. cond b (Some n) (distance_in entries x)) (same_key x ∙ ne_eqb x y other)
+
+    -- No links lead back.
+    pub none_more : y ≢ t → AreFar (into y) entries → AreSoFar live into t (take (i + 1) region) (i + 1) entries
+    none_more other far = record {
+      kept = λ x m at. let old = so.kept x m at in let bound = old.1 in (old.0, omega arith);
+      all = λ x trail h way. elim (seen_more x h) [
+        | inl front ↦ so.all x trail front way
+        | inr same ↦ absurd (no_trail other far trail (subst (λ v. IsTrail live into t v trail) same way))
+      ];
+    }
+
+  pub all_so_far : (i : ℕ) (entries : List (ℕ × ℕ)) → length region ≤ i → AreSoFar live into t (take i region) i entries → AreDistances live into t entries
+  all_so_far i entries far so = record {
+    kept = λ x n at. (so.kept x n at).0;
+    all = λ x trail way. so.all x trail (subst (IsIn x) (sym (take_all i region far)) (trail_region x trail way)) way;
+  }
+
+  -- Where a link leads from a marked one, it closes a cycle.
+  pub marked_closes : (keys : List ℕ) (links : List Link) → HasMarks keys (marked (λ y. y == t) into [] region) → list_any (λ (l : Link). has_key keys l.from) links ≡ true
+      → ((l : Link) (trail : List Link) → IsIn l links → IsTrail live into t l.from trail → ⊥) → ⊥
+  marked_closes keys links has some none =
+      let marks = marked (λ y. y == t) into [] region in
+      let link = link_from marks links (sym (led_same keys marks links has) ∙ some) in
+      let way = marked_trail live into t [] region (λ x h. absurd h) region_live link.0.from link.2 in
+      none link.0 way.0 link.1 way.1
+
+-- A cycle is closed, where one is.
+pub closed_or : {X E : Type 0} (r : Result (Option X) E) (ClosesNone Linked Same : Type 0) (Closes : X → Type 0) → IfOk r (λ o. MatchOption o ClosesNone Closes) → (ClosesNone → ⊥) → Same
+    → IfOk r (λ o. MatchOption o Linked (λ c. Same × Closes c))
+closed_or (Ok None) ClosesNone Linked Same Closes h some same = absurd (some h)
+closed_or (Ok (Some c)) ClosesNone Linked Same Closes h some same = (same, h)
+closed_or (Err e) ClosesNone Linked Same Closes h some same = tt
+
+-- ---- The way back
+
+module _ (live : List ℕ) (into : ℕ → List Link) (t : ℕ) (entries : List (ℕ × ℕ)) (are : AreDistances live into t entries) where
+  -- A nearest link is the first of a shortest way.
+  pub step_back : (x n : ℕ) (near : Near) → distance_in entries x ≡ Some n → x ≢ t → IsNearest (into x) entries near → IsIn x live × (near.distance + 1 ≡ n)
+  step_back x n near at other nearest = by (are.kept x n at).trail (are.kept x n at).way (are.kept x n at).long
+    where
+      by : (trail : List Link) → IsTrail live into t x trail → length trail ≡ n → IsIn x live × (near.distance + 1 ≡ n)
+      by [] same long = absurd (other same)
+      by (k ∷ others) way long =
+          let some = are.all k.from others way.2 in
+          let low = (are.kept k.from some.0 some.1).least others way.2 in
+          let least = nearest.least k some.0 way.1 some.1 in
+          let far = are.kept near.link.from near.distance nearest.at in
+          let far_long = far.long in
+          let high = (are.kept x n at).least (near.link ∷ far.trail) (way.0, nearest.among, far.way) in
+          (way.0, omega arith)
+
+  pub leads_on : (x n : ℕ) → distance_in entries x ≡ Some n → x ≢ t → AreFar (into x) entries → ⊥
+  leads_on x n at other far = by (are.kept x n at).trail (are.kept x n at).way
+    where
+      by : (trail : List Link) → IsTrail live into t x trail → ⊥
+      by [] same = other same
+      by (k ∷ others) way = let some = are.all k.from others way.2 in none-some some.0 (sym (far k way.1) ∙ some.1)
+
+  pub ends_at : (x n : ℕ) → distance_in entries x ≡ Some n → x ≡ t → n ≡ 0
+  ends_at x n at same = let low = (are.kept x n at).least [] same in omega arith
+
+  -- Any way back from a link is at least as long as the nearest one's.
+  pub no_shorter : (links : List Link) (near : Near) → IsNearest links entries near → (l : Link) (others : List Link) → IsIn l links → IsTrail live into t l.from others → near.distance ≤ length others
+  no_shorter links near nearest l others h way =
+      let some = are.all l.from others way in
+      let one = nearest.least l some.0 h some.1 in
+      let two = (are.kept l.from some.0 some.1).least others way in
+      omega arith
+
+  pub closes_none : (links : List Link) → AreFar links entries → (l : Link) (trail : List Link) → IsIn l links → IsTrail live into t l.from trail → ⊥
+  closes_none links far l trail h way = let some = are.all l.from trail way in none-some some.0 (sym (far l h) ∙ some.1)

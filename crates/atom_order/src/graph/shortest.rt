@@ -1,0 +1,105 @@
+//! Finds a shortest cycle that a link closes, by the distances of specs/Distances.antt. Called only once a cycle is known to
+//! be closed, so that links that close none cost nothing more.
+
+ghost use Rattle.std.specs.Prelude.{◌≡◌, ◌≢◌, ℕ, ◌+◌, ◌<◌, ◌^◌, Some, length, get_or, IfOk, MatchOption};
+ghost use Rattle.std.specs.List.{list_any};
+ghost use Rattle.atom_order.specs.declared.link.Link.{Link};
+ghost use Rattle.atom_order.specs.Distances.{AreDistances, AreFar, IsNext, distance_in};
+ghost use Rattle.atom_order.specs.Marking.{has_key};
+ghost use Rattle.atom_order.specs.Shapes.{into_in, IsUsable, ClosesCycle, ClosesNone};
+ghost use Rattle.atom_order.specs.Trails.{IsTrail};
+
+use super::Graph;
+use crate::distances::{Near, nearest};
+use crate::link::{Closing, Link};
+use std::alloc::AllocError;
+use std::collections::{BTreeMap, BTreeSet};
+
+impl Graph {
+    /// Returns the distance of a transaction from a start, if it has one: 0 for the start itself, else 1 more than the
+    /// least among those that links lead from.
+    fn distance(&self, y: u64, start: u64, distances: &BTreeMap<u64, usize>) -> Option<usize>
+        requires fits { (x n : ℕ) → distance_in distances.now.entries x ≡ Some n → n + 1 < 2 ^ 64 }
+        ensures { MatchOption result ((y ≢ start) × AreFar (into_in self.now y) distances.now.entries)
+            (IsNext start y (into_in self.now y) distances.now.entries) }
+    {
+        if y == start {
+            return Some(0);
+        }
+        match nearest(self.links_into(y), distances) {
+            Some(near) => Some(near.distance + 1),
+            None => None,
+        }
+    }
+
+    /// Returns the distance of each transaction that the one at a place reaches, in one pass over the order.
+    fn distances(&self, transaction: u64, place: usize) -> Result<BTreeMap<u64, usize>, AllocError>
+        requires place { place < length self.now.live }
+        requires there { get_or self.now.live place 0 ≡ transaction }
+        requires usable { IsUsable self.now }
+        ensures { IfOk result (λ m. AreDistances self.now.live (into_in self.now) transaction m.entries) }
+    {
+        let mut distances = BTreeMap::new(self.alloc);
+        for y in self.live_from(place) {
+            if let Some(distance) = self.distance(*y, transaction, &distances) {
+                distances.insert(*y, distance)?;
+            }
+        }
+        Ok(distances)
+    }
+
+    /// Returns as few links as lead back to a transaction from where a link begins.
+    fn trail(
+        &self,
+        transaction: u64,
+        start: Near,
+        distances: &BTreeMap<u64, usize>,
+    ) -> Result<Vec<Link>, AllocError>
+        requires distances { AreDistances self.now.live (into_in self.now) transaction distances.now.entries }
+        requires start { distance_in distances.now.entries start.link.from ≡ Some start.distance }
+        ensures way { IfOk result (λ v. IsTrail self.now.live (into_in self.now) transaction start.link.from v.items) }
+        ensures long { IfOk result (λ v. length v.items ≡ start.distance) }
+    {
+        let mut trail = Vec::new(self.alloc);
+        let mut at = start.link.from;
+        while at != transaction {
+            match nearest(self.links_into(at), distances) {
+                Some(near) => {
+                    trail.push(near.link)?;
+                    at = near.link.from;
+                }
+                None => return Ok(trail),
+            }
+        }
+        Ok(trail)
+    }
+
+    /// Returns a shortest cycle that one of the links would close into the transaction at a place, if any would.
+    pub(super) fn closing(
+        &self,
+        transaction: u64,
+        place: usize,
+        links: &[Link],
+    ) -> Result<Option<Closing>, AllocError>
+        requires place { place < length self.now.live }
+        requires there { get_or self.now.live place 0 ≡ transaction }
+        requires usable { IsUsable self.now }
+        ensures { IfOk result (λ o. MatchOption o (ClosesNone transaction links.now self.now) (ClosesCycle transaction links.now self.now)) }
+    {
+        let distances = self.distances(transaction, place)?;
+        match nearest(links, &distances) {
+            Some(near) => Ok(Some(Closing {
+                by: near.link,
+                trail: self.trail(transaction, near, &distances)?,
+            })),
+            None => Ok(None),
+        }
+    }
+}
+
+/// Returns whether a link leads from a marked transaction.
+pub(super) fn is_closing(links: &[Link], marks: &BTreeSet<u64>) -> bool
+    ensures { result ≡ list_any (λ (l : Link). has_key marks.now.keys l.from) links.now }
+{
+    links.iter().any(|link| marks.contains(&link.from))
+}
