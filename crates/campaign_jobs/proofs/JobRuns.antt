@@ -10,12 +10,13 @@ use Rattle.schedule.specs.Choosers.{Chooser, opened}
 use Rattle.schedule.specs.Schedules.{Seeded}
 use Rattle.program_runs.specs.Shown.{Shown, program_shown, shown_by}
 use Rattle.campaign_jobs.specs.declared.plan.Plan.{Plan}
+use Rattle.campaign_jobs.specs.Plans.{stream_of}
 use Rattle.campaign_jobs.specs.Reports.{job_shown}
 use Rattle.campaign_jobs.proofs.SeededChoices.{are_seeded}
 
--- Returns the chooser of a job: random words of the plan's seed and the job's number name enabled threads.
+-- Returns the chooser of a job: random words of the plan's seed and the job's stream name enabled threads.
 abbrev pub chooser_of : Plan → ℕ → Chooser
-chooser_of plan number = opened (Seeded plan.seed number)
+chooser_of plan number = opened (Seeded plan.seed (stream_of plan number))
 
 same_for : (r : Result Start NotMade) (f g : Start → Shown) → ((start : Start) → f start ≡ g start) → (r >>= λ start. Ok (f start)) ≡ (r >>= λ start. Ok (g start))
 same_for (Ok start) f g same = ap Ok (same start)
@@ -25,4 +26,4 @@ pub same_shown : (program : List Class) (plan : Plan) (number : ℕ) → program
 unfolding program_shown job_shown
 same_shown program plan number =
     same_for (made program plan.limits plan.entry) _ _
-    (λ start. ap (shown_by (opened_machine program plan.limits start)) (sym (are_seeded plan.most plan.seed number (opened_machine program plan.limits start))))
+    (λ start. ap (shown_by (opened_machine program plan.limits start)) (sym (are_seeded plan.most plan.seed (stream_of plan number) (opened_machine program plan.limits start))))

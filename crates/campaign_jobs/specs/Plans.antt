@@ -1,5 +1,5 @@
--- Says which plans fit a program.
-use Rattle.std.specs.Prelude.{Bool, List, is_ok}
+-- Says which plans fit a program, and which random words their jobs have.
+use Rattle.std.specs.Prelude.{ℕ, ◌+◌, ◌%◌, ◌^◌, Bool, List, is_ok}
 use Rattle.jvms_program.specs.declared.program.Class.{Class}
 use Rattle.jvms_machine.specs.Opening.{made}
 use Rattle.campaign_jobs.specs.declared.plan.Plan.{Plan}
@@ -7,3 +7,11 @@ use Rattle.campaign_jobs.specs.declared.plan.Plan.{Plan}
 -- A machine of the program can be made with the plan's limits and entry.
 abbrev pub fits : List Class → Plan → Bool
 fits program plan = is_ok (made program plan.limits plan.entry)
+
+-- Returns the stream of a job's random words. Streams are counted from the first job's, modulo their number.
+abbrev pub stream_of : Plan → ℕ → ℕ
+stream_of plan number = (plan.first + number) % 2 ^ 64
+
+-- Returns the plan of a part of a campaign: this number of jobs, the first of which has the number `begin` in the campaign.
+abbrev pub part_of : Plan → ℕ → ℕ → Plan
+part_of plan begin jobs = record plan { first = plan.first + begin; jobs = jobs }

@@ -15,12 +15,13 @@ use Rattle.campaign_jobs.specs.declared.plan.Plan.{Plan}
 use Rattle.campaign_jobs.specs.declared.result.JobResult.{JobResult}
 use Rattle.campaign_jobs.specs.Atomicities.{IsAtomicityOf}
 use Rattle.campaign_jobs.specs.Choices.{job_choices}
+use Rattle.campaign_jobs.specs.Plans.{stream_of}
 
 -- Returns what the run of a job shows, from where the entry starts. The generator of its random words has the
--- plan's seed as its state, and the job's number as its stream.
+-- plan's seed as its state. Its stream is the job's number, counted from the plan's first stream.
 abbrev pub job_from : List Class → Plan → ℕ → Start → Shown
 job_from program plan number start =
-    let m = opened program plan.limits start in shown_by m (job_choices plan.most (generator_of plan.seed number) m)
+    let m = opened program plan.limits start in shown_by m (job_choices plan.most (generator_of plan.seed (stream_of plan number)) m)
 
 -- Returns what the run of a job shows, or why no machine is made for it.
 unfoldable pub job_shown : List Class → Plan → ℕ → Result Shown NotMade

@@ -1,7 +1,7 @@
 //! What a campaign runs.
 
 ghost use Rattle.std.specs.Prelude.{◌≡◌};
-ghost use Rattle.campaign_jobs.specs.Plans.{fits};
+ghost use Rattle.campaign_jobs.specs.Plans.{fits, stream_of};
 
 use atom_spec::Spec;
 use jvms_machine::machine::{Entry, Limits};
@@ -18,7 +18,9 @@ pub struct Plan {
     pub limits: Limits,
     /// The number of jobs.
     pub jobs: u64,
-    /// The state of the generator of random words. The stream is the job's number.
+    /// The stream of the first job's random words. The plan of a part of a campaign has the number of the part's first job.
+    pub first: u64,
+    /// The state of the generator of random words.
     pub seed: u64,
     /// The limit on the turns of each job.
     pub most: TurnLimit,
@@ -34,5 +36,12 @@ impl Plan {
         ensures { result ≡ fits program.now self.now }
     {
         admits(program, self.limits, &self.entry)
+    }
+
+    /// Returns the stream of a job's random words: streams are counted from the first job's, and 0 follows the last.
+    pub fn stream_of(&self, number: u64) -> u64
+        ensures { result ≡ stream_of self.now number }
+    {
+        self.first.wrapping_add(number)
     }
 }

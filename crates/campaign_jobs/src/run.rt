@@ -34,7 +34,7 @@ fn feed_job(
     ensures fed { IfOk result (λ _. IsFedWith
         (job_shown program.now plan.now number) checker.old.lines checker.new) }
 {
-    let mut chooser = Chooser::seeded(plan.seed, number);
+    let mut chooser = Chooser::seeded(plan.seed, plan.stream_of(number));
     let limits = plan.limits;
     let entry = &plan.entry;
     match feed_program(

@@ -81,6 +81,7 @@ fn plan(alloc: Global, spec: &str, jobs: u64, stop: bool) -> Result<Plan, Fail> 
         },
         limits: LIMITS,
         jobs,
+        first: 0,
         seed: 0,
         most,
         spec: Spec::read(alloc, spec)?,

@@ -1,1 +1,3 @@
+mod Chains
 mod TextLaws
+mod Wholes

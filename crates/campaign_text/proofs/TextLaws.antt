@@ -15,11 +15,10 @@ lines_push number (y ∷ ys) x =
     )
 
 -- The lines up to the next job.
-pub one_more : (results : List JobResult) (k : ℕ) (d : JobResult) → k < length results
-    → job_lines 0 (take (k + 1) results) ≡ job_lines 0 (take k results) ++ job_line k (get_or results k d)
-one_more results k d below =
+pub one_more : (first : ℕ) (results : List JobResult) (k : ℕ) (d : JobResult) → k < length results
+    → job_lines first (take (k + 1) results) ≡ job_lines first (take k results) ++ job_line (first + k) (get_or results k d)
+one_more first results k d below =
     let few : length (take k results) ≡ k = length-take-le k results (omega arith) in
-    let many : 0 + length (take k results) ≡ k = omega (arith, few) in
-    ap (job_lines 0) (take_more results k d below)
-    ∙ lines_push 0 (take k results) (get_or results k d)
-    ∙ ap (λ n. job_lines 0 (take k results) ++ job_line n (get_or results k d)) many
+    ap (job_lines first) (take_more results k d below)
+    ∙ lines_push first (take k results) (get_or results k d)
+    ∙ ap (λ n. job_lines first (take k results) ++ job_line (first + n) (get_or results k d)) few

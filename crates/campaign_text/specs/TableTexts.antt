@@ -30,7 +30,8 @@ abbrev pub totals_line : ℕ → ℕ → ℕ → List ℕ
 totals_line jobs atomic cycle =
     codes "jobs " ++ decimal jobs ++ codes " atomic " ++ decimal atomic ++ codes " cycle " ++ decimal cycle ++ codes "\n"
 
-abbrev pub table_text : List JobResult → List ℕ
-table_text results =
+-- The text of a table whose first job has this number.
+abbrev pub table_text : ℕ → List JobResult → List ℕ
+table_text first results =
     let cycles = count_by is_cycle results in
-    job_lines 0 results ++ totals_line (length results) (length results - cycles) cycles
+    job_lines first results ++ totals_line (length results) (length results - cycles) cycles

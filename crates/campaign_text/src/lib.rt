@@ -1,7 +1,16 @@
-//! The text of a campaign's table.
+//! The text of a campaign's table: it is written and read, and the tables of a campaign's parts are joined.
 #![tactic(auto)]
 
+mod fault;
+mod joining;
+pub mod laws;
 mod line;
+mod part;
+mod reading;
 mod table;
 
+pub use fault::{JoinFault, TableFault};
+pub use joining::join;
+pub use part::Part;
+pub use reading::read_table;
 pub use table::table_text;

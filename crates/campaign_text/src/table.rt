@@ -22,15 +22,17 @@ fn count_cycles(results: &[JobResult]) -> u64
     cycles
 }
 
-/// Returns the text of a table: a line for each job, in rising order, and a last one that counts them.
+/// Returns the text of a table: a line for each job, in rising order, and a last one that counts them. The first job has
+/// this number.
 #[tactic(auto, using(crate::proofs::TextLaws::one_more))]
-pub fn table_text(alloc: Global, table: &Table) -> Result<String, AllocError>
-    ensures { IfOk result (λ text. string_bytes text ≡ table_text table.now.results.items) }
+pub fn table_text(alloc: Global, first: u64, table: &Table) -> Result<String, AllocError>
+    ensures { IfOk result (λ text. string_bytes text ≡ table_text first table.now.results.items) }
 {
     let results = table.results.as_slice();
     let mut text = String::new(alloc);
-    for (number, job) in results.iter().enumerate() {
-        text.push_str(job_line(alloc, number as u64, *job)?.as_str())?;
+    for (place, job) in results.iter().enumerate() {
+        let number = first.checked_add(place as u64).ok_or(AllocError)?;
+        text.push_str(job_line(alloc, number, *job)?.as_str())?;
     }
     let jobs = results.len() as u64;
     let cycles = count_cycles(results);

@@ -31,4 +31,4 @@ IsTableOf plan (Err why) results = ⊥
 -- A beginning of the table's text was written.
 abbrev pub WroteBeginning : Plan → Result (List Class) NotRun → Option (List ℕ) → Option (List ℕ) → Type 0
 WroteBeginning plan said old new =
-    (results : List JobResult) × IsTableOf plan said results × AppendsBeginning old new (table_text results)
+    (results : List JobResult) × IsTableOf plan said results × AppendsBeginning old new (table_text plan.first results)

@@ -5,5 +5,7 @@ mod fault;
 mod running;
 mod writing;
 
+pub use campaign::{Gate, JobResult, OpenGate, Plan, Table};
+pub use campaign_text::{JoinFault, Part, TableFault, join, read_table, table_text};
 pub use fault::CampaignFault;
 pub use writing::write_table;

@@ -19,20 +19,25 @@ use std::sync::Wait;
 use std::thread::Threads;
 use trace::ByteOut;
 
-/// Writes the text of a table.
-fn put_table<W: ByteOut>(alloc: Global, table: &Table, output: &mut W) -> Result<(), CampaignFault>
+/// Writes the text of a table whose first job has this number.
+fn put_table<W: ByteOut>(
+    alloc: Global,
+    first: u64,
+    table: &Table,
+    output: &mut W,
+) -> Result<(), CampaignFault>
     ensures written { OnOk result (Appends (W.written output.old) (W.written output.new)
-        (table_text table.now.results.items)) }
+        (table_text first table.now.results.items)) }
     ensures count { OnOk result (W.failures output.new ≡ W.failures output.old) }
     ensures beginning { IsErrOf result CampaignFault.Output → AppendsBeginning
-        (W.written output.old) (W.written output.new) (table_text table.now.results.items) }
+        (W.written output.old) (W.written output.new) (table_text first table.now.results.items) }
     ensures failed { IsErrOf result CampaignFault.Output
         → W.failures output.new ≡ W.failures output.old + 1 }
     ensures untouched { IfErr result (λ fault. fault ≢ CampaignFault.Output
         → (fault ≡ CampaignFault.Judge judge_fault.Memory) × (output.new ≡ output.old)) }
     ensures named { IfErr result (λ fault. NamesFile 0 fault) }
 {
-    let text = table_text(alloc, table)?;
+    let text = table_text(alloc, first, table)?;
     output.write_all(text.as_bytes())?;
     Ok(())
 }
@@ -60,7 +65,7 @@ pub fn write_table<G: Gate + Sync, R: Threads + Wait + Sync, W: ByteOut>(
     ensures limits { OnOk result (FitsLimits plan.now.jobs workers) }
     // Exactly the table's text was written.
     ensures written { IfOk result (λ table. Appends (W.written output.old) (W.written output.new)
-        (table_text table.results.items)) }
+        (table_text plan.now.first table.results.items)) }
     ensures count { OnOk result (W.failures output.new ≡ W.failures output.old) }
     // A fault is returned only if its condition holds. If it is of an input, it names one of these.
     ensures fault { IfErr result (λ fault.
@@ -74,7 +79,7 @@ pub fn write_table<G: Gate + Sync, R: Threads + Wait + Sync, W: ByteOut>(
         (program_for plan.now inputs.now) (W.written output.old) (W.written output.new) }
 {
     let table = run_inputs(rt, alloc, inputs, plan, workers, gate)?;
-    match put_table(alloc, &table, output) {
+    match put_table(alloc, plan.first, &table, output) {
         Ok(()) => Ok(table),
         Err(fault) => {
             drop(table);

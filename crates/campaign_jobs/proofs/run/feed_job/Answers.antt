@@ -7,8 +7,8 @@ use Rattle.campaign_jobs.proofs.run.feed_job.Goals as goal
 
 pub returns-in-Ok-clause-ending : goal.returns-in-Ok-clause-ending
 returns-in-Ok-clause-ending c =
-    subst (λ shown. EndsAs shown c.in-Ok.ending) (same_shown c.args.program.now c.args.plan.now c.args.number) (rw c.seeded-chooser.ensures at c.in-Ok.ensures.ending)
+    subst (λ shown. EndsAs shown c.in-Ok.ending) (same_shown c.args.program.now c.args.plan.now c.args.number) (rw c.stream_of.ensures at (rw c.seeded-chooser.ensures at c.in-Ok.ensures.ending))
 
 pub returns-in-Ok-clause-fed : goal.returns-in-Ok-clause-fed
 returns-in-Ok-clause-fed c =
-    subst (λ shown. IsFedWith shown c.args.checker.now.lines c.feed_program.new.checker) (same_shown c.args.program.now c.args.plan.now c.args.number) (rw c.seeded-chooser.ensures at c.in-Ok.ensures.fed)
+    subst (λ shown. IsFedWith shown c.args.checker.now.lines c.feed_program.new.checker) (same_shown c.args.program.now c.args.plan.now c.args.number) (rw c.stream_of.ensures at (rw c.seeded-chooser.ensures at c.in-Ok.ensures.fed))
