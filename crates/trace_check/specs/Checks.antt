@@ -108,3 +108,12 @@ IsFault lines text check.TooMany = IsRefusedIn lines text check.TooMany
 IsFault lines text check.ItemMemory = Unit {0}
 IsFault lines text check.Memory = Unit {0}
 IsFault lines text check.Output = Unit {0}
+
+-- ---- Checkers
+
+-- The text is that of items, all of which a checker was fed.
+pub record IsFedText (lines : Specification) (text : List ℕ) (fed : Fed) : Type 0 where
+  pub items : List Item
+  pub spelled : IsTextOf text items
+  pub taken : first_refused (fed_nothing lines) 1 items ≡ None
+  pub fed_is : fed ≡ record { lines = lines; items = items }

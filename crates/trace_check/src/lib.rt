@@ -10,4 +10,4 @@ mod saying;
 pub use checking::check;
 pub use details::Details;
 pub use fault::CheckFault;
-pub use saying::Checked;
+pub use saying::{Checked, fed_text};

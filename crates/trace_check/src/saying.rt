@@ -5,7 +5,7 @@ ghost use Rattle.std.specs.String.{string_bytes};
 ghost use Rattle.velodrome.specs.Cycles.{AreAtomic};
 ghost use Rattle.velodrome.specs.Verdicts.{IsVerdict};
 ghost use Rattle.atom_graph.specs.Checking.{walk_of};
-ghost use Rattle.trace_check.specs.Checks.{AreSerialLines, IsChecked, IsFault, IsPart, IsSaid, IsSerialPart, explained_part};
+ghost use Rattle.trace_check.specs.Checks.{AreSerialLines, IsChecked, IsFault, IsFedText, IsPart, IsSaid, IsSerialPart, explained_part};
 
 use crate::details::Details;
 use crate::fault::CheckFault;
@@ -122,4 +122,18 @@ pub(crate) fn say(
     let checker = fed(alloc, spec, trace.items())?;
     let checked = said_of(alloc, &checker, trace.items(), details)?;
     Ok(checked)
+}
+
+/// Feeds a checker of a specification with the trace that a text is.
+///
+/// # Errors
+///
+/// X01 and F01 as `check` has them; F02; X02, F03 and Memory where there was no memory.
+pub fn fed_text(alloc: Global, spec: Spec, text: &str) -> Result<Checker, CheckFault>
+    ensures fed { IfOk result (IsFedText spec text.now) }
+    ensures fault { IfErr result (IsFault spec text.now) }
+{
+    let trace = trace_text::read(alloc, text)?;
+    let checker = fed(alloc, spec, trace.items())?;
+    Ok(checker)
 }

@@ -1,0 +1,29 @@
+-- The rows of a picture (own): the events of a trace, each with its transaction.
+use Rattle.std.specs.Prelude.{ℕ, ◌+◌, Bool, ◌==◌, ◌||◌, ◌&&◌, not, cond, nat_lt, List, [], ◌∷◌, length, take}
+use Rattle.std.specs.List.{filter, list_any}
+use Rattle.jvms_machine.specs.declared.trace.Item.{Item}
+use Rattle.velodrome.specs.Transactions.{is_event}
+use Rattle.pictures.specs.declared.rows.Row.{Row}
+
+-- How many events a picture shows at most.
+abbrev pub most_rows : ℕ
+most_rows = 200
+
+-- The events among items, the first of which has this number and its item this place, given the transaction of each.
+abbrev pub rows_from : ℕ → ℕ → List Item → List ℕ → List Row
+rows_from n place [] ts = []
+rows_from n place (i ∷ items) [] = []
+rows_from n place (i ∷ items) (t ∷ ts) =
+    cond (is_event i) (record { event = n; place = place; transaction = t } ∷ rows_from (n + 1) (place + 1) items ts)
+    (rows_from n (place + 1) items (t ∷ ts))
+
+abbrev pub is_chosen : List ℕ → Row → Bool
+is_chosen cycle row = list_any (λ t. t == row.transaction) cycle
+
+-- Of many rows only those of a cycle are shown, if there is one.
+abbrev pub rows_in : List ℕ → List Row → List Row
+rows_in cycle rows =
+    cond (nat_lt most_rows (length rows) && nat_lt 0 (length cycle)) (filter (is_chosen cycle) rows) rows
+
+abbrev pub chosen_rows : List ℕ → List Row → List Row
+chosen_rows cycle rows = take most_rows (rows_in cycle rows)

@@ -1,0 +1,34 @@
+-- What a picture shows of a trace and its verdict (own).
+use Rattle.std.specs.Prelude.{◌≡◌, ℕ, ◌+◌, List, [], length, map, take}
+use Rattle.velodrome.specs.declared.verdict.ConflictingPair.{ConflictingPair}
+use Rattle.velodrome.specs.declared.verdict.Verdict.{Verdict}
+use Rattle.velodrome.specs.declared.verdict.Verdict.TheVariants as verdict
+use Rattle.atom_graph.specs.Checking.{Fed, walk_of}
+use Rattle.pictures.specs.declared.rows.Row.{Row}
+use Rattle.pictures.specs.declared.sketches.Sketch.{Sketch}
+use Rattle.pictures.specs.Rows.{chosen_rows, rows_from}
+
+-- How many transactions of a cycle a picture shows at most.
+abbrev pub most_transactions : ℕ
+most_transactions = 64
+
+-- The transactions of a verdict's cycle; none of an atomic trace.
+abbrev pub cycle_of : Verdict → List ℕ
+cycle_of (verdict.Atomic order) = []
+cycle_of (verdict.Cycle first_at transactions pairs) = take most_transactions transactions
+
+-- The conflicting events of its edges.
+abbrev pub edges_of : Verdict → List ConflictingPair
+edges_of (verdict.Atomic order) = []
+edges_of (verdict.Cycle first_at transactions pairs) = take most_transactions pairs
+
+-- All events of a trace.
+abbrev pub all_rows : Fed → List Row
+all_rows fed = rows_from 1 0 fed.items (map (λ e. e.transaction) (walk_of fed).events)
+
+-- The events of the trace that are shown, and the cycle of the verdict.
+pub record IsSketch (fed : Fed) (v : Verdict) (s : Sketch) : Type 0 where
+  pub rows : s.rows.items ≡ chosen_rows (cycle_of v) (all_rows fed)
+  pub cycle : s.cycle.items ≡ cycle_of v
+  pub edges : s.edges.items ≡ edges_of v
+  pub events : s.events ≡ length (all_rows fed)
