@@ -3,7 +3,7 @@
 use crate::entry::natural_of;
 use crate::fault::WordsFault;
 use crate::program_words::{ProgramWords, most_of, number_or, program_words};
-use crate::syntax::{JOBS, MOST, SEED, SPECIFICATION, STOP, SUMMARY, WORKERS};
+use crate::syntax::{FIRST, JOBS, MOST, SEED, SPECIFICATION, STOP, SUMMARY, WORKERS};
 use clap::ArgMatches;
 use std::alloc::Global;
 use turn_limit::TurnLimit;
@@ -22,6 +22,8 @@ pub struct CampaignWords<'a> {
     pub spec: &'a str,
     /// The number of jobs. It may be more than a campaign has.
     pub jobs: u64,
+    /// The number of the first job. No job's number is past 18,446,744,073,709,551,615.
+    pub first: u64,
     /// The state of the generator of random words.
     pub seed: u64,
     /// The number of workers. It may be more than a campaign has.
@@ -36,6 +38,15 @@ pub struct CampaignWords<'a> {
     pub summary: bool,
 }
 
+/// The number of the first job, if the numbers of all jobs are in range.
+fn first_of(matches: &ArgMatches<'_>, jobs: u64) -> Result<u64, WordsFault> {
+    let first = number_or(matches, FIRST, 0)?;
+    match first.checked_add(jobs) {
+        Some(_) => Ok(first),
+        None => Err(WordsFault::Words),
+    }
+}
+
 /// The words of `campaign`.
 pub(crate) fn campaign_words<'a>(
     alloc: Global,
@@ -43,10 +54,12 @@ pub(crate) fn campaign_words<'a>(
 ) -> Result<CampaignWords<'a>, WordsFault> {
     let spec = matches.get_str(SPECIFICATION).ok_or(WordsFault::Words)?;
     let jobs = matches.get_str(JOBS).ok_or(WordsFault::Words)?;
+    let jobs = natural_of(jobs).ok_or(WordsFault::Words)?;
     Ok(CampaignWords {
         program: program_words(alloc, matches)?,
         spec,
-        jobs: natural_of(jobs).ok_or(WordsFault::Words)?,
+        jobs,
+        first: first_of(matches, jobs)?,
         seed: number_or(matches, SEED, DEFAULT_SEED)?,
         workers: number_or(matches, WORKERS, DEFAULT_WORKERS)?,
         most: most_of(matches)?,

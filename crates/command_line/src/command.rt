@@ -4,13 +4,16 @@ use crate::campaign::{CampaignWords, campaign_words};
 use crate::fault::WordsFault;
 use crate::help::{
     ASM_HELP, CAMPAIGN_HELP, CHECK_HELP, DEBUG_HELP, EVAL_HELP, HELP, LIST_HELP, NEEDS_HELP,
-    RUN_HELP, TRACE_HELP,
+    PICTURE_HELP, RUN_HELP, TABLES_HELP, TRACE_HELP,
 };
 use crate::program_words::{
-    ProgramNames, ProgramWords, most_of, names_without_entry, program_words,
+    ProgramNames, ProgramWords, files_of, most_of, names_without_entry, program_words,
 };
 use crate::refusals::explanation_of;
-use crate::syntax::{EXPLAIN, FILE, INPUT, OUTPUT, SCHEDULE, SERIAL, SPECIFICATION, TRACE, syntax};
+use crate::syntax::{
+    CHOICES, DOT, EXPLAIN, FILE, INPUT, OUTPUT, SCHEDULE, SERIAL, SPECIFICATION, TRACE, syntax,
+};
+use crate::words_help::words_text;
 use clap::ArgMatches;
 use jvms_machine::machine::Entry;
 use std::alloc::Global;
@@ -26,7 +29,8 @@ pub enum Command<'a> {
     Eval(ProgramWords<'a>),
     /// To run a program and print what it writes.
     Run(RunWords<'a>),
-    /// To run a program and print the trace of its threads. Its words name no specification, and ask for no explanation.
+    /// To run a program and print the trace of its threads, or its choices. Its words name no specification, and ask for no
+    /// explanation.
     Trace(RunWords<'a>),
     /// To debug a run of a program. Its words are those of `trace`.
     Debug(RunWords<'a>),
@@ -34,14 +38,20 @@ pub enum Command<'a> {
     Campaign(CampaignWords<'a>),
     /// To tell whether a trace is atomic.
     Check(CheckWords<'a>),
+    /// To print a picture of a trace.
+    Picture(PictureWords<'a>),
     /// To write the class file of a source.
     Asm(AsmWords<'a>),
     /// To print the source that the class of a FILE is listed as.
     List(&'a str),
+    /// To print the table that the tables of FILEs make together.
+    Tables(TablesWords<'a>),
     /// To print what class files use that isn't there.
     Needs(NeedsWords<'a>),
     /// To print how the program, or one command, is used, or what a refusal's code means.
     Help(&'static str),
+    /// To print why words are refused.
+    Explain(String),
     /// To print which program this is.
     Version,
 }
@@ -58,6 +68,8 @@ pub struct RunWords<'a> {
     pub spec: Option<&'a str>,
     /// Whether the run is explained.
     pub explains: bool,
+    /// Whether the choices are printed, in place of the trace.
+    pub choices: bool,
 }
 
 /// The words of `check`.
@@ -73,6 +85,17 @@ pub struct CheckWords<'a> {
     pub explains: bool,
 }
 
+/// The words of `picture`.
+#[derive(Debug, Drop)]
+pub struct PictureWords<'a> {
+    /// The file that says which methods are to be atomic.
+    pub spec: &'a str,
+    /// The file of the trace.
+    pub trace: &'a str,
+    /// Whether the picture is a graph of transactions in DOT. Else it is SVG.
+    pub is_dot: bool,
+}
+
 /// The words of `asm`.
 #[derive(Debug, Drop)]
 pub struct AsmWords<'a> {
@@ -80,6 +103,13 @@ pub struct AsmWords<'a> {
     pub input: &'a str,
     /// The class file that is written.
     pub output: &'a str,
+}
+
+/// The words of `tables`.
+#[derive(Debug, Drop)]
+pub struct TablesWords<'a> {
+    /// The texts of tables, at least one.
+    pub files: Vec<&'a str>,
 }
 
 /// The words of `needs`.
@@ -108,6 +138,7 @@ fn run_words<'a>(alloc: Global, matches: &ArgMatches<'a>) -> Result<RunWords<'a>
         most: most_of(matches)?,
         spec: None,
         explains: false,
+        choices: false,
     })
 }
 
@@ -119,6 +150,13 @@ fn run_command<'a>(alloc: Global, matches: &ArgMatches<'a>) -> Result<Command<'a
     Ok(Command::Run(words))
 }
 
+/// Returns the command `trace`.
+fn trace_command<'a>(alloc: Global, matches: &ArgMatches<'a>) -> Result<Command<'a>, WordsFault> {
+    let mut words = run_words(alloc, matches)?;
+    words.choices = matches.get_flag(CHOICES);
+    Ok(Command::Trace(words))
+}
+
 /// Returns the command `check`.
 fn check_command<'a>(matches: &ArgMatches<'a>) -> Result<Command<'a>, WordsFault> {
     Ok(Command::Check(CheckWords {
@@ -126,6 +164,15 @@ fn check_command<'a>(matches: &ArgMatches<'a>) -> Result<Command<'a>, WordsFault
         trace: matches.get_str(TRACE).ok_or(WordsFault::Words)?,
         serial: matches.get_flag(SERIAL),
         explains: matches.get_flag(EXPLAIN),
+    }))
+}
+
+/// Returns the command `picture`.
+fn picture_command<'a>(matches: &ArgMatches<'a>) -> Result<Command<'a>, WordsFault> {
+    Ok(Command::Picture(PictureWords {
+        spec: matches.get_str(SPECIFICATION).ok_or(WordsFault::Words)?,
+        trace: matches.get_str(TRACE).ok_or(WordsFault::Words)?,
+        is_dot: matches.get_flag(DOT),
     }))
 }
 
@@ -142,6 +189,13 @@ fn asm_command<'a>(matches: &ArgMatches<'a>) -> Result<Command<'a>, WordsFault> 
 /// The FILE of `list`.
 fn list_word<'a>(matches: &ArgMatches<'a>) -> Result<&'a str, WordsFault> {
     matches.get_str(FILE).ok_or(WordsFault::Words)
+}
+
+/// Returns the command `tables`.
+fn tables_command<'a>(alloc: Global, matches: &ArgMatches<'a>) -> Result<Command<'a>, WordsFault> {
+    Ok(Command::Tables(TablesWords {
+        files: files_of(alloc, matches)?,
+    }))
 }
 
 /// Returns the command `needs`.
@@ -166,8 +220,10 @@ fn usage_of(command: &str) -> Option<Command<'static>> {
         "debug" => Some(Command::Help(DEBUG_HELP)),
         "campaign" => Some(Command::Help(CAMPAIGN_HELP)),
         "check" => Some(Command::Help(CHECK_HELP)),
+        "picture" => Some(Command::Help(PICTURE_HELP)),
         "asm" => Some(Command::Help(ASM_HELP)),
         "list" => Some(Command::Help(LIST_HELP)),
+        "tables" => Some(Command::Help(TABLES_HELP)),
         "needs" => Some(Command::Help(NEEDS_HELP)),
         _ => None,
     }
@@ -214,14 +270,41 @@ fn matched<'a>(
     match name {
         "eval" => eval_command(alloc, matches),
         "run" => run_command(alloc, matches),
-        "trace" => Ok(Command::Trace(run_words(alloc, matches)?)),
+        "trace" => trace_command(alloc, matches),
         "debug" => Ok(Command::Debug(run_words(alloc, matches)?)),
         "campaign" => Ok(Command::Campaign(campaign_words(alloc, matches)?)),
         "check" => check_command(matches),
+        "picture" => picture_command(matches),
         "asm" => asm_command(matches),
         "list" => Ok(Command::List(list_word(matches)?)),
+        "tables" => tables_command(alloc, matches),
         "needs" => needs_command(alloc, matches),
         _ => Err(WordsFault::Words),
+    }
+}
+
+/// Returns the words that `help P04 -- WORDS` asks about.
+fn explained_words(words: &[String]) -> Option<&[String]> {
+    match words {
+        [help, code, dashes, words @ ..]
+            if help.as_str() == "help" && code.as_str() == "P04" && dashes.as_str() == "--" => {
+            Some(words)
+        }
+        _ => None,
+    }
+}
+
+/// Returns whether words ask for a text.
+pub(crate) fn is_text(words: &[String]) -> bool {
+    text_command(words).is_some() || explained_words(words).is_some()
+}
+
+/// Returns the command of words that ask for no text.
+pub(crate) fn parsed<'a>(alloc: Global, words: &'a [String]) -> Result<Command<'a>, WordsFault> {
+    let matches = syntax(alloc)?.try_get_matches_from(words)?;
+    match matches.subcommand() {
+        Some((name, matches)) => matched(alloc, name, matches),
+        None => Err(WordsFault::Words),
     }
 }
 
@@ -230,14 +313,14 @@ fn matched<'a>(
 ///
 /// P04 where they are no such line: an option that is unknown, comes twice, or has no value; a value that
 /// begins with `-` and isn't joined by `=`; no FILE; an entry, an argument or a number out of its form; a main class
-/// in `eval`, or with arguments; an OUT of `asm` with the name of its IN. A schedule isn't read here.
+/// in `eval`, or with arguments; an OUT of `asm` with the name of its IN; jobs of `campaign` past the last number. A
+/// schedule isn't read here.
 pub fn command_of<'a>(alloc: Global, words: &'a [String]) -> Result<Command<'a>, WordsFault> {
     if let Some(command) = text_command(words) {
         return Ok(command);
     }
-    let matches = syntax(alloc)?.try_get_matches_from(words)?;
-    match matches.subcommand() {
-        Some((name, matches)) => matched(alloc, name, matches),
-        None => Err(WordsFault::Words),
+    match explained_words(words) {
+        Some(words) => Ok(Command::Explain(words_text(alloc, words)?)),
+        None => parsed(alloc, words),
     }
 }

@@ -15,11 +15,14 @@ Usage: jvmx COMMAND WORDS
   campaign       runs a program under many schedules and tells in which runs
                  methods were atomic
   check          reads what threads did and tells whether methods were atomic
+  picture        draws a trace: threads, transactions, and the cycle
   asm            writes the class file of a source
   list           prints a class file as a source
+  tables         joins the tables of parts of a campaign
   needs          prints what class files use that isn't there
   help           prints this text; help COMMAND, how that command is used;
-                 help CODE, what the code of a refusal means
+                 help CODE, what the code of a refusal means; help P04 -- WORDS,
+                 why these words are refused
   -h, --help     prints this text; behind a command, how that command is used
   -V, --version  prints the program's name and version
 
@@ -28,7 +31,8 @@ weren't atomic or needs found something; 2 where words or inputs are refused; 3
 where memory ran out or a file, standard output or standard error failed.
 
 A refusal is one line on standard error, jvmx: FILE: CODE NAME. jvmx help CODE
-says what the code means and what usually causes it.
+says what the code means and what usually causes it, and jvmx help P04 -- WORDS
+which of the words is wrong.
 
 Example: jvmx eval --entry 'G.gcd.(II)I' --args 48,36 examples/G.j
 ";
@@ -96,6 +100,7 @@ Usage: jvmx run --entry E [--args N,N] [--sched S] [--max N] [--spec F]
               seed:S:K    the enabled thread that a random number picks; S, the
                           generator's state, and K, its stream, are below
                           18446744073709551616
+              @FILE       the schedule that this file holds, on one line
               examples: --sched list:0,0,1, --sched rr:2, --sched seed:42:54
   --max N     how many turns may be taken: decimal digits, at most 100000000
               (default: 1000000)
@@ -139,10 +144,14 @@ prints 1, though each of two threads adds 1
 pub const TRACE_HELP: &str = "\
 jvmx trace: runs a program and prints what its threads did
 
-Usage: jvmx trace --entry E [--args N,N] [--sched S] [--max N] FILE...
+Usage: jvmx trace --entry E [--args N,N] [--sched S] [--max N] [--choices]
+                  FILE...
 
 Options and FILEs are those of jvmx run, as jvmx help run says, but for --spec.
 What the program writes isn't printed.
+
+  --choices  prints the threads that took the turns, as a schedule list:0,0,1,
+             in place of the trace. In a file F it is --sched @F
 
 Standard output: the trace, a line for each thing that a thread did, in order:
 
@@ -214,16 +223,18 @@ pub const CAMPAIGN_HELP: &str = "\
 jvmx campaign: runs a program under many schedules and tells in which runs
 methods were atomic
 
-Usage: jvmx campaign --entry E [--args N,N] --spec F --jobs N [--seed N]
-                     [--workers N] [--max N] [--stop] [--summary] FILE...
+Usage: jvmx campaign --entry E [--args N,N] --spec F --jobs N [--first K]
+                     [--seed N] [--workers N] [--max N] [--stop] [--summary]
+                     FILE...
 
   --entry E    where the program begins (required), as jvmx help run says
   --args N,N   the arguments of a static method, as jvmx help eval says
   --spec F     which methods are to be atomic (required), as jvmx help check
                says
   --jobs N     how many times the program runs, at most 1000000 (required). Job
-               K, from 0, runs it under the schedule seed:SEED:K, as jvmx help
-               run says
+               K runs it under the schedule seed:SEED:K, as jvmx help run says
+  --first K    the number of the first job (default: 0). jvmx tables joins the
+               tables of several parts of a campaign
   --seed N     SEED, below 18446744073709551616 (default: 0)
   --workers N  how many jobs run at the same time, from 1 to 64 (default: 4).
                What is printed doesn't depend on it
@@ -306,6 +317,33 @@ jvmx --help says. jvmx help CODE explains the code of a refusal.
 Example: jvmx check --spec examples/threads/atomic.spec --serial /tmp/trace
 ";
 
+/// `jvmx picture --help`
+pub const PICTURE_HELP: &str = "\
+jvmx picture: draws a trace: threads, transactions, and the cycle
+
+Usage: jvmx picture --spec F [--dot] TRACE
+
+  --spec F  which methods are to be atomic (required), as jvmx help check says
+  --dot     prints the graph of transactions, as Graphviz reads it
+  TRACE     the trace, as jvmx trace prints it
+
+Standard output: SVG, with a column for each thread, time downwards, and each
+event with its number and its line of the trace. A box is a transaction, with
+its number and its outermost atomic method. A grey arrow leads to an event from
+the last one of another thread that it conflicts with, unless one leads from
+there to an earlier event of its thread. A red box is a transaction of the
+cycle, and a red arrow one of its edges.
+
+At most 200 events are drawn: of more, those of the first 64 transactions of the
+cycle, or the first if there is no cycle. With --dot there is a node for each of
+their transactions, and an edge for each two with events that conflict.
+
+Exit status: 0, also where there is a cycle; 2 and 3 as jvmx --help says.
+jvmx help CODE explains the code of a refusal.
+
+Example: jvmx picture --spec examples/threads/atomic.spec /tmp/trace >/tmp/a.svg
+";
+
 /// `jvmx asm --help`
 pub const ASM_HELP: &str = "\
 jvmx asm: writes the class file of a source in Jasmin
@@ -341,6 +379,29 @@ Exit status: 0; 2 and 3 as jvmx --help says. jvmx help CODE explains the
 code of a refusal: L01 and L02 say why a class can't be written as a source.
 
 Example: jvmx list examples/G.class
+";
+
+/// `jvmx tables --help`
+pub const TABLES_HELP: &str = "\
+jvmx tables: joins the tables of parts of a campaign
+
+Usage: jvmx tables FILE...
+
+  FILE...  tables, as jvmx campaign prints them, each of at most 67108864 bytes
+           (at least one). They stand in any order
+
+Standard output: the table of all jobs, as jvmx campaign prints it. The jobs are
+those from 0 on, each in one FILE: a job that no FILE has before the last is
+refused, T02, and one that two FILEs have, T03. A FILE that isn't whole is
+refused, T01.
+
+A campaign is cut into parts by --first K and --jobs N; the parts may run on
+many machines. With --stop only the last part with jobs may end early.
+
+Exit status: 0 where all jobs are atomic and Finished, else 1; 2 and 3 as
+jvmx --help says. jvmx help CODE explains the code of a refusal.
+
+Example: jvmx tables /tmp/part0 /tmp/part1
 ";
 
 /// `jvmx needs --help`

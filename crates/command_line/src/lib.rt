@@ -9,12 +9,15 @@ mod help;
 mod program_words;
 mod refusals;
 mod syntax;
+mod words_help;
 
 pub use campaign::CampaignWords;
-pub use command::{AsmWords, CheckWords, Command, NeedsWords, RunWords, command_of};
+pub use command::{
+    AsmWords, CheckWords, Command, NeedsWords, PictureWords, RunWords, TablesWords, command_of,
+};
 pub use fault::WordsFault;
 pub use help::{
     ASM_HELP, CAMPAIGN_HELP, CHECK_HELP, DEBUG_HELP, EVAL_HELP, HELP, LIST_HELP, NEEDS_HELP,
-    RUN_HELP, TRACE_HELP, VERSION,
+    PICTURE_HELP, RUN_HELP, TABLES_HELP, TRACE_HELP, VERSION,
 };
 pub use program_words::{ProgramNames, ProgramWords};

@@ -37,7 +37,10 @@ impl<'a> ProgramNames<'a> {
 }
 
 /// The FILEs of the words.
-fn files_of<'a>(alloc: Global, matches: &ArgMatches<'a>) -> Result<Vec<&'a str>, WordsFault> {
+pub(crate) fn files_of<'a>(
+    alloc: Global,
+    matches: &ArgMatches<'a>,
+) -> Result<Vec<&'a str>, WordsFault> {
     let words = matches.get_strs(FILES).ok_or(WordsFault::Words)?;
     let mut files = Vec::new(alloc);
     for word in words {

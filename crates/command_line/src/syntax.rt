@@ -24,6 +24,12 @@ pub(crate) const SERIAL: &str = "serial";
 /// The flag `--explain`.
 pub(crate) const EXPLAIN: &str = "explain";
 
+/// The flag `--choices`.
+pub(crate) const CHOICES: &str = "choices";
+
+/// The option `--first`.
+pub(crate) const FIRST: &str = "first";
+
 /// The option `--jobs`.
 pub(crate) const JOBS: &str = "jobs";
 
@@ -38,6 +44,9 @@ pub(crate) const STOP: &str = "stop";
 
 /// The flag `--summary`.
 pub(crate) const SUMMARY: &str = "summary";
+
+/// The flag `--dot`.
+pub(crate) const DOT: &str = "dot";
 
 /// TRACE
 pub(crate) const TRACE: &str = "trace";
@@ -104,11 +113,18 @@ fn run_syntax<'a>(alloc: Global) -> Result<Command<'a>, AllocError> {
         .arg(flag(alloc, EXPLAIN))
 }
 
-/// `campaign --entry E [--args N,N] --spec F --jobs N [--seed N] [--workers N] [--max N] [--stop] [--summary] FILE...`
+/// `trace --entry E [--args N,N] [--sched S] [--max N] [--choices] FILE...`
+fn trace_syntax<'a>(alloc: Global) -> Result<Command<'a>, AllocError> {
+    scheduled_syntax(alloc, "trace")?.arg(flag(alloc, CHOICES))
+}
+
+/// `campaign --entry E [--args N,N] --spec F --jobs N [--first K] [--seed N] [--workers N] [--max N] [--stop] [--summary]
+/// FILE...`
 fn campaign_syntax<'a>(alloc: Global) -> Result<Command<'a>, AllocError> {
     program_syntax(alloc, "campaign")?
         .arg(option(alloc, SPECIFICATION).required(true))?
         .arg(option(alloc, JOBS).required(true))?
+        .arg(option(alloc, FIRST))?
         .arg(option(alloc, SEED))?
         .arg(option(alloc, WORKERS))?
         .arg(option(alloc, MOST))?
@@ -123,6 +139,15 @@ fn check_syntax<'a>(alloc: Global) -> Result<Command<'a>, AllocError> {
         .arg(specification)?
         .arg(flag(alloc, SERIAL))?
         .arg(flag(alloc, EXPLAIN))?
+        .arg(file(alloc, TRACE))
+}
+
+/// `picture --spec F [--dot] TRACE`
+fn picture_syntax<'a>(alloc: Global) -> Result<Command<'a>, AllocError> {
+    let specification = option(alloc, SPECIFICATION).required(true);
+    bare(alloc, "picture")
+        .arg(specification)?
+        .arg(flag(alloc, DOT))?
         .arg(file(alloc, TRACE))
 }
 
@@ -141,6 +166,11 @@ fn asm_syntax<'a>(alloc: Global) -> Result<Command<'a>, AllocError> {
 /// `list FILE`
 fn list_syntax<'a>(alloc: Global) -> Result<Command<'a>, AllocError> {
     bare(alloc, "list").arg(file(alloc, FILE))
+}
+
+/// `tables FILE...`
+fn tables_syntax<'a>(alloc: Global) -> Result<Command<'a>, AllocError> {
+    bare(alloc, "tables").arg(files(alloc))
 }
 
 /// `needs [--spec F] FILE...`
@@ -168,7 +198,7 @@ fn with<'a>(
 fn with_runs<'a>(alloc: Global, commands: Command<'a>) -> Result<Command<'a>, AllocError> {
     let commands = with(commands, program_syntax(alloc, "eval"))?;
     let commands = with(commands, run_syntax(alloc))?;
-    let commands = with(commands, scheduled_syntax(alloc, "trace"))?;
+    let commands = with(commands, trace_syntax(alloc))?;
     let commands = with(commands, scheduled_syntax(alloc, "debug"))?;
     with(commands, campaign_syntax(alloc))
 }
@@ -176,8 +206,10 @@ fn with_runs<'a>(alloc: Global, commands: Command<'a>) -> Result<Command<'a>, Al
 /// Adds the commands that read or write other texts.
 fn with_texts<'a>(alloc: Global, commands: Command<'a>) -> Result<Command<'a>, AllocError> {
     let commands = with(commands, check_syntax(alloc))?;
+    let commands = with(commands, picture_syntax(alloc))?;
     let commands = with(commands, asm_syntax(alloc))?;
     let commands = with(commands, list_syntax(alloc))?;
+    let commands = with(commands, tables_syntax(alloc))?;
     with(commands, needs_syntax(alloc))
 }
 

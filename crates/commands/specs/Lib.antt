@@ -1,3 +1,4 @@
+pub mod Choices
 pub mod Evaluation
 pub mod Faults
 pub mod Limits

@@ -7,8 +7,7 @@ use crate::reading::{read_inputs, read_spec};
 use crate::refusal::Refusal;
 use crate::summary::{JobWords, summary_of};
 use crate::terminal::Terminal;
-use campaign::{Gate, OpenGate, Plan, Table};
-use campaigning::write_table;
+use campaigning::{Gate, OpenGate, Plan, Table, write_table};
 use command_line::{CampaignWords, ProgramNames, ProgramWords};
 use inputs::Input;
 use jvms_machine::machine::Status;
@@ -39,6 +38,7 @@ fn read_campaign<'w, F: Files>(
         entry,
         limits: DEFAULT_LIMITS,
         jobs: words.jobs,
+        first: words.first,
         seed: words.seed,
         most: words.most,
         spec,
@@ -85,7 +85,7 @@ fn run_jobs<'w, R: Clock + Eprint + Threads + Wait + Sync, W: ByteOut>(
 }
 
 /// Returns whether all jobs are atomic and finished.
-fn is_good(table: &Table) -> bool {
+pub(crate) fn is_good(table: &Table) -> bool {
     for job in &table.results {
         if job.atomicity.has_cycle() || job.status != Status::Finished {
             return false;
@@ -119,6 +119,7 @@ pub(crate) fn perform_campaign<
         let words = JobWords {
             names: &parts.names,
             spec,
+            first: parts.plan.first,
             seed,
             most,
         };

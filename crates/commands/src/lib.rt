@@ -3,6 +3,7 @@
 #![tactic(auto)]
 
 mod campaigns;
+pub mod choices;
 pub mod eval;
 mod fault;
 mod files;
@@ -10,11 +11,13 @@ mod limits;
 mod lines;
 pub mod needing;
 pub mod perform;
+mod picturing;
 mod progress;
 mod reading;
 mod refusal;
 pub mod run;
 mod summary;
+mod tables;
 mod terminal;
 pub mod tracing;
 

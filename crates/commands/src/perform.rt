@@ -1,14 +1,17 @@
 //! All of the program, over named files, a reader and two writers.
 
 use crate::campaigns::perform_campaign;
+use crate::choices::TraceText;
 use crate::eval::eval;
 use crate::files::Files;
 use crate::limits::DEFAULT_LIMITS;
 use crate::lines::ending_lines;
 use crate::needing::write_missing;
+use crate::picturing::perform_picture;
 use crate::reading::{read_input, read_inputs, read_source, read_spec, read_text};
 use crate::refusal::Refusal;
 use crate::run::run;
+use crate::tables::perform_tables;
 use crate::terminal::{Terminal, TerminalPrompt};
 use crate::tracing::write_trace;
 use atom_spec::{Spec, SpecificationLine};
@@ -66,9 +69,26 @@ fn perform_eval<'w, F: Files, W: ByteOut, E: ByteOut>(
     }
 }
 
-/// The chooser of the schedule that a word spells.
-fn chooser_of<'w>(alloc: Global, text: &'w str) -> Result<Chooser, Refusal<'w>> {
-    Chooser::parse(alloc, text).map_err(|fault| Refusal::of_schedule(text, fault))
+/// Returns the text of a file without the end of its last line.
+fn read_line<'w, F: Files>(files: &mut F, file: &'w str) -> Result<String, Refusal<'w>> {
+    let mut text = read_text(files, file)?;
+    if text.as_str().ends_with('\n') {
+        let _ = text.pop();
+    }
+    Ok(text)
+}
+
+/// Returns the chooser of the schedule that a word spells, or a file: `@FILE`.
+fn chooser_of<'w, F: Files>(
+    alloc: Global,
+    files: &mut F,
+    word: &'w str,
+) -> Result<Chooser, Refusal<'w>> {
+    let chooser = match word.strip_prefix('@') {
+        Some(file) => Chooser::parse(alloc, read_line(files, file)?.as_str()),
+        None => Chooser::parse(alloc, word),
+    };
+    chooser.map_err(|fault| Refusal::of_schedule(word, fault))
 }
 
 /// The specification that the words name, if they do.
@@ -98,7 +118,7 @@ fn read_parts<'w, F: Files>(
     files: &mut F,
 ) -> Result<RunParts, Refusal<'w>> {
     Ok(RunParts {
-        chooser: chooser_of(alloc, words.schedule)?,
+        chooser: chooser_of(alloc, files, words.schedule)?,
         spec: spec_of(alloc, files, words.spec)?,
         inputs: read_inputs(alloc, files, words.program.names.files.as_slice())?,
     })
@@ -171,7 +191,7 @@ fn perform_run<'w, F: Files, W: ByteOut, E: ByteOut>(
     print_run(alloc, &run, errors)
 }
 
-/// Runs a program, and prints what its threads did.
+/// Runs a program, and prints what its threads did, or the choices.
 fn trace_parts<'w, W: ByteOut>(
     alloc: Global,
     words: &RunWords<'w>,
@@ -181,13 +201,18 @@ fn trace_parts<'w, W: ByteOut>(
     let inputs = parts.inputs.as_slice();
     let chooser = &mut parts.chooser;
     let entry = &words.program.entry;
-    match write_trace(alloc, inputs, entry, chooser, words.most, output) {
+    let kind = if words.choices {
+        TraceText::Choices
+    } else {
+        TraceText::Items
+    };
+    match write_trace(alloc, inputs, entry, chooser, words.most, kind, output) {
         Ok(judged) => Ok(judged),
         Err(fault) => Err(Refusal::of_run(&words.program.names, fault)),
     }
 }
 
-/// `trace`: prints what the threads did. Its words name no specification.
+/// `trace`: prints what the threads did, or the choices. Its words name no specification.
 fn perform_trace<'w, F: Files, W: ByteOut>(
     alloc: Global,
     words: &RunWords<'w>,
@@ -369,10 +394,13 @@ fn command<
             perform_campaign(rt, alloc, words, files, output, errors, terminal)
         }
         Command::Check(words) => perform_check(alloc, &words, files, output),
+        Command::Picture(words) => perform_picture(alloc, &words, files, output),
         Command::Asm(words) => perform_asm(alloc, words, files),
         Command::List(file) => perform_list(alloc, file, files, output),
+        Command::Tables(words) => perform_tables(alloc, &words, files, output),
         Command::Needs(words) => perform_needs(alloc, &words, files, output),
         Command::Help(text) => print(output, text),
+        Command::Explain(text) => print(output, text.as_str()),
         Command::Version => print(output, VERSION),
     }
 }

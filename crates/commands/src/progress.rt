@@ -1,6 +1,6 @@
 //! How far a campaign is, as a person at a terminal is shown it.
 
-use campaign::{Gate, JobResult};
+use campaigning::{Gate, JobResult};
 use std::rt::Clock;
 use std::sync::atomic::{AtomicU64, Ordering};
 use std::time::Instant;

@@ -3,7 +3,7 @@
 use crate::fault::RunFault;
 use crate::files::FileFault;
 use atom_spec::SpecFault;
-use campaigning::CampaignFault;
+use campaigning::{CampaignFault, JoinFault, TableFault};
 use command_line::{ProgramNames, WordsFault};
 use debugger_script::ScriptFault;
 use debugging::DebugStop;
@@ -49,6 +49,10 @@ pub(crate) enum Refusal<'w> {
     Script { fault: ScriptFault },
     /// G01, G02, G04, G05: a campaign has too many jobs or workers, or there was no memory for it.
     Campaign { fault: CampaignFault },
+    /// T01: a file is no table, or there was no memory for it.
+    Table { file: &'w str, fault: TableFault },
+    /// T02, T03: tables make no whole, or there was no memory for it.
+    Join { fault: JoinFault },
     /// P05: standard output or standard error failed.
     Output,
     /// There was no memory for anything else.
@@ -176,6 +180,8 @@ impl<'w> Refusal<'w> {
             Refusal::List { fault, .. } if *fault == ListFault::Memory => 3,
             Refusal::Machine { fault, .. } if *fault == MachineFault::Memory => 3,
             Refusal::Campaign { fault } if fault.is_memory() => 3,
+            Refusal::Table { fault, .. } if *fault == TableFault::Memory => 3,
+            Refusal::Join { fault } if *fault == JoinFault::Memory => 3,
             _ => 2,
         }
     }
@@ -198,6 +204,8 @@ impl fmt::Display for Refusal<'_> {
             Refusal::Machine { entry, fault } => write!(f, "{entry}: {fault}"),
             Refusal::Script { fault } => write!(f, "{fault}"),
             Refusal::Campaign { fault } => write!(f, "{fault}"),
+            Refusal::Table { file, fault } => write!(f, "{file}: {fault}"),
+            Refusal::Join { fault } => write!(f, "{fault}"),
             Refusal::Output => write!(f, "{}", RunFault::Output),
             Refusal::Memory => f.write_str("Memory"),
         }

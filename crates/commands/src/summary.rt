@@ -1,6 +1,6 @@
 //! The summary of a campaign: the commands that run some of its jobs again.
 
-use campaign::{JobResult, Table};
+use campaigning::{JobResult, Table};
 use command_line::ProgramNames;
 use machine::Status;
 use machine_text::status_name;
@@ -12,9 +12,18 @@ pub(crate) struct JobWords<'n, 'w> {
     pub names: &'n ProgramNames<'w>,
     /// The file that says which methods are to be atomic.
     pub spec: &'w str,
+    /// The number of the first job.
+    pub first: u64,
     pub seed: u64,
     /// The word that says how many turns a job takes at most, if one does.
     pub most: Option<&'w str>,
+}
+
+impl JobWords<'_, '_> {
+    /// Returns the number of the job at a place of the table.
+    fn number_at(self, place: usize) -> u64 {
+        self.first.saturating_add(place as u64)
+    }
 }
 
 /// Why a person may want to look at a job.
@@ -43,11 +52,11 @@ impl Finding {
         }
     }
 
-    /// Returns the number of the first job in which it is made.
+    /// Returns the place of the first job in which it is made.
     fn first_in(self, results: &[JobResult]) -> Option<usize> {
-        for (number, job) in results.iter().enumerate() {
+        for (place, job) in results.iter().enumerate() {
             if self.is_of(*job) {
-                return Some(number);
+                return Some(place);
             }
         }
         None
@@ -108,7 +117,7 @@ fn command_line(
     command: &str,
     words: JobWords<'_, '_>,
     spec: Option<&str>,
-    number: usize,
+    number: u64,
 ) -> Result<String, AllocError> {
     let seed = words.seed;
     let mut line = format!(in alloc; "  jvmx {command}")?;
@@ -129,19 +138,24 @@ fn command_line(
     Ok(line)
 }
 
-/// Returns whether one of these findings is made first in the job of a number.
-fn is_first_of(findings: &[Finding], results: &[JobResult], number: usize) -> bool {
+/// Returns whether one of these findings is made first in the job at a place.
+fn is_first_of(findings: &[Finding], results: &[JobResult], place: usize) -> bool {
     findings
         .iter()
-        .any(|finding| finding.first_in(results) == Some(number))
+        .any(|finding| finding.first_in(results) == Some(place))
 }
 
-/// Returns the line that says what is found first in the job of a number.
-fn found_line(alloc: Global, results: &[JobResult], number: usize) -> Result<String, AllocError> {
+/// Returns the line that says what is found first in the job at a place, which has this number.
+fn found_line(
+    alloc: Global,
+    results: &[JobResult],
+    place: usize,
+    number: u64,
+) -> Result<String, AllocError> {
     let mut line = format!(in alloc; "job {number}: ")?;
     let mut separator = "";
     for finding in FINDINGS {
-        if finding.first_in(results) == Some(number) {
+        if finding.first_in(results) == Some(place) {
             line.push_str(separator)?;
             line.push_str(finding.text())?;
             separator = ", ";
@@ -156,9 +170,10 @@ fn job_lines(
     alloc: Global,
     words: JobWords<'_, '_>,
     results: &[JobResult],
-    number: usize,
+    place: usize,
 ) -> Result<String, AllocError> {
-    let mut lines = found_line(alloc, results, number)?;
+    let number = words.number_at(place);
+    let mut lines = found_line(alloc, results, place, number)?;
     let run = command_line(alloc, "run", words, Some(words.spec), number)?;
     lines.push_str(run.as_str())?;
     let debug = command_line(alloc, "debug", words, None, number)?;
@@ -174,11 +189,11 @@ pub(crate) fn summary_of(
 ) -> Result<String, AllocError> {
     let results = table.results.as_slice();
     let mut summary = String::new(alloc);
-    for (place, finding) in FINDINGS.iter().enumerate() {
-        if let Some(number) = finding.first_in(results)
-            && !is_first_of(&FINDINGS[..place], results, number)
+    for (before, finding) in FINDINGS.iter().enumerate() {
+        if let Some(place) = finding.first_in(results)
+            && !is_first_of(&FINDINGS[..before], results, place)
         {
-            summary.push_str(job_lines(alloc, words, results, number)?.as_str())?;
+            summary.push_str(job_lines(alloc, words, results, place)?.as_str())?;
         }
     }
     Ok(summary)

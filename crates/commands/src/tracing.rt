@@ -1,57 +1,65 @@
-//! `trace`: what the threads of a program did.
+//! `trace`: what the threads of a program did, or which of them took the turns.
 
 ghost use Rattle.std.specs.Prelude.{◌≡◌, ◌≢◌, ◌+◌, IfOk, IfErr, OnOk, IsErrOf, length};
 ghost use Rattle.std.specs.Io.KnownBytes.{Appends};
 ghost use Rattle.trace.specs.Bytes.{AppendsBeginning};
-ghost use Rattle.trace_text.specs.Traces.{trace_text};
 ghost use Rattle.judge.specs.Shown.{run_judged};
 ghost use Rattle.program_runs.specs.Shown.{shown_in};
+ghost use Rattle.commands.specs.Choices.{text_of as trace_text_of};
 ghost use Rattle.commands.specs.Faults.{IsFault, NamesFile, WroteBeginning};
 ghost use Rattle.commands.specs.Limits.{default_limits};
 
+use crate::choices::{TraceText, text_of};
 use crate::fault::RunFault;
 use crate::limits::DEFAULT_LIMITS;
 use inputs::Input;
 use judge::{JudgeFault, Judged, judge};
 use jvms_machine::machine::Entry;
+use program_runs::TracedRun;
 use schedule::Chooser;
 use std::alloc::Global;
-use trace::{ByteOut, Trace};
+use trace::ByteOut;
 use turn_limit::TurnLimit;
 
-/// Writes the text of a trace.
-fn write_items<W: ByteOut>(alloc: Global, trace: &Trace, output: &mut W) -> Result<(), RunFault>
+/// Writes what is printed of a run.
+fn write_text<W: ByteOut>(
+    alloc: Global,
+    kind: TraceText,
+    run: &TracedRun,
+    output: &mut W,
+) -> Result<(), RunFault>
     ensures written { OnOk result
-        (Appends (W.written output.old) (W.written output.new) (trace_text trace.now)) }
+        (Appends (W.written output.old) (W.written output.new) (trace_text_of kind (shown_in run.now))) }
     ensures count { OnOk result (W.failures output.new ≡ W.failures output.old) }
     ensures beginning { IsErrOf result RunFault.Output
-        → AppendsBeginning (W.written output.old) (W.written output.new) (trace_text trace.now) }
+        → AppendsBeginning (W.written output.old) (W.written output.new) (trace_text_of kind (shown_in run.now)) }
     ensures failed { IsErrOf result RunFault.Output
         → W.failures output.new ≡ W.failures output.old + 1 }
     ensures named { IfErr result (λ fault. NamesFile 0 fault) }
     ensures untouched { IfErr result (λ fault. fault ≢ RunFault.Output
         → (fault ≡ RunFault.Judge JudgeFault.Memory) × (output.new ≡ output.old)) }
 {
-    let text = trace_text::write(alloc, trace)?;
+    let text = text_of(alloc, kind, run)?;
     output.write_all(text.as_bytes())?;
     Ok(())
 }
 
 /// Runs the program that class files and sources make, by the choices of a chooser, at most this number of them, and
-/// writes the text of its trace: one item a line.
+/// writes the text of its trace, one item a line, or its choices as a schedule.
 pub fn write_trace<W: ByteOut>(
     alloc: Global,
     inputs: &[Input],
     entry: &Entry,
     chooser: &mut Chooser,
     most: TurnLimit,
+    kind: TraceText,
     output: &mut W,
 ) -> Result<Judged, RunFault>
     // The turns, the status, the uncaught exceptions and the items are those of the run by the instruction table.
     ensures exact { IfOk result (λ j.
         run_judged most chooser.old default_limits inputs.now entry.now ≡ Ok (shown_in j.run)) }
-    // Exactly the text of the items was written.
-    ensures written { IfOk result (λ j. Appends (W.written output.old) (W.written output.new) (trace_text j.run.trace)) }
+    // Exactly the text of the items, or of the choices, was written.
+    ensures written { IfOk result (λ j. Appends (W.written output.old) (W.written output.new) (trace_text_of kind (shown_in j.run))) }
     ensures count { OnOk result (W.failures output.new ≡ W.failures output.old) }
     // A fault comes only where its condition stands, and that of a file names one of these.
     ensures fault { IfErr result (λ fault. IsFault fault (run_judged most chooser.old default_limits inputs.now entry.now)) }
@@ -59,10 +67,10 @@ pub fn write_trace<W: ByteOut>(
     ensures untouched { IfErr result (λ fault. fault ≢ RunFault.Output → output.new ≡ output.old) }
     // Output comes only where the writer failed; then a beginning of the text was written.
     ensures failed { IsErrOf result RunFault.Output → W.failures output.new ≡ W.failures output.old + 1 }
-    ensures beginning { IsErrOf result RunFault.Output → WroteBeginning (run_judged most chooser.old default_limits inputs.now entry.now) (λ shown. trace_text shown.items) (W.written output.old) (W.written output.new) }
+    ensures beginning { IsErrOf result RunFault.Output → WroteBeginning (run_judged most chooser.old default_limits inputs.now entry.now) (trace_text_of kind) (W.written output.old) (W.written output.new) }
 {
     let judged = judge(alloc, inputs, DEFAULT_LIMITS, entry, chooser, most, None)?;
-    match write_items(alloc, &judged.run.trace, output) {
+    match write_text(alloc, kind, &judged.run, output) {
         Ok(()) => Ok(judged),
         Err(fault) => {
             drop(judged);

@@ -1,7 +1,7 @@
 //! The refusals of linking, entries, the debugger and campaigns. No line has more than 80 columns.
 
 /// The codes of these refusals, each with the text of `jvmx help CODE`.
-pub(crate) const RUNS: [(&str, &str); 25] = [
+pub(crate) const RUNS: [(&str, &str); 28] = [
     (
         "K01",
         "\
@@ -173,7 +173,8 @@ out.
         "\
 G01 TooManyJobs
 
---jobs is more than 1,000,000. Split the campaign, with a --seed for each part.
+--jobs is more than 1,000,000. Split the campaign by --first: jvmx tables joins
+the parts.
 ",
     ),
     (
@@ -223,6 +224,35 @@ a cycle.
 G07 Range
 
 A number isn't below the number of jobs.
+",
+    ),
+    (
+        "T01",
+        "\
+T01 Syntax
+
+The line isn't as jvmx campaign writes it, or the file ends before its last
+line, which counts the jobs: the campaign that writes it was ended, or still
+runs. Run that part again.
+",
+    ),
+    (
+        "T02",
+        "\
+T02 MissingJob
+
+No FILE has the job of this number, but one has a later job: the table of a part
+isn't among the FILEs, or --stop ended it early. The first part begins with job
+0.
+",
+    ),
+    (
+        "T03",
+        "\
+T03 RepeatedJob
+
+Two FILEs have the job of this number: one was handed in twice, or a --first or
+a --jobs was wrong.
 ",
     ),
 ];

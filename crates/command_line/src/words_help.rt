@@ -1,0 +1,184 @@
+//! What `help P04 -- WORDS` prints: why words are no command line.
+
+use crate::command::{is_text, parsed};
+use crate::entry::{main_entry, natural_of, static_entry};
+use crate::fault::WordsFault;
+use crate::syntax::{ARGUMENTS, ENTRY, FIRST, JOBS, MOST, SEED, WORKERS, syntax};
+use clap::ArgMatches;
+use escapes::cut_twice;
+use std::alloc::{AllocError, Global};
+use turn_limit::TurnLimit;
+
+/// The options of `run`, `trace` and `debug` whose value is a number.
+const RUN_NUMBERS: [&str; 1] = [MOST];
+
+/// The options of `campaign` whose value is a number.
+const CAMPAIGN_NUMBERS: [&str; 5] = [JOBS, FIRST, SEED, WORKERS, MOST];
+
+/// Returns the options of a command whose value is a number.
+fn numbers_of(command: &str) -> &'static [&'static str] {
+    match command {
+        "run" | "trace" | "debug" => &RUN_NUMBERS,
+        "campaign" => &CAMPAIGN_NUMBERS,
+        _ => &[],
+    }
+}
+
+/// Returns whether a command has an entry.
+fn has_entry(command: &str) -> bool {
+    matches!(command, "eval" | "run" | "trace" | "debug" | "campaign")
+}
+
+/// Returns the line that says what the value of an option has to be.
+fn wanted_line(
+    alloc: Global,
+    option: &str,
+    value: &str,
+    wanted: &str,
+) -> Result<String, AllocError> {
+    format!(in alloc; "--{option} {value}: {wanted}\n")
+}
+
+/// Returns what the value of an option has to be that is a number, if it isn't.
+fn number_wanted(option: &str, value: &str) -> Option<&'static str> {
+    match natural_of(value) {
+        None => Some("decimal digits, below 18446744073709551616"),
+        Some(most) if option == MOST && TurnLimit::new(most).is_none() => {
+            Some("at most 100000000")
+        }
+        Some(_) => None,
+    }
+}
+
+/// Returns the line of the first number that isn't in its range.
+fn number_line(
+    alloc: Global,
+    command: &str,
+    matches: &ArgMatches<'_>,
+) -> Result<Option<String>, AllocError> {
+    for option in numbers_of(command) {
+        if let Some(value) = matches.get_str(option)
+            && let Some(wanted) = number_wanted(option, value)
+        {
+            return Ok(Some(wanted_line(alloc, option, value, wanted)?));
+        }
+    }
+    Ok(None)
+}
+
+/// Returns whether something could be read. Want of memory is handed on.
+fn is_read<T: Drop>(read: Result<T, WordsFault>) -> Result<bool, WordsFault> {
+    match read {
+        Ok(value) => {
+            drop(value);
+            Ok(true)
+        }
+        Err(WordsFault::Words) => Ok(false),
+        Err(WordsFault::Memory) => Err(WordsFault::Memory),
+    }
+}
+
+/// Returns what an entry has to be, if it isn't.
+fn entry_wanted(
+    alloc: Global,
+    command: &str,
+    entry: &str,
+) -> Result<Option<&'static str>, WordsFault> {
+    if !entry.contains('.') {
+        if command == "eval" {
+            return Ok(Some("eval runs a static method, C.m.D"));
+        }
+        let is_name = is_read(main_entry(alloc, entry))?;
+        return Ok((!is_name).then_some("the name of a class, as a/b/C"));
+    }
+    if cut_twice(entry.as_bytes(), b'.').is_none() {
+        return Ok(Some("a static method is C.m.D, its parts separated by dots"));
+    }
+    let is_entry = is_read(static_entry(alloc, entry, None))?;
+    Ok((!is_entry).then_some("a class, a name and a descriptor, as the class file has them"))
+}
+
+/// Returns what arguments have to be, if they aren't.
+fn arguments_wanted(
+    alloc: Global,
+    entry: &str,
+    arguments: &str,
+) -> Result<Option<&'static str>, WordsFault> {
+    if !entry.contains('.') {
+        return Ok(Some("a main class has no arguments"));
+    }
+    let are_numbers = is_read(static_entry(alloc, entry, Some(arguments)))?;
+    Ok(
+        (!are_numbers).then_some(
+            "decimal numbers in the ranges of the parameters, parted by commas",
+        ),
+    )
+}
+
+/// Returns the line of an entry, or of its arguments, if they aren't in their form.
+fn entry_line(
+    alloc: Global,
+    command: &str,
+    matches: &ArgMatches<'_>,
+) -> Result<Option<String>, WordsFault> {
+    let entry = matches.get_str(ENTRY).unwrap_or("");
+    if let Some(wanted) = entry_wanted(alloc, command, entry)? {
+        return Ok(Some(wanted_line(alloc, ENTRY, entry, wanted)?));
+    }
+    let Some(arguments) = matches.get_str(ARGUMENTS) else {
+        return Ok(None);
+    };
+    match arguments_wanted(alloc, entry, arguments)? {
+        Some(wanted) => Ok(Some(wanted_line(alloc, ARGUMENTS, arguments, wanted)?)),
+        None => Ok(None),
+    }
+}
+
+/// Returns the line of what the parser of words takes and the command doesn't.
+fn command_line(
+    alloc: Global,
+    command: &str,
+    matches: &ArgMatches<'_>,
+) -> Result<String, WordsFault> {
+    if let Some(line) = number_line(alloc, command, matches)? {
+        return Ok(line);
+    }
+    if has_entry(command)
+        && let Some(line) = entry_line(alloc, command, matches)?
+    {
+        return Ok(line);
+    }
+    let line = match command {
+        "asm" => "IN and OUT are one name: the source would be replaced\n",
+        "campaign" => "--first and --jobs: a job's number would be past 18446744073709551615\n",
+        _ => "no command line\n",
+    };
+    Ok(String::from_str(alloc, line)?)
+}
+
+/// Returns the first paragraph of what the parser of words says.
+fn parser_line(alloc: Global, error: &clap::Error) -> Result<String, WordsFault> {
+    let text = format!(in alloc; "{error}")?;
+    let message = text
+        .as_str()
+        .strip_prefix("error: ")
+        .unwrap_or(text.as_str());
+    let first = message.split("\n\n").next().unwrap_or(message);
+    let first = first.strip_suffix('\n').unwrap_or(first);
+    let line = format!(in alloc; "{first}\n")?;
+    Ok(line)
+}
+
+/// Returns why words are refused with P04, or that they aren't.
+pub(crate) fn words_text(alloc: Global, words: &[String]) -> Result<String, WordsFault> {
+    if is_text(words) || is_read(parsed(alloc, words))? {
+        return Ok(String::from_str(alloc, "these words are a command line\n")?);
+    }
+    match syntax(alloc)?.try_get_matches_from(words) {
+        Err(error) => parser_line(alloc, &error),
+        Ok(matches) => match matches.subcommand() {
+            Some((command, matches)) => command_line(alloc, command, matches),
+            None => Ok(String::from_str(alloc, "no command is named\n")?),
+        },
+    }
+}
