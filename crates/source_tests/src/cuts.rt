@@ -1,5 +1,6 @@
-//! Sources that are cut off.
+//! Sources that are cut off: each is read, and assembled where it is a source still.
 
+use assembler::{AsmFault, assemble};
 use jasmin_reader::{SourceFault, read};
 use std::alloc::Global;
 use std::process::Abort;
@@ -43,25 +44,48 @@ const HELLO_WORLD: &str = ".class public HelloWorld
 .end method
 ";
 
-/// Each text that begins a source is a source or has a fault at one of its lines.
-fn assert_cuts(rt: &impl Abort, alloc: Global, whole: &str) {
-    for (place, _) in whole.char_indices() {
-        if let Some(cut) = whole.get(..place) {
-            let lines = cut.lines().count().max(1);
-            match read(alloc, cut) {
-                Ok(_) => {}
-                Err(SourceFault::Flawed { flaw: _, line }) => {
-                    assert!(rt; 1 <= line && line <= lines, "line {line} of {lines}");
-                }
-                Err(SourceFault::Memory) => assert!(rt; false, "no memory"),
-            }
+/// Returns whether a text is a source that is assembled. Else it has a fault at one of its lines, or one of the
+/// assembler's. There is memory for both.
+fn is_class(rt: &impl Abort, alloc: Global, text: &str) -> bool {
+    let lines = text.lines().count().max(1);
+    match read(alloc, text) {
+        Ok(source) => {
+            let fault = assemble(alloc, &source).err();
+            assert!(rt; fault != Some(AsmFault::Memory), "no memory to assemble");
+            fault.is_none()
+        }
+        Err(SourceFault::Flawed { flaw: _, line }) => {
+            assert!(rt; 1 <= line && line <= lines, "line {line} of {lines}");
+            false
+        }
+        Err(SourceFault::Memory) => {
+            assert!(rt; false, "no memory to read");
+            false
         }
     }
 }
 
+/// Returns how many of the texts that begin a source are classes, the whole source included.
+fn count_classes(rt: &impl Abort, alloc: Global, whole: &str) -> usize {
+    let mut classes = 0usize;
+    for end in 0..=whole.len() {
+        if let Some(cut) = whole.get(..end)
+            && is_class(rt, alloc, cut)
+        {
+            classes = classes.saturating_add(1);
+        }
+    }
+    classes
+}
+
+/// The texts that are classes end within or after the name of `.class` or `.super`, but for those that end at a `/`, or
+/// after an `.end method`. `public` alone is a name, too.
 #[test]
-fn cut_sources_have_a_line_at_fault(rt: HostRuntime) -> Result<(), Fail> {
-    assert_cuts(&rt, rt.alloc(), GCD);
-    assert_cuts(&rt, rt.alloc(), HELLO_WORLD);
+fn cut_sources_are_classes_or_have_a_fault(rt: HostRuntime) -> Result<(), Fail> {
+    assert_eq!(rt; count_classes(&rt, rt.alloc(), GCD), 9 + 4 + 4 + 7 + 2);
+    assert_eq!(rt;
+        count_classes(&rt, rt.alloc(), HELLO_WORLD),
+        18 + 4 + 4 + 7 + 2 + 2
+    );
     Ok(())
 }
