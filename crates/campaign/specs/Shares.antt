@@ -28,6 +28,7 @@ no_plan =
       entry = entry.Main [];
       limits = record { objects = 0; elements = 0; threads = 0; frames = 0 };
       jobs = 0;
+      first = 0;
       seed = 0;
       most = 0;
       spec = [];

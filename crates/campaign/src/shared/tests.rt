@@ -136,6 +136,7 @@ fn plan_of_three(alloc: Global) -> Result<Plan, Fail> {
         },
         limits: LIMITS,
         jobs: 3,
+        first: 0,
         seed: 0,
         most,
         spec: Spec::read(alloc, "plain *")?,
