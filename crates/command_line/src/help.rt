@@ -127,10 +127,16 @@ With --explain, a cycle's line is followed by one for each of its transactions:
 its thread, its outermost atomic method (or the method it was in, if none is
 atomic), its first and its last event. Then come its edges: A before B, and an
 event of each that conflict, with their lines of the trace. 'at turn K' is the
-turn that gave an event: in jvmx debug, goto K. If the status is Deadlocked or
-Stalled, a line follows for each thread: what its next turn comes to, and where
-it is. At most 64 transactions and edges are explained. The turns are taken
-twice, and the whole trace is kept in memory.
+turn that gave an event: in jvmx debug, goto K-1 is just before it. A line for
+each of these events says where it is in the program, and one for each line of
+the specification that matches no method says so. For each uncaught exception a
+line says where it was thrown. If the status is Deadlocked or Stalled, a line
+for each thread that can't continue says where it stops; then one for each
+thread has the outcome of its next turn, and where it is. A place is C.m.D @N,
+with the line of the source if the class file has it, (F.java:12), and with what
+its instruction needs that isn't there, as jvmx needs has it. At most 64
+transactions and edges are explained. The turns are taken twice or more, and the
+whole trace is kept in memory.
 
 Exit status: 0 where the status is Finished, no exception is uncaught and, with
 --spec, no cycle was found, else 1; 2 and 3 as jvmx --help says.
@@ -209,6 +215,9 @@ step, back, goto, continue, rcontinue and pick answer 'at P of N STATUS, thread
 T OUTCOME': the position, the number of turns, the machine's status, and what
 the last turn before the position came to. A line that can't be carried out is
 answered by 'fault CODE NAME' and changes nothing. jvmx help CODE explains it.
+The end of standard input, at a terminal Ctrl-D, ends the session. At a terminal
+standard error shows where the thread of the next turn is, with the line of the
+source if the class file has it, and a prompt with the position.
 
 Exit status: 0, whatever the session shows; 2 and 3 as jvmx --help says.
 
@@ -261,8 +270,9 @@ run --sched seed:0:K for each K, and look at its exit status; or let the program
 loop for ever where a check of its own fails, so that the status is Running.
 
 Standard error, at a terminal: while jobs run, how many are done. Then the
-summary: for the first job with a cycle, and for the first of each status but
-Finished, the commands that run it again and debug it.
+summary: the lines of the specification that match no method; for the first job
+with a cycle, and for the first of each status but Finished, how many have one,
+and the commands that run it again and debug it.
 
 Exit status: 0 where all jobs of the table are atomic and Finished, else 1; 2
 and 3 as jvmx --help says. jvmx help CODE explains the code of a refusal.
@@ -335,8 +345,9 @@ there to an earlier event of its thread. A red box is a transaction of the
 cycle, and a red arrow one of its edges.
 
 At most 200 events are drawn: of more, those of the first 64 transactions of the
-cycle, or the first if there is no cycle. With --dot there is a node for each of
-their transactions, and an edge for each two with events that conflict.
+cycle, and of still more first those that its edges join; or the first events if
+there is no cycle. With --dot there is a node for each of the transactions, and
+an edge for each two with events that conflict.
 
 Exit status: 0, also where there is a cycle; 2 and 3 as jvmx --help says.
 jvmx help CODE explains the code of a refusal.
@@ -424,7 +435,8 @@ FILEs, of their methods and of the instructions,
   C.m.D @N NoSuchFieldError C.x.D
   C.m.D @N IncompatibleClassChangeError C.m.D
   C.m.D @N OutOfProfile
-for instruction N of the method that the line begins with, from 0: no FILE has
+for instruction N of the method that the line begins with, from 0, with the line
+of the source after it if the class file has it, (F.java:12): no FILE has
 the class and it isn't built in; the class has no such member; the member is or
 isn't static, or the class is or isn't an interface, against what the
 instruction asks for; jvmx doesn't have the instruction, as those of float and
@@ -438,7 +450,10 @@ something. A line ends with why a compiler may have put the instruction there:
 Then a line for each line of the specification that matches no method,
   spec atomic C.m matches no method
 
-The program isn't run. What needs a superclass that isn't there is refused, K02.
+The program isn't run. If a superclass or a superinterface isn't there, which is
+K02 where the program is run, only the lines of these are printed,
+  C NoClassDefFoundError D
+for class C, which names D.
 
 Exit status: 0 where nothing is printed, else 1; 2 and 3 as jvmx --help says.
 jvmx help CODE explains the code of a refusal.

@@ -92,7 +92,9 @@ fn entry_wanted(
         return Ok((!is_name).then_some("the name of a class, as a/b/C"));
     }
     if cut_twice(entry.as_bytes(), b'.').is_none() {
-        return Ok(Some("a static method is C.m.D, its parts separated by dots"));
+        return Ok(Some(
+            "a static method is C.m.D, its parts separated by dots; a class a.b.C is a/b/C",
+        ));
     }
     let is_entry = is_read(static_entry(alloc, entry, None))?;
     Ok((!is_entry).then_some("a class, a name and a descriptor, as the class file has them"))
@@ -156,6 +158,17 @@ fn command_line(
     Ok(String::from_str(alloc, line)?)
 }
 
+/// Returns what is said besides of a word that the parser of words doesn't expect: it may be a negative number.
+fn number_hint(message: &str) -> &'static str {
+    let Some(rest) = message.strip_prefix("unexpected argument '-") else {
+        return "";
+    };
+    match rest.as_bytes().first() {
+        Some(byte) if byte.is_ascii_digit() => ": a negative first number is --args=-7,2",
+        _ => "",
+    }
+}
+
 /// Returns the first paragraph of what the parser of words says.
 fn parser_line(alloc: Global, error: &clap::Error) -> Result<String, WordsFault> {
     let text = format!(in alloc; "{error}")?;
@@ -165,7 +178,8 @@ fn parser_line(alloc: Global, error: &clap::Error) -> Result<String, WordsFault>
         .unwrap_or(text.as_str());
     let first = message.split("\n\n").next().unwrap_or(message);
     let first = first.strip_suffix('\n').unwrap_or(first);
-    let line = format!(in alloc; "{first}\n")?;
+    let hint = number_hint(first);
+    let line = format!(in alloc; "{first}{hint}\n")?;
     Ok(line)
 }
 

@@ -1,17 +1,30 @@
 -- What is missing in the program that inputs make.
-use Rattle.std.specs.Prelude.{◌≡◌, ℕ, Bool, ◌==◌, List, length, Option, Result, Ok}
+use Rattle.std.specs.Prelude.{◌≡◌, ◌-◌, ℕ, Bool, ◌==◌, cond, List, length, Option, Result, Ok}
 use Rattle.std.specs.Io.KnownBytes.{Appends}
+use Rattle.jvms_file.specs.declared.class_file.ClassFile.{ClassFile}
 use Rattle.jvms_file.specs.Results.{◌>>=◌}
 use Rattle.velodrome.specs.Specification.{Specification}
 use Rattle.inputs.specs.declared.input.Input.{Input}
-use Rattle.judge.specs.Programs.{NotRun, program_in}
+use Rattle.judge.specs.Programs.{NotRun, classes_from, program_in}
+use Rattle.needs.specs.Supers.{missing_supers}
 use Rattle.needs.specs.Unmatched.{missing_text}
 
--- The text of what is missing, for a specification too, or why there is no program.
+-- The text of what is missing in the program that inputs make, for a specification too, given the classes that they are; or
+-- why there is no program.
+abbrev pub missing_in_program : Specification → List ClassFile → List Input → Result (List ℕ) NotRun
+missing_in_program lines files inputs = do
+  program ← program_in inputs
+  Ok (missing_text program (length program - length files) files lines)
+
+-- This text, if it isn't empty, else what follows.
+abbrev pub text_or : List ℕ → Result (List ℕ) NotRun → Result (List ℕ) NotRun
+text_or text rest = cond (length text == 0) rest (Ok text)
+
+-- The text of the superclasses that aren't there, else of what is missing in the program.
 unfoldable pub missing_in : Specification → List Input → Result (List ℕ) NotRun
 missing_in lines inputs = do
-  program ← program_in inputs
-  Ok (missing_text program lines)
+  files ← classes_from 0 inputs
+  text_or (missing_supers files) (missing_in_program lines files inputs)
 
 -- This text was written whole, and it is empty where nothing is missing.
 abbrev pub HasWritten : Result (List ℕ) NotRun → Option (List ℕ) → Option (List ℕ) → Bool → Type 0

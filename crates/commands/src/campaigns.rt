@@ -10,8 +10,10 @@ use crate::terminal::Terminal;
 use campaigning::{Gate, OpenGate, Plan, Table, write_table};
 use command_line::{CampaignWords, ProgramNames, ProgramWords};
 use inputs::Input;
+use judge::program_of;
 use jvms_machine::machine::Status;
-use std::alloc::Global;
+use needs::unmatched_text;
+use std::alloc::{AllocError, Global};
 use std::rt::Clock;
 use std::sync::Wait;
 use std::thread::Threads;
@@ -94,6 +96,15 @@ pub(crate) fn is_good(table: &Table) -> bool {
     true
 }
 
+/// Returns a line for each of the specification's lines that matches no method.
+fn unmatched_lines(alloc: Global, parts: &CampaignParts<'_>) -> Result<String, AllocError> {
+    match program_of(alloc, parts.inputs.as_slice()) {
+        Ok(program) => unmatched_text(alloc, &program, parts.plan.spec.lines()),
+        // The jobs have run: only the memory for the program may be missing.
+        Err(_) => Ok(String::new(alloc)),
+    }
+}
+
 /// Prints the table of a campaign. At a terminal, or where the words ask for it, it prints a summary too.
 pub(crate) fn perform_campaign<
     'w,
@@ -123,6 +134,7 @@ pub(crate) fn perform_campaign<
             seed,
             most,
         };
+        errors.write_all(unmatched_lines(alloc, &parts)?.as_bytes())?;
         errors.write_all(summary_of(alloc, words, &table)?.as_bytes())?;
     }
     Ok(u8::from(!is_good(&table)))

@@ -4,17 +4,39 @@ ghost use Rattle.std.specs.Prelude.{◌≡◌, ◌≢◌, ◌+◌, IfOk, IfErr, 
 ghost use Rattle.std.specs.String.{string_bytes};
 ghost use Rattle.judge.specs.Faults.{IsFault as IsJudgeFault, NamesFile as NamesInput};
 ghost use Rattle.commands.specs.Faults.{IsFault, NamesFile, WroteBeginning};
-ghost use Rattle.commands.specs.Missing.{HasWritten, missing_in};
+ghost use Rattle.commands.specs.Missing.{HasWritten, missing_in, missing_in_program};
 
 use crate::fault::RunFault;
 use atom_spec::SpecificationLine;
 use inputs::Input;
-use judge::{JudgeFault, program_of};
-use needs::missing_text;
+use judge::{JudgeFault, classes_of, program_of};
+use jvms_file::class_file::ClassFile;
+use needs::{missing_supers, missing_text};
+use source_lines::SourceFiles;
 use std::alloc::Global;
 use trace::ByteOut;
 
-/// Returns the text of what is missing in the program that class files and sources make, and of a specification's lines.
+/// Returns the text of what is missing in the program that class files and sources make, given the classes that they are,
+/// and of a specification's lines.
+fn missing_in_program(
+    alloc: Global,
+    inputs: &[Input],
+    files: &[ClassFile],
+    lines: &[SpecificationLine],
+) -> Result<String, JudgeFault>
+    ensures exact { IfOk result (λ text.
+        missing_in_program lines.now files.now inputs.now ≡ Ok (string_bytes text)) }
+    ensures fault { IfErr result (λ fault. IsJudgeFault fault (missing_in_program lines.now files.now inputs.now)) }
+    ensures named { IfErr result (λ fault. NamesInput (length inputs.now) fault) }
+{
+    let program = program_of(alloc, inputs)?;
+    let sources = SourceFiles::new(program.classes(), files);
+    let text = missing_text(alloc, &program, &sources, lines)?;
+    Ok(text)
+}
+
+/// Returns the text of the superclasses that aren't there, if there is one, else of what is missing in the program that class
+/// files and sources make, and of a specification's lines.
 #[tactic(auto, unfolding(crate::specs::Missing::missing_in))]
 fn missing_in(
     alloc: Global,
@@ -25,13 +47,21 @@ fn missing_in(
     ensures fault { IfErr result (λ fault. IsJudgeFault fault (missing_in lines.now inputs.now)) }
     ensures named { IfErr result (λ fault. NamesInput (length inputs.now) fault) }
 {
-    let program = program_of(alloc, inputs)?;
-    let text = missing_text(alloc, &program, lines)?;
-    Ok(text)
+    let files = classes_of(alloc, inputs)?;
+    let Ok(again) = classes_of(alloc, inputs) else {
+        return Err(JudgeFault::Memory);
+    };
+    let supers = missing_supers(alloc, again)?;
+    if supers.as_str().is_empty() {
+        missing_in_program(alloc, inputs, files.as_slice(), lines)
+    } else {
+        Ok(supers)
+    }
 }
 
 /// Writes what is missing in the program that class files and sources make, and which of a specification's lines speak of
-/// none of its methods. Returns whether nothing is missing.
+/// none of its methods. If superclasses or superinterfaces aren't there, writes only those. Returns whether nothing is
+/// missing.
 pub fn write_missing<W: ByteOut>(
     alloc: Global,
     inputs: &[Input],

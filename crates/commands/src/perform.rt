@@ -12,7 +12,7 @@ use crate::reading::{read_input, read_inputs, read_source, read_spec, read_text}
 use crate::refusal::Refusal;
 use crate::run::run;
 use crate::tables::perform_tables;
-use crate::terminal::{Terminal, TerminalPrompt};
+use crate::terminal::{Terminal, TerminalPrompt, source_files};
 use crate::tracing::write_trace;
 use atom_spec::{Spec, SpecificationLine};
 use command_line::{
@@ -261,7 +261,8 @@ fn perform_debug<'w, F: Files, I: ByteIn, W: ByteOut, E: ByteOut>(
 ) -> Result<u8, Refusal<'w>> {
     let parts = read_parts(alloc, words, files)?;
     if terminal.has_prompts() {
-        let mut prompt = TerminalPrompt::new(alloc, errors, words.schedule);
+        let sources = source_files(alloc, parts.inputs.as_slice());
+        let mut prompt = TerminalPrompt::new(alloc, errors, words.schedule, sources.as_slice());
         debug_parts(alloc, words, parts, input, output, &mut prompt)
     } else {
         debug_parts(alloc, words, parts, input, output, &mut NoPrompt)

@@ -62,6 +62,17 @@ impl Finding {
         None
     }
 
+    /// Returns the number of jobs in which it is made.
+    fn count_in(self, results: &[JobResult]) -> usize {
+        let mut count: usize = 0;
+        for job in results {
+            if self.is_of(*job) {
+                count = count.saturating_add(1);
+            }
+        }
+        count
+    }
+
     /// Returns what it says of a job.
     fn text(self) -> &'static str {
         match self {
@@ -145,6 +156,22 @@ fn is_first_of(findings: &[Finding], results: &[JobResult], place: usize) -> boo
         .any(|finding| finding.first_in(results) == Some(place))
 }
 
+/// Appends a finding, and in how many jobs it is made, if there is more than one.
+fn put_finding(
+    alloc: Global,
+    line: &mut String,
+    finding: Finding,
+    results: &[JobResult],
+) -> Result<(), AllocError> {
+    line.push_str(finding.text())?;
+    let count = finding.count_in(results);
+    if count > 1 {
+        let rest = format!(in alloc; " (the first of {count})")?;
+        line.push_str(rest.as_str())?;
+    }
+    Ok(())
+}
+
 /// Returns the line that says what is found first in the job at a place, which has this number.
 fn found_line(
     alloc: Global,
@@ -157,7 +184,7 @@ fn found_line(
     for finding in FINDINGS {
         if finding.first_in(results) == Some(place) {
             line.push_str(separator)?;
-            line.push_str(finding.text())?;
+            put_finding(alloc, &mut line, finding, results)?;
             separator = ", ";
         }
     }

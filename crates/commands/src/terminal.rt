@@ -2,6 +2,12 @@
 
 use debugger::Session;
 use debugger_script::Prompt;
+use inputs::Input;
+use judge::classes_of;
+use jvms_file::class_file::ClassFile;
+use machine::FrameView;
+use machine_text::put_place;
+use source_lines::SourceFiles;
 use std::alloc::{AllocError, Global};
 use trace::ByteOut;
 
@@ -27,7 +33,7 @@ impl Terminal {
     }
 }
 
-/// Shows a prompt with the position before each read, and a hint after a fault. A prompt that can't be shown is missing,
+/// Shows a prompt with the position before each read, and where the thread of the next turn is; and a hint after a fault. A prompt that can't be shown is missing,
 /// and changes nothing else.
 #[derive(Drop)]
 pub(crate) struct TerminalPrompt<'e, E: ByteOut> {
@@ -35,27 +41,37 @@ pub(crate) struct TerminalPrompt<'e, E: ByteOut> {
     errors: &'e mut E,
     /// The schedule that gave the choices, as the words have it.
     schedule: &'e str,
+    /// The class files of the program.
+    files: &'e [ClassFile],
     is_greeted: bool,
 }
 
 impl<'e, E: ByteOut> TerminalPrompt<'e, E> {
     /// Returns a prompt that is shown on this writer.
-    pub(crate) fn new(alloc: Global, errors: &'e mut E, schedule: &'e str) -> Self {
+    pub(crate) fn new(
+        alloc: Global,
+        errors: &'e mut E,
+        schedule: &'e str,
+        files: &'e [ClassFile],
+    ) -> Self {
         TerminalPrompt {
             alloc,
             errors,
             schedule,
+            files,
             is_greeted: false,
         }
     }
 
-    /// Shows the prompt at a position. Shows the first line of the session before the first prompt.
-    fn ask_at(&mut self, position: usize, turns: usize) {
+    /// Shows the prompt of a session. Shows the session's first line before the first prompt.
+    fn ask_in(&mut self, session: &Session<'_>) {
+        let turns = session.choices().len();
         if !self.is_greeted {
             self.is_greeted = true;
             self.show(greeting(self.alloc, self.schedule, turns));
         }
-        self.show(prompt_at(self.alloc, position, turns));
+        self.show(next_line(self.alloc, session, self.files));
+        self.show(prompt_at(self.alloc, session.position(), turns));
     }
 
     /// Shows a text, if there was memory for it.
@@ -66,9 +82,45 @@ impl<'e, E: ByteOut> TerminalPrompt<'e, E> {
     }
 }
 
+/// Returns the classes that inputs are, of which prompts tell the lines. There are none if an input is no class: the session
+/// is refused then.
+pub(crate) fn source_files(alloc: Global, inputs: &[Input]) -> Vec<ClassFile> {
+    match classes_of(alloc, inputs) {
+        Ok(files) => files,
+        Err(_) => Vec::new(alloc),
+    }
+}
+
 /// Returns the first line of a session.
 fn greeting(alloc: Global, schedule: &str, turns: usize) -> Result<String, AllocError> {
-    format!(in alloc; "{turns} turns by schedule {schedule}. jvmx help debug lists the commands.\n")
+    format!(in alloc;
+        "{turns} turns by schedule {schedule}. jvmx help debug lists the commands. Ctrl-D ends the session.\n"
+    )
+}
+
+/// Returns the line of the thread that takes the next turn: where it is in the program and in its source. The text is empty
+/// if there is no next turn, or if the thread is in no call.
+fn next_line(
+    alloc: Global,
+    session: &Session<'_>,
+    files: &[ClassFile],
+) -> Result<String, AllocError> {
+    let mut line = String::new(alloc);
+    let Some(thread) = session.choices().get(session.position()) else {
+        return Ok(line);
+    };
+    let machine = session.machine();
+    let program = machine.program();
+    if let Some(FrameView::Call(call)) = machine.frame(*thread, 0) {
+        let sources = SourceFiles::new(program.classes(), files);
+        let thread = *thread;
+        let head = format!(in alloc; "next: thread {thread} at ")?;
+        line.push_str(head.as_str())?;
+        put_place(&mut line, program, call.method(), call.place())?;
+        source_lines::put_place(&mut line, &sources, call.method(), call.place())?;
+        line.push_str("\n")?;
+    }
+    Ok(line)
 }
 
 /// Returns the prompt at a position.
@@ -99,7 +151,7 @@ fn hint_of(answer: &str) -> Option<&'static str> {
 
 impl<E: ByteOut> Prompt for TerminalPrompt<'_, E> {
     fn ask(&mut self, session: &Session<'_>) {
-        self.ask_at(session.position(), session.choices().len());
+        self.ask_in(session);
     }
 
     fn explain(&mut self, answer: &str) {

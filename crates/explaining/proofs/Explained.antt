@@ -1,6 +1,7 @@
 -- What is explained is the run.
 use Rattle.std.proofs.Common.{◌≡◌, ℕ, List, length, Some, None, Result, Ok, Err, refl, sym, ap, subst, ◌∙◌}
 use Rattle.std.specs.Prelude.{Option}
+use Rattle.jvms_file.specs.declared.class_file.ClassFile.{ClassFile}
 use Rattle.jvms_file.specs.Results.{◌>>=◌}
 use Rattle.jvms_program.specs.declared.program.Class.{Class}
 use Rattle.jvms_machine.specs.declared.machine.Entry.{Entry}
@@ -27,14 +28,14 @@ same_run most chooser limits program entry start shown is shows =
     sym (ap (λ r. r >>= λ s. Ok (shown_of most chooser (opened program limits s))) is) ∙ shows in cc
 
 -- What explains it.
-pub is_explanation : (lines : Option Specification) (j : Option Judgement) (most : ℕ) (chooser : Chooser) (limits : Limits) (program : List Class) (entry : Entry) (start : Start) (shown : Shown) (text : List ℕ)
+pub is_explanation : (first : ℕ) (files : List ClassFile) (lines : Option Specification) (j : Option Judgement) (most : ℕ) (chooser : Chooser) (limits : Limits) (program : List Class) (entry : Entry) (start : Start) (shown : Shown) (text : List ℕ)
     → made program limits entry ≡ Ok start → program_shown most chooser limits program entry ≡ Ok shown
-    → text ≡ run_explanation lines j (opened program limits start) shown
-    → program_explanation lines j most chooser limits program entry ≡ Ok text
+    → text ≡ run_explanation first files lines j (opened program limits start) shown
+    → program_explanation first files lines j most chooser limits program entry ≡ Ok text
 unfolding program_explanation
-is_explanation lines j most chooser limits program entry start shown text is shows told =
-    ap (λ r. r >>= λ s. Ok (run_explanation lines j (opened program limits s) (shown_of most chooser (opened program limits s)))) is
-    ∙ ap (λ x. Ok (run_explanation lines j (opened program limits start) x)) (same_run most chooser limits program entry start shown is shows)
+is_explanation first files lines j most chooser limits program entry start shown text is shows told =
+    ap (λ r. r >>= λ s. Ok (run_explanation first files lines j (opened program limits s) (shown_of most chooser (opened program limits s)))) is
+    ∙ ap (λ x. Ok (run_explanation first files lines j (opened program limits start) x)) (same_run most chooser limits program entry start shown is shows)
     ∙ ap Ok (sym told)
 
 -- How it ended.

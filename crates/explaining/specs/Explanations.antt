@@ -1,6 +1,7 @@
 -- The lines that explain a run (own): those of its cycle, if a specification finds one; where the exceptions were thrown
--- that nothing caught; and its threads, if none of them can go on.
-use Rattle.std.specs.Prelude.{ℕ, Bool, true, false, cond, List, [], ◌++◌, Option, Some, None, Result, Ok}
+-- that nothing caught; and its threads, if none of them can continue.
+use Rattle.std.specs.Prelude.{ℕ, ◌-◌, Bool, true, false, cond, List, [], ◌++◌, length, map, Option, Some, None, Result, Ok}
+use Rattle.jvms_file.specs.declared.class_file.ClassFile.{ClassFile}
 use Rattle.jvms_file.specs.Results.{◌>>=◌}
 use Rattle.jvms_program.specs.declared.program.Class.{Class}
 use Rattle.jvms_machine.specs.declared.machine.Entry.{Entry}
@@ -19,15 +20,21 @@ use Rattle.program_runs.specs.declared.feeding.Judgement.{Judgement}
 use Rattle.program_runs.specs.Shown.{Shown, shown_of}
 use Rattle.report.specs.CycleTexts.{explanation}
 use Rattle.inputs.specs.declared.input.Input.{Input}
-use Rattle.judge.specs.Programs.{NotRun, not_made, program_in, refused}
+use Rattle.judge.specs.Programs.{NotRun, classes_from, not_made, program_in, refused}
+use Rattle.needs.specs.Unmatched.{unmatched_lines}
+use Rattle.explaining.specs.declared.event_turns.EventTurn.{EventTurn}
+use Rattle.explaining.specs.EventPlaces.{event_places, pairs_of}
 use Rattle.explaining.specs.EventTurns.{event_turns}
+use Rattle.explaining.specs.Stops.{stop_lines}
 use Rattle.explaining.specs.Throws.{throw_lines}
 
--- The cycle, if a specification asks for a verdict and that is one.
-abbrev pub cycle_part : Option Specification → Option Judgement → List Item → List ℕ → List ℕ
-cycle_part (Some lines) (Some j) items turns =
-    explanation (record { lines = lines; items = items; turns = turns }) j.verdict
-cycle_part lines j items turns = []
+-- What explains the verdict of a specification, if there is one: the cycle, where its events are in the program, and the
+-- lines that speak of no method.
+abbrev pub verdict_part : List Class → ℕ → List ClassFile → Option Specification → Option Judgement → List Item → List EventTurn → List ℕ
+verdict_part program first files (Some lines) (Some j) items events =
+    explanation (record { lines = lines; items = items; turns = map (λ e. e.turn) events }) j.verdict
+    ++ event_places program first files (pairs_of j.verdict) 1 events ++ unmatched_lines program lines
+verdict_part program first files lines j items events = []
 
 -- No thread can go on, though not all have ended.
 abbrev pub is_stuck : Status → Bool
@@ -35,31 +42,33 @@ is_stuck status.Deadlocked = true
 is_stuck status.Stalled = true
 is_stuck _ = false
 
--- The threads, if they are stuck: each with the outcome of its next turn, and its place.
-abbrev pub threads_part : Status → Machine → List ℕ
-threads_part s m = cond (is_stuck s) (threads_text m) []
+-- The threads, if they are stuck: those that stop, and each with the outcome of its next turn, and its place.
+abbrev pub threads_part : ℕ → List ClassFile → Status → Machine → List ℕ
+threads_part first files s m = cond (is_stuck s) (stop_lines first files m ++ threads_text m) []
 
 -- The machine after the turns of choices.
 abbrev pub machine_after : Machine → List ℕ → Machine
 machine_after m choices = with_state m (run_of m choices).state
 
 -- Where the exceptions were thrown that nothing caught, and the threads, if they are stuck.
-abbrev pub stuck_lines : Machine → List ℕ → List (ℕ × List ℕ) → Status → List ℕ
-stuck_lines m choices uncaught s = throw_lines m choices uncaught ++ threads_part s (machine_after m choices)
+abbrev pub stuck_lines : ℕ → List ClassFile → Machine → List ℕ → List (ℕ × List ℕ) → Status → List ℕ
+stuck_lines first files m choices uncaught s =
+    throw_lines first files m choices uncaught ++ threads_part first files s (machine_after m choices)
 
-abbrev pub run_explanation : Option Specification → Option Judgement → Machine → Shown → List ℕ
-run_explanation lines j m shown =
-    cycle_part lines j shown.items (event_turns 1 m shown.choices)
-    ++ stuck_lines m shown.choices shown.uncaught shown.status
+abbrev pub run_explanation : ℕ → List ClassFile → Option Specification → Option Judgement → Machine → Shown → List ℕ
+run_explanation first files lines j m shown =
+    verdict_part m.program first files lines j shown.items (event_turns 1 m shown.choices)
+    ++ stuck_lines first files m shown.choices shown.uncaught shown.status
 
 -- Of the run of all choices of a chooser, up to the most, from an entry of a program on.
-unfoldable pub program_explanation : Option Specification → Option Judgement → ℕ → Chooser → Limits → List Class → Entry → Result (List ℕ) NotMade
-program_explanation lines j most chooser limits program entry = do
+unfoldable pub program_explanation : ℕ → List ClassFile → Option Specification → Option Judgement → ℕ → Chooser → Limits → List Class → Entry → Result (List ℕ) NotMade
+program_explanation first files lines j most chooser limits program entry = do
   start ← made program limits entry
-  Ok (run_explanation lines j (opened program limits start) (shown_of most chooser (opened program limits start)))
+  Ok (run_explanation first files lines j (opened program limits start) (shown_of most chooser (opened program limits start)))
 
--- Of the program that inputs make.
+-- Of the program that inputs make, the last classes of which are those of the inputs.
 unfoldable pub explanation_of_inputs : Option Specification → Option Judgement → ℕ → Chooser → Limits → List Input → Entry → Result (List ℕ) NotRun
 explanation_of_inputs lines j most chooser limits inputs entry = do
   program ← program_in inputs
-  refused not_made (program_explanation lines j most chooser limits program entry)
+  files ← classes_from 0 inputs
+  refused not_made (program_explanation (length program - length files) files lines j most chooser limits program entry)

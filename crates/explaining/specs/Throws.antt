@@ -1,17 +1,24 @@
 -- Where the exceptions of a run were thrown with which its threads ended (own).
-use Rattle.std.specs.Prelude.{ℕ, ◌+◌, Bool, true, false, not, ◌==◌, ◌&&◌, cond, List, [], ◌∷◌, ◌++◌, codes, Option, Some, None, is_some}
+use Rattle.std.specs.Prelude.{ℕ, ◌+◌, Bool, true, false, not, ◌==◌, ◌&&◌, cond, List, [], ◌∷◌, ◌++◌, codes, Option, Some, None, is_some, unwrap_or}
 use Rattle.std.specs.Fmt.{decimal}
 use Rattle.std.specs.List.{flat_map}
-use Rattle.std.specs.Option.{option_and_then}
+use Rattle.std.specs.Option.{option_and_then, option_map}
+use Rattle.jvms_file.specs.declared.class_file.ClassFile.{ClassFile}
 use Rattle.jvms_machine.specs.declared.machine.Outcome.{Outcome}
 use Rattle.jvms_machine.specs.declared.machine.Outcome.TheVariants as outcome
-use Rattle.jvms_machine.specs.declared.state.StackFrame.TheVariants as stack_frame
-use Rattle.jvms_machine.specs.State.{Frame}
-use Rattle.jvms_program.specs.declared.program.Class.{Class}
 use Rattle.machine.specs.Machine.{Machine, row_of}
 use Rattle.machine.specs.Views.{frame_at, thread_at}
-use Rattle.machine_text.specs.Places.{place_text}
 use Rattle.runs.specs.Choices.{after_turn}
+use Rattle.explaining.specs.Places.{frame_part}
+
+-- A throw: the reference of the exception, and the line that says where it was.
+pub record ThrowLine : Type 0 where
+  pub exception : ℕ
+  pub line : List ℕ
+
+-- No reference is 0.
+abbrev pub no_throw : ThrowLine
+no_throw = record { exception = 0; line = [] }
 
 abbrev pub is_raised : Outcome → Bool
 is_raised outcome.Raised = true
@@ -21,34 +28,35 @@ is_raised _ = false
 abbrev pub throws : Machine → ℕ → Bool
 throws m t = not (is_some (option_and_then (λ x. x.pending) (thread_at m t))) && is_raised (row_of m t).outcome
 
--- The place of a call.
-abbrev pub frame_part : List Class → Option Frame → List ℕ
-frame_part program (Some (stack_frame.Call f)) = codes " at " ++ place_text program f.method f.activation.place
-frame_part program _ = []
-
--- The throw of a thread, by a turn of this number from a machine on.
-abbrev pub throw_line : ℕ → ℕ → Machine → List ℕ
-throw_line t turn m =
+-- The line of the throw of a thread, by a turn of this number.
+abbrev pub throw_line : ℕ → List ClassFile → ℕ → ℕ → Machine → List ℕ
+throw_line first files t turn m =
     codes "thread " ++ decimal t ++ codes " threw at turn " ++ decimal turn
-    ++ frame_part m.program (frame_at m t 0) ++ codes "\n"
+    ++ frame_part m.program first files (frame_at m t 0) ++ codes "\n"
 
-abbrev pub throw_in : ℕ → ℕ → Machine → ℕ → List (List ℕ)
-throw_in t turn m u = cond (u == t && throws m t) (throw_line t turn m ∷ []) []
+-- The same, if the turn of a choice is a throw of the thread.
+abbrev pub line_in : ℕ → List ClassFile → ℕ → ℕ → Machine → ℕ → Option (List ℕ)
+line_in first files t turn m u = cond (u == t && throws m t) (Some (throw_line first files t turn m)) None
 
--- The throws of a thread in the turns of choices, of which the first has this number.
-abbrev pub throws_of : ℕ → ℕ → Machine → List ℕ → List (List ℕ)
-throws_of t turn m [] = []
-throws_of t turn m (u ∷ choices) = throw_in t turn m u ++ throws_of t (turn + 1) (after_turn m u) choices
+-- The exception that is pending in a thread.
+abbrev pub pending_in : Machine → ℕ → ℕ
+pending_in m t = unwrap_or (option_and_then (λ x. x.pending) (thread_at m t)) 0
 
-abbrev pub listed : Option (List ℕ) → List (List ℕ)
-listed None = []
-listed (Some line) = line ∷ []
+-- The later of two throws. If it throws the same exception once more, as a `finally` does, the earlier one is kept.
+abbrev pub later_throw : ThrowLine → ℕ → Option (List ℕ) → ThrowLine
+later_throw last exception None = last
+later_throw last exception (Some line) =
+    cond (last.exception == exception) last (record { exception = exception; line = line })
 
--- The last of some lines, or else this one.
-abbrev pub last_or : List ℕ → List (List ℕ) → List ℕ
-last_or line [] = line
-last_or line (next ∷ lines) = last_or next lines
+-- The last throw of a thread in the turns of choices, of which the first has this number, or else this one.
+abbrev pub last_throw : ℕ → List ClassFile → ℕ → ThrowLine → ℕ → Machine → List ℕ → ThrowLine
+last_throw first files t last turn m [] = last
+last_throw first files t last turn m (u ∷ choices) =
+    last_throw first files t
+    (later_throw last (pending_in (after_turn m u) t) (line_in first files t turn m u))
+    (turn + 1) (after_turn m u) choices
 
 -- The last throw of each of these threads.
-abbrev pub throw_lines : Machine → List ℕ → List (ℕ × List ℕ) → List ℕ
-throw_lines m choices uncaught = flat_map (λ thread. last_or [] (throws_of thread.0 1 m choices)) uncaught
+abbrev pub throw_lines : ℕ → List ClassFile → Machine → List ℕ → List (ℕ × List ℕ) → List ℕ
+throw_lines first files m choices uncaught =
+    flat_map (λ thread. (last_throw first files thread.0 no_throw 1 m choices).line) uncaught

@@ -5,13 +5,18 @@ ghost use Rattle.std.specs.String.{string_bytes};
 ghost use Rattle.velodrome.specs.Specification.{Specification};
 ghost use Rattle.judge.specs.Judgement.{IsJudgement};
 ghost use Rattle.program_runs.specs.Judgements.{IsJudgementBy, MayBeFed};
-ghost use Rattle.explaining.specs.Explanations.{cycle_part};
+ghost use Rattle.explaining.specs.Explanations.{verdict_part};
 
+use crate::event_places::put_event_places;
+use crate::event_turns::{EventTurn, turns_of};
 use atom_graph::Checker;
 use atom_spec::Spec;
 use jvms_machine::trace::Item;
+use needs::unmatched_text;
+use program::Program;
 use program_runs::{Judgement, feed_items, judgement_of};
 use report::explain;
+use source_lines::SourceFiles;
 use std::alloc::{AllocError, Global};
 
 /// A judgement, and the lines that explain its cycle.
@@ -21,41 +26,57 @@ pub(crate) struct Explained {
     pub(crate) text: String,
 }
 
-/// Judges items by a specification, and explains the cycle if there is one. The turns are those of the events.
+/// Judges items by a specification, and explains the verdict. The events are those of the items.
 fn explain_by(
     alloc: Global,
+    program: &Program,
+    sources: &SourceFiles,
     spec: Spec,
     items: &[Item],
-    turns: &[u64],
+    events: &[EventTurn],
 ) -> Result<Explained, AllocError>
     requires { MayBeFed spec items.now }
     ensures judged { IfOk result (λ e. IsJudgement (Some spec) items.now e.judgement) }
     ensures text { IfOk result (λ e. string_bytes e.text
-        ≡ cycle_part (Some spec) e.judgement items.now turns.now) }
+        ≡ verdict_part program.now sources.now.first sources.now.files.now (Some spec) e.judgement items.now events.now) }
 {
+    let unmatched = unmatched_text(alloc, program, spec.lines())?;
+    let turns = turns_of(alloc, events)?;
     let mut checker = Checker::new(alloc, spec)?;
     feed_items(&mut checker, items)?;
     let judgement = judgement_of(&checker)?;
-    let text = explain(alloc, &checker, turns, &judgement.verdict)?;
+    let mut text = explain(alloc, &checker, turns.as_slice(), &judgement.verdict)?;
+    put_event_places(
+        alloc,
+        &mut text,
+        program,
+        sources,
+        &judgement.verdict,
+        events,
+    )?;
+    text.push_str(unmatched.as_str())?;
     Ok(Explained {
         judgement: Some(judgement),
         text,
     })
 }
 
-/// Judges items, if there is a specification, and explains the cycle if there is one.
+/// Judges items, if there is a specification, and explains the verdict.
 pub(crate) fn explain_items(
     alloc: Global,
+    program: &Program,
+    sources: &SourceFiles,
     spec: Option<Spec>,
     items: &[Item],
-    turns: &[u64],
+    events: &[EventTurn],
 ) -> Result<Explained, AllocError>
     requires { (lines : Specification) → MayBeFed lines items.now }
     ensures judged { IfOk result (λ e. IsJudgement spec items.now e.judgement) }
-    ensures text { IfOk result (λ e. string_bytes e.text ≡ cycle_part spec e.judgement items.now turns.now) }
+    ensures text { IfOk result (λ e. string_bytes e.text
+        ≡ verdict_part program.now sources.now.first sources.now.files.now spec e.judgement items.now events.now) }
 {
     match spec {
-        Some(spec) => explain_by(alloc, spec, items, turns),
+        Some(spec) => explain_by(alloc, program, sources, spec, items, events),
         None => Ok(Explained {
             judgement: None,
             text: String::new(alloc),

@@ -8,25 +8,27 @@ ghost use Rattle.machine.specs.Started.{opened};
 ghost use Rattle.explaining.specs.EventTurns.{event_turns};
 ghost use Rattle.explaining.specs.Explanations.{is_stuck, stuck_lines, threads_part};
 
-use crate::event_turns::event_turns;
+use crate::event_turns::{EventTurn, event_turns};
+use crate::stops::put_stops;
 use crate::throws::throw_lines;
 use jvms_machine::machine::{Entry, Limits, Status, ThreadId};
 use machine::{Machine, MachineFault};
 use machine_text::threads_text;
 use program::Program;
 use runs::Ending;
+use source_lines::SourceFiles;
 use std::alloc::{AllocError, Global};
 
 /// What the turns of a run tell when they are taken once more.
 #[derive(Debug, Drop)]
 pub(crate) struct Replayed {
-    /// The turn of each event, from 1.
-    pub(crate) turns: Vec<u64>,
-    /// The lines of exceptions that nothing caught, and then of the threads, if none of them can go on.
+    /// What is said of each event.
+    pub(crate) events: Vec<EventTurn>,
+    /// The lines of exceptions that nothing caught, and then of the threads, if none of them can continue.
     pub(crate) lines: String,
 }
 
-/// Returns whether no thread can go on, though not all have ended.
+/// Returns whether no thread can continue, though not all have ended.
 fn is_stuck(status: Status) -> bool
     ensures { result ≡ is_stuck status }
 {
@@ -34,49 +36,59 @@ fn is_stuck(status: Status) -> bool
 }
 
 /// Returns the lines of the threads, if they are stuck.
-fn threads_part(alloc: Global, status: Status, machine: &Machine) -> Result<String, AllocError>
-    ensures { IfOk result (λ text. string_bytes text ≡ threads_part status machine.now) }
+fn threads_part(
+    alloc: Global,
+    sources: &SourceFiles,
+    status: Status,
+    machine: &Machine,
+) -> Result<String, AllocError>
+    ensures { IfOk result (λ text. string_bytes text
+        ≡ threads_part sources.now.first sources.now.files.now status machine.now) }
 {
+    let mut text = String::new(alloc);
     if is_stuck(status) {
-        threads_text(alloc, machine)
-    } else {
-        Ok(String::new(alloc))
+        put_stops(alloc, &mut text, sources, machine)?;
+        let threads = threads_text(alloc, machine)?;
+        text.push_str(threads.as_str())?;
     }
+    Ok(text)
 }
 
 /// Takes the turns of choices from a machine's opening on.
 fn replay_on(
     alloc: Global,
     machine: &mut Machine<'_>,
+    sources: &SourceFiles,
     choices: &[ThreadId],
     ending: &Ending,
 ) -> Result<Replayed, AllocError>
-    ensures turns { IfOk result (λ r. r.turns.items ≡ event_turns 1 machine.old choices.now) }
+    ensures events { IfOk result (λ r. r.events.items ≡ event_turns 1 machine.old choices.now) }
     ensures lines { IfOk result (λ r. string_bytes r.lines
-        ≡ stuck_lines machine.old choices.now ending.now.uncaught ending.now.status) }
+        ≡ stuck_lines sources.now.first sources.now.files.now machine.old choices.now ending.now.uncaught ending.now.status) }
 {
-    let mut lines = throw_lines(alloc, machine, choices, ending.uncaught.as_slice())?;
-    let turns = event_turns(alloc, machine, choices)?;
-    let threads = threads_part(alloc, ending.status, machine)?;
+    let mut lines = throw_lines(alloc, machine, sources, choices, ending.uncaught.as_slice())?;
+    let events = event_turns(alloc, machine, choices)?;
+    let threads = threads_part(alloc, sources, ending.status, machine)?;
     lines.push_str(threads.as_str())?;
-    Ok(Replayed { turns, lines })
+    Ok(Replayed { events, lines })
 }
 
 /// Takes the turns of choices once more, from an entry of a program on, that end so.
 pub(crate) fn replay(
     alloc: Global,
     program: &Program,
+    sources: &SourceFiles,
     limits: Limits,
     entry: &Entry,
     choices: &[ThreadId],
     ending: &Ending,
 ) -> Result<Replayed, MachineFault>
     ensures { IfOk result (λ r. (start : Start) × (made program.now limits entry.now ≡ Ok start)
-        × (r.turns.items ≡ event_turns 1 (opened program.now limits start) choices.now)
-        × (string_bytes r.lines ≡ stuck_lines (opened program.now limits start) choices.now ending.now.uncaught ending.now.status)) }
+        × (r.events.items ≡ event_turns 1 (opened program.now limits start) choices.now)
+        × (string_bytes r.lines ≡ stuck_lines sources.now.first sources.now.files.now (opened program.now limits start) choices.now ending.now.uncaught ending.now.status)) }
 {
     let mut machine = Machine::new(alloc, program, limits, entry)?;
-    let replayed = replay_on(alloc, &mut machine, choices, ending);
+    let replayed = replay_on(alloc, &mut machine, sources, choices, ending);
     drop(machine);
     match replayed {
         Ok(replayed) => Ok(replayed),

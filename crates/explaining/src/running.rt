@@ -14,12 +14,13 @@ use crate::judging::explain_items;
 use crate::replay::replay;
 use atom_spec::Spec;
 use inputs::Input;
-use judge::{JudgeFault, program_of};
+use judge::{JudgeFault, classes_of, program_of};
 use jvms_machine::machine::{Entry, Limits};
 use program::Program;
 use program_runs::{Judgement, ProgramFault, trace_program};
 use runs::Ending;
 use schedule::Chooser;
+use source_lines::SourceFiles;
 use std::alloc::Global;
 use turn_limit::TurnLimit;
 
@@ -28,8 +29,9 @@ use turn_limit::TurnLimit;
 pub struct ExplainedRun {
     pub ending: Ending,
     pub judgement: Option<Judgement>,
-    /// The lines of its cycle, if there is one. Then where the exceptions were thrown that nothing caught, and its threads,
-    /// if none of them can go on.
+    /// The lines of its cycle, if there is one, where its events are in the program, and the lines of the specification
+    /// that speak of no method. Then where the exceptions were thrown that nothing caught, and its threads, if none of them
+    /// can continue.
     pub explanation: String,
 }
 
@@ -37,6 +39,7 @@ pub struct ExplainedRun {
 fn explain_program(
     alloc: Global,
     program: &Program,
+    sources: &SourceFiles,
     limits: Limits,
     entry: &Entry,
     chooser: &mut Chooser,
@@ -48,7 +51,7 @@ fn explain_program(
     ensures judged { IfOk result (λ run. IsJudgementOn spec
         (program_judged most chooser.old limits program.now entry.now) run.judgement) }
     ensures explained { IfOk result (λ run.
-        program_explanation spec run.judgement most chooser.old limits program.now entry.now
+        program_explanation sources.now.first sources.now.files.now spec run.judgement most chooser.old limits program.now entry.now
         ≡ Ok (string_bytes run.explanation)) }
     ensures chooser { OnOk result
         (program_chooser_left most chooser.old limits program.now entry.now ≡ Ok chooser.new) }
@@ -58,11 +61,19 @@ fn explain_program(
     program.is_program();
     let traced = trace_program(alloc, program, limits, entry, chooser, most.turns())?;
     let choices = traced.choices.as_slice();
-    let Ok(replayed) = replay(alloc, program, limits, entry, choices, &traced.ending) else {
+    let Ok(replayed) = replay(
+        alloc,
+        program,
+        sources,
+        limits,
+        entry,
+        choices,
+        &traced.ending,
+    ) else {
         return Err(ProgramFault::Memory);
     };
-    let turns = replayed.turns.as_slice();
-    let explained = explain_items(alloc, spec, traced.trace.items(), turns)?;
+    let events = replayed.events.as_slice();
+    let explained = explain_items(alloc, program, sources, spec, traced.trace.items(), events)?;
     let mut explanation = explained.text;
     explanation.push_str(replayed.lines.as_str())?;
     Ok(ExplainedRun {
@@ -97,7 +108,14 @@ fn explain_inputs(
     ensures named { IfErr result (λ fault. NamesFile (length inputs.now) fault) }
 {
     let program = program_of(alloc, inputs)?;
-    let run = explain_program(alloc, &program, limits, entry, chooser, most, spec)?;
+    // They are classes, since they make a program.
+    let Ok(files) = classes_of(alloc, inputs) else {
+        return Err(JudgeFault::Memory);
+    };
+    let sources = SourceFiles::new(program.classes(), files.as_slice());
+    let run = explain_program(
+        alloc, &program, &sources, limits, entry, chooser, most, spec,
+    )?;
     Ok(run)
 }
 
@@ -123,8 +141,8 @@ pub fn run_explained(
     // The verdict on the items of that run, and their counts; none without a specification.
     ensures judged { IfOk result (λ run. IsJudgementOn spec
         (run_judged most chooser.old limits inputs.now entry.now) run.judgement) }
-    // What is explained is the cycle of that verdict, on the items of that run, with the turns that it gives; and the
-    // threads of the machine after it.
+    // What is explained is the cycle of that verdict, on the items of that run, with the turns and the places that it
+    // gives; and the threads of the machine after it.
     ensures explained { IfOk result (λ run.
         explanation_of_inputs spec run.judgement most chooser.old limits inputs.now entry.now
         ≡ Ok (string_bytes run.explanation)) }

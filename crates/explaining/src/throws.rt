@@ -1,19 +1,25 @@
 //! Where the exceptions were thrown with which threads ended.
 
-ghost use Rattle.std.specs.Prelude.{◌≡◌, [], IfOk, OnOk};
+ghost use Rattle.std.specs.Prelude.{◌≡◌, IfOk, OnOk};
 ghost use Rattle.std.specs.Option.{option_map};
 ghost use Rattle.std.specs.String.{string_bytes};
-ghost use Rattle.machine.specs.Views.{shown};
 ghost use Rattle.runs.specs.Choices.{after_turn};
-ghost use Rattle.explaining.specs.Throws.{frame_part, last_or, listed, throw_in, throw_line, throw_lines, throws, throws_of};
+ghost use Rattle.explaining.specs.Throws.{last_throw, later_throw, line_in, no_throw, pending_in, throw_line, throw_lines, throws};
 
+use crate::places::put_frame_part;
 use jvms_machine::machine::{Outcome, ThreadId};
-use machine::{FrameView, Machine};
-use machine_text::place_text;
-use program::Program;
+use machine::Machine;
 use runs::Uncaught;
+use source_lines::SourceFiles;
 use std::alloc::{AllocError, Global};
 use trace::Recording;
+
+/// A throw: the reference of the exception, and the line that says where it was. The reference is 0 if there is none.
+#[derive(Debug, Drop)]
+struct Throw {
+    exception: u32,
+    line: String,
+}
 
 /// Returns whether the turn of a thread leaves an exception pending, where none was.
 fn throws(machine: &Machine<'_>, thread: ThreadId) -> bool
@@ -22,82 +28,90 @@ fn throws(machine: &Machine<'_>, thread: ThreadId) -> bool
     machine.pending(thread).is_none() && machine.peek(thread) == Outcome::Raised
 }
 
-/// Returns the place of a call. The text is empty if there is no frame, or none of a call.
-fn frame_part(
-    alloc: Global,
-    program: &Program,
-    frame: &Option<FrameView<'_, '_>>,
-) -> Result<String, AllocError>
-    ensures { IfOk result (λ text. string_bytes text ≡ frame_part program.now (option_map shown frame.now)) }
-{
-    match frame {
-        None => Ok(String::new(alloc)),
-        Some(FrameView::Initialisation { .. }) => Ok(String::new(alloc)),
-        Some(FrameView::Call(call)) => {
-            let place = place_text(alloc, program, call.method(), call.place())?;
-            format!(in alloc; " at {place}")
-        }
-    }
-}
-
 /// Returns the line of the throw of a thread, by its turn of this number.
 fn throw_line(
     alloc: Global,
     machine: &Machine<'_>,
+    sources: &SourceFiles,
     thread: ThreadId,
     turn: u64,
 ) -> Result<String, AllocError>
-    ensures { IfOk result (λ line. string_bytes line ≡ throw_line thread turn machine.now) }
+    ensures { IfOk result (λ line. string_bytes line
+        ≡ throw_line sources.now.first sources.now.files.now thread turn machine.now) }
 {
-    let place = frame_part(alloc, machine.program(), &machine.frame(thread, 0))?;
-    let line = format!(in alloc; "thread {thread} threw at turn {turn}{place}\n")?;
+    let mut line = format!(in alloc; "thread {thread} threw at turn {turn}")?;
+    put_frame_part(
+        &mut line,
+        machine.program(),
+        sources,
+        &machine.frame(thread, 0),
+    )?;
+    line.push_str("\n")?;
     Ok(line)
 }
 
 /// Returns the line of the throw of a thread, if the turn of a choice is one.
-fn throw_in(
+fn line_in(
     alloc: Global,
     machine: &Machine<'_>,
+    sources: &SourceFiles,
     choice: ThreadId,
     thread: ThreadId,
     turn: u64,
 ) -> Result<Option<String>, AllocError>
-    ensures { IfOk result (λ line. listed (option_map string_bytes line) ≡ throw_in thread turn machine.now choice) }
+    ensures { IfOk result (λ line. option_map string_bytes line
+        ≡ line_in sources.now.first sources.now.files.now thread turn machine.now choice) }
 {
     if choice == thread && throws(machine, thread) {
-        let line = throw_line(alloc, machine, thread, turn)?;
+        let line = throw_line(alloc, machine, sources, thread, turn)?;
         Ok(Some(line))
     } else {
         Ok(None)
     }
 }
 
-/// Puts a line in the place of another, if there is one.
-fn put_over(line: &mut String, next: Option<String>)
-    ensures { string_bytes line.new ≡ last_or (string_bytes line.old) (listed (option_map string_bytes next)) }
+/// Returns the exception that is pending in a thread, or 0.
+fn pending_in(machine: &Machine<'_>, thread: ThreadId) -> u32
+    ensures { result ≡ pending_in machine.now thread }
 {
-    match next {
-        Some(next) => *line = next,
+    machine.pending(thread).unwrap_or(0)
+}
+
+/// Puts a throw in the place of an earlier one, if there is one. The earlier one is kept if it threw the same exception.
+fn put_later(last: &mut Throw, exception: u32, line: Option<String>)
+    ensures { record { exception = last.new.exception; line = string_bytes last.new.line }
+        ≡ later_throw (record { exception = last.old.exception; line = string_bytes last.old.line })
+        exception (option_map string_bytes line) }
+{
+    match line {
         None => {}
+        Some(line) => {
+            if last.exception != exception {
+                *last = Throw { exception, line };
+            }
+        }
     }
 }
 
-/// Takes the turn of a choice. Puts the line of a thread's throw in the place of another line, if the turn is one.
+/// Takes the turn of a choice. Puts a thread's throw in the place of another, if the turn is one.
 fn take_turn(
     alloc: Global,
     machine: &mut Machine<'_>,
+    sources: &SourceFiles,
     choice: ThreadId,
     thread: ThreadId,
     turn: u64,
-    line: &mut String,
+    last: &mut Throw,
 ) -> Result<(), AllocError>
     ensures machine { OnOk result (machine.new ≡ after_turn machine.old choice) }
-    ensures line { OnOk result (string_bytes line.new
-        ≡ last_or (string_bytes line.old) (throw_in thread turn machine.old choice)) }
+    ensures last { OnOk result (record { exception = last.new.exception; line = string_bytes last.new.line }
+        ≡ later_throw (record { exception = last.old.exception; line = string_bytes last.old.line })
+        (pending_in (after_turn machine.old choice) thread)
+        (line_in sources.now.first sources.now.files.now thread turn machine.old choice)) }
 {
-    let next = throw_in(alloc, machine, choice, thread, turn)?;
+    let line = line_in(alloc, machine, sources, choice, thread, turn)?;
     machine.step_recorded(choice, &mut Recording::of_nothing())?;
-    put_over(line, next);
+    put_later(last, pending_in(machine, thread), line);
     Ok(())
 }
 
@@ -105,31 +119,46 @@ fn take_turn(
 fn last_throw(
     alloc: Global,
     machine: &mut Machine<'_>,
+    sources: &SourceFiles,
     choices: &[ThreadId],
     thread: ThreadId,
 ) -> Result<String, AllocError>
-    ensures { IfOk result (λ line. string_bytes line ≡ last_or [] (throws_of thread 1 machine.old choices.now)) }
+    ensures { IfOk result (λ line. string_bytes line
+        ≡ (last_throw sources.now.first sources.now.files.now thread no_throw 1 machine.old choices.now).line) }
 {
-    let mut line = String::new(alloc);
+    let mut last = Throw {
+        exception: 0,
+        line: String::new(alloc),
+    };
     for (place, choice) in choices.iter().enumerate() {
-        take_turn(alloc, machine, *choice, thread, place as u64 + 1, &mut line)?;
+        take_turn(
+            alloc,
+            machine,
+            sources,
+            *choice,
+            thread,
+            place as u64 + 1,
+            &mut last,
+        )?;
     }
-    Ok(line)
+    Ok(last.line)
 }
 
 /// Returns the lines of the last throws of threads in the turns of choices. The turns are taken once for each thread.
 pub(crate) fn throw_lines(
     alloc: Global,
     opening: &Machine<'_>,
+    sources: &SourceFiles,
     choices: &[ThreadId],
     uncaught: &[Uncaught],
 ) -> Result<String, AllocError>
-    ensures { IfOk result (λ lines. string_bytes lines ≡ throw_lines opening.now choices.now uncaught.now) }
+    ensures { IfOk result (λ lines. string_bytes lines
+        ≡ throw_lines sources.now.first sources.now.files.now opening.now choices.now uncaught.now) }
 {
     let mut lines = String::new(alloc);
     for (thread, _) in uncaught {
         let mut machine = opening.copy()?;
-        let line = last_throw(alloc, &mut machine, choices, *thread)?;
+        let line = last_throw(alloc, &mut machine, sources, choices, *thread)?;
         lines.push_str(line.as_str())?;
     }
     Ok(lines)

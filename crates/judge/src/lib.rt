@@ -9,5 +9,5 @@ mod verdicts;
 
 pub use fault::JudgeFault;
 pub use judging::{Judged, judge};
-pub use reading::program_of;
+pub use reading::{classes_of, program_of};
 pub use running::{RunSummary, run};

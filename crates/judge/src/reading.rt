@@ -20,8 +20,12 @@ fn class_of_input(alloc: Global, input: &Input) -> Result<ClassFile, InputFault>
     Ok(class.into_class())
 }
 
-/// The classes of inputs, or the first that is none.
-fn read_all(alloc: Global, inputs: &[Input]) -> Result<Vec<ClassFile>, JudgeFault>
+/// Returns the classes that inputs are.
+///
+/// # Errors
+///
+/// The fault of the first input that is no class.
+pub fn classes_of(alloc: Global, inputs: &[Input]) -> Result<Vec<ClassFile>, JudgeFault>
     ensures classes { IfOk result (λ classes. classes_from 0 inputs.now ≡ Ok classes.items) }
     ensures fault { IfErr result (λ fault. IsClassesFault fault (classes_from 0 inputs.now)) }
     ensures named { IfErr result (λ fault. NamesFile (length inputs.now) fault) }
@@ -48,7 +52,7 @@ pub fn program_of(alloc: Global, inputs: &[Input]) -> Result<Program, JudgeFault
     ensures fault { IfErr result (λ fault. IsNoProgram fault (program_in inputs.now)) }
     ensures named { IfErr result (λ fault. NamesFile (length inputs.now) fault) }
 {
-    let classes = read_all(alloc, inputs)?;
+    let classes = classes_of(alloc, inputs)?;
     let program = link(alloc, classes)?;
     Ok(program)
 }

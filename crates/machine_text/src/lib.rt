@@ -16,6 +16,6 @@ pub use crate::class::class_text;
 pub use crate::object::object_text;
 pub use crate::outcome::{outcome_text, status_name};
 pub use crate::output::output_text;
-pub use crate::place::place_text;
+pub use crate::place::{place_text, put_place};
 pub use crate::thread_frames::frames_text;
-pub use crate::threads::threads_text;
+pub use crate::threads::{thread_count, threads_text};

@@ -50,7 +50,7 @@ fn put_key(out: &mut String, program: &Program, method: MethodNumber) -> Result<
 
 /// Appends an instruction of a method: `C.m.D @i`.
 /// Without memory the text may end in a part of it.
-pub(crate) fn put_place(
+pub fn put_place(
     out: &mut String,
     program: &Program,
     method: MethodNumber,

@@ -16,7 +16,7 @@ use machine::Machine;
 use std::alloc::{AllocError, Global};
 
 /// Returns the number of threads that were ever started.
-fn thread_count(machine: &Machine) -> ThreadId
+pub fn thread_count(machine: &Machine) -> ThreadId
     ensures { result ≡ length machine.now.state.threads }
 {
     // There are no more threads than the limit, a number of 32 bits.

@@ -1,47 +1,32 @@
--- The lines of instructions, one after another.
-use Rattle.std.proofs.Common.{◌≡◌, ℕ, suc, ◌+◌, ◌<◌, List, [], ◌∷◌, ◌++◌, length, take, get_or, sym, ap, ◌∙◌, arith, append_assoc, append-nil}
-use Rattle.std.proofs.lemmas.List.{length-take-le, take_more}
-use Rattle.jvms_program.specs.declared.key.MethodKey.{MethodKey}
-use Rattle.jvms_program.specs.declared.program.Class.{Class}
-use Rattle.jvms_program.specs.declared.program.Instruction.{Instruction}
-use Rattle.needs.specs.Lacks.{lack_of}
-use Rattle.needs.specs.Lines.{line_if, lines_from}
+-- The lines of numbered items, one after another.
+use Rattle.std.proofs.Common.{◌≡◌, ℕ, zero, suc, ◌+◌, ◌<◌, List, [], ◌∷◌, ◌++◌, length, drop, get_or, flat_map, refl, sym, ap, ◌∙◌, arith, append_assoc, add-one}
+use Rattle.std.specs.List.{enumerate_from}
 
--- The line of one more instruction.
-lines_push : (program : List Class) (method : MethodKey) (place : ℕ) (xs : List Instruction) (x : Instruction)
-    → lines_from program method place (xs ++ x ∷ []) ≡ lines_from program method place xs ++ line_if method (place + length xs) x (lack_of program x)
-lines_push program method place [] x =
-    let none : place + 0 ≡ place = omega arith in
-    rw none (append-nil (line_if method place x (lack_of program x)))
-lines_push program method place (y ∷ ys) x =
-    let next : place + suc (length ys) ≡ suc place + length ys = omega arith in
-    rw next (
-    ap (λ l. line_if method place y (lack_of program y) ++ l) (lines_push program method (suc place) ys x)
-    ∙ sym (append_assoc (line_if method place y (lack_of program y)) (lines_from program method (suc place) ys) (line_if method (suc place + length ys) x (lack_of program x)))
-    )
+module _ {X : Type 0} where
+  next_rest : (xs : List X) (k : ℕ) → drop (k + 1) xs ≡ drop (suc k) xs
+  next_rest xs k = rw add-one refl
 
--- The lines up to the next instruction.
-one_more : (program : List Class) (method : MethodKey) (all : List Instruction) (k : ℕ) (d : Instruction) → k < length all
-    → lines_from program method 0 (take (k + 1) all) ≡ lines_from program method 0 (take k all) ++ line_if method k (get_or all k d) (lack_of program (get_or all k d))
-one_more program method all k d below =
-    let few : length (take k all) ≡ k = length-take-le k all (omega arith) in
-    let many : 0 + length (take k all) ≡ k = omega (arith, few) in
-    ap (lines_from program method 0) (take_more all k d below)
-    ∙ lines_push program method 0 (take k all) (get_or all k d)
-    ∙ ap (λ n. lines_from program method 0 (take k all) ++ line_if method n (get_or all k d) (lack_of program (get_or all k d))) many
+  -- The lines of what is left are those of its first item and those of the others.
+  first_of_rest : (f : ℕ × X → List ℕ) (xs : List X) (k n : ℕ) (d : X) → k < length xs →
+      flat_map f (enumerate_from n (drop k xs))
+      ≡ f (n, get_or xs k d) ++ flat_map f (enumerate_from (n + 1) (drop (suc k) xs))
+  first_of_rest f [] k n d below = absurd (omega (arith, below))
+  first_of_rest f (x ∷ xs) zero n d below = refl
+  first_of_rest f (x ∷ xs) (suc k) n d below = first_of_rest f xs k n d (omega (arith, below))
 
--- What was put so far, and the line of the next instruction.
-pub one_more_line : (program : List Class) (method : MethodKey) (all : List Instruction) (k : ℕ) (x : Instruction) (start before now : List ℕ)
-    → k < length all → x ≡ get_or all k x
-    → before ≡ start ++ lines_from program method 0 (take k all)
-    → now ≡ before ++ line_if method k x (lack_of program x)
-    → now ≡ start ++ lines_from program method 0 (take (k + 1) all)
-one_more_line program method all k x start before now below is so_far put =
-    put
-    ∙ ap (λ b. b ++ line_if method k x (lack_of program x)) so_far
-    ∙ append_assoc start (lines_from program method 0 (take k all)) (line_if method k x (lack_of program x))
-    ∙ ap (λ l. start ++ l)
-    (ap (λ y. lines_from program method 0 (take k all) ++ line_if method k y (lack_of program y)) is ∙ sym (one_more program method all k x below))
+  -- The lines of one more item, and those of the items that are left after it.
+  pub one_more : (f : ℕ × X → List ℕ) (xs : List X) (k : ℕ) (x : X) (before now all : List ℕ) →
+      k < length xs → x ≡ get_or xs k x →
+      now ≡ before ++ f (k, x) → before ++ flat_map f (enumerate_from k (drop k xs)) ≡ all →
+      now ++ flat_map f (enumerate_from (k + 1) (drop (k + 1) xs)) ≡ all
+  one_more f xs k x before now all below is put so_far =
+      rw (next_rest xs k) (
+      ap (λ b. b ++ flat_map f (enumerate_from (k + 1) (drop (suc k) xs))) put
+      ∙ append_assoc before (f (k, x)) (flat_map f (enumerate_from (k + 1) (drop (suc k) xs)))
+      ∙ ap (λ y. before ++ (f (k, y) ++ flat_map f (enumerate_from (k + 1) (drop (suc k) xs)))) is
+      ∙ ap (λ l. before ++ l) (sym (first_of_rest f xs k k x below))
+      ∙ so_far
+      )
 
 -- Three parts are put one after another.
 pub three_parts : (start one two three a b c : List ℕ) → one ≡ start ++ a → two ≡ one ++ b → three ≡ two ++ c → three ≡ start ++ (a ++ b ++ c)

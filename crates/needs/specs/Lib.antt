@@ -3,4 +3,5 @@ pub mod Lacks
 pub mod Lines
 pub mod Named
 pub mod Outside
+pub mod Supers
 pub mod Unmatched

@@ -1,18 +1,23 @@
 -- The lines of what the classes of a program need that isn't there (own): of the classes that aren't built in in their
--- order, of their methods in their order, and of these methods' instructions in their order.
-use Rattle.std.specs.Prelude.{ℕ, suc, List, [], ◌∷◌, ◌++◌, Option, Some, None, codes, if◌then◌else◌}
+-- order, of their methods in their order, and of these methods' instructions in their order. The class files of the last
+-- classes tell places in sources: the class of the first of them has the number `first`.
+use Rattle.std.specs.Prelude.{ℕ, List, [], ◌++◌, Option, Some, None, codes, if◌then◌else◌}
 use Rattle.std.specs.Fmt.{decimal}
-use Rattle.std.specs.List.{flat_map}
+use Rattle.std.specs.List.{enumerate_from, flat_map}
 use Rattle.escapes.specs.Escapes.{spelled}
 use Rattle.escapes.specs.Keys.{member_text, method_text}
+use Rattle.jvms_file.specs.declared.class_file.ClassFile.{ClassFile}
 use Rattle.jvms_program.specs.declared.key.MethodKey.{MethodKey}
+use Rattle.jvms_program.specs.declared.number.MethodNumber.{MethodNumber}
 use Rattle.jvms_program.specs.declared.program.Body.{Body}
 use Rattle.jvms_program.specs.declared.program.Class.{Class}
 use Rattle.jvms_program.specs.declared.program.Instruction.{Instruction}
+use Rattle.jvms_program.specs.declared.program.Method.{Method}
 use Rattle.jvms_program.specs.declared.thrown.Thrown.{Thrown}
 use Rattle.jvms_program.specs.declared.thrown.Thrown.TheVariants as thrown
 use Rattle.jvms_program.specs.BuiltIn.{is_built_in}
 use Rattle.jvms_program.specs.Program.{key_in}
+use Rattle.source_lines.specs.SourceLines.{source_place}
 use Rattle.needs.specs.declared.lack.Lack.{Lack}
 use Rattle.needs.specs.declared.lack.Lack.TheVariants as lack
 use Rattle.needs.specs.Hints.{hint_of, is_absence}
@@ -43,35 +48,57 @@ hint_text lack None member = []
 hint_text lack (Some class) None = hint_of lack class []
 hint_text lack (Some class) (Some member) = hint_of lack class member.0
 
--- `C.m.D @i `, the place of a method's instruction, from 0.
-abbrev pub place_text : MethodKey → ℕ → List ℕ
-place_text method place = method_text method ++ codes " @" ++ decimal place ++ codes " "
+-- `NoSuchMethodError C.m.D`, what is needed of a class and a member.
+abbrev pub reason_of : Lack → Option (List ℕ) → Option (List ℕ × List ℕ) → List ℕ
+reason_of lack class member = lack_text lack ++ named_text lack class member ++ hint_text lack class member
 
--- `NoSuchMethodError C.m.D`, what the instruction needs.
+-- What an instruction needs.
 abbrev pub reason_text : Lack → Instruction → List ℕ
-reason_text lack i =
-    lack_text lack ++ named_text lack (class_named i) (member_named i) ++ hint_text lack (class_named i) (member_named i)
+reason_text lack i = reason_of lack (class_named i) (member_named i)
 
-abbrev pub need_line : MethodKey → ℕ → Instruction → Lack → List ℕ
-need_line method place i lack = place_text method place ++ reason_text lack i ++ codes "\n"
+abbrev pub need_if : Instruction → Option Lack → List ℕ
+need_if i None = []
+need_if i (Some lack) = codes " " ++ reason_text lack i
 
-abbrev pub line_if : MethodKey → ℕ → Instruction → Option Lack → List ℕ
-line_if method place i None = []
-line_if method place i (Some lack) = need_line method place i lack
+-- ` NoSuchMethodError C.m.D`, what an instruction needs, if it needs what isn't there.
+abbrev pub need_text : List Class → Instruction → List ℕ
+need_text program i = need_if i (lack_of program i)
 
--- The lines of instructions, the first of which is at this place.
-abbrev pub lines_from : List Class → MethodKey → ℕ → List Instruction → List ℕ
-lines_from program method place [] = []
-lines_from program method place (i ∷ is) =
-    line_if method place i (lack_of program i) ++ lines_from program method (suc place) is
+-- `C.m.D @i`, a method's instruction, from 0.
+abbrev pub instruction_text : MethodKey → ℕ → List ℕ
+instruction_text method place = method_text method ++ codes " @" ++ decimal place
 
-abbrev pub body_lines : List Class → MethodKey → Option Body → List ℕ
-body_lines program method None = []
-body_lines program method (Some body) = lines_from program method 0 body.instructions
+-- `C.m.D @i (F.java:12) `, with its place in the source.
+abbrev pub place_text : ℕ → List ClassFile → MethodNumber → MethodKey → ℕ → List ℕ
+place_text first files number method place =
+    instruction_text method place ++ source_place first files number place ++ codes " "
 
-abbrev pub class_lines : List Class → Class → List ℕ
-class_lines program c =
-    if is_built_in c.name then [] else flat_map (λ m. body_lines program (key_in c m) m.body) c.methods
+abbrev pub need_line : List ℕ → Instruction → Lack → List ℕ
+need_line place i lack = place ++ reason_text lack i ++ codes "\n"
 
-abbrev pub needs_text : List Class → List ℕ
-needs_text program = flat_map (class_lines program) program
+-- The line of the instruction at a place, if it needs what isn't there.
+abbrev pub line_if : List ℕ → Instruction → Option Lack → List ℕ
+line_if place i None = []
+line_if place i (Some lack) = need_line place i lack
+
+-- Instructions, methods and classes have their numbers with them, from 0.
+
+-- The line of an instruction, given the text of each place.
+abbrev pub instruction_line : List Class → (ℕ → List ℕ) → ℕ × Instruction → List ℕ
+instruction_line program text_of i = line_if (text_of i.0) i.1 (lack_of program i.1)
+
+abbrev pub body_lines : List Class → (ℕ → List ℕ) → Option Body → List ℕ
+body_lines program text_of None = []
+body_lines program text_of (Some body) = flat_map (instruction_line program text_of) (enumerate_from 0 body.instructions)
+
+-- The lines of a method of a class.
+abbrev pub method_lines : List Class → ℕ → List ClassFile → ℕ × Class → ℕ × Method → List ℕ
+method_lines program first files c m =
+    body_lines program (place_text first files (record { class = c.0; method = m.0 }) (key_in c.1 m.1)) m.1.body
+
+abbrev pub class_lines : List Class → ℕ → List ClassFile → ℕ × Class → List ℕ
+class_lines program first files c =
+    if is_built_in c.1.name then [] else flat_map (method_lines program first files c) (enumerate_from 0 c.1.methods)
+
+abbrev pub needs_text : List Class → ℕ → List ClassFile → List ℕ
+needs_text program first files = flat_map (class_lines program first files) (enumerate_from 0 program)

@@ -2,6 +2,7 @@
 use Rattle.std.specs.Prelude.{ℕ, Bool, not, ◌&&◌, List, [], ◌++◌, codes, if◌then◌else◌}
 use Rattle.std.specs.List.{flat_map, list_any}
 use Rattle.atom_spec.specs.Lines.{line_text}
+use Rattle.jvms_file.specs.declared.class_file.ClassFile.{ClassFile}
 use Rattle.jvms_program.specs.declared.program.Class.{Class}
 use Rattle.jvms_program.specs.BuiltIn.{is_built_in}
 use Rattle.jvms_program.specs.Program.{key_in}
@@ -21,6 +22,10 @@ no_match_line l = codes "spec " ++ line_text l ++ codes " matches no method\n"
 abbrev pub unmatched_line : List Class → SpecificationLine → List ℕ
 unmatched_line program l = if list_any (matches_in l.pattern) program then [] else no_match_line l
 
+-- The lines of those of a specification's lines that speak of no method.
+abbrev pub unmatched_lines : List Class → Specification → List ℕ
+unmatched_lines program lines = flat_map (unmatched_line program) lines
+
 -- What is missing: for the classes of a program, then for a specification.
-abbrev pub missing_text : List Class → Specification → List ℕ
-missing_text program lines = needs_text program ++ flat_map (unmatched_line program) lines
+abbrev pub missing_text : List Class → ℕ → List ClassFile → Specification → List ℕ
+missing_text program first files lines = needs_text program first files ++ unmatched_lines program lines

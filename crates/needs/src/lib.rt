@@ -1,5 +1,5 @@
-//! What the classes of a program use that isn't there: classes, members, and instructions outside of the profile; and which
-//! lines of a specification speak of no method.
+//! What the classes of a program use that isn't there: classes, members, and instructions outside of the profile; which
+//! superclasses of class files aren't there; and which lines of a specification speak of no method.
 #![tactic(auto)]
 
 mod hint;
@@ -8,11 +8,13 @@ mod laws;
 mod line;
 mod lines;
 mod named;
-mod number;
 mod outside;
+mod supers;
 mod text;
 mod unmatched;
 
 pub use lack::Lack;
 pub use laws::a_turn_outside_of_the_profile_stops;
-pub use text::missing_text;
+pub use line::put_need;
+pub use supers::missing_supers;
+pub use text::{missing_text, unmatched_text};

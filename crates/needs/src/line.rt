@@ -4,15 +4,17 @@ ghost use Rattle.std.specs.Prelude.{◌≡◌, ◌++◌, OnOk};
 ghost use Rattle.std.specs.Option.{option_map};
 ghost use Rattle.std.specs.String.{string_bytes};
 ghost use Rattle.escapes.specs.Keys.{member_text};
-ghost use Rattle.needs.specs.Lines.{error_text, hint_text, lack_text, named_text, need_line, place_text, reason_text};
+ghost use Rattle.needs.specs.Lines.{error_text, hint_text, instruction_text, lack_text, named_text, need_line, need_text, place_text, reason_of, reason_text};
 
 use crate::hint::{hint_of, is_absence};
-use crate::lack::Lack;
+use crate::lack::{Lack, lack_of};
 use crate::named::{class_named, member_named};
-use crate::number::put_number;
 use escapes::{MethodKey, put_method, put_name};
+use jvms_program::number::MethodNumber;
 use jvms_program::program::Instruction;
 use jvms_program::thrown::Thrown;
+use program::Program;
+use source_lines::{SourceFiles, put_number, put_place};
 use std::alloc::AllocError;
 
 /// Returns the name of an error that resolution throws.
@@ -86,14 +88,19 @@ fn hint_text(lack: Lack, class: Option<&[u16]>, member: Option<(&[u16], &[u16])>
     }
 }
 
-/// Appends the place of a method's instruction.
-fn put_place(out: &mut String, method: &MethodKey, place: usize) -> Result<(), AllocError>
-    ensures { OnOk result (string_bytes out.new ≡ string_bytes out.old ++ place_text method.now place) }
+/// Appends what is needed of a class and a member.
+pub(crate) fn put_reason_of(
+    out: &mut String,
+    lack: Lack,
+    class: Option<&[u16]>,
+    member: Option<(&[u16], &[u16])>,
+) -> Result<(), AllocError>
+    ensures { OnOk result (string_bytes out.new ≡ string_bytes out.old
+        ++ reason_of lack (option_map (λ c. c.now) class.entry) (option_map (λ m. (m.0.now, m.1.now)) member.entry)) }
 {
-    put_method(out, method)?;
-    out.push_str(" @")?;
-    put_number(out, place)?;
-    out.push_str(" ")
+    out.push_str(lack_name(lack))?;
+    put_named(out, lack, class, member)?;
+    out.push_str(hint_text(lack, class, member))
 }
 
 /// Appends what an instruction needs.
@@ -102,23 +109,75 @@ fn put_reason(out: &mut String, lack: Lack, instruction: &Instruction) -> Result
 {
     let class = class_named(instruction);
     let member = member_named(instruction);
-    out.push_str(lack_name(lack))?;
-    put_named(out, lack, class, member)?;
-    out.push_str(hint_text(lack, class, member))
+    put_reason_of(out, lack, class, member)
+}
+
+/// Appends what an instruction needs that isn't there, after a space. Appends nothing if it needs nothing.
+pub fn put_need(
+    out: &mut String,
+    program: &Program,
+    instruction: &Instruction,
+) -> Result<(), AllocError>
+    ensures { OnOk result (string_bytes out.new ≡ string_bytes out.old
+        ++ need_text program.now instruction.now) }
+{
+    match lack_of(program, instruction) {
+        None => Ok(()),
+        Some(lack) => {
+            out.push_str(" ")?;
+            put_reason(out, lack, instruction)
+        }
+    }
+}
+
+/// A method of a program, by its number and by its key.
+#[derive(Drop)]
+pub(crate) struct NumberedMethod {
+    pub(crate) number: MethodNumber,
+    pub(crate) key: MethodKey,
+}
+
+/// Appends an instruction of a method: `C.m.D @i`.
+fn put_instruction(out: &mut String, method: &MethodKey, place: usize) -> Result<(), AllocError>
+    ensures { OnOk result (string_bytes out.new ≡ string_bytes out.old
+        ++ instruction_text method.now place) }
+{
+    put_method(out, method)?;
+    out.push_str(" @")?;
+    put_number(out, place)?;
+    Ok(())
+}
+
+/// Appends the place of a method's instruction, and its place in the source.
+fn put_place_of(
+    out: &mut String,
+    sources: &SourceFiles,
+    method: &NumberedMethod,
+    place: usize,
+) -> Result<(), AllocError>
+    ensures { OnOk result (string_bytes out.new ≡ string_bytes out.old
+        ++ place_text sources.now.first sources.now.files.now method.now.number method.now.key place) }
+{
+    put_instruction(out, &method.key, place)?;
+    put_place(out, sources, method.number, place)?;
+    out.push_str(" ")?;
+    Ok(())
 }
 
 /// Appends the line of a method's instruction that needs what isn't there.
 pub(crate) fn put_need_line(
     out: &mut String,
-    method: &MethodKey,
+    sources: &SourceFiles,
+    method: &NumberedMethod,
     place: usize,
     instruction: &Instruction,
     lack: Lack,
 ) -> Result<(), AllocError>
     ensures { OnOk result (string_bytes out.new ≡ string_bytes out.old
-        ++ need_line method.now place instruction.now lack) }
+        ++ need_line (place_text sources.now.first sources.now.files.now method.now.number method.now.key place)
+        instruction.now lack) }
 {
-    put_place(out, method, place)?;
+    put_place_of(out, sources, method, place)?;
     put_reason(out, lack, instruction)?;
     out.push_str("\n")
 }

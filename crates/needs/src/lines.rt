@@ -1,18 +1,20 @@
 //! The lines of what the classes of a program need that isn't there.
 
 ghost use Rattle.std.specs.Prelude.{◌≡◌, ◌++◌, IfOk, OnOk};
-ghost use Rattle.std.specs.List.{flat_map};
+ghost use Rattle.std.specs.List.{enumerate_from, flat_map};
 ghost use Rattle.std.specs.String.{string_bytes};
 ghost use Rattle.jvms_program.specs.Program.{key_in};
 ghost use Rattle.needs.specs.Lacks.{lack_of as lack_at};
-ghost use Rattle.needs.specs.Lines.{body_lines, class_lines, line_if, lines_from, needs_text};
+ghost use Rattle.needs.specs.Lines.{body_lines, class_lines, instruction_line, line_if, method_lines, needs_text, place_text};
 
 use crate::lack::lack_of;
-use crate::line::put_need_line;
+use crate::line::{NumberedMethod, put_need_line};
 use built_in::is_built_in;
 use escapes::MethodKey;
+use jvms_program::number::MethodNumber;
 use jvms_program::program::{Body, Class, Instruction, Method};
 use program::Program;
+use source_lines::SourceFiles;
 use std::alloc::AllocError;
 
 /// Returns a method with the class that declares it.
@@ -30,32 +32,36 @@ fn key_in(class: &Class, method: &Method) -> Result<MethodKey, AllocError>
 fn put_instruction(
     out: &mut String,
     program: &Program,
-    method: &MethodKey,
+    sources: &SourceFiles,
+    method: &NumberedMethod,
     place: usize,
     instruction: &Instruction,
 ) -> Result<(), AllocError>
     ensures { OnOk result (string_bytes out.new ≡ string_bytes out.old
-        ++ line_if method.now place instruction.now (lack_at program.now instruction.now)) }
+        ++ line_if (place_text sources.now.first sources.now.files.now method.now.number method.now.key place)
+        instruction.now (lack_at program.now instruction.now)) }
 {
     match lack_of(program, instruction) {
         None => Ok(()),
-        Some(lack) => put_need_line(out, method, place, instruction, lack),
+        Some(lack) => put_need_line(out, sources, method, place, instruction, lack),
     }
 }
 
 /// Appends the lines of a method's instructions.
-
 fn put_instructions(
     out: &mut String,
     program: &Program,
-    method: &MethodKey,
+    sources: &SourceFiles,
+    method: &NumberedMethod,
     instructions: &[Instruction],
 ) -> Result<(), AllocError>
-    ensures { OnOk result (string_bytes out.new ≡ string_bytes out.old
-        ++ lines_from program.now method.now 0 instructions.now) }
+    ensures { OnOk result (string_bytes out.new ≡ string_bytes out.old ++ flat_map
+        (instruction_line program.now
+        (place_text sources.now.first sources.now.files.now method.now.number method.now.key))
+        (enumerate_from 0 instructions.now)) }
 {
     for (place, instruction) in instructions.iter().enumerate() {
-        put_instruction(out, program, method, place, instruction)?;
+        put_instruction(out, program, sources, method, place, instruction)?;
     }
     Ok(())
 }
@@ -64,15 +70,18 @@ fn put_instructions(
 fn put_body(
     out: &mut String,
     program: &Program,
-    method: &MethodKey,
+    sources: &SourceFiles,
+    method: &NumberedMethod,
     body: &Option<Body>,
 ) -> Result<(), AllocError>
-    ensures { OnOk result (string_bytes out.new ≡ string_bytes out.old
-        ++ body_lines program.now method.now body.now) }
+    ensures { OnOk result (string_bytes out.new ≡ string_bytes out.old ++ body_lines program.now
+        (place_text sources.now.first sources.now.files.now method.now.number method.now.key) body.now) }
 {
     match body {
         None => Ok(()),
-        Some(body) => put_instructions(out, program, method, body.instructions.as_slice()),
+        Some(body) => {
+            put_instructions(out, program, sources, method, body.instructions.as_slice())
+        }
     }
 }
 
@@ -80,44 +89,77 @@ fn put_body(
 fn put_method_lines(
     out: &mut String,
     program: &Program,
+    sources: &SourceFiles,
     class: &Class,
+    number: MethodNumber,
     method: &Method,
 ) -> Result<(), AllocError>
     ensures { OnOk result (string_bytes out.new ≡ string_bytes out.old
-        ++ body_lines program.now (key_in class.now method.now) method.now.body) }
+        ++ method_lines program.now sources.now.first sources.now.files.now
+        (number.class, class.now) (number.method, method.now)) }
 {
     let key = key_in(class, method)?;
-    put_body(out, program, &key, &method.body)
+    put_body(
+        out,
+        program,
+        sources,
+        &NumberedMethod { number, key },
+        &method.body,
+    )
 }
 
-/// Appends the lines of all methods of a class.
-fn put_methods(out: &mut String, program: &Program, class: &Class) -> Result<(), AllocError>
-    ensures { OnOk result (string_bytes out.new ≡ string_bytes out.old
-        ++ flat_map (λ m. body_lines program.now (key_in class.now m) m.body) class.now.methods) }
+/// Appends the lines of all methods of the class of a number.
+fn put_methods(
+    out: &mut String,
+    program: &Program,
+    sources: &SourceFiles,
+    number: usize,
+    class: &Class,
+) -> Result<(), AllocError>
+    ensures { OnOk result (string_bytes out.new ≡ string_bytes out.old ++ flat_map
+        (method_lines program.now sources.now.first sources.now.files.now (number, class.now))
+        (enumerate_from 0 class.now.methods)) }
 {
-    for method in class.methods.as_slice() {
-        put_method_lines(out, program, class, method)?;
+    let methods = class.methods.as_slice();
+    for (place, method) in methods.iter().enumerate() {
+        let number = MethodNumber {
+            class: number,
+            method: place,
+        };
+        put_method_lines(out, program, sources, class, number, method)?;
     }
     Ok(())
 }
 
-/// Appends the lines of a class, if it isn't built in.
-fn put_class(out: &mut String, program: &Program, class: &Class) -> Result<(), AllocError>
+/// Appends the lines of the class of a number, if it isn't built in.
+fn put_class(
+    out: &mut String,
+    program: &Program,
+    sources: &SourceFiles,
+    number: usize,
+    class: &Class,
+) -> Result<(), AllocError>
     ensures { OnOk result (string_bytes out.new ≡ string_bytes out.old
-        ++ class_lines program.now class.now) }
+        ++ class_lines program.now sources.now.first sources.now.files.now (number, class.now)) }
 {
     if is_built_in(class.name.as_slice()) {
         return Ok(());
     }
-    put_methods(out, program, class)
+    put_methods(out, program, sources, number, class)
 }
 
 /// Appends the lines of all classes of a program.
-pub(crate) fn put_needs(out: &mut String, program: &Program) -> Result<(), AllocError>
-    ensures { OnOk result (string_bytes out.new ≡ string_bytes out.old ++ needs_text program.now) }
+pub(crate) fn put_needs(
+    out: &mut String,
+    program: &Program,
+    sources: &SourceFiles,
+) -> Result<(), AllocError>
+    ensures { OnOk result (string_bytes out.new ≡ string_bytes out.old
+        ++ needs_text program.now sources.now.first sources.now.files.now) }
 {
-    for class in program.classes() {
-        put_class(out, program, class)?;
+    let classes = program.classes();
+    for (number, class) in classes.iter().enumerate() {
+        put_class(out, program, sources, number, class)?;
     }
     Ok(())
 }

@@ -1,13 +1,13 @@
 //! The lines of a specification that speak of no method of a program's classes.
 
 ghost use Rattle.std.specs.Prelude.{◌≡◌, ◌++◌, OnOk};
-ghost use Rattle.std.specs.List.{flat_map, list_any};
+ghost use Rattle.std.specs.List.{list_any};
 ghost use Rattle.std.specs.String.{string_bytes};
 ghost use Rattle.atom_spec.specs.Lines.{line_text, pattern_text, word_text};
 ghost use Rattle.jvms_program.specs.Program.{key_in};
 ghost use Rattle.velodrome.specs.Specification.{is_of as pattern_is_of};
 ghost use Rattle.velodrome.specs.declared.specification.Pattern.TheVariants as pattern_case;
-ghost use Rattle.needs.specs.Unmatched.{matches_in as pattern_matches_in, no_match_line, unmatched_line};
+ghost use Rattle.needs.specs.Unmatched.{matches_in as pattern_matches_in, no_match_line, unmatched_line, unmatched_lines};
 
 use crate::line::put_member;
 use atom_spec::{Pattern, SpecificationLine};
@@ -147,7 +147,7 @@ pub(crate) fn put_unmatched(
     lines: &[SpecificationLine],
 ) -> Result<(), AllocError>
     ensures { OnOk result (string_bytes out.new ≡ string_bytes out.old
-        ++ flat_map (unmatched_line program.now) lines.now) }
+        ++ unmatched_lines program.now lines.now) }
 {
     for line in lines {
         put_unmatched_line(out, program, line)?;

@@ -19,7 +19,7 @@ K02 MissingSuper
 
 The superclass or a superinterface is in no FILE, and isn't built in: its FILE
 was forgotten, or its name differs, or it has a $ and no quotes (see K01). Hand
-in its FILE too. javap FILE shows the names.
+in its FILE too. jvmx needs FILE.. prints the names of all that aren't there.
 ",
     ),
     (

@@ -14,9 +14,9 @@ loop-place-preserved c =
     let rest = drop (k + 1) xs in
     let here : drop k xs ≡ t ∷ rest = drop_more xs k 0 c.loop-place-test.true in
     let m = c.loop-place.machine in
-    let so_far = c.loop-place.turns.items in (
+    let so_far = c.loop-place.events.items in (
       c.in_ok-take_turn.ensures.trace,
-      rw (c.in_ok-take_turn.ensures.turns, c.in_ok-take_turn.ensures.machine)
+      rw (c.in_ok-take_turn.ensures.events, c.in_ok-take_turn.ensures.machine)
           (turns_on so_far (k + 1) m t rest ∙ ap (λ cs. so_far ++ event_turns (k + 1) m cs) (sym here) ∙ c.loop-place.invariant.1),
       rw c.in_ok-take_turn.ensures.machine
           (run_on m t rest ∙ ap (λ cs. with_state m (run_of m cs).state) (sym here) ∙ c.loop-place.invariant.2),

@@ -1,4 +1,4 @@
--- The turns so far, and those of the choices that are left; and the machine that these lead to.
+-- The events so far, and those of the choices that are left; and the machine that these lead to.
 use Rattle.std.proofs.Common.{◌≡◌, ◌+◌, [], ◌++◌, drop}
 use Rattle.machine.specs.Machine.{with_state}
 use Rattle.machine.specs.Runs.{run_of}
@@ -8,5 +8,5 @@ use Rattle.explaining.proofs.event_turns.event_turns.Given as goal
 abbrev pub invariant-loop-place : goal.invariant-loop-place
 invariant-loop-place l =
     (l.trace ≡ [])
-    × (l.turns.items ++ event_turns (l.place + 1) l.machine (drop l.place l.choices) ≡ event_turns 1 l.fn.machine l.choices)
+    × (l.events.items ++ event_turns (l.place + 1) l.machine (drop l.place l.choices) ≡ event_turns 1 l.fn.machine l.choices)
     × (with_state l.machine (run_of l.machine (drop l.place l.choices)).state ≡ with_state l.fn.machine (run_of l.fn.machine l.choices).state)

@@ -1,4 +1,4 @@
--- The turns so far, and those of the items that are left.
+-- The events so far, and those of the items that are left.
 use Rattle.std.proofs.Common.{◌≡◌, ◌++◌, drop, map}
 use Rattle.std.specs.List.{filter}
 use Rattle.velodrome.specs.Transactions.{is_event}
@@ -6,5 +6,5 @@ use Rattle.explaining.proofs.event_turns.push_events.Given as goal
 
 abbrev pub invariant-loop-item : goal.invariant-loop-item
 invariant-loop-item l =
-    l.turns.items ++ map (λ i. l.turn) (filter is_event (drop l.item-index l.items))
-    ≡ l.fn.turns.items ++ map (λ i. l.turn) (filter is_event l.items)
+    l.events.items ++ map (λ i. l.event) (filter is_event (drop l.item-index l.items))
+    ≡ l.fn.events.items ++ map (λ i. l.event) (filter is_event l.items)

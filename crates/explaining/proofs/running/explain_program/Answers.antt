@@ -5,7 +5,7 @@ use Rattle.machine.specs.Started.{opened}
 use Rattle.program_runs.specs.Shown.{shown_in}
 use Rattle.program_runs.proofs.ShownRuns.{shown_may_be_fed}
 use Rattle.explaining.specs.EventTurns.{event_turns}
-use Rattle.explaining.specs.Explanations.{cycle_part, program_explanation, stuck_lines}
+use Rattle.explaining.specs.Explanations.{program_explanation, stuck_lines, verdict_part}
 use Rattle.explaining.proofs.Explained.{is_explanation}
 use Rattle.explaining.proofs.running.explain_program.Goals as goal
 
@@ -18,15 +18,18 @@ pub returns-clause-explained : goal.returns-clause-explained
 returns-clause-explained c =
     let run = c.in_ok-traced.traced in
     let replayed = c.in-Ok.ensures in
-    let m = opened c.args.program.now c.args.limits replayed.0 in
+    let program = c.args.program.now in
+    let first = c.args.sources.now.first in
+    let files = c.args.sources.now.files.now in
+    let m = opened program c.args.limits replayed.0 in
     let lines = c.args.spec in
     let j = c.in_ok-explained.explained.judgement in
-    let turns = c.as_slice-turns.ensures.value ∙ replayed.2 ∙ ap (event_turns 1 m) c.as_slice-choices.ensures in
-    let cycle : string_bytes c.in_ok-explained.explained.text ≡ cycle_part lines j run.trace (event_turns 1 m run.choices) =
-    c.in_ok-explained.ensures.text ∙ ap (λ items. cycle_part lines j items c.as_slice-turns.result.now) c.items.ensures
-    ∙ ap (λ ts. cycle_part lines j run.trace ts) turns in
-    let stuck = c.as_str.ensures.value ∙ replayed.3 ∙ ap (λ cs. stuck_lines m cs run.ending.uncaught run.ending.status) c.as_slice-choices.ensures in
-    let text = c.in_ok-push_str.ensures.bytes ∙ ap (λ part. part ++ c.as_str.result.now) cycle
-    ∙ ap (λ part. cycle_part lines j run.trace (event_turns 1 m run.choices) ++ part) stuck in
-    let told = is_explanation lines j c.turns.result c.args.chooser.now c.args.limits c.args.program.now c.args.entry.now replayed.0 (shown_in run) _ replayed.1 c.in_ok-traced.ensures.shown text in
-    subst (λ n. program_explanation lines j n c.args.chooser.now c.args.limits c.args.program.now c.args.entry.now ≡ Ok (string_bytes c.push_str.new.self)) c.turns.ensures.turns told
+    let events = c.as_slice-events.ensures.value ∙ replayed.2 ∙ ap (event_turns 1 m) c.as_slice-choices.ensures in
+    let verdict : string_bytes c.in_ok-explained.explained.text ≡ verdict_part program first files lines j run.trace (event_turns 1 m run.choices) =
+    c.in_ok-explained.ensures.text ∙ ap (λ items. verdict_part program first files lines j items c.as_slice-events.result.now) c.items.ensures
+    ∙ ap (λ es. verdict_part program first files lines j run.trace es) events in
+    let stuck = c.as_str.ensures.value ∙ replayed.3 ∙ ap (λ cs. stuck_lines first files m cs run.ending.uncaught run.ending.status) c.as_slice-choices.ensures in
+    let text = c.in_ok-push_str.ensures.bytes ∙ ap (λ part. part ++ c.as_str.result.now) verdict
+    ∙ ap (λ part. verdict_part program first files lines j run.trace (event_turns 1 m run.choices) ++ part) stuck in
+    let told = is_explanation first files lines j c.turns.result c.args.chooser.now c.args.limits program c.args.entry.now replayed.0 (shown_in run) _ replayed.1 c.in_ok-traced.ensures.shown text in
+    subst (λ n. program_explanation first files lines j n c.args.chooser.now c.args.limits program c.args.entry.now ≡ Ok (string_bytes c.push_str.new.self)) c.turns.ensures.turns told

@@ -6,5 +6,6 @@ use Rattle.explaining.proofs.throws.throw_lines.Given as goal
 
 abbrev pub invariant-loop-thread : goal.invariant-loop-thread
 invariant-loop-thread l =
-    string_bytes l.lines ++ throw_lines l.opening l.choices (drop l.thread-index l.uncaught)
-    ≡ throw_lines l.opening l.choices l.uncaught
+    string_bytes l.lines
+    ++ throw_lines l.sources.first l.sources.files.now l.opening l.choices (drop l.thread-index l.uncaught)
+    ≡ throw_lines l.sources.first l.sources.files.now l.opening l.choices l.uncaught

@@ -1,9 +1,13 @@
--- The lines so far.
-use Rattle.std.proofs.Common.{◌≡◌, ◌++◌, take}
+-- The lines of the instructions that are left follow those so far.
+use Rattle.std.proofs.Common.{◌≡◌, ◌++◌, drop, flat_map}
+use Rattle.std.specs.List.{enumerate_from}
 use Rattle.std.specs.String.{string_bytes}
-use Rattle.needs.specs.Lines.{lines_from}
+use Rattle.needs.specs.Lines.{instruction_line, place_text}
 use Rattle.needs.proofs.lines.put_instructions.Given as goal
 
 abbrev pub invariant-loop-place : goal.invariant-loop-place
 invariant-loop-place l =
-    string_bytes l.out ≡ string_bytes l.initial.out ++ lines_from l.program l.method 0 (take l.place l.instructions)
+    string_bytes l.out
+    ++ flat_map (instruction_line l.program (place_text l.sources.first l.sources.files.now l.method.number l.method.key)) (enumerate_from l.place (drop l.place l.instructions))
+    ≡ string_bytes l.initial.out
+    ++ flat_map (instruction_line l.program (place_text l.sources.first l.sources.files.now l.method.number l.method.key)) (enumerate_from 0 l.instructions)

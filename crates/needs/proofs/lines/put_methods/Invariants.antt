@@ -1,12 +1,13 @@
--- The methods so far.
-use Rattle.std.proofs.Common.{◌≡◌, ◌++◌, take, flat_map}
+-- The lines of the methods that are left follow those so far.
+use Rattle.std.proofs.Common.{◌≡◌, ◌++◌, drop, flat_map}
+use Rattle.std.specs.List.{enumerate_from}
 use Rattle.std.specs.String.{string_bytes}
-use Rattle.jvms_program.specs.Program.{key_in}
-use Rattle.needs.specs.Lines.{body_lines}
+use Rattle.needs.specs.Lines.{method_lines}
 use Rattle.needs.proofs.lines.put_methods.Given as goal
 
-abbrev pub invariant-loop-method : goal.invariant-loop-method
-invariant-loop-method l =
+abbrev pub invariant-loop-place : goal.invariant-loop-place
+invariant-loop-place l =
     string_bytes l.out
+    ++ flat_map (method_lines l.program l.sources.first l.sources.files.now (l.number, l.class)) (enumerate_from l.place (drop l.place l.class.methods))
     ≡ string_bytes l.initial.out
-    ++ flat_map (λ m. body_lines l.program (key_in l.class m) m.body) (take l.method-index l.class.methods)
+    ++ flat_map (method_lines l.program l.sources.first l.sources.files.now (l.number, l.class)) (enumerate_from 0 l.class.methods)

@@ -2,7 +2,7 @@
 use Rattle.std.proofs.Common.{◌≡◌, drop}
 use Rattle.judge.specs.Programs.{classes_from}
 use Rattle.judge.proofs.Classes.{still}
-use Rattle.judge.proofs.reading.read_all.Given as goal
+use Rattle.judge.proofs.reading.classes_of.Given as goal
 
 abbrev pub invariant-loop-file : goal.invariant-loop-file
 invariant-loop-file l =

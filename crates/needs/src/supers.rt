@@ -1,0 +1,140 @@
+//! The lines of superclasses and superinterfaces that aren't there.
+
+ghost use Rattle.std.specs.Prelude.{◌≡◌, ◌++◌, ◌-◌, IfOk, OnOk, drop, length, map};
+ghost use Rattle.std.specs.List.{flat_map};
+ghost use Rattle.std.specs.Option.{option_to_list};
+ghost use Rattle.std.specs.String.{string_bytes};
+ghost use Rattle.jvms_program.specs.Meaning.{meaning};
+ghost use Rattle.jvms_program.specs.Program.{program_of};
+ghost use Rattle.needs.specs.Supers.{line_of_super, lines_of_supers, missing_supers, super_line};
+
+use crate::lack::Lack;
+use crate::line::put_reason_of;
+use classes::{ClassList, superclass_name};
+use escapes::put_name;
+use held::shared::Text;
+use jvms_file::class_file::ClassFile;
+use jvms_program::program::Class;
+use jvms_program::thrown::Thrown;
+use linker::meaning;
+use std::alloc::{AllocError, Global};
+
+/// Appends the line of a class's super that isn't there.
+fn put_super_line(out: &mut String, class: &[u16], name: &[u16]) -> Result<(), AllocError>
+    ensures { OnOk result (string_bytes out.new ≡ string_bytes out.old ++ super_line class.now name.now) }
+{
+    put_name(out, class)?;
+    out.push_str(" ")?;
+    let lack = Lack::Unresolved(Thrown::NoClassDefFoundError);
+    put_reason_of(out, lack, Some(name), None)?;
+    out.push_str("\n")
+}
+
+/// Appends the line of a class's super of this name, if there is no such class.
+fn put_super(
+    out: &mut String,
+    list: &ClassList,
+    class: &Class,
+    name: &[u16],
+) -> Result<(), AllocError>
+    ensures { OnOk result (string_bytes out.new ≡ string_bytes out.old
+        ++ line_of_super list.now class.now.name name.now) }
+{
+    if list.class_named(name).is_some() {
+        return Ok(());
+    }
+    put_super_line(out, class.name.as_slice(), name)
+}
+
+/// Appends the line of a class's superclass, if there is no such class.
+fn put_superclass(out: &mut String, list: &ClassList, class: &Class) -> Result<(), AllocError>
+    ensures { OnOk result (string_bytes out.new ≡ string_bytes out.old
+        ++ flat_map (line_of_super list.now class.now.name) (option_to_list class.now.superclass)) }
+{
+    match superclass_name(class) {
+        None => Ok(()),
+        Some(name) => put_super(out, list, class, name),
+    }
+}
+
+/// Appends the line of a class's superinterface, if there is no such class.
+fn put_interface(
+    out: &mut String,
+    list: &ClassList,
+    class: &Class,
+    name: &Text,
+) -> Result<(), AllocError>
+    ensures { OnOk result (string_bytes out.new ≡ string_bytes out.old
+        ++ line_of_super list.now class.now.name name.now) }
+{
+    put_super(out, list, class, name.as_slice())
+}
+
+/// Appends the lines of a class's superinterfaces of these names.
+fn put_interfaces(
+    out: &mut String,
+    list: &ClassList,
+    class: &Class,
+    names: &[Text],
+) -> Result<(), AllocError>
+    ensures { OnOk result (string_bytes out.new ≡ string_bytes out.old
+        ++ flat_map (line_of_super list.now class.now.name) names.now) }
+{
+    for name in names {
+        put_interface(out, list, class, name)?;
+    }
+    Ok(())
+}
+
+/// Appends the lines of a class's superclass and its superinterfaces.
+fn put_supers(out: &mut String, list: &ClassList, class: &Class) -> Result<(), AllocError>
+    ensures { OnOk result (string_bytes out.new ≡ string_bytes out.old
+        ++ lines_of_supers list.now class.now) }
+{
+    put_superclass(out, list, class)?;
+    put_interfaces(out, list, class, class.interfaces.as_slice())
+}
+
+/// Appends the lines of classes' superclasses and superinterfaces.
+fn put_all_supers(out: &mut String, list: &ClassList, classes: &[Class]) -> Result<(), AllocError>
+    ensures { OnOk result (string_bytes out.new ≡ string_bytes out.old
+        ++ flat_map (lines_of_supers list.now) classes.now) }
+{
+    for class in classes {
+        put_supers(out, list, class)?;
+    }
+    Ok(())
+}
+
+/// Returns the classes that class files mean, in order.
+fn classes_of(alloc: Global, files: Vec<ClassFile>) -> Result<Vec<Class>, AllocError>
+    ensures { IfOk result (λ classes. classes.items ≡ map meaning files.items) }
+{
+    let mut classes = Vec::with_capacity(alloc, files.len())?;
+    for file in files {
+        classes.push(meaning(alloc, file)?)?;
+    }
+    Ok(classes)
+}
+
+/// Returns the last `count` classes of a list.
+fn last_classes(list: &ClassList, count: usize) -> &[Class]
+    ensures { result.now ≡ drop (length list.now - count) list.now }
+{
+    let classes = list.classes();
+    classes.split_at(classes.len().saturating_sub(count)).1
+}
+
+/// Returns a line for each superclass and superinterface that class files name and that neither they nor the built-in
+/// classes are. The text is empty if all are there.
+#[tactic(auto, unfolding(jvms_program::specs::Program::program_of), using(jvms_program::proofs::ProgramLaws::files_are_program))]
+pub fn missing_supers(alloc: Global, files: Vec<ClassFile>) -> Result<String, AllocError>
+    ensures { IfOk result (λ text. string_bytes text ≡ missing_supers files.items) }
+{
+    let classes = classes_of(alloc, files)?;
+    let count = classes.len();
+    let list = ClassList::new(alloc, classes)?;
+    let mut text = String::new(alloc);
+    put_all_supers(&mut text, &list, last_classes(&list, count))?;
+    Ok(text)
+}

@@ -1,0 +1,16 @@
+//! Lines of sources, as class files tell them (JVMS 4.7.10, 4.7.12).
+#![tactic(auto)]
+
+mod bytes;
+mod file;
+mod files;
+mod number;
+mod place;
+mod pool;
+mod table;
+
+pub use files::SourceFiles;
+pub use jvms_file::class_file::ClassFile;
+pub use jvms_program::number::MethodNumber;
+pub use number::put_number;
+pub use place::put_place;

@@ -1,0 +1,27 @@
+//! The place in the source of a method's instruction.
+
+ghost use Rattle.std.specs.Prelude.{◌≡◌, ◌++◌, OnOk};
+ghost use Rattle.std.specs.String.{string_bytes};
+ghost use Rattle.source_lines.specs.SourceLines.{source_place};
+
+use crate::file::put_place_in_file;
+use crate::files::SourceFiles;
+use jvms_program::number::MethodNumber;
+use std::alloc::AllocError;
+
+/// Appends the place in the source of a method's instruction: ` (F.java:12)`. Appends nothing if the class file of the
+/// method doesn't tell it.
+pub fn put_place(
+    out: &mut String,
+    sources: &SourceFiles,
+    method: MethodNumber,
+    place: usize,
+) -> Result<(), AllocError>
+    ensures { OnOk result (string_bytes out.new ≡ string_bytes out.old
+        ++ source_place sources.now.first sources.now.files.now method place) }
+{
+    match sources.file_of(method.class) {
+        Some(file) => put_place_in_file(out, file, method.method, place),
+        None => Ok(()),
+    }
+}
