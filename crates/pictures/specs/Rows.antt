@@ -1,8 +1,9 @@
 -- The rows of a picture (own): the events of a trace, each with its transaction.
-use Rattle.std.specs.Prelude.{ℕ, ◌+◌, Bool, ◌==◌, ◌||◌, ◌&&◌, not, cond, nat_lt, List, [], ◌∷◌, length, take}
+use Rattle.std.specs.Prelude.{ℕ, ◌+◌, Bool, ◌==◌, ◌||◌, cond, nat_lt, List, [], ◌∷◌, length, take}
 use Rattle.std.specs.List.{filter, list_any}
 use Rattle.jvms_machine.specs.declared.trace.Item.{Item}
 use Rattle.velodrome.specs.Transactions.{is_event}
+use Rattle.velodrome.specs.declared.verdict.ConflictingPair.{ConflictingPair}
 use Rattle.pictures.specs.declared.rows.Row.{Row}
 
 -- How many events a picture shows at most.
@@ -17,13 +18,22 @@ rows_from n place (i ∷ items) (t ∷ ts) =
     cond (is_event i) (record { event = n; place = place; transaction = t } ∷ rows_from (n + 1) (place + 1) items ts)
     (rows_from n (place + 1) items (t ∷ ts))
 
+-- The transaction of a row is one of a cycle.
 abbrev pub is_chosen : List ℕ → Row → Bool
 is_chosen cycle row = list_any (λ t. t == row.transaction) cycle
 
--- Of many rows only those of a cycle are shown, if there is one.
-abbrev pub rows_in : List ℕ → List Row → List Row
-rows_in cycle rows =
-    cond (nat_lt most_rows (length rows) && nat_lt 0 (length cycle)) (filter (is_chosen cycle) rows) rows
+-- The event of a row is one of an edge's two.
+abbrev pub is_joined : List ConflictingPair → Row → Bool
+is_joined edges row = list_any (λ (p : ConflictingPair). p.earlier == row.event || p.later == row.event) edges
 
-abbrev pub chosen_rows : List ℕ → List Row → List Row
-chosen_rows cycle rows = take most_rows (rows_in cycle rows)
+-- Of more rows than a picture shows, those that pass a test.
+abbrev pub thinned : (Row → Bool) → List Row → List Row
+thinned test rows = cond (nat_lt most_rows (length rows)) (filter test rows) rows
+
+-- Of many rows those of a cycle are shown, if there is one; of many of these, those that its edges join.
+abbrev pub rows_in : List ℕ → List ConflictingPair → List Row → List Row
+rows_in cycle edges rows =
+    cond (nat_lt 0 (length cycle)) (thinned (is_joined edges) (thinned (is_chosen cycle) rows)) rows
+
+abbrev pub chosen_rows : List ℕ → List ConflictingPair → List Row → List Row
+chosen_rows cycle edges rows = take most_rows (rows_in cycle edges rows)

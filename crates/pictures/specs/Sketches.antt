@@ -8,19 +8,24 @@ use Rattle.pictures.specs.declared.rows.Row.{Row}
 use Rattle.pictures.specs.declared.sketches.Sketch.{Sketch}
 use Rattle.pictures.specs.Rows.{chosen_rows, rows_from}
 
--- How many transactions of a cycle a picture shows at most.
-abbrev pub most_transactions : ℕ
-most_transactions = 64
+-- How many edges of a cycle a picture shows at most.
+abbrev pub most_edges : ℕ
+most_edges = 64
 
--- The transactions of a verdict's cycle; none of an atomic trace.
-abbrev pub cycle_of : Verdict → List ℕ
-cycle_of (verdict.Atomic order) = []
-cycle_of (verdict.Cycle first_at transactions pairs) = take most_transactions transactions
-
--- The conflicting events of its edges.
+-- The first edges of a verdict's cycle, each by its two conflicting events; none of an atomic trace.
 abbrev pub edges_of : Verdict → List ConflictingPair
 edges_of (verdict.Atomic order) = []
-edges_of (verdict.Cycle first_at transactions pairs) = take most_transactions pairs
+edges_of (verdict.Cycle first_at transactions pairs) = take most_edges pairs
+
+-- The transactions that these edges join: of a longer cycle they are one more than the edges.
+abbrev pub cycle_of : Verdict → List ℕ
+cycle_of (verdict.Atomic order) = []
+cycle_of (verdict.Cycle first_at transactions pairs) = take (most_edges + 1) transactions
+
+-- How many transactions the whole cycle has.
+abbrev pub cycle_length : Verdict → ℕ
+cycle_length (verdict.Atomic order) = 0
+cycle_length (verdict.Cycle first_at transactions pairs) = length transactions
 
 -- All events of a trace.
 abbrev pub all_rows : Fed → List Row
@@ -28,7 +33,8 @@ all_rows fed = rows_from 1 0 fed.items (map (λ e. e.transaction) (walk_of fed).
 
 -- The events of the trace that are shown, and the cycle of the verdict.
 pub record IsSketch (fed : Fed) (v : Verdict) (s : Sketch) : Type 0 where
-  pub rows : s.rows.items ≡ chosen_rows (cycle_of v) (all_rows fed)
+  pub rows : s.rows.items ≡ chosen_rows (cycle_of v) (edges_of v) (all_rows fed)
   pub cycle : s.cycle.items ≡ cycle_of v
   pub edges : s.edges.items ≡ edges_of v
   pub events : s.events ≡ length (all_rows fed)
+  pub transactions : s.transactions ≡ cycle_length v

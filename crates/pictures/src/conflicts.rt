@@ -5,7 +5,10 @@ ghost use Rattle.std.specs.Option.{option_map};
 ghost use Rattle.jvms_program.specs.Slots.{same_key};
 ghost use Rattle.velodrome.specs.Conflicts.{conflict, is_write, monitor_of, on_one_variable, same_number, same_variable, touched_by, variable_of};
 
+use crate::labels::item_at;
+use crate::rows::Row;
 use accesses::thread_of;
+use atom_graph::Checker;
 use jvms_machine::machine::ThreadId;
 use jvms_machine::trace::{Item, Variable};
 use jvms_program::key::FieldKey;
@@ -112,4 +115,12 @@ pub fn conflict(one: &Item, other: &Item) -> bool
         || (on_one_variable(one, other) && (is_write(one) || is_write(other)))
         || same_number(touched_by(one), Some(thread_of(other)))
         || same_number(Some(thread_of(one)), touched_by(other))
+}
+
+/// Returns whether the events of two rows conflict.
+pub(crate) fn are_conflicting(checker: &Checker, one: &Row, other: &Row) -> bool {
+    match (item_at(checker, one.place), item_at(checker, other.place)) {
+        (Some(one), Some(other)) => conflict(one, other),
+        _ => false,
+    }
 }

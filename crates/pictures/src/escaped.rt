@@ -2,8 +2,14 @@
 
 use std::alloc::AllocError;
 
-/// The most characters of a label. A longer one is cut.
+/// The most characters of a text in SVG. A longer one is cut.
 const MOST_CHARACTERS: usize = 34;
+
+/// The most characters of a text in DOT.
+const MOST_QUOTED: usize = 100;
+
+/// What follows a text that is cut.
+const CUT: &str = "..";
 
 /// Appends a character of a text in XML.
 fn put_character(out: &mut String, character: char) -> Result<(), AllocError> {
@@ -20,20 +26,35 @@ fn put_character(out: &mut String, character: char) -> Result<(), AllocError> {
 pub(crate) fn put_short(out: &mut String, text: &str) -> Result<(), AllocError> {
     for (place, character) in text.chars().enumerate() {
         if place >= MOST_CHARACTERS {
-            return out.push_str("..");
+            return out.push_str(CUT);
         }
         put_character(out, character)?;
     }
     Ok(())
 }
 
-/// Appends a text between quotes in DOT.
+/// Returns how many characters of an ASCII text are shown in XML at most.
+pub(crate) fn shown_length(text: &str) -> usize {
+    text.len().min(MOST_CHARACTERS.saturating_add(CUT.len()))
+}
+
+/// Appends a character of a text between quotes in DOT. Graphviz reads the entities of XML there too.
+fn put_quoted_character(out: &mut String, character: char) -> Result<(), AllocError> {
+    match character {
+        '&' => out.push_str("&amp;"),
+        '"' => out.push_str("\\\""),
+        '\\' => out.push_str("\\\\"),
+        _ => out.push(character),
+    }
+}
+
+/// Appends a text between quotes in DOT, cut after its first characters if it is long.
 pub(crate) fn put_quoted(out: &mut String, text: &str) -> Result<(), AllocError> {
-    for character in text.chars() {
-        if character == '"' || character == '\\' {
-            out.push('\\')?;
+    for (place, character) in text.chars().enumerate() {
+        if place >= MOST_QUOTED {
+            return out.push_str(CUT);
         }
-        out.push(character)?;
+        put_quoted_character(out, character)?;
     }
     Ok(())
 }

@@ -1,12 +1,22 @@
 //! A sketch as a graph of transactions in DOT, as Graphviz reads it.
 
-use crate::conflicts::conflict;
+use crate::conflicts::are_conflicting;
 use crate::escaped::put_quoted;
-use crate::labels::{item_at, transaction_label};
-use crate::rows::Row;
+use crate::labels::{event_label, transaction_label};
+use crate::rows::{Row, place_of};
 use crate::sketches::Sketch;
+use crate::titles::title_of;
 use atom_graph::Checker;
 use std::alloc::{AllocError, Global};
+use velodrome::verdict::ConflictingPair;
+
+/// Appends the start of the graph: its title, and the shape of its nodes.
+fn put_start(alloc: Global, out: &mut String, title: &str) -> Result<(), AllocError> {
+    let start = format!(in alloc;
+        "strict digraph transactions {{\n  label=\"{title}\";\n  labelloc=t;\n  node [shape=box];\n"
+    )?;
+    out.push_str(start.as_str())
+}
 
 /// Returns whether a row is the first of its transaction.
 fn is_first(rows: &[Row], place: usize, row: &Row) -> bool {
@@ -42,13 +52,7 @@ fn put_node(
 
 /// Returns whether an event conflicts with a later one of another transaction.
 fn leads(checker: &Checker, from: &Row, to: &Row) -> bool {
-    if from.transaction == to.transaction {
-        return false;
-    }
-    match (item_at(checker, from.place), item_at(checker, to.place)) {
-        (Some(from), Some(to)) => conflict(from, to),
-        _ => false,
-    }
+    from.transaction != to.transaction && are_conflicting(checker, from, to)
 }
 
 /// Appends the edge into a row's transaction from the last row before it that conflicts with it.
@@ -76,35 +80,84 @@ fn put_edge(
     out.push_str(line.as_str())
 }
 
-/// Appends the edges of the cycle, from each of its transactions to the next.
-fn put_cycle(alloc: Global, out: &mut String, cycle: &[u64]) -> Result<(), AllocError> {
-    for (place, from) in cycle.iter().enumerate() {
-        let next = cycle.get(place.saturating_add(1)).or(cycle.first());
-        if let Some(to) = next {
-            let line = format!(in alloc; "  t{from} -> t{to} [color=red, penwidth=2];\n")?;
-            out.push_str(line.as_str())?;
+/// Returns the row of an event, if it is shown.
+fn row_of(rows: &[Row], event: u64) -> Option<&Row> {
+    rows.get(place_of(rows, event)?)
+}
+
+/// Appends the number of a row's event, and its line.
+fn put_event(
+    alloc: Global,
+    out: &mut String,
+    checker: &Checker,
+    row: &Row,
+) -> Result<(), AllocError> {
+    let label = event_label(alloc, checker, row)?;
+    put_quoted(out, label.as_str())
+}
+
+/// Appends an edge of the cycle, with its two events as its label.
+fn put_cycle_edge(
+    alloc: Global,
+    out: &mut String,
+    checker: &Checker,
+    rows: &[Row],
+    edge: ConflictingPair,
+) -> Result<(), AllocError> {
+    let (Some(earlier), Some(later)) = (row_of(rows, edge.earlier), row_of(rows, edge.later)) else {
+        return Ok(());
+    };
+    let (from, to) = (earlier.transaction, later.transaction);
+    let start = format!(in alloc; "  t{from} -> t{to} [label=\"")?;
+    out.push_str(start.as_str())?;
+    put_event(alloc, out, checker, earlier)?;
+    out.push_str("\\n")?;
+    put_event(alloc, out, checker, later)?;
+    out.push_str("\", color=red, penwidth=2];\n")
+}
+
+/// Appends the nodes: one for each transaction that is shown.
+fn put_nodes(
+    alloc: Global,
+    out: &mut String,
+    checker: &Checker,
+    sketch: &Sketch,
+) -> Result<(), AllocError> {
+    let rows = sketch.rows.as_slice();
+    for (place, row) in rows.iter().enumerate() {
+        if is_first(rows, place, row) {
+            put_node(alloc, out, checker, sketch, row)?;
         }
     }
     Ok(())
 }
 
-/// Returns a sketch as a graph in DOT: a node for each transaction that is shown, an edge into each event's transaction from
-/// that of the last event that conflicts with it, and the edges of the cycle. `strict` keeps one of edges that repeat.
-pub fn dot(alloc: Global, checker: &Checker, sketch: &Sketch) -> Result<String, AllocError> {
+/// Appends the edges, those of the cycle last.
+fn put_edges(
+    alloc: Global,
+    out: &mut String,
+    checker: &Checker,
+    sketch: &Sketch,
+) -> Result<(), AllocError> {
     let rows = sketch.rows.as_slice();
-    let mut out = String::from_str(
-        alloc,
-        "strict digraph transactions {\n  node [shape=box];\n",
-    )?;
-    for (place, row) in rows.iter().enumerate() {
-        if is_first(rows, place, row) {
-            put_node(alloc, &mut out, checker, sketch, row)?;
-        }
-    }
     for place in 0..rows.len() {
-        put_edge(alloc, &mut out, checker, rows, place)?;
+        put_edge(alloc, out, checker, rows, place)?;
     }
-    put_cycle(alloc, &mut out, sketch.cycle.as_slice())?;
+    for edge in sketch.edges.as_slice() {
+        put_cycle_edge(alloc, out, checker, rows, *edge)?;
+    }
+    Ok(())
+}
+
+/// Returns a sketch as a graph in DOT. A node is a transaction that is shown. An edge leads into each event's
+/// transaction from that of the last event that conflicts with it. The edges of the cycle are red and have their two
+/// events as a label. `strict` makes one edge of those that repeat, with what the last says of it.
+pub fn dot(alloc: Global, checker: &Checker, sketch: &Sketch) -> Result<String, AllocError> {
+    let title = title_of(alloc, checker, sketch)?;
+    let mut out = String::new(alloc);
+    put_start(alloc, &mut out, title.as_str())?;
+    put_nodes(alloc, &mut out, checker, sketch)?;
+    put_edges(alloc, &mut out, checker, sketch)?;
     out.push_str("}\n")?;
     Ok(out)
 }

@@ -1,5 +1,6 @@
 //! What events and transactions are called in a picture.
 
+use crate::rows::Row;
 use accesses::thread_of;
 use atom_graph::Checker;
 use escapes::put_method;
@@ -27,6 +28,16 @@ pub(crate) fn item_label(
     }
     let _ = label.pop();
     Ok(label)
+}
+
+/// Returns the number of a row's event, and its line.
+pub(crate) fn event_label(
+    alloc: Global,
+    checker: &Checker,
+    row: &Row,
+) -> Result<String, AllocError> {
+    let line = item_label(alloc, checker, row.place)?;
+    format!(in alloc; "{event} {line}", event = row.event)
 }
 
 /// Appends or removes a thread's open method, as an item says.

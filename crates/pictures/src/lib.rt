@@ -1,12 +1,15 @@
 //! Pictures of a trace: its events by thread and time, its transactions, and the cycle of its verdict.
 #![tactic(auto)]
 
+mod arrows;
 mod conflicts;
 mod escaped;
 mod graph;
 mod labels;
+mod layout;
 mod rows;
 mod sketches;
+mod titles;
 mod vector;
 
 pub use conflicts::conflict;

@@ -1,12 +1,13 @@
 //! The rows of a picture: an event each.
 
 ghost use Rattle.std.specs.Prelude.{◌≡◌, ◌+◌, IfOk};
-ghost use Rattle.pictures.specs.Rows.{chosen_rows, is_chosen, rows_from};
+ghost use Rattle.pictures.specs.Rows.{chosen_rows, is_chosen, is_joined, rows_from, thinned};
 
 use held::shared::Shared;
 use jvms_machine::trace::Item;
 use report::is_event;
 use std::alloc::{AllocError, Global};
+use velodrome::verdict::ConflictingPair;
 
 /// How many events a picture shows at most.
 const MOST_ROWS: usize = 200;
@@ -58,30 +59,74 @@ pub(crate) fn rows_of(
     Ok(rows)
 }
 
-/// Returns whether a transaction is one of these.
+/// Returns whether the transaction of a row is one of these.
 fn is_chosen(cycle: &[u64], row: &Row) -> bool
     ensures { result ≡ is_chosen cycle.now row.now }
 {
     cycle.contains(&row.transaction)
 }
 
-/// Returns the rows that a picture shows: all if there are few, else those of these transactions, or of all if there are
-/// none; the first of them.
-pub(crate) fn chosen_rows(
-    alloc: Global,
-    rows: Vec<Row>,
-    cycle: &[u64],
-) -> Result<Vec<Row>, AllocError>
-    ensures { IfOk result (λ chosen. chosen.items ≡ chosen_rows cycle.now rows.items) }
+/// Returns whether the event of a row is one of an edge's two.
+fn is_joined(edges: &[ConflictingPair], row: &Row) -> bool
+    ensures { result ≡ is_joined edges.now row.now }
+{
+    edges.iter().any(|edge| edge.earlier == row.event || edge.later == row.event)
+}
+
+/// Returns the rows of a cycle's transactions, or all rows if they are few.
+fn thinned_by_cycle(alloc: Global, rows: Vec<Row>, cycle: &[u64]) -> Result<Vec<Row>, AllocError>
+    ensures { IfOk result (λ chosen. chosen.items ≡ thinned (is_chosen cycle.now) rows.items) }
 {
     let mut chosen = rows;
-    if chosen.len() > MOST_ROWS && !cycle.is_empty() {
+    if chosen.len() > MOST_ROWS {
         chosen = chosen
             .iter()
             .copied()
             .filter(|row| is_chosen(cycle, row))
             .collect(alloc)?;
     }
+    Ok(chosen)
+}
+
+/// Returns the rows of the events that edges join, or all rows if they are few.
+fn thinned_by_edges(
+    alloc: Global,
+    rows: Vec<Row>,
+    edges: &[ConflictingPair],
+) -> Result<Vec<Row>, AllocError>
+    ensures { IfOk result (λ chosen. chosen.items ≡ thinned (is_joined edges.now) rows.items) }
+{
+    let mut chosen = rows;
+    if chosen.len() > MOST_ROWS {
+        chosen = chosen
+            .iter()
+            .copied()
+            .filter(|row| is_joined(edges, row))
+            .collect(alloc)?;
+    }
+    Ok(chosen)
+}
+
+/// Returns the rows that a picture shows, at most 200: all if they are few. Of more, those of the cycle are shown. If
+/// these are still more, only those that its edges join are. Without a cycle the first ones are shown.
+pub(crate) fn chosen_rows(
+    alloc: Global,
+    rows: Vec<Row>,
+    cycle: &[u64],
+    edges: &[ConflictingPair],
+) -> Result<Vec<Row>, AllocError>
+    ensures { IfOk result (λ chosen. chosen.items ≡ chosen_rows cycle.now edges.now rows.items) }
+{
+    let mut chosen = rows;
+    if !cycle.is_empty() {
+        chosen = thinned_by_cycle(alloc, chosen, cycle)?;
+        chosen = thinned_by_edges(alloc, chosen, edges)?;
+    }
     chosen.truncate(MOST_ROWS);
     Ok(chosen)
+}
+
+/// Returns the place of an event's row among rows, if it is one of them.
+pub(crate) fn place_of(rows: &[Row], event: u64) -> Option<usize> {
+    rows.iter().position(|row| row.event == event)
 }

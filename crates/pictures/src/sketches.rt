@@ -1,15 +1,15 @@
 //! What a picture shows of a trace and its verdict.
 
 ghost use Rattle.std.specs.Prelude.{◌≡◌, IfOk, take};
-ghost use Rattle.pictures.specs.Sketches.{IsSketch, cycle_of, edges_of};
+ghost use Rattle.pictures.specs.Sketches.{IsSketch, cycle_length, cycle_of, edges_of};
 
 use crate::rows::{Row, chosen_rows, rows_of};
 use atom_graph::Checker;
 use std::alloc::{AllocError, Global};
 use velodrome::verdict::{ConflictingPair, Verdict};
 
-/// How many transactions of a cycle a picture shows at most.
-const MOST_TRANSACTIONS: usize = 64;
+/// How many edges of a cycle a picture shows at most.
+const MOST_EDGES: usize = 64;
 
 /// Says what a picture shows.
 #[derive(Debug, Drop)]
@@ -18,23 +18,35 @@ pub struct Sketch {
     pub rows: Vec<Row>,
     /// The number of events of the trace.
     pub events: usize,
-    /// The transactions of the cycle, none if there is no cycle.
+    /// The number of transactions of the cycle, 0 if there is no cycle.
+    pub transactions: usize,
+    /// The transactions that the edges join, none if there is no cycle.
     pub cycle: Vec<u64>,
-    /// The conflicting events of the cycle's edges.
+    /// The first edges of the cycle, each by its two events.
     pub edges: Vec<ConflictingPair>,
 }
 
-/// Returns the first items of a list.
-fn first<T>(items: &[T]) -> &[T]
-    ensures { result.now ≡ take 64 items.now }
+/// Returns the first items of a list, this number of them, or all if there are no more.
+fn first<T>(items: &[T], count: usize) -> &[T]
+    ensures { result.now ≡ take count items.now }
 {
-    if items.len() <= MOST_TRANSACTIONS {
+    if items.len() <= count {
         return items;
     }
-    items.split_at(MOST_TRANSACTIONS).0
+    items.split_at(count).0
 }
 
-/// Returns the transactions of a verdict's cycle.
+/// Returns the number of transactions of a verdict's cycle.
+fn cycle_length(verdict: &Verdict) -> usize
+    ensures { result ≡ cycle_length verdict.now }
+{
+    match verdict {
+        Verdict::Atomic { .. } => 0,
+        Verdict::Cycle { transactions, .. } => transactions.as_slice().len(),
+    }
+}
+
+/// Returns the transactions of a verdict's cycle that the first edges join.
 fn cycle_of(alloc: Global, verdict: &Verdict) -> Result<Vec<u64>, AllocError>
     ensures { IfOk result (λ v. v.items ≡ cycle_of verdict.now) }
 {
@@ -42,23 +54,24 @@ fn cycle_of(alloc: Global, verdict: &Verdict) -> Result<Vec<u64>, AllocError>
         Verdict::Atomic { .. } => Ok(Vec::new(alloc)),
         Verdict::Cycle { transactions, .. } => Vec::from_slice(
             alloc,
-            first(transactions.as_slice()),
+            first(transactions.as_slice(), MOST_EDGES + 1),
         ),
     }
 }
 
-/// Returns the conflicting events of the edges of a verdict's cycle.
+/// Returns the first edges of a verdict's cycle.
 fn edges_of(alloc: Global, verdict: &Verdict) -> Result<Vec<ConflictingPair>, AllocError>
     ensures { IfOk result (λ v. v.items ≡ edges_of verdict.now) }
 {
     match verdict {
         Verdict::Atomic { .. } => Ok(Vec::new(alloc)),
-        Verdict::Cycle { pairs, .. } => Vec::from_slice(alloc, first(pairs.as_slice())),
+        Verdict::Cycle { pairs, .. } => Vec::from_slice(alloc, first(pairs.as_slice(), MOST_EDGES)),
     }
 }
 
-/// Returns what a picture shows of the items that a checker was fed, and of its verdict: at most 200 events, those of the
-/// cycle if there are more, and the first 64 transactions of the cycle.
+/// Returns what a picture shows of the items that a checker was fed, and of its verdict: the first 64 edges of the
+/// cycle, the transactions that they join, and at most 200 events. Of more events those of these transactions are
+/// shown. If these are still more, only those that the edges join are.
 pub fn sketch_of(alloc: Global, checker: &Checker, verdict: &Verdict) -> Result<Sketch, AllocError>
     ensures { IfOk result (IsSketch checker.now verdict.now) }
 {
@@ -67,8 +80,9 @@ pub fn sketch_of(alloc: Global, checker: &Checker, verdict: &Verdict) -> Result<
     let rows = rows_of(alloc, checker.items(), checker.transactions())?;
     let events = rows.len();
     Ok(Sketch {
-        rows: chosen_rows(alloc, rows, cycle.as_slice())?,
+        rows: chosen_rows(alloc, rows, cycle.as_slice(), edges.as_slice())?,
         events,
+        transactions: cycle_length(verdict),
         cycle,
         edges,
     })

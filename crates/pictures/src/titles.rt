@@ -1,0 +1,37 @@
+//! What a picture is called.
+
+use crate::sketches::Sketch;
+use accesses::thread_of;
+use atom_graph::Checker;
+use held::shared::Shared;
+use jvms_machine::trace::Item;
+use report::is_event;
+use std::alloc::{AllocError, Global};
+use std::collections::BTreeSet;
+
+/// Returns how many threads the events among items have.
+fn threads_among(alloc: Global, items: &[Shared<Item>]) -> Result<usize, AllocError> {
+    let mut threads = BTreeSet::new(alloc);
+    for item in items {
+        let item = item.get();
+        if is_event(item) {
+            threads.insert(thread_of(item))?;
+        }
+    }
+    Ok(threads.len())
+}
+
+/// Returns the title of a picture: how many events and threads the trace has, and how many transactions its cycle, if
+/// there is one. It needs no escapes in XML or DOT.
+pub(crate) fn title_of(
+    alloc: Global,
+    checker: &Checker,
+    sketch: &Sketch,
+) -> Result<String, AllocError> {
+    let (events, transactions) = (sketch.events, sketch.transactions);
+    let threads = threads_among(alloc, checker.items())?;
+    if transactions == 0 {
+        return format!(in alloc; "{events} events, {threads} threads, atomic");
+    }
+    format!(in alloc; "{events} events, {threads} threads, cycle of {transactions} transactions")
+}
