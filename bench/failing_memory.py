@@ -1,129 +1,199 @@
 #!/usr/bin/env python3
-"""Runs commands of jvmx again and again, in each run with one allocation refused: the first, the second, and so on until one
-run needs no more. Each run must end as the run with ample memory does, or be refused in one line that ends in `Memory`,
-with status 3, and with nothing on standard output that the other run doesn't begin with. A refused campaign may also end in
+"""Runs a program again and again, in each run with one allocation refused: the first, the second, and so on until a run
+needs no more.
+
+    bench/failing_memory.py [--jvmx PROGRAM] [NAME...]              commands of jvmx
+    bench/failing_memory.py --calls [--programs FOLDER] [NAME...]   calls that are made once more if they are refused
+
+A command of jvmx must end as with ample memory, or be refused in one line that ends in `Memory`, with status 3, and with
+nothing on standard output that the other run doesn't begin with. A refused campaign may also end in
 `jvmx: G05 WorkerFailed`, and writes nothing to standard output.
 
-    bench/failing_memory.py [--jvmx PROGRAM] [NAME...]
+The calls are made by the programs `repeated_reading`, `repeated_turns`, `repeated_judgements`, `repeated_sessions` and
+`repeated_campaigns`. Each run must print to standard output what it prints with ample memory, with status 0. Standard error
+names the call that was refused, if one was.
 
-A small library in C, built by gcc and loaded in front of the system's, refuses the allocation. The dynamic loader's own may
-be refused too. A thread's start allocates by calloc, which isn't refused. A campaign with one worker starts no thread.
+A small library in C, built by the kit's clang and loaded in front of the system's, refuses the allocation and counts all
+of them. The dynamic loader's own may be refused too. A thread's start allocates by calloc, which isn't refused. A campaign
+with one worker starts no thread.
 """
 import argparse
+import collections
+import concurrent.futures
+import itertools
 import os
 import re
 import subprocess
 import sys
 import tempfile
 from pathlib import Path
+from typing import NamedTuple
 
 sys.dont_write_bytecode = True
 ROOT = Path(__file__).resolve().parent.parent
-THREADS = ROOT / "examples/threads"
-COUNT = "FAILING_ALLOCATION"
-REFUSED = re.compile(r"jvmx: (.*: )?(\w\d\d )?Memory$")
+sys.path.insert(0, str(ROOT))
+import failing_cases  # noqa: E402
+import launcher  # noqa: E402
+from build import quick  # noqa: E402
+
+REFUSED, COUNTER = "FAILING_ALLOCATION", "FAILING_COUNTER"
+REFUSAL = re.compile(r"jvmx: (.*: )?(\w\d\d )?Memory$")
 # How a campaign ends where a job, and not the campaign itself, was refused memory.
 WORKER_FAILED = "jvmx: G05 WorkerFailed"
+# Seconds that one run may take.
+LIMIT = 120
+BYTES_OF_A_COUNT = 8
+# The kit has no headers of C, so what is called is declared here: mmap with PROT_READ, PROT_WRITE and MAP_SHARED.
 LIBRARY = f"""
-#include <stddef.h>
-#include <stdlib.h>
-extern void *__libc_malloc(size_t);
-extern void *__libc_realloc(void *, size_t);
-static long left = -1;
+typedef unsigned long size_t;
+void *__libc_malloc(size_t);
+void *__libc_realloc(void *, size_t);
+char *getenv(const char *);
+long atol(const char *);
+void *mmap(void *, size_t, int, int, int, long);
+static long refused, *made;
 static int is_refused(void) {{
-  if (left < 0) left = atol(getenv("{COUNT}"));
-  return left > 0 && --left == 0;
+  if (!made) {{
+    refused = atol(getenv("{REFUSED}"));
+    made = mmap(0, {BYTES_OF_A_COUNT}, 1 | 2, 1, atol(getenv("{COUNTER}")), 0);
+  }}
+  return __atomic_add_fetch(made, 1, __ATOMIC_SEQ_CST) == refused;
 }}
-void *malloc(size_t size) {{ return is_refused() ? NULL : __libc_malloc(size); }}
-void *realloc(void *old, size_t size) {{ return is_refused() ? NULL : __libc_realloc(old, size); }}
-"""
-TRACE = """enter 1 LostUpdate.inc.()V
-rd 1 LostUpdate.count.I
-enter 2 LostUpdate.inc.()V
-rd 2 LostUpdate.count.I
-wr 1 LostUpdate.count.I
-exit 1 LostUpdate.inc.()V
-wr 2 LostUpdate.count.I
-exit 2 LostUpdate.inc.()V
-"""
-# What `debug` reads from standard input.
-SCRIPT = """break LostUpdate.inc.()V 3
-continue
-threads
-frames 2
-class LostUpdate
-object 0
-back 5
-pick 2
-goto 40
-rcontinue
-trace
-output
+void *malloc(size_t size) {{ return is_refused() ? 0 : __libc_malloc(size); }}
+void *realloc(void *old, size_t size) {{ return is_refused() ? 0 : __libc_realloc(old, size); }}
 """
 
 
-def commands(folder):
-    source, spec, trace = THREADS / "LostUpdate.j", THREADS / "atomic.spec", folder / "trace"
-    trace.write_text(TRACE)
-    return {
-        "check, a cycle": ["check", "--spec", spec, trace],
-        "run --spec, a cycle": ["run", "--entry", "LostUpdate", "--spec", spec, source],
-        "run --spec, atomic": ["run", "--entry", "LostUpdate", "--sched", "rr:99", "--spec", spec, source],
-        "campaign": ["campaign", "--entry", "LostUpdate", "--spec", spec, "--jobs", "4", "--workers", "1", source],
-        "trace": ["trace", "--entry", "LostUpdate", "--sched", "seed:1:2", source],
-        "debug": ["debug", "--entry", "LostUpdate", source],
-        "eval": ["eval", "--entry", "G.gcd.(II)I", "--args", "48,36", ROOT / "examples/G.class"],
-        "asm": ["asm", ROOT / "examples/G.j", folder / "G.class"],
-        "list": ["list", ROOT / "examples/G.class"],
-    }
+class Ran(NamedTuple):
+    """How a run ended, and how many allocations it asked for."""
+
+    status: int
+    out: str
+    err: str
+    allocations: int
+
+    def is_like(self, other):
+        """Returns whether two runs ended and printed the same."""
+        return self[:3] == other[:3]
 
 
-def ended(words, refused):
-    variables = {"LD_PRELOAD": words.library, COUNT: str(refused)}
-    environment = {**os.environ, **variables}
-    command = [words.jvmx, *words.command]
-    ran = subprocess.run(command, input=SCRIPT, capture_output=True, text=True, env=environment)
-    return ran.returncode, ran.stdout, ran.stderr
+class Command(NamedTuple):
+    """A command, with what it reads from standard input and the folder in which it runs."""
+
+    words: list
+    script: str
+    folder: Path
+    library: Path
+
+    def run(self, refused):
+        """Runs the command with the allocation of a number refused, or none for 0."""
+        # A file in memory, since a program may end without a last call into the library.
+        counter = os.memfd_create("allocations")
+        variables = {"LD_PRELOAD": str(self.library), REFUSED: str(refused), COUNTER: str(counter)}
+        try:
+            os.truncate(counter, BYTES_OF_A_COUNT)
+            ran = subprocess.run(
+                self.words, input=self.script, cwd=self.folder, capture_output=True, text=True,
+                env={**os.environ, **variables}, pass_fds=[counter], timeout=LIMIT
+            )
+            count = os.pread(counter, BYTES_OF_A_COUNT, 0)
+        finally:
+            os.close(counter)
+        return Ran(ran.returncode, ran.stdout, ran.stderr, int.from_bytes(count, sys.byteorder))
+
+    def runs(self, ample, jobs):
+        """Yields the runs in which an allocation was refused, each with its number, until a run needs no more."""
+        pool = concurrent.futures.ThreadPoolExecutor(jobs)
+        try:
+            yield from enumerate(pool.map(self.run, range(1, ample.allocations + 1)), 1)
+        finally:
+            pool.shutdown(cancel_futures=True)
+        # Threads may need more in one run than in another.
+        for refused in itertools.count(ample.allocations + 1):
+            ran = self.run(refused)
+            if ran.allocations < refused:
+                return
+            yield refused, ran
 
 
-def is_refusal(command, ran, ample):
-    status, out, err = ran
-    last = err.splitlines()[-1] if err else ""
-    if command[0] == "campaign":
-        return status == 3 and out == "" and bool(REFUSED.match(last) or last == WORKER_FAILED)
-    return status == 3 and bool(REFUSED.match(last)) and ample[1].startswith(out)
+def is_refusal(words, ran, ample):
+    """Returns whether a command of jvmx was refused as it should be."""
+    last = ran.err.splitlines()[-1] if ran.err else ""
+    if words[1] == "campaign":
+        return ran.status == 3 and ran.out == "" and bool(REFUSAL.match(last) or last == WORKER_FAILED)
+    return ran.status == 3 and bool(REFUSAL.match(last)) and ample.out.startswith(ran.out)
 
 
-def tried(words):
-    """How many runs were refused, and how many ended as the ample one, until no allocation was left."""
-    ample = ended(words, 0)
-    refusals = same = row = 0
-    # A refusal that changes nothing may come anywhere; the allocations are used up where many runs on end pass.
-    while row < 50:
-        ran = ended(words, refusals + same + 1)
-        if ran == ample:
-            same, row = same + 1, row + 1
-        elif is_refusal(words.command, ran, ample):
-            refusals, row = refusals + 1, 0
+def try_command(command, jobs):
+    """Runs a command of jvmx, and returns how many runs were refused, and how many ended as with ample memory."""
+    ample = command.run(0)
+    refused = same = 0
+    for number, ran in command.runs(ample, jobs):
+        if ran.is_like(ample):
+            same += 1
+        elif is_refusal(command.words, ran, ample):
+            refused += 1
         else:
-            sys.exit(f"allocation {refusals + same + 1} of {words.command}: {ran}, but with ample memory {ample}")
-    return refusals, same - row
+            sys.exit(f"allocation {number} of {command.words}: {ran}, but with ample memory {ample}")
+    return f"{refused} refused, {same} ended as with ample memory"
+
+
+def try_calls(command, jobs):
+    """Runs a command that makes calls, and returns how many allocations were refused, and to which calls."""
+    ample = command.run(0)
+    if ample.status or ample.err:
+        sys.exit(f"{command.words} with ample memory: {ample}")
+    calls = collections.Counter()
+    allocations = 0
+    for number, ran in command.runs(ample, jobs):
+        lines = ran.err.splitlines()
+        if ran.status or ran.out != ample.out or len(lines) > 1:
+            sys.exit(f"allocation {number} of {command.words}: {ran}, but with ample memory {ample}")
+        calls.update(line.partition(": ")[0] for line in lines)
+        allocations += 1
+    named = ", ".join(f"{call} {count}" for call, count in calls.most_common())
+    return f"{allocations} refused, {sum(calls.values())} of them to calls: {named}"
+
+
+def build_library(folder):
+    """Builds the library that refuses allocations in a folder, and returns its place."""
+    kit = quick.kit_folder()
+    if not kit:
+        sys.exit("there is no rt on the PATH, whose kit has the compiler")
+    clang = [kit / "toolchain/bin/clang", "--target=x86_64-unknown-linux-gnu", "-fuse-ld=lld", "-nostdlib", "-shared"]
+    library = folder / "failing.so"
+    subprocess.run([*clang, "-fPIC", "-O1", "-x", "c", "-", "-o", library], input=LIBRARY, text=True, check=True)
+    return library
+
+
+def program_of(words, crate):
+    """Returns the program of a crate: the one that the words name, else the one of this checkout."""
+    if crate == "jvmx":
+        return Path(words.jvmx or launcher.program_to_run()).resolve()
+    program = Path(words.programs).resolve() / crate if words.programs else ROOT / "crates" / crate / "out" / crate
+    if not program.exists():
+        sys.exit(f"there is no {program}: rt ci builds it, or ./launcher.py --quick {crate} FILE")
+    return program
 
 
 def main():
+    """Tries what the words name."""
     parser = argparse.ArgumentParser(description=__doc__.split("\n\n")[0])
-    parser.add_argument("--jvmx", default=str(ROOT / "jvmx"))
-    parser.add_argument("names", nargs="*", metavar="NAME", help="these commands, as they are printed; else all")
+    parser.add_argument("--jvmx", metavar="PROGRAM", help="the program itself, and not the script that finds it")
+    parser.add_argument("--calls", action="store_true", help="calls in place of commands of jvmx")
+    parser.add_argument("--programs", metavar="FOLDER", help="has the programs that make calls; else those that rt ci left")
+    parser.add_argument("--jobs", type=int, default=os.cpu_count(), help="how many runs go side by side")
+    parser.add_argument("names", nargs="*", metavar="NAME", help="these cases, as they are printed; else all")
     words = parser.parse_args()
-    with tempfile.TemporaryDirectory() as folder:
-        words.library = f"{folder}/failing.so"
-        gcc = ["gcc", "-shared", "-fPIC", "-x", "c", "-", "-o", words.library]
-        subprocess.run(gcc, input=LIBRARY, text=True, check=True)
-        every = commands(Path(folder))
-        for name in words.names or every:
-            words.command = [str(word) for word in every[name]]
-            refusals, same = tried(words)
-            print(f"{name}: {refusals} refused, {same} ended as with ample memory", flush=True)
+    with tempfile.TemporaryDirectory() as name:
+        folder = Path(name)
+        library = build_library(folder)
+        cases, attempt = (failing_cases.calls(), try_calls) if words.calls else (failing_cases.commands(folder), try_command)
+        for name in words.names or cases:
+            case = cases[name]
+            program = program_of(words, case.program)
+            command = Command([program, *map(str, case.words)], case.script, case.folder, library)
+            print(f"{name}: {attempt(command, words.jobs)}", flush=True)
 
 
 if __name__ == "__main__":

@@ -1,0 +1,29 @@
+//! Makes calls once more if they are refused, for programs that are run with one allocation of the process refused. Such a
+//! program prints what it prints with ample memory. Standard error names each call that was refused.
+#![tactic(auto)]
+
+mod files;
+mod programs;
+
+pub use files::{bytes_of, text_of, units_of, words_of};
+pub use programs::{class_of, linked};
+use std::fmt::Debug;
+
+/// Makes a call, once more if it is refused. Returns the answer, if there is one.
+#[macro_export]
+macro_rules! again {
+    ($rt:expr, $name:literal, $call:expr) => {
+        match $call {
+            Ok(answer) => Some(answer),
+            Err(fault) => {
+                $crate::print($rt, $name, &fault);
+                $call.ok()
+            }
+        }
+    };
+}
+
+/// Prints to standard error that a call was refused. That this can't be printed changes no answer.
+pub fn print<F: Debug>(rt: &HostRuntime, name: &str, fault: &F) {
+    let _printed = eprintln!(rt; "{name}: {fault:?}");
+}

@@ -1,0 +1,52 @@
+//! A session of gcd(48, 36).
+
+use crate::answers::answer_all;
+use debugger::Session;
+use held::items::Items;
+use machine::{Argument, Entry, Limits, MachineFault};
+use program::Program;
+use refused::{again, units_of};
+use std::alloc::Global;
+
+/// What the session may use.
+const LIMITS: Limits = Limits {
+    objects: 1_000,
+    elements: 1_000,
+    threads: 16,
+    frames: 64,
+};
+
+/// The number of turns of the run.
+const TURNS: usize = 25;
+
+/// Returns the entry.
+fn entry_of(rt: &HostRuntime) -> Option<Entry> {
+    let arguments = [Argument::Int(48), Argument::Int(36)];
+    let arguments = again!(rt, "arguments", Vec::from_slice(rt.alloc(), &arguments))?;
+    Some(Entry::Static {
+        class: units_of(rt, "G")?,
+        name: units_of(rt, "gcd")?,
+        descriptor: units_of(rt, "(II)I")?,
+        arguments: Items::from_vec(arguments),
+    })
+}
+
+/// Begins a session, before the first of the choices.
+fn begun<'p>(
+    alloc: Global,
+    program: &'p Program,
+    entry: &Entry,
+) -> Result<Session<'p>, MachineFault> {
+    let choices = vec![in alloc; 0u32; TURNS]?;
+    Session::new(alloc, program, LIMITS, entry, choices)
+}
+
+/// Begins a session, and carries out a script.
+pub(crate) fn debug(rt: &HostRuntime, program: &Program, script: &[u8]) -> Option<()> {
+    let entry = entry_of(rt)?;
+    let made = again!(rt, "Session::new", begun(rt.alloc(), program, &entry));
+    let mut session = made?;
+    let answered = answer_all(rt, &mut session, script);
+    drop(session);
+    answered
+}

@@ -1,0 +1,48 @@
+//! Runs a program turn by turn, judges its trace, and makes each call that is refused once more. The words are a
+//! specification, the class of `main`, and class files.
+//!
+//! | Calls | What is printed |
+//! |---|---|
+//! | `Machine::new`, `step` for each thread in turn, and `copy` after some rounds | the outcome of each turn, then the trace, the threads and the output |
+//! | `Checker::new`, `feed` for each item of the trace, `verdict` and `serial` | how many transactions there are after each item, then the verdict and a serial order |
+//!
+//! `data/Nested.class` is assembled from `data/Nested.j`, and `data/LostUpdate.class` from `examples/threads/LostUpdate.j`.
+#![tactic(auto)]
+
+mod feeding;
+mod running;
+
+use atom_spec::Spec;
+use refused::{again, linked, units_of, words_of};
+use std::process::ExitCode;
+use trace::Trace;
+
+/// Runs the `main` of a class, prints what it did, and returns its trace.
+fn trace_of(rt: &HostRuntime, class: &str, files: &[String]) -> Option<Trace> {
+    let program = linked(rt, files)?;
+    let class = units_of(rt, class)?;
+    let trace = running::run(rt, &program, class);
+    drop(program);
+    trace
+}
+
+/// Judges a trace by the text of a specification, and prints what is said of it.
+fn judge(rt: &HostRuntime, spec: &str, trace: &Trace) -> Option<()> {
+    let spec = again!(rt, "Spec::read", Spec::read(rt.alloc(), spec))?;
+    feeding::judge(rt, &spec, trace)
+}
+
+/// Runs and judges what the words name.
+fn perform(rt: &HostRuntime) -> Option<()> {
+    let words = words_of(rt)?;
+    let (spec, class) = (words.first()?, words.get(1)?);
+    let trace = trace_of(rt, class.as_str(), words.as_slice().get(2..)?)?;
+    judge(rt, spec.as_str(), &trace)
+}
+
+fn main(rt: HostRuntime) -> ExitCode {
+    match perform(&rt) {
+        Some(()) => ExitCode::SUCCESS,
+        None => ExitCode::from(3),
+    }
+}
