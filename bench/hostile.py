@@ -57,10 +57,6 @@ KNOWN = {
     "open_in_order",
     # A link that leads back moves all live ones behind it (atom_order::graph, link_at).
     "moved_back",
-    # Each pick copies the choices up to the position (debugger::pick, choices_with).
-    "picks",
-    # A breakpoint that is deleted is looked for by its number, and those behind it move (debugger::breakpoints).
-    "breakpoints_deleted",
     # A turn of instanceof walks up all interfaces above (classes::subtypes): no square, but beyond a cache it grows threefold.
     "tests_of_interfaces",
     "tests_of_missing_class",

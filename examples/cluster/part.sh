@@ -5,6 +5,8 @@
 set -u
 index=$1 size=$2 dir=$3
 shift 3
+# A shell that can't write ends with 2, which is a refusal of words or files.
+[ -d "$dir" ] || { echo "$0: no folder $dir" >&2; exit 3; }
 part=$dir/$index.part.$(hostname).$$
 trap 'rm -f "$part"; exit 143' TERM INT HUP
 "${JVMX:-jvmx}" campaign --first $((index * size)) --jobs "$size" "$@" >"$part"
