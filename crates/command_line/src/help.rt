@@ -344,10 +344,10 @@ the last one of another thread that it conflicts with, unless one leads from
 there to an earlier event of its thread. A red box is a transaction of the
 cycle, and a red arrow one of its edges.
 
-At most 200 events are drawn: of more, those of the first 64 transactions of the
-cycle, and of still more first those that its edges join; or the first events if
-there is no cycle. With --dot there is a node for each of the transactions, and
-an edge for each two with events that conflict.
+At most 200 events are drawn: of more, those of the transactions that the first
+64 edges of the cycle join, and of still more first the events of these edges;
+or the first events if there is no cycle. With --dot there is a node for each of
+the transactions, and an edge for each two with events that conflict.
 
 Exit status: 0, also where there is a cycle; 2 and 3 as jvmx --help says.
 jvmx help CODE explains the code of a refusal.
@@ -365,7 +365,8 @@ Usage: jvmx asm IN OUT
   OUT  the class file, version 49.0, that is written. Its name isn't that of IN
 
 A refusal leaves OUT as it is: the class is written to OUT.part, which then
-takes the place of OUT.
+takes the place of OUT. A symbolic link stays, and the file that it names is
+replaced. A device or a pipe gets the class as it is.
 
 Exit status: 0; 2 and 3 as jvmx --help says. jvmx help CODE explains the
 code of a refusal: J01 to J12 of a source's line, A01 to A08 of its class.
@@ -446,6 +447,7 @@ something. A line ends with why a compiler may have put the instruction there:
   (assert)                   write if and throw
   (boxing)                   write int or another primitive type
   (enum)                     write ints
+  (float or double)          write int or long
   (a class of another file)  name the FILE of that class too
 Then a line for each line of the specification that matches no method,
   spec atomic C.m matches no method

@@ -21,3 +21,4 @@ pub use help::{
     PICTURE_HELP, RUN_HELP, TABLES_HELP, TRACE_HELP, VERSION,
 };
 pub use program_words::{ProgramNames, ProgramWords};
+pub use words_help::words_text;

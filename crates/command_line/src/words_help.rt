@@ -15,6 +15,14 @@ const RUN_NUMBERS: [&str; 1] = [MOST];
 /// The options of `campaign` whose value is a number.
 const CAMPAIGN_NUMBERS: [&str; 5] = [JOBS, FIRST, SEED, WORKERS, MOST];
 
+/// What the entry of a static method has to be.
+const METHOD_WANTED: &str =
+    "a static method is C.m.D, where D is as (II)I or ()V; a class a.b.C is a/b/C";
+
+/// What follows `help`.
+const HELP_WANTED: &str =
+    "help takes the name of a command, a code in capitals as C03, or P04 -- WORDS\n";
+
 /// Returns the options of a command whose value is a number.
 fn numbers_of(command: &str) -> &'static [&'static str] {
     match command {
@@ -91,10 +99,8 @@ fn entry_wanted(
         let is_name = is_read(main_entry(alloc, entry))?;
         return Ok((!is_name).then_some("the name of a class, as a/b/C"));
     }
-    if cut_twice(entry.as_bytes(), b'.').is_none() {
-        return Ok(Some(
-            "a static method is C.m.D, its parts separated by dots; a class a.b.C is a/b/C",
-        ));
+    if !entry.contains('(') || cut_twice(entry.as_bytes(), b'.').is_none() {
+        return Ok(Some(METHOD_WANTED));
     }
     let is_entry = is_read(static_entry(alloc, entry, None))?;
     Ok((!is_entry).then_some("a class, a name and a descriptor, as the class file has them"))
@@ -183,10 +189,21 @@ fn parser_line(alloc: Global, error: &clap::Error) -> Result<String, WordsFault>
     Ok(line)
 }
 
+/// Returns whether words ask for a text of `help` that there isn't.
+fn is_help(words: &[String]) -> bool {
+    match words.first() {
+        Some(word) => word.as_str() == "help",
+        None => false,
+    }
+}
+
 /// Returns why words are refused with P04, or that they aren't.
-pub(crate) fn words_text(alloc: Global, words: &[String]) -> Result<String, WordsFault> {
+pub fn words_text(alloc: Global, words: &[String]) -> Result<String, WordsFault> {
     if is_text(words) || is_read(parsed(alloc, words))? {
         return Ok(String::from_str(alloc, "these words are a command line\n")?);
+    }
+    if is_help(words) {
+        return Ok(String::from_str(alloc, HELP_WANTED)?);
     }
     match syntax(alloc)?.try_get_matches_from(words) {
         Err(error) => parser_line(alloc, &error),

@@ -46,7 +46,7 @@ pub trait Files {
     /// The bytes of a file, if there are at most 67,108,864.
     fn read(&mut self, name: &str) -> Result<Vec<u8>, FileFault>;
 
-    /// Makes these the bytes of a file. Where that fails, a file that was there has its bytes still.
+    /// Makes these the bytes of a file. If that fails, a file that is there still has its bytes. A device gets them as it is.
     fn write(&mut self, name: &str, bytes: &[u8]) -> Result<(), FileFault>;
 }
 
@@ -80,6 +80,21 @@ pub struct SystemFiles<'r, R> {
     pub rt: &'r R,
 }
 
+impl<R: rt::Files + AllocGlobal> SystemFiles<'_, R> {
+    /// Makes a file, or replaces one as a whole. If that fails, a file that is there still has its bytes.
+    fn replace(&self, name: &str, bytes: &[u8]) -> Result<(), FileFault> {
+        let beside = name_beside(self.rt.alloc(), name)?;
+        match replace(self.rt, beside.as_str(), name, bytes) {
+            Ok(()) => Ok(()),
+            Err(error) => {
+                // What is beside it is of no use. If it can't be removed, that changes no answer.
+                let _removed = fs::remove_file(self.rt, beside.as_str());
+                Err(error.into())
+            }
+        }
+    }
+}
+
 impl<R: rt::Files + AllocGlobal> Files for SystemFiles<'_, R> {
     fn read(&mut self, name: &str) -> Result<Vec<u8>, FileFault> {
         let file = fs::open(self.rt, name)?;
@@ -87,14 +102,15 @@ impl<R: rt::Files + AllocGlobal> Files for SystemFiles<'_, R> {
     }
 
     fn write(&mut self, name: &str, bytes: &[u8]) -> Result<(), FileFault> {
-        let beside = name_beside(self.rt.alloc(), name)?;
-        match replace(self.rt, beside.as_str(), name, bytes) {
-            Ok(()) => Ok(()),
-            Err(error) => {
-                // What stands beside it is of no use; that it can't be removed changes no answer.
-                let _removed = fs::remove_file(self.rt, beside.as_str());
-                Err(error.into())
+        match fs::metadata(self.rt, name) {
+            // A symbolic link stays, and the file that it names is replaced.
+            Ok(found) if found.is_file() => {
+                let path = fs::canonicalize(self.rt, name)?;
+                self.replace(path.as_str(), bytes)
             }
+            Err(_) if fs::symlink_metadata(self.rt, name).is_err() => self.replace(name, bytes),
+            // A device, a pipe, or a symbolic link that names nothing yet.
+            _ => Ok(fs::write(self.rt, name, bytes)?),
         }
     }
 }

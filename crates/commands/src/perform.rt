@@ -17,6 +17,7 @@ use crate::tracing::write_trace;
 use atom_spec::{Spec, SpecificationLine};
 use command_line::{
     AsmWords, CheckWords, Command, NeedsWords, ProgramWords, RunWords, VERSION, command_of,
+    words_text,
 };
 use debugger_script::{NoPrompt, Prompt};
 use debugging::debug;
@@ -415,6 +416,13 @@ fn refuse<E: ByteOut>(alloc: Global, refusal: &Refusal<'_>, errors: &mut E) -> u
     if written.is_ok() { status } else { 3 }
 }
 
+/// Shows why words are no command line, after the line that refuses them. What can't be shown is missing.
+fn explain_words<E: ByteOut>(alloc: Global, words: &[String], errors: &mut E) {
+    if let Ok(text) = words_text(alloc, words) {
+        let _shown = errors.write_all(text.as_bytes());
+    }
+}
+
 /// Does all of the program, on the words after its name. The answer is its exit status: 0; 1 where a run
 /// didn't finish, an exception is uncaught, a cycle was found or something is missing; 2 where words or inputs are refused;
 /// 3 where memory ran out or a device failed.
@@ -429,7 +437,7 @@ pub fn perform<
 }
 
 /// Does all of the program, as `perform` does. A person at a terminal sees more on standard error: prompts and hints of
-/// `debug`, and of `campaign` how far it is, and a summary.
+/// `debug`, of `campaign` how far it is and a summary, and why words are refused.
 pub fn perform_at<
     R: AllocGlobal + Clock + Eprint + Threads + Wait + Sync,
     F: Files,
@@ -448,6 +456,12 @@ pub fn perform_at<
     let alloc = rt.alloc();
     match command(rt, alloc, words, files, input, output, errors, terminal) {
         Ok(status) => status,
-        Err(refusal) => refuse(alloc, &refusal, errors),
+        Err(refusal) => {
+            let status = refuse(alloc, &refusal, errors);
+            if terminal.errors && matches!(refusal, Refusal::Words) {
+                explain_words(alloc, words, errors);
+            }
+            status
+        }
     }
 }

@@ -31,6 +31,11 @@ is_boxing member =
     || same_text member (codes "shortValue") || same_text member (codes "byteValue")
     || same_text member (codes "charValue") || same_text member (codes "booleanValue")
 
+-- Of an instruction that names neither a class nor a member: outside of the profile are those of floats and doubles.
+abbrev pub unnamed_hint : Lack → List ℕ
+unnamed_hint lack.OutOfProfile = codes " (float or double)"
+unnamed_hint _ = []
+
 -- Of a class and a member's name, which is empty where no member is named. A class with a dollar sign in its name is one
 -- that a compiler put into a file of its own.
 abbrev pub hint_of : Lack → List ℕ → List ℕ → List ℕ

@@ -20,7 +20,7 @@ use Rattle.jvms_program.specs.Program.{key_in}
 use Rattle.source_lines.specs.SourceLines.{source_place}
 use Rattle.needs.specs.declared.lack.Lack.{Lack}
 use Rattle.needs.specs.declared.lack.Lack.TheVariants as lack
-use Rattle.needs.specs.Hints.{hint_of, is_absence}
+use Rattle.needs.specs.Hints.{hint_of, is_absence, unnamed_hint}
 use Rattle.needs.specs.Lacks.{lack_of}
 use Rattle.needs.specs.Named.{class_named, member_named}
 
@@ -44,7 +44,7 @@ named_text lack (Some class) (Some member) =
     codes " " ++ (if is_absence lack then spelled class else member_text class member.0 member.1)
 
 abbrev pub hint_text : Lack → Option (List ℕ) → Option (List ℕ × List ℕ) → List ℕ
-hint_text lack None member = []
+hint_text lack None member = unnamed_hint lack
 hint_text lack (Some class) None = hint_of lack class []
 hint_text lack (Some class) (Some member) = hint_of lack class member.0
 

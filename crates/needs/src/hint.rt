@@ -2,7 +2,7 @@
 
 ghost use Rattle.std.specs.Prelude.{◌≡◌, ◌==◌};
 ghost use Rattle.std.specs.List.{list_any};
-ghost use Rattle.needs.specs.Hints.{hint_of, is_absence as absence, is_assertion as assertion, is_box as box_class, is_boxing as boxing, is_text_builder as text_builder};
+ghost use Rattle.needs.specs.Hints.{hint_of, is_absence as absence, is_assertion as assertion, is_box as box_class, is_boxing as boxing, is_text_builder as text_builder, unnamed_hint as said_unnamed};
 
 use crate::lack::Lack;
 use built_in::is_named;
@@ -16,6 +16,16 @@ pub(crate) fn is_absence(lack: Lack) -> bool
     ensures { result ≡ absence lack }
 {
     matches!(lack, Lack::Unresolved(Thrown::NoClassDefFoundError))
+}
+
+/// Returns what is said of an instruction that names neither a class nor a member.
+pub(crate) fn unnamed_hint(lack: Lack) -> &'static str
+    ensures { result.now ≡ said_unnamed lack }
+{
+    match lack {
+        Lack::OutOfProfile => " (float or double)",
+        Lack::Unresolved(_) => "",
+    }
 }
 
 /// Returns whether `+` on strings uses a class.

@@ -6,7 +6,7 @@ ghost use Rattle.std.specs.String.{string_bytes};
 ghost use Rattle.escapes.specs.Keys.{member_text};
 ghost use Rattle.needs.specs.Lines.{error_text, hint_text, instruction_text, lack_text, named_text, need_line, need_text, place_text, reason_of, reason_text};
 
-use crate::hint::{hint_of, is_absence};
+use crate::hint::{hint_of, is_absence, unnamed_hint};
 use crate::lack::{Lack, lack_of};
 use crate::named::{class_named, member_named};
 use escapes::{MethodKey, put_method, put_name};
@@ -82,7 +82,7 @@ fn hint_text(lack: Lack, class: Option<&[u16]>, member: Option<(&[u16], &[u16])>
         ≡ hint_text lack (option_map (λ c. c.now) class.entry) (option_map (λ m. (m.0.now, m.1.now)) member.entry) }
 {
     match (class, member) {
-        (None, _) => "",
+        (None, _) => unnamed_hint(lack),
         (Some(class), None) => hint_of(lack, class, &[]),
         (Some(class), Some((name, _))) => hint_of(lack, class, name),
     }

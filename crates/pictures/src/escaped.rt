@@ -33,9 +33,14 @@ pub(crate) fn put_short(out: &mut String, text: &str) -> Result<(), AllocError> 
     Ok(())
 }
 
-/// Returns how many characters of an ASCII text are shown in XML at most.
+/// Returns how many characters `put_short` shows of an ASCII text.
 pub(crate) fn shown_length(text: &str) -> usize {
-    text.len().min(MOST_CHARACTERS.saturating_add(CUT.len()))
+    let length = text.len();
+    if length > MOST_CHARACTERS {
+        MOST_CHARACTERS.saturating_add(CUT.len())
+    } else {
+        length
+    }
 }
 
 /// Appends a character of a text between quotes in DOT. Graphviz reads the entities of XML there too.
