@@ -23,6 +23,8 @@ import launcher  # noqa: E402
 SOURCE = ROOT / "examples" / "G.j"
 MAGIC = b"\xca\xfe\xba\xbe"
 OLD = b"old"
+# The program that `rt ci` leaves.
+PROVED = ROOT / "crates" / "jvmx" / "out" / "jvmx"
 
 
 def status_of(jvmx, out, source=SOURCE):
@@ -102,7 +104,8 @@ CASES = [new_file, old_file, refused_source, symbolic_link, link_to_nothing, pip
 def main():
     parser = argparse.ArgumentParser(description=__doc__, formatter_class=argparse.RawDescriptionHelpFormatter)
     parser.add_argument("--jvmx", metavar="PROGRAM", help="the program itself, and not the script that finds it")
-    jvmx = Path(parser.parse_args().jvmx or launcher.program_to_run()).resolve()
+    named = parser.parse_args().jvmx or (PROVED if PROVED.exists() else launcher.program_to_run())
+    jvmx = Path(named).resolve()
     wrong = 0
     for case in CASES:
         with tempfile.TemporaryDirectory() as folder:
