@@ -5,7 +5,7 @@ second of judging it, bytes a second of its text, and the memory that both take 
     bench/checker.py [--jvmx PROGRAM] [--events PROGRAM] [--most EVENTS] [SHAPE...]
 
 Reading alone is timed by the same text with a faulty line behind it, which is refused before an item is judged. With the
-program of crates/events, which feeds a checker without a text and keeps no items, it times that instead: a text of
+program of crates/bench_events, which feeds a checker without a text and keeps no items, it times that instead: a text of
 10,000,000 events is past 64 MiB.
 """
 import argparse
@@ -103,7 +103,7 @@ def lines(words, folder):
 def main():
     parser = argparse.ArgumentParser(description=__doc__.split("\n")[0])
     parser.add_argument("--jvmx", default=HERE.parent / "jvmx", help="the program; else the one of this folder")
-    parser.add_argument("--events", help="the program of crates/events, to time feeding alone")
+    parser.add_argument("--events", help="the program of crates/bench_events, to time feeding alone")
     parser.add_argument("--most", default=1_000_000, type=int, help="the longest traces, in events")
     parser.add_argument("shapes", nargs="*", metavar="SHAPE", help="these shapes; else all")
     words = parser.parse_args()

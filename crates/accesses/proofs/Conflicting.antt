@@ -1,11 +1,11 @@
--- Two items conflict exactly where two of their accesses are against each other.
+-- Two items conflict if and only if two of their accesses conflict.
 use Rattle.std.proofs.Common.{◌≡◌, ℕ, Bool, true, false, ◌==◌, ◌&&◌, ◌||◌, Option, Some, None, ◌⊎◌, ◌↔◌, inl, inr, ⊎_elim, refl, sym, ap, ◌∙◌, true≢false}
 use Rattle.std.proofs.lemmas.Bool.{and_from, and_parts}
 use Rattle.std.proofs.lemmas.Option.{none-some, same_Some}
 use Rattle.jvms_machine.specs.declared.trace.Item.{Item}
 use Rattle.jvms_machine.specs.declared.trace.Item.TheVariants as item
 use Rattle.jvms_machine.specs.declared.trace.Variable.{Variable}
-use Rattle.velodrome.specs.Conflicts.{conflict, is_write, monitor_of, on_one_variable, same_number, thread_of, touched_by, variable_of}
+use Rattle.velodrome.specs.Conflicts.{conflict, is_write, monitor_of, on_one_variable, same_number, thread_of, started_or_joined, variable_of}
 use Rattle.velodrome.specs.Cycles.{IsIn}
 use Rattle.accesses.specs.Accesses.{Access, OfMonitor, OfThread, OfVariable, Place, accesses_beside, accesses_of, against, beside_at, main_at, same_place}
 
@@ -14,12 +14,12 @@ access p b = record { place = p; is_main = b }
 
 -- ---- What an item's accesses are
 
--- One of the four kinds.
+-- An access of an item is of one of four kinds.
 data IsOf (i : Item) (x : Access) : Type 0 where
   own : x ≡ main_at (OfThread (thread_of i)) → IsOf i x
   monitor : (r : ℕ) → monitor_of i ≡ Some r → x ≡ main_at (OfMonitor r) → IsOf i x
   on_variable : (v : Variable) → variable_of i ≡ Some v → x ≡ access (OfVariable v) (is_write i) → IsOf i x
-  touched : (u : ℕ) → touched_by i ≡ Some u → x ≡ beside_at (OfThread u) → IsOf i x
+  touched : (u : ℕ) → started_or_joined i ≡ Some u → x ≡ beside_at (OfThread u) → IsOf i x
 
 kind_beside : (i : Item) (x : Access) → IsIn x (accesses_beside i) → IsOf i x
 kind_beside (item.Read t v) x (inl same) = on_variable v refl same
@@ -61,7 +61,7 @@ has_variable (item.Join t u) v is = absurd (none-some v is)
 has_variable (item.Enter t m) v is = absurd (none-some v is)
 has_variable (item.Exit t m) v is = absurd (none-some v is)
 
-has_touched : (i : Item) (u : ℕ) → touched_by i ≡ Some u → IsIn (beside_at (OfThread u)) (accesses_beside i)
+has_touched : (i : Item) (u : ℕ) → started_or_joined i ≡ Some u → IsIn (beside_at (OfThread u)) (accesses_beside i)
 has_touched (item.Read t v) u is = absurd (none-some u is)
 has_touched (item.Write t v) u is = absurd (none-some u is)
 has_touched (item.Acquire t r) u is = absurd (none-some u is)
@@ -107,12 +107,12 @@ on_variables a b (Some v) None av bw same = absurd (true≢false (sym same))
 on_variables a b (Some v) (Some w) av bw same =
     (access (OfVariable v) (is_write a), access (OfVariable w) (is_write b), in_beside a _ (has_variable a v av), in_beside b _ (has_variable b w bw), same)
 
-on_touched : (a b : Item) (u : Option ℕ) → touched_by a ≡ u → same_number u (Some (thread_of b)) ≡ true → AreAgainst a b
+on_touched : (a b : Item) (u : Option ℕ) → started_or_joined a ≡ u → same_number u (Some (thread_of b)) ≡ true → AreAgainst a b
 on_touched a b None is same = absurd (true≢false (sym same))
 on_touched a b (Some u) is same =
     (beside_at (OfThread u), main_at (OfThread (thread_of b)), in_beside a _ (has_touched a u is), in_own b, and_from (u == thread_of b) true same refl)
 
-on_touching : (a b : Item) (u : Option ℕ) → touched_by b ≡ u → same_number (Some (thread_of a)) u ≡ true → AreAgainst a b
+on_touching : (a b : Item) (u : Option ℕ) → started_or_joined b ≡ u → same_number (Some (thread_of a)) u ≡ true → AreAgainst a b
 on_touching a b None is same = absurd (true≢false (sym same))
 on_touching a b (Some u) is same =
     (main_at (OfThread (thread_of a)), beside_at (OfThread u), in_own a, in_beside b _ (has_touched b u is), and_from (thread_of a == u) true same refl)
@@ -129,14 +129,14 @@ of_conflict a b is =
     (or_split (thread_of a == thread_of b) (same_number (monitor_of a) (monitor_of b)) three))
     (λ v. on_variables a b (variable_of a) (variable_of b) refl refl v)
     (or_split _ (on_one_variable (variable_of a) (variable_of b) && (is_write a || is_write b)) two))
-    (λ u. on_touched a b (touched_by a) refl u)
-    (or_split _ (same_number (touched_by a) (Some (thread_of b))) one))
-    (λ u. on_touching a b (touched_by b) refl u)
-    (or_split _ (same_number (Some (thread_of a)) (touched_by b)) is)
+    (λ u. on_touched a b (started_or_joined a) refl u)
+    (or_split _ (same_number (started_or_joined a) (Some (thread_of b))) one))
+    (λ u. on_touching a b (started_or_joined b) refl u)
+    (or_split _ (same_number (Some (thread_of a)) (started_or_joined b)) is)
 
--- ---- And back
+-- ---- From accesses to a conflict
 
--- A conflict by each of its five causes.
+-- Each of the five causes makes a conflict.
 by_thread : (a b : Item) → (thread_of a == thread_of b) ≡ true → conflict a b ≡ true
 unfolding conflict
 by_thread a b is = or_first _ _ (or_first _ _ (or_first _ _ (or_first _ _ is)))
@@ -149,13 +149,13 @@ by_variable : (a b : Item) → (on_one_variable (variable_of a) (variable_of b) 
 unfolding conflict
 by_variable a b is = or_first _ _ (or_first _ _ (or_second ((thread_of a == thread_of b) || same_number (monitor_of a) (monitor_of b)) _ is))
 
-by_touched : (a b : Item) → same_number (touched_by a) (Some (thread_of b)) ≡ true → conflict a b ≡ true
+by_touched : (a b : Item) → same_number (started_or_joined a) (Some (thread_of b)) ≡ true → conflict a b ≡ true
 unfolding conflict
 by_touched a b is = or_first _ _ (or_second ((thread_of a == thread_of b) || same_number (monitor_of a) (monitor_of b) || (on_one_variable (variable_of a) (variable_of b) && (is_write a || is_write b))) _ is)
 
-by_touching : (a b : Item) → same_number (Some (thread_of a)) (touched_by b) ≡ true → conflict a b ≡ true
+by_touching : (a b : Item) → same_number (Some (thread_of a)) (started_or_joined b) ≡ true → conflict a b ≡ true
 unfolding conflict
-by_touching a b is = or_second ((thread_of a == thread_of b) || same_number (monitor_of a) (monitor_of b) || (on_one_variable (variable_of a) (variable_of b) && (is_write a || is_write b)) || same_number (touched_by a) (Some (thread_of b))) _ is
+by_touching a b is = or_second ((thread_of a == thread_of b) || same_number (monitor_of a) (monitor_of b) || (on_one_variable (variable_of a) (variable_of b) && (is_write a || is_write b)) || same_number (started_or_joined a) (Some (thread_of b))) _ is
 
 place_test : (p q : Place) (c d : Bool) → (same_place p q && (c || d)) ≡ true → same_place p q ≡ true
 place_test p q c d is = (and_parts (same_place p q) (c || d) is).0

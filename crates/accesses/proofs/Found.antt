@@ -1,4 +1,4 @@
--- What is kept at a place, and the links from there.
+-- The accesses to a place, and the links from there.
 use Rattle.std.proofs.Common.{◌≡◌, ℕ, Bool, true, false, cond, ◌&&◌, ◌||◌, if◌then◌else◌, List, [], ◌∷◌, ◌++◌, map, Option, Some, None, ◌⊎◌, inl, inr, ⊎_elim, refl, sym, ap, ◌∙◌, subst, true≢false, append-nil}
 use Rattle.std.specs.List.{AllByRecursion, IsDistinct}
 use Rattle.std.specs.Map.{keys_of, lookup}
@@ -14,36 +14,36 @@ use Rattle.accesses.specs.Kept.{beside_last, kept_at, kept_in, main_last, main_l
 use Rattle.accesses.specs.Links.{AreAdded, AreAt, AreLinksOf, IsAgainstOne, link_from, links_of, main_links}
 use Rattle.accesses.specs.OnePlace.{keys_equiv, one_place, place_itself, same_keys}
 use Rattle.accesses.specs.Places.{place_of}
-use Rattle.accesses.specs.declared.lasts.Lasts.{Lasts}
+use Rattle.accesses.specs.declared.lasts.PlaceAccesses.{PlaceAccesses}
 use Rattle.accesses.specs.declared.lasts.Noted.{Noted}
 use Rattle.accesses.specs.declared.place.Place.{Place as Key}
 use Rattle.accesses.proofs.Members.{in_back, in_either, in_front, in_map, of_map}
 
--- ---- What is kept at a place is with this place
+-- ---- Each remembered access has its entry's place
 
 of_main : (p : Place) (m : Option Noted) (k : Last) → IsIn k (main_lasts p m) → (n : Noted) × (m ≡ Some n) × (k ≡ main_last p n)
 of_main p None k is_in = absurd is_in
 of_main p (Some n) k (inl same) = (n, refl, same)
 of_main p (Some n) k (inr more) = absurd more
 
--- It is the main one, or one beside.
-pub of_kept : (p : Place) (l : Lasts) (k : Last) → IsIn k (kept_at p l)
+-- It is the main one, or a non-main one.
+pub of_kept : (p : Place) (l : PlaceAccesses) (k : Last) → IsIn k (kept_at p l)
     → ((n : Noted) × (l.main ≡ Some n) × (k ≡ main_last p n)) ⊎ ((n : Noted) × IsIn n l.beside.items × (k ≡ beside_last p n))
 of_kept p l k is_in = ⊎_elim (λ front. inl (of_main p l.main k front)) (λ back. inr (of_map (beside_last p) k l.beside.items back))
     (in_either k (main_lasts p l.main) (map (beside_last p) l.beside.items) is_in)
 
-pub here : (p : Place) (l : Lasts) (k : Last) → IsIn k (kept_at p l) → k.access.place ≡ p
+pub here : (p : Place) (l : PlaceAccesses) (k : Last) → IsIn k (kept_at p l) → k.access.place ≡ p
 here p l k is_in = ⊎_elim (λ w. ap (λ (x : Last). x.access.place) w.2) (λ w. ap (λ (x : Last). x.access.place) w.2) (of_kept p l k is_in)
 
 -- ---- What a look-up finds
 
 abbrev Table : Type 0
-Table = List (Key × Lasts)
+Table = List (Key × PlaceAccesses)
 
 turned : (a b : Key) → same_keys a b ≡ false → same_keys b a ≡ false
 turned a b apart = keys_equiv.symm b a ∙ apart
 
--- No entry but the first is at its place.
+-- No entry but the first has its place.
 elsewhere : (q : Place) (es : Table) → AllByRecursion (λ y. same_place q (place_of y) ≡ false) (keys_of es) → (k : Last) → IsIn k (kept_in es) → k.access.place ≡ q → ⊥
 elsewhere q [] all k is_in same = is_in
 elsewhere q (e ∷ es) all k is_in same =
@@ -52,10 +52,10 @@ elsewhere q (e ∷ es) all k is_in same =
     (λ back. elsewhere q es all.1 k back same)
     (in_either k (kept_at (place_of e.0) e.1) (kept_in es) is_in)
 
-abbrev IsAtEntry : Key → Table → Lasts → Type 0
+abbrev IsAtEntry : Key → Table → PlaceAccesses → Type 0
 IsAtEntry q es l = AreAt (kept_in es) (place_of q) (kept_at (place_of q) l)
 
-at_first : (q : Key) (e : Key × Lasts) (es : Table) (l : Lasts) → IsDistinct same_keys (keys_of (e ∷ es)) → same_keys q e.0 ≡ true → e.1 ≡ l → IsAtEntry q (e ∷ es) l
+at_first : (q : Key) (e : Key × PlaceAccesses) (es : Table) (l : PlaceAccesses) → IsDistinct same_keys (keys_of (e ∷ es)) → same_keys q e.0 ≡ true → e.1 ≡ l → IsAtEntry q (e ∷ es) l
 at_first q e es l apart same is =
     let one : place_of q ≡ place_of e.0 = one_place (place_of q) (place_of e.0) same in
     let entry : kept_at (place_of e.0) e.1 ≡ kept_at (place_of q) l = ap (λ (p : Place). kept_at p e.1) (sym one) ∙ ap (kept_at (place_of q)) is in (
@@ -65,7 +65,7 @@ at_first q e es l apart same is =
           (in_either k (kept_at (place_of e.0) e.1) (kept_in es) is_in),
     )
 
-at_other : (q : Key) (e : Key × Lasts) (es : Table) (l : Lasts) → same_keys q e.0 ≡ false → IsAtEntry q es l → IsAtEntry q (e ∷ es) l
+at_other : (q : Key) (e : Key × PlaceAccesses) (es : Table) (l : PlaceAccesses) → same_keys q e.0 ≡ false → IsAtEntry q es l → IsAtEntry q (e ∷ es) l
 at_other q e es l apart rest = (
   λ k is_in. let r = rest.0 k is_in in (in_back k (kept_at (place_of e.0) e.1) (kept_in es) r.0, r.1),
   λ k is_in near. ⊎_elim
@@ -74,17 +74,17 @@ at_other q e es l apart rest = (
       (in_either k (kept_at (place_of e.0) e.1) (kept_in es) is_in),
 )
 
-found_by : (q : Key) (e : Key × Lasts) (es : Table) (l : Lasts) (b : Bool) → IsDistinct same_keys (keys_of (e ∷ es)) → same_keys q e.0 ≡ b → (lookup (same_keys q) es ≡ Some l → IsAtEntry q es l) → cond b (Some e.1) (lookup (same_keys q) es) ≡ Some l → IsAtEntry q (e ∷ es) l
+found_by : (q : Key) (e : Key × PlaceAccesses) (es : Table) (l : PlaceAccesses) (b : Bool) → IsDistinct same_keys (keys_of (e ∷ es)) → same_keys q e.0 ≡ b → (lookup (same_keys q) es ≡ Some l → IsAtEntry q es l) → cond b (Some e.1) (lookup (same_keys q) es) ≡ Some l → IsAtEntry q (e ∷ es) l
 found_by q e es l true apart same rest is = at_first q e es l apart same (same_Some e.1 l is)
 found_by q e es l false apart same rest is = at_other q e es l same (rest is)
 
-pub found : (q : Key) (es : Table) (l : Lasts) → IsDistinct same_keys (keys_of es) → lookup (same_keys q) es ≡ Some l → IsAtEntry q es l
+pub found : (q : Key) (es : Table) (l : PlaceAccesses) → IsDistinct same_keys (keys_of es) → lookup (same_keys q) es ≡ Some l → IsAtEntry q es l
 found q [] l apart is = absurd (none-some l is)
 found q (e ∷ es) l apart is = found_by q e es l (same_keys q e.0) apart refl (found q es l (IsDistinct-tail same_keys e.0 (keys_of es) apart)) is
 
--- ---- What it doesn't find
+-- ---- What a look-up doesn't find
 
-none_by : (q : Key) (e : Key × Lasts) (es : Table) (b : Bool) → same_keys q e.0 ≡ b → (lookup (same_keys q) es ≡ None → AreAt (kept_in es) (place_of q) []) → cond b (Some e.1) (lookup (same_keys q) es) ≡ None → AreAt (kept_in (e ∷ es)) (place_of q) []
+none_by : (q : Key) (e : Key × PlaceAccesses) (es : Table) (b : Bool) → same_keys q e.0 ≡ b → (lookup (same_keys q) es ≡ None → AreAt (kept_in es) (place_of q) []) → cond b (Some e.1) (lookup (same_keys q) es) ≡ None → AreAt (kept_in (e ∷ es)) (place_of q) []
 none_by q e es true same rest is = absurd (none-some e.1 (sym is))
 none_by q e es false same rest is = (
   λ k is_in. absurd is_in,
@@ -128,7 +128,7 @@ access p b = record { place = p; is_main = b }
 abbrev IsLinked : List Last → ℕ → Access → Link → Type 0
 IsLinked kept number x l = (k : Last) × IsIn k kept × (against k.access x ≡ true) × (l ≡ link_to number k)
 
-sound_links : (kept : List Last) (p : Place) (b : Bool) (number : ℕ) (l : Lasts) → AreAt kept p (kept_at p l) → (k : Link) → IsIn k (links_of b number l) → IsLinked kept number (access p b) k
+sound_links : (kept : List Last) (p : Place) (b : Bool) (number : ℕ) (l : PlaceAccesses) → AreAt kept p (kept_at p l) → (k : Link) → IsIn k (links_of b number l) → IsLinked kept number (access p b) k
 sound_links kept p b number l at k is_in =
     ⊎_elim
     (λ front. let w = of_main_links number l.main k front in
@@ -137,7 +137,7 @@ sound_links kept p b number l at k is_in =
     (beside_last p w.0, (at.0 (beside_last p w.0) (in_back _ (main_lasts p l.main) _ (in_map (beside_last p) w.0 l.beside.items w.2))).0, and_from (same_place p p) b (place_itself p) w.1, w.3))
     (in_either k (main_links number l.main) _ is_in)
 
-whole_links : (kept : List Last) (p : Place) (b : Bool) (number : ℕ) (l : Lasts) → AreAt kept p (kept_at p l) → (k : Last) → IsIn k kept → against k.access (access p b) ≡ true → IsIn (link_to number k) (links_of b number l)
+whole_links : (kept : List Last) (p : Place) (b : Bool) (number : ℕ) (l : PlaceAccesses) → AreAt kept p (kept_at p l) → (k : Last) → IsIn k kept → against k.access (access p b) ≡ true → IsIn (link_to number k) (links_of b number l)
 whole_links kept p b number l at k is_in is =
     let near = (and_parts (same_place k.access.place p) (k.access.is_main || b) is).0 in
     ⊎_elim
@@ -146,11 +146,11 @@ whole_links kept p b number l at k is_in is =
     subst (λ (j : Last). IsIn (link_to number j) (links_of b number l)) (sym w.2) (in_back _ (main_links number l.main) _ (linked_beside number b w.0 l.beside.items main w.1)))
     (of_kept p l k (at.1 k is_in near))
 
--- What one access is against, a list of it alone is.
+-- Conflicting with one of a list of one access means conflicting with it.
 alone : (x : Access) (k : Last) → IsAgainstOne (x ∷ []) k → against k.access x ≡ true
 alone x k one = ⊎_elim (λ same. subst (λ (y : Access). against k.access y ≡ true) same one.2) (λ none. absurd none) one.1
 
-pub links_of_found : (kept : List Last) (p : Place) (b : Bool) (number : ℕ) (l : Lasts) → AreAt kept p (kept_at p l) → AreLinksOf kept number (access p b ∷ []) (links_of b number l)
+pub links_of_found : (kept : List Last) (p : Place) (b : Bool) (number : ℕ) (l : PlaceAccesses) → AreAt kept p (kept_at p l) → AreLinksOf kept number (access p b ∷ []) (links_of b number l)
 links_of_found kept p b number l at = record {
   sound = λ k is_in. let w = sound_links kept p b number l at k is_in in (w.0, w.1, (access p b, inl refl, w.2), w.3);
   whole = λ k is_in one. whole_links kept p b number l at k is_in (alone (access p b) k one);
@@ -162,11 +162,11 @@ no_links kept p b number at = record {
   whole = λ k is_in one. absurd (at.1 k is_in (and_parts (same_place k.access.place p) (k.access.is_main || b) (alone (access p b) k one)).0);
 }
 
--- Where nothing is touched, no links are added.
+-- If nothing is touched, no links are added.
 pub none_added : (kept : List Last) (number : ℕ) (links : List Link) → AreAdded kept number [] links links
 none_added kept number links = ([], sym (append-nil links), record { sound = λ l is_in. absurd is_in; whole = λ k is_in one. absurd one.1 })
 
--- The links of an item are those of its thread, and those of what the thread touches.
+-- The links of an item are those from its thread and those from what it touches.
 pub all_links : (kept : List Last) (number : ℕ) (i : Item) (mid new : List Link) → AreAdded kept number (main_at (OfThread (thread_of i)) ∷ []) [] mid → AreAdded kept number (accesses_beside i) mid new → AreLinks kept number i new
 unfolding accesses_of
 all_links kept number i mid new first second =

@@ -1,4 +1,4 @@
--- The accesses of an item are noted at the entries that were made ready.
+-- The accesses of an item are recorded at the reserved entries.
 use Rattle.std.proofs.Common.{◌≡◌, ℕ, Bool, true, false, List, [], ◌∷◌, Option, Some, None, MatchOption, refl, sym, ◌∙◌, subst, slice_get}
 use Rattle.jvms_machine.specs.declared.trace.Item.{Item}
 use Rattle.velodrome.specs.Conflicts.{thread_of}
@@ -6,7 +6,7 @@ use Rattle.accesses.specs.Accesses.{Access, IsNoted, Last, OfThread, accesses_be
 use Rattle.accesses.specs.Kept.{HasSpare, IsNotedIn, kept_in}
 use Rattle.accesses.specs.Places.{place_of}
 use Rattle.accesses.specs.Rooms.{AreReady, HasRoom, IsNotedAt, IsReady, Remembered, kept_of}
-use Rattle.accesses.specs.declared.lasts.Lasts.{Lasts}
+use Rattle.accesses.specs.declared.lasts.PlaceAccesses.{PlaceAccesses}
 use Rattle.accesses.specs.declared.lasts.Noted.{Noted}
 use Rattle.accesses.specs.declared.place.Place.{Place as Key}
 use Rattle.accesses.specs.declared.slot.Slot.{Slot}
@@ -15,7 +15,7 @@ use Rattle.accesses.proofs.Noting.{IsOneNoted, noted_alone, noted_among, noted_b
 use Rattle.accesses.specs.Accesses.{last_of}
 
 abbrev Table : Type 0
-Table = List (Key × Lasts)
+Table = List (Key × PlaceAccesses)
 
 abbrev own_slot : ℕ → Slot
 own_slot index = record { index = index; is_main = true }
@@ -23,7 +23,7 @@ own_slot index = record { index = index; is_main = true }
 abbrev pub event : ℕ → ℕ → ℕ → Noted
 event number transaction t = record { number = number; transaction = transaction; thread = t }
 
--- The one that is ready for what an item's thread touches.
+-- The entry that is reserved for what an item touches.
 one_ready : (es : Table) (s : Slot) (xs : List Access) → AreReady es (Some s) xs → (x : Access) × (xs ≡ x ∷ []) × IsReady es s.index x × (s.is_main ≡ x.is_main)
 one_ready es s [] is = absurd is
 one_ready es s (x ∷ []) is = (x, refl, is.0, is.1)
@@ -32,7 +32,7 @@ one_ready es s (x ∷ y ∷ xs) is = absurd is
 touched_ready : (r : Remembered) (i : Item) (s : Slot) → HasRoom r i → r.touched ≡ Some s → (x : Access) × (accesses_beside i ≡ x ∷ []) × IsReady r.entries s.index x × (s.is_main ≡ x.is_main)
 touched_ready r i s room is = one_ready r.entries s (accesses_beside i) (subst (λ (o : Option Slot). AreReady r.entries o (accesses_beside i)) is room.touched)
 
--- Nothing is ready only where nothing is touched.
+-- No entry is reserved only if the item touches nothing.
 none_ready : (es : Table) (xs : List Access) → AreReady es None xs → xs ≡ []
 none_ready es [] is = refl
 none_ready es (x ∷ xs) is = absurd is
@@ -49,7 +49,7 @@ room_left r fs n i s room is first =
 abbrev IsNotedAs : ℕ → ℕ → Item → Access → List Last → List Last → Type 0
 IsNotedAs number transaction i y old new = IsOneNoted (last_of number transaction (thread_of i) y) i y old new
 
--- One access is noted at its entry.
+-- One access is recorded at its entry.
 one_noted : (es fs : Table) (s : Slot) (number transaction t : ℕ) (i : Item) (x : Access) → t ≡ thread_of i → IsReady es s.index x → s.is_main ≡ x.is_main → IsNotedAt s (event number transaction t) es fs → IsNotedAs number transaction i x (kept_in es) (kept_in fs)
 one_noted es fs s number transaction t i x thread ready main is =
     let place : place_of is.entry.0 ≡ x.place = (found_out (λ e. (place_of e.0 ≡ x.place) × (x.is_main ≡ false → HasSpare e.1)) es s.index is.entry is.at ready).0 in

@@ -1,4 +1,4 @@
--- What is kept once an access is noted.
+-- What is remembered after an access is recorded.
 use Rattle.std.proofs.Common.{◌≡◌, ℕ, zero, suc, ◌==◌, Bool, true, false, if◌then◌else◌, List, [], ◌∷◌, ◌++◌, map, Some, ◌⊎◌, inl, inr, ⊎_elim, refl, sym, ap, ◌∙◌, subst, true≢false, slice_get}
 use Rattle.std.proofs.lemmas.Bool.{eqb-true}
 use Rattle.std.proofs.lemmas.Option.{none-some, same_Some}
@@ -11,13 +11,13 @@ use Rattle.accesses.specs.Kept.{IsBesideNoted, IsMainNoted, IsNotedIn, beside_la
 use Rattle.accesses.specs.OnePlace.{place_itself}
 use Rattle.accesses.specs.Places.{place_of}
 use Rattle.accesses.specs.Rooms.{set_value_at}
-use Rattle.accesses.specs.declared.lasts.Lasts.{Lasts}
+use Rattle.accesses.specs.declared.lasts.PlaceAccesses.{PlaceAccesses}
 use Rattle.accesses.specs.declared.lasts.Noted.{Noted}
 use Rattle.accesses.specs.declared.place.Place.{Place as Key}
 use Rattle.accesses.proofs.Found.{here}
 use Rattle.accesses.proofs.Members.{in_back, in_either, in_front, in_map, of_map}
 
--- One access of an item is noted.
+-- One access of an item is recorded.
 pub record IsOneNoted (last : Last) (i : Item) (y : Access) (old new : List Last) : Type 0 where
   pub added : IsIn last new
   pub only : (k : Last) → IsIn k new → IsIn k old ⊎ (k ≡ last)
@@ -63,13 +63,13 @@ access p b = record { place = p; is_main = b }
 abbrev IsNotedAs : ℕ → ℕ → Item → Access → List Last → List Last → Type 0
 IsNotedAs number transaction i y old new = IsOneNoted (last_of number transaction (thread_of i) y) i y old new
 
-near : (p : Place) (l : Lasts) (k : Last) → IsIn k (kept_at p l) → same_place k.access.place p ≡ true
+near : (p : Place) (l : PlaceAccesses) (k : Last) → IsIn k (kept_at p l) → same_place k.access.place p ≡ true
 near p l k is_in = subst (λ (q : Place). same_place q p ≡ true) (sym (here p l k is_in)) (place_itself p)
 
-main_kept : (p : Place) (n : Noted) (l : Lasts) → l.main ≡ Some n → l.beside.items ≡ [] → kept_at p l ≡ main_last p n ∷ []
+main_kept : (p : Place) (n : Noted) (l : PlaceAccesses) → l.main ≡ Some n → l.beside.items ≡ [] → kept_at p l ≡ main_last p n ∷ []
 main_kept p n l main beside = (λ j. main_lasts p (main j) ++ map (beside_last p) (beside j))
 
-main_noted : (p : Place) (i : Item) (number transaction : ℕ) (old new : Lasts) → IsMainNoted (noted number transaction i) old new → IsNotedAs number transaction i (main_at p) (kept_at p old) (kept_at p new)
+main_noted : (p : Place) (i : Item) (number transaction : ℕ) (old new : PlaceAccesses) → IsMainNoted (noted number transaction i) old new → IsNotedAs number transaction i (main_at p) (kept_at p old) (kept_at p new)
 main_noted p i number transaction old new is =
     let n = noted number transaction i in
     let kept : kept_at p new ≡ main_last p n ∷ [] = main_kept p n new is.main is.beside in
@@ -79,10 +79,10 @@ main_noted p i number transaction old new is =
       left = λ k is_in. inr (record { place = near p old k is_in; covers = λ _. refl; conflicts = inl refl });
     }
 
-beside_kept : (p : Place) (n : Noted) (old new : Lasts) → IsBesideNoted n old new → kept_at p new ≡ main_lasts p old.main ++ map (beside_last p) (replaced n old.beside.items)
+beside_kept : (p : Place) (n : Noted) (old new : PlaceAccesses) → IsBesideNoted n old new → kept_at p new ≡ main_lasts p old.main ++ map (beside_last p) (replaced n old.beside.items)
 beside_kept p n old new is = (λ j. main_lasts p (is.main j) ++ map (beside_last p) (is.beside j))
 
-beside_left : (p : Place) (i : Item) (number transaction : ℕ) (old : Lasts) (k : Last) → IsIn k (kept_at p old)
+beside_left : (p : Place) (i : Item) (number transaction : ℕ) (old : PlaceAccesses) (k : Last) → IsIn k (kept_at p old)
     → IsIn k (main_lasts p old.main ++ map (beside_last p) (replaced (noted number transaction i) old.beside.items)) ⊎ TakesPlace i k (beside_at p)
 beside_left p i number transaction old k is_in =
     let n = noted number transaction i in
@@ -100,7 +100,7 @@ beside_left p i number transaction old k is_in =
     (replaced_left n old.beside.items w.0 w.1))
     (in_either k (main_lasts p old.main) (map (beside_last p) old.beside.items) is_in)
 
-beside_only : (p : Place) (n : Noted) (old : Lasts) (k : Last) → IsIn k (main_lasts p old.main ++ map (beside_last p) (replaced n old.beside.items)) → IsIn k (kept_at p old) ⊎ (k ≡ beside_last p n)
+beside_only : (p : Place) (n : Noted) (old : PlaceAccesses) (k : Last) → IsIn k (main_lasts p old.main ++ map (beside_last p) (replaced n old.beside.items)) → IsIn k (kept_at p old) ⊎ (k ≡ beside_last p n)
 beside_only p n old k is_in =
     ⊎_elim
     (λ front. inl (in_front k (main_lasts p old.main) (map (beside_last p) old.beside.items) front))
@@ -111,7 +111,7 @@ beside_only p n old k is_in =
     (replaced_only n old.beside.items w.0 w.1))
     (in_either k (main_lasts p old.main) (map (beside_last p) (replaced n old.beside.items)) is_in)
 
-beside_noted : (p : Place) (i : Item) (number transaction : ℕ) (old new : Lasts) → IsBesideNoted (noted number transaction i) old new → IsNotedAs number transaction i (beside_at p) (kept_at p old) (kept_at p new)
+beside_noted : (p : Place) (i : Item) (number transaction : ℕ) (old new : PlaceAccesses) → IsBesideNoted (noted number transaction i) old new → IsNotedAs number transaction i (beside_at p) (kept_at p old) (kept_at p new)
 beside_noted p i number transaction old new is =
     let n = noted number transaction i in
     let kept = beside_kept p n old new is in
@@ -121,14 +121,14 @@ beside_noted p i number transaction old new is =
       left = λ k is_in. ⊎_elim (λ stays. inl (subst (IsIn k) (sym kept) stays)) (λ taken. inr taken) (beside_left p i number transaction old k is_in);
     }
 
-noted_here : (p : Place) (b : Bool) (i : Item) (number transaction : ℕ) (old new : Lasts) → IsNotedIn b (noted number transaction i) old new → IsNotedAs number transaction i (access p b) (kept_at p old) (kept_at p new)
+noted_here : (p : Place) (b : Bool) (i : Item) (number transaction : ℕ) (old new : PlaceAccesses) → IsNotedIn b (noted number transaction i) old new → IsNotedAs number transaction i (access p b) (kept_at p old) (kept_at p new)
 noted_here p true i number transaction old new is = main_noted p i number transaction old new is
 noted_here p false i number transaction old new is = beside_noted p i number transaction old new is
 
 -- ---- Among all entries
 
 abbrev Table : Type 0
-Table = List (Key × Lasts)
+Table = List (Key × PlaceAccesses)
 
 behind : (last : Last) (i : Item) (y : Access) (front old new : List Last) → IsOneNoted last i y old new → IsOneNoted last i y (front ++ old) (front ++ new)
 behind last i y front old new is = record {
@@ -144,16 +144,16 @@ before last i y old new back is = record {
   left = λ k is_in. ⊎_elim (λ f. ⊎_elim (λ n. inl (in_front k new back n)) (λ taken. inr taken) (is.left k f)) (λ b. inl (in_back k new back b)) (in_either k old back is_in);
 }
 
-within : (last : Last) (i : Item) (y : Access) (es : Table) (index : ℕ) (e : Key × Lasts) (l : Lasts) → slice_get es index ≡ Some e → IsOneNoted last i y (kept_at (place_of e.0) e.1) (kept_at (place_of e.0) l)
+within : (last : Last) (i : Item) (y : Access) (es : Table) (index : ℕ) (e : Key × PlaceAccesses) (l : PlaceAccesses) → slice_get es index ≡ Some e → IsOneNoted last i y (kept_at (place_of e.0) e.1) (kept_at (place_of e.0) l)
     → IsOneNoted last i y (kept_in es) (kept_in (set_value_at es index l))
 within last i y [] index e l at is = absurd (none-some e at)
 within last i y (d ∷ es) zero e l at is =
     let same : d ≡ e = same_Some d e at in
     before last i y (kept_at (place_of d.0) d.1) (kept_at (place_of d.0) l) (kept_in es)
-    (subst (λ (f : Key × Lasts). IsOneNoted last i y (kept_at (place_of f.0) f.1) (kept_at (place_of f.0) l)) (sym same) is)
+    (subst (λ (f : Key × PlaceAccesses). IsOneNoted last i y (kept_at (place_of f.0) f.1) (kept_at (place_of f.0) l)) (sym same) is)
 within last i y (d ∷ es) (suc index) e l at is = behind last i y (kept_at (place_of d.0) d.1) (kept_in es) (kept_in (set_value_at es index l)) (within last i y es index e l at is)
 
-pub noted_among : (es : Table) (index : ℕ) (e : Key × Lasts) (l : Lasts) (i : Item) (number transaction : ℕ) (y : Access) → slice_get es index ≡ Some e → place_of e.0 ≡ y.place → IsNotedIn y.is_main (noted number transaction i) e.1 l
+pub noted_among : (es : Table) (index : ℕ) (e : Key × PlaceAccesses) (l : PlaceAccesses) (i : Item) (number transaction : ℕ) (y : Access) → slice_get es index ≡ Some e → place_of e.0 ≡ y.place → IsNotedIn y.is_main (noted number transaction i) e.1 l
     → IsNotedAs number transaction i y (kept_in es) (kept_in (set_value_at es index l))
 noted_among es index e l i number transaction y at place is =
     within (last_of number transaction (thread_of i) y) i y es index e l at
@@ -161,7 +161,7 @@ noted_among es index e l i number transaction y at place is =
 
 -- ---- The accesses of an item
 
--- No access beside takes the place of the thread's own.
+-- No other access of an item replaces the one to its own thread.
 own_stays : (i : Item) (number transaction : ℕ) (y : Access) → IsIn y (accesses_beside i) → TakesPlace i (last_of number transaction (thread_of i) (main_at (OfThread (thread_of i)))) y → ⊥
 own_stays (item.Read t v) number transaction y (inl same) takes = true≢false (sym (takes.covers refl) ∙ ap (λ (x : Access). x.is_main) same)
 own_stays (item.Read t v) number transaction y (inr more) takes = more

@@ -1,4 +1,4 @@
--- Each thread's node is found along the bits of the thread's number.
+-- The bits of each thread's number lead to its node.
 use Rattle.std.proofs.Common.{◌≡◌, ◌≢◌, ℕ, zero, suc, ◌+◌, ◌<◌, ◌≤◌, ◌/◌, Bool, true, false, if◌then◌else◌, ◌⊎◌, inl, inr, ⊎_elim, List, [], ◌∷◌, ◌++◌, map, length, set, refl, sym, ap, ◌∙◌, subst, eq-eqb, ne_eqb, length-set, arith}
 use Rattle.std.proofs.lemmas.List.{get_or_append_left, get_or_push, length_push}
 use Rattle.std.proofs.lemmas.Bool.{cases_lt}
@@ -7,7 +7,7 @@ use Rattle.accesses.specs.Kept.{replaced}
 use Rattle.accesses.specs.declared.by_thread.Node.{Node}
 use Rattle.accesses.specs.declared.lasts.Noted.{Noted}
 
--- The node that follows one along these bits.
+-- Returns the next node along these bits.
 abbrev follows : List Node → ℕ → ℕ → ℕ
 follows ns at bits = next_of (node_in ns at) (is_odd bits)
 
@@ -24,14 +24,14 @@ module _ (ns : List Node) (t : ℕ) where
   goes_behind zero at bits i is other = absurd (other is.2)
   goes_behind (suc n) at bits i is other = (is.2, at_inside n (follows ns at bits) (bits / 2) i is.3)
 
-  -- Only one node is found.
+  -- Only one node is reached.
   one_node : (n m at bits i j : ℕ) → Leads ns t n at bits i → Leads ns t m at bits j → i ≡ j
   one_node zero zero at bits i j a b = sym a.0 ∙ b.0
   one_node zero (suc m) at bits i j a b = absurd (b.1 a.2)
   one_node (suc n) zero at bits i j a b = absurd (a.1 b.2)
   one_node (suc n) (suc m) at bits i j a b = one_node n m (follows ns at bits) (bits / 2) i j a.3 b.3
 
--- What is found stays found, where nodes are added.
+-- Appending nodes keeps every way.
 stays : (ns ms : List Node) → Extends ns ms → (t n at bits i : ℕ) → Leads ns t n at bits i → Leads ms t n at bits i
 stays ns ms more t zero at bits i is =
     let less = is.1 in
@@ -108,7 +108,7 @@ ends_empty ns t none = record {
   way = λ less. absurd (omega arith);
 }
 
--- ---- A node more
+-- ---- One more node
 
 linked_thread : (ns : List Node) (i : ℕ) (side : Bool) (next j : ℕ) → thread_in (linked_in ns i side next) j ≡ thread_in ns j
 linked_thread [] i side next j = refl
@@ -219,7 +219,7 @@ module _ (ns : List Node) (index : ℕ) (side : Bool) (noted : Noted) where
         (subst (λ (t : ℕ). (n : ℕ) × Leads (added ns index side noted) t n 0 t (length ns)) (sym new_thread) w)
   ]
 
--- ---- A node with another access of its thread
+-- ---- A node with a new access of its thread
 
 abbrev pub with_note : Node → Noted → Node
 with_note n noted = record { noted = noted; even = n.even; odd = n.odd }

@@ -1,4 +1,4 @@
--- What an event touches, and which events of a trace are remembered for that (Velodrome, section 4).
+-- Defines the accesses of an event, and which events of a trace are remembered for them (Velodrome, section 4).
 use Rattle.std.specs.Prelude.{◌≡◌, ℕ, Bool, true, false, ◌==◌, ◌&&◌, ◌||◌, ◌⊎◌, List, [], ◌∷◌}
 use Rattle.jvms_machine.specs.declared.trace.Item.{Item}
 use Rattle.jvms_machine.specs.declared.trace.Item.TheVariants as item
@@ -7,7 +7,7 @@ use Rattle.velodrome.specs.Conflicts.{same_variable, thread_of}
 use Rattle.velodrome.specs.Cycles.{IsIn}
 use Rattle.atom_order.specs.declared.link.Link.{Link}
 
--- Where events meet.
+-- A place that events access.
 pub data Place : Type 0 where
   OfThread : ℕ → Place
   OfMonitor : ℕ → Place
@@ -19,8 +19,8 @@ same_place (OfMonitor r) (OfMonitor q) = r == q
 same_place (OfVariable v) (OfVariable w) = same_variable v w
 same_place _ _ = false
 
--- A place, and whether the event is against each other one there. Reads aren't against reads, nor forks and joins of a
--- thread against each other; they are against writes, and against the thread's own events.
+-- An access to a place. A main access conflicts with every other one there. Reads don't conflict with reads, nor forks
+-- and joins of a thread with each other. They conflict with writes and with the thread's own events.
 pub record Access : Type 0 where
   pub place : Place
   pub is_main : Bool
@@ -31,7 +31,7 @@ main_at p = record { place = p; is_main = true }
 abbrev pub beside_at : Place → Access
 beside_at p = record { place = p; is_main = false }
 
--- What an item's thread does there, behind being one of its thread.
+-- Returns the accesses of an item to what it touches.
 abbrev pub accesses_beside : Item → List Access
 accesses_beside (item.Read t v) = beside_at (OfVariable v) ∷ []
 accesses_beside (item.Write t v) = main_at (OfVariable v) ∷ []
@@ -44,11 +44,11 @@ accesses_beside _ = []
 unfoldable pub accesses_of : Item → List Access
 accesses_of i = main_at (OfThread (thread_of i)) ∷ accesses_beside i
 
--- Two accesses are against each other.
+-- Two accesses conflict if they are to one place and one of them is main.
 abbrev pub against : Access → Access → Bool
 against x y = same_place x.place y.place && (x.is_main || y.is_main)
 
--- An access of an event, with the event's number, transaction and thread.
+-- An access, with the number, the transaction and the thread of its event.
 pub record Last : Type 0 where
   pub access : Access
   pub number : ℕ
@@ -58,26 +58,26 @@ pub record Last : Type 0 where
 abbrev pub last_of : ℕ → ℕ → ℕ → Access → Last
 last_of number transaction thread x = record { access = x; number = number; transaction = transaction; thread = thread }
 
--- An access is against one of an item's.
+-- A remembered access conflicts with one of an item's.
 abbrev pub IsAgainst : Item → Last → Type 0
 IsAgainst i k = (y : Access) × IsIn y (accesses_of i) × (against k.access y ≡ true)
 
--- The link from a remembered event to one of a number.
+-- Returns the link from a remembered access to event `number`.
 abbrev pub link_to : ℕ → Last → Link
 link_to number k = record { from = k.transaction; pair = record { earlier = k.number; later = number } }
 
--- A link from each remembered access that is against an item, and no other.
+-- There is a link from each remembered access that conflicts with the item, and no other.
 pub record AreLinks (kept : List Last) (number : ℕ) (i : Item) (links : List Link) : Type 0 where
   pub sound : (l : Link) → IsIn l links → (k : Last) × IsIn k kept × IsAgainst i k × (l ≡ link_to number k)
   pub whole : (k : Last) → IsIn k kept → IsAgainst i k → IsIn (link_to number k) links
 
--- A new access takes the place of one: whatever is against that is against it, and their events conflict.
+-- A new access y replaces k: whatever conflicts with k conflicts with y, and their events conflict.
 pub record TakesPlace (i : Item) (k : Last) (y : Access) : Type 0 where
   pub place : same_place k.access.place y.place ≡ true
   pub covers : k.access.is_main ≡ true → y.is_main ≡ true
   pub conflicts : (y.is_main ≡ true) ⊎ (k.thread ≡ thread_of i)
 
--- The accesses of an event are remembered, and what they take the place of is forgotten, or some of it.
+-- The accesses of an event are remembered. Only accesses that they replace may be forgotten.
 pub record IsNoted (number transaction : ℕ) (i : Item) (old new : List Last) : Type 0 where
   pub added : (y : Access) → IsIn y (accesses_of i) → IsIn (last_of number transaction (thread_of i) y) new
   pub only : (k : Last) → IsIn k new → IsIn k old ⊎ ((y : Access) × IsIn y (accesses_of i) × (k ≡ last_of number transaction (thread_of i) y))

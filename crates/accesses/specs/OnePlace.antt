@@ -1,4 +1,4 @@
--- Keys of places are one where their test says so: the laws that the table of them needs (own).
+-- States that two keys of places are equal if and only if the test says so. The table of places needs this (own).
 use Rattle.std.proofs.Common.{◌≡◌, ℕ, Bool, true, false, ◌==◌, List, refl, sym, ap, ◌∙◌, subst, true≢false}
 use Rattle.std.specs.Cmp.{IsEquivalence}
 use Rattle.std.specs.Cmp.Lexicographic.{bytes_decides}
@@ -14,7 +14,7 @@ use Rattle.accesses.specs.Places.{place_of}
 use Rattle.accesses.specs.declared.place.Place.{Place as Key}
 use Rattle.accesses.specs.declared.place.Place.TheVariants as key
 
--- ---- A test that says of each value that it is itself, and of no other
+-- ---- The test holds for equal places and for no others
 
 one_text : (a b : List ℕ) → same_text a b ≡ true → a ≡ b
 one_text a b same = (bytes_decides a b).0 same
@@ -71,7 +71,7 @@ place_itself (OfThread t) = number_itself t
 place_itself (OfMonitor r) = number_itself r
 place_itself (OfVariable v) = variable_itself v
 
--- ---- So it is an equivalence
+-- ---- The test is an equivalence
 
 both_ways : (a b : Bool) → (a ≡ true → b ≡ true) → (b ≡ true → a ≡ true) → a ≡ b
 both_ways true b f g = sym (f refl)
@@ -94,7 +94,7 @@ keys_equiv = record {
   congr = λ a b c same. along (place_of a) (place_of b) (place_of c) same;
 }
 
--- The key of a place.
+-- Returns the key of a place.
 key_of : Place → Key
 key_of (OfThread t) = key.OfThread t
 key_of (OfMonitor r) = key.OfMonitor r

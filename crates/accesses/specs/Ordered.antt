@@ -1,4 +1,4 @@
--- Keys of places in order: by their kinds, by their numbers, and by the names of their fields (own).
+-- Defines the order of keys of places: by kind, by numbers, and by the names of their fields (own).
 use Rattle.std.proofs.Common.{◌≡◌, ℕ, zero, suc, Bool, true, false, List, [], refl, sym, ap, ◌∙◌, subst, true≢false, Ordering, Less, Equal, Greater, nat_cmp, is_eq}
 use Rattle.std.specs.Cmp.{IsTotalOrder, nat_cmp_total, on_total, then_total, tied_itself, unsigned_ties}
 use Rattle.std.specs.Cmp.Lexicographic.{slice_cmp, nat_list_cmp_total, bytes_decides, texts_ties}
@@ -44,7 +44,7 @@ field_of (key.OfVariable (variable.Instance r k)) = k
 field_of (key.OfVariable (variable.Static k)) = k
 field_of (key.OfVariable (variable.Element r i)) = no_field
 
--- They are all that a key is.
+-- The parts determine the key.
 built : ℕ → ℕ → ℕ → FieldKey → Key
 built zero f s k = key.OfThread f
 built (suc zero) f s k = key.OfMonitor f
@@ -60,7 +60,7 @@ rebuilt (key.OfVariable (variable.Instance r k)) = refl
 rebuilt (key.OfVariable (variable.Static k)) = refl
 rebuilt (key.OfVariable (variable.Element r i)) = refl
 
--- ---- Their order
+-- ---- The order of the parts
 
 abbrev pub numbers_cmp : Key → Key → Ordering
 numbers_cmp = then_cmp (then_cmp (on kind_of nat_cmp) (on first_of nat_cmp)) (on second_of nat_cmp)
@@ -82,7 +82,7 @@ place_total =
     (text_total (λ (k : FieldKey). k.class)))
     (text_total (λ (k : FieldKey). k.descriptor))
 
--- ---- Keys that are tied are one
+-- ---- Keys that compare as equal are equal
 
 both_tied : (o p : Ordering) → is_eq (ordering_then o p) ≡ true → (is_eq o ≡ true) × (is_eq p ≡ true)
 both_tied Less p is = absurd (true≢false (sym is))

@@ -1,4 +1,4 @@
--- What an item's thread touches, as the code has it (own).
+-- Defines the accesses of an item as the code represents them (own).
 use Rattle.std.specs.Prelude.{Bool, true, false, List, [], ◌∷◌, Option, Some, None}
 use Rattle.jvms_machine.specs.declared.trace.Item.{Item}
 use Rattle.jvms_machine.specs.declared.trace.Item.TheVariants as item
@@ -13,7 +13,7 @@ abbrev pub touches : Option Touch → List Access
 touches None = []
 touches (Some t) = access_of t ∷ []
 
--- It is this place that an item's thread touches, behind being one of its thread.
+-- Decides whether an item touches place p.
 abbrev pub touches_at : Item → Place → Bool
 touches_at (item.Read t v) p = same_place (OfVariable v) p
 touches_at (item.Write t v) p = same_place (OfVariable v) p
@@ -24,12 +24,12 @@ touches_at (item.Join t u) p = same_place (OfThread u) p
 touches_at (item.Enter t m) p = false
 touches_at (item.Exit t m) p = false
 
--- That access is a main one.
-abbrev pub touches_mainly : Item → Bool
-touches_mainly (item.Write t v) = true
-touches_mainly (item.Acquire t r) = true
-touches_mainly (item.Release t r) = true
-touches_mainly _ = false
+-- Decides whether the access to what an item touches is a main one.
+abbrev pub has_main_touch : Item → Bool
+has_main_touch (item.Write t v) = true
+has_main_touch (item.Acquire t r) = true
+has_main_touch (item.Release t r) = true
+has_main_touch _ = false
 
 abbrev pub touched_at : Item → Place → Access
-touched_at i p = record { place = p; is_main = touches_mainly i }
+touched_at i p = record { place = p; is_main = has_main_touch i }

@@ -12,27 +12,27 @@ ghost use Rattle.accesses.specs.Touches.{access_of};
 
 use crate::guesses::Guesses;
 use crate::indexed::{of_thread, of_touched};
-use crate::lasts::{Lasts, Noted};
+use crate::lasts::{PlaceAccesses, Noted};
 use crate::place::Place;
 use crate::slot::Slot;
-use crate::sums::sum_of_touched;
+use crate::sums::hash_of_touched;
 use crate::table::Table;
-use crate::touch::{Touch, own, thread_of, touched, touches_mainly};
+use crate::touch::{Touch, own, thread_of, touched, has_main_touch};
 use atom_order::Link;
 use jvms_machine::trace::Item;
 use std::alloc::{AllocError, Global};
 use std::marker::Model;
 
-/// The last accesses of a trace: at each place the last main one, and since then the last beside it by each thread.
-/// Contracts see them by place, with the entries that were made ready for an item.
+/// The last accesses of a trace. Each place has its last main access, and the last non-main access of each thread since
+/// then. Contracts see them by place, with the entries that are reserved for an item.
 #[derive(Drop)]
 pub struct Accesses {
     lasts: Table,
-    /// The entry that was made ready for an item as one of its thread.
+    /// The index of the entry that is reserved for the item's own thread.
     own: usize,
-    /// The entry that was made ready for what the item's thread touches.
+    /// The entry that is reserved for what the item touches.
     touched: Option<Slot>,
-    /// Entries of threads, and of what threads touch.
+    /// Guessed entries of threads, and of what threads touch.
     threads: Guesses,
     guesses: Guesses,
     alloc: Global,
@@ -47,7 +47,7 @@ impl Model for Accesses {
 }
 
 impl Accesses {
-    /// No access yet.
+    /// Returns an empty record of accesses.
     pub fn new(alloc: Global) -> Self
         ensures { kept_of result ≡ [] }
     {
@@ -61,7 +61,7 @@ impl Accesses {
         }
     }
 
-    /// The links of a new event.
+    /// Returns the links from remembered accesses to a new event.
     pub fn links(&self, number: u64, item: &Item) -> Result<Vec<Link>, AllocError>
         ensures { IfOk result (λ v. AreLinks (kept_of self.now) number item.now v.items) }
     {
@@ -71,7 +71,7 @@ impl Accesses {
         Ok(links)
     }
 
-    /// Adds the links of a new event as one of its thread.
+    /// Appends the links of a new event from accesses to its own thread.
     fn push_own(&self, number: u64, item: &Item, links: &mut Vec<Link>) -> Result<(), AllocError>
         ensures { OnOk result (AreAdded (kept_of self.now) number (main_at (OfThread (thread_of item.now)) ∷ []) links.old.items links.new.items) }
     {
@@ -81,7 +81,7 @@ impl Accesses {
         }
     }
 
-    /// Adds the links of a new event at what its thread touches.
+    /// Appends the links of a new event from accesses to what it touches.
     fn push_touched(
         &self,
         number: u64,
@@ -91,20 +91,20 @@ impl Accesses {
         ensures { OnOk result (AreAdded (kept_of self.now) number (accesses_beside item.now) links.old.items links.new.items) }
     {
         match self.touched_lasts(item) {
-            Some(lasts) => lasts.push_links(touches_mainly(item), number, links),
+            Some(lasts) => lasts.push_links(has_main_touch(item), number, links),
             None => self.push_looked_up(number, item, links),
         }
     }
 
-    /// What is kept at what an item's thread touches, if it is the entry that was made ready last.
-    fn touched_lasts(&self, item: &Item) -> Option<&Lasts>
+    /// Returns the accesses to what an item touches, if the entry reserved last is the one.
+    fn touched_lasts(&self, item: &Item) -> Option<&PlaceAccesses>
         ensures { IfSome result (λ l. (n : ℕ) × IsTouchedAt self.now.entries n item.now l.now) }
     {
         let slot = self.touched?;
         of_touched(&self.lasts, slot.index, item)
     }
 
-    /// Looks up what the thread of a new event touches, and adds the links there.
+    /// Looks up what a new event touches, and appends the links from there.
     fn push_looked_up(
         &self,
         number: u64,
@@ -119,7 +119,7 @@ impl Accesses {
         }
     }
 
-    /// Adds the links of an access of a new event.
+    /// Appends the links of a new event from accesses to one place.
     fn push_links(
         &self,
         touch: &Touch,
@@ -134,8 +134,8 @@ impl Accesses {
         }
     }
 
-    /// What is kept at a place.
-    fn lasts_at(&self, place: &Place) -> Option<&Lasts>
+    /// Returns the accesses to a place, if the table has it.
+    fn lasts_at(&self, place: &Place) -> Option<&PlaceAccesses>
         ensures { MatchOption result (AreAt (kept_of self.now) (place_of place.now) []) (λ l. AreAt (kept_of self.now) (place_of place.now) (kept_at (place_of place.now) l.now)) }
     {
         let index = self.lasts.index_of(place)?;
@@ -143,18 +143,18 @@ impl Accesses {
         Some(lasts)
     }
 
-    /// Takes the memory that noting an item needs. What is remembered stays as it is.
+    /// Reserves the memory that `note` needs for an item. The remembered accesses don't change.
     pub fn reserve(&mut self, item: &Item) -> Result<(), AllocError>
         ensures same { kept_of self.new ≡ kept_of self.old }
         ensures room { OnOk result (HasRoom self.new item.now) }
     {
-        let entry = self.ready_own(item)?;
+        let entry = self.reserve_own(item)?;
         self.own = entry;
-        self.ready_touched(item)
+        self.reserve_touched(item)
     }
 
-    /// Makes ready the entry of an item as one of its thread.
-    fn ready_own(&mut self, item: &Item) -> Result<usize, AllocError>
+    /// Returns the entry of an item's thread. Adds one if there is none.
+    fn reserve_own(&mut self, item: &Item) -> Result<usize, AllocError>
         ensures same { kept_of self.new ≡ kept_of self.old }
         ensures ready { IfOk result (λ n. IsEntryOf self.new.entries n (OfThread (thread_of item.now))) }
     {
@@ -168,14 +168,14 @@ impl Accesses {
         Ok(index)
     }
 
-    /// Makes ready the entry of what the thread of an item touches.
-    fn ready_touched(&mut self, item: &Item) -> Result<(), AllocError>
+    /// Reserves the entry of what an item touches.
+    fn reserve_touched(&mut self, item: &Item) -> Result<(), AllocError>
         ensures same { kept_of self.new ≡ kept_of self.old }
         ensures own { self.new.own ≡ self.old.own }
         ensures ready { OnOk result (AreReady self.new.entries self.new.touched (accesses_beside item.now)) }
         ensures places { (n : ℕ) (p : Kind) → IsEntryOf self.old.entries n p → IsEntryOf self.new.entries n p }
     {
-        let sum = sum_of_touched(item);
+        let sum = hash_of_touched(item);
         let guess = self.guesses.at(sum);
         match of_touched(&self.lasts, guess, item) {
             Some(_) => self.ready_guessed(guess, item),
@@ -183,15 +183,15 @@ impl Accesses {
         }
     }
 
-    /// Makes ready an entry, which is of what the thread of an item touches.
+    /// Reserves memory at an entry that is known to be of what the item touches.
     fn ready_guessed(&mut self, index: usize, item: &Item) -> Result<(), AllocError>
-        requires { (here : Lasts) × IsTouchedAt self.old.entries index item.now here }
+        requires { (here : PlaceAccesses) × IsTouchedAt self.old.entries index item.now here }
         ensures same { kept_of self.new ≡ kept_of self.old }
         ensures own { self.new.own ≡ self.old.own }
         ensures ready { OnOk result (AreReady self.new.entries self.new.touched (accesses_beside item.now)) }
         ensures places { (n : ℕ) (p : Kind) → IsEntryOf self.old.entries n p → IsEntryOf self.new.entries n p }
     {
-        let is_main = touches_mainly(item);
+        let is_main = has_main_touch(item);
         if !is_main {
             self.lasts.make_room(index)?;
         }
@@ -199,7 +199,7 @@ impl Accesses {
         Ok(())
     }
 
-    /// Looks up what the thread of an item touches, and makes its entry ready.
+    /// Looks up what an item touches, and reserves its entry.
     fn ready_looked_up(&mut self, sum: u32, item: &Item) -> Result<(), AllocError>
         ensures same { kept_of self.new ≡ kept_of self.old }
         ensures own { self.new.own ≡ self.old.own }
@@ -217,7 +217,7 @@ impl Accesses {
         Ok(())
     }
 
-    /// Makes the entry of an access ready: one beside has room for one more.
+    /// Reserves the entry of an access. For a non-main access it also reserves the memory for one more.
     fn ready(&mut self, touch: Touch) -> Result<Slot, AllocError>
         ensures same { kept_of self.new ≡ kept_of self.old }
         ensures own { self.new.own ≡ self.old.own }
@@ -232,7 +232,7 @@ impl Accesses {
         Ok(Slot { index, is_main })
     }
 
-    /// Notes an event, for which there is room.
+    /// Records the accesses of an event, for which `reserve` has reserved memory.
     pub fn note(&mut self, number: u64, transaction: u64, item: &Item)
         requires { HasRoom self.old item.now }
         ensures { IsNoted number transaction item.now (kept_of self.old) (kept_of self.new) }

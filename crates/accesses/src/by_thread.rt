@@ -1,5 +1,5 @@
-//! The last access of each thread, found along the bits of the thread's number: so it takes at most 33 steps, however many
-//! threads there are and whatever their numbers.
+//! The last access of each thread, in a binary trie over the bits of thread numbers. A search takes at most 33 steps,
+//! whatever the count and the numbers of the threads.
 
 ghost use Rattle.std.specs.Prelude.{◌≡◌, ◌<◌, ◌++◌, [], length, map, OnOk};
 ghost use Rattle.std.specs.Vec.{vec_len, vec_capacity};
@@ -14,27 +14,27 @@ use jvms_machine::machine::ThreadId;
 use std::alloc::{AllocError, Global};
 use std::marker::Model;
 
-/// The access of a thread. Two nodes may follow it, each with all threads whose next bit is the same.
+/// A node with the access of one thread. Up to two nodes follow it, one for each value of the next bit.
 #[derive(Clone, Copy, Debug)]
 struct Node {
     /// The access.
     noted: Noted,
-    /// The index of the node for those whose next bit is 0. One that isn't greater than this node's stands for none.
+    /// The index of the node for threads whose next bit is 0. An index that is not greater than this node's means none.
     even: usize,
-    /// The index of the node for those whose next bit is 1.
+    /// The index of the node for threads whose next bit is 1. An index that is not greater than this node's means none.
     odd: usize,
 }
 
-/// Where a search for a thread ends.
+/// The end of a search for a thread.
 #[derive(Clone, Copy, Debug)]
 enum Search {
-    /// At the thread's node.
+    /// The index of the thread's node.
     At(usize),
-    /// At a node that none follows on the side that the thread's next bit asks for. There is none of the thread.
+    /// The node where the search ends: no node follows on the side of the thread's next bit, so the thread has no node.
     Behind { index: usize, is_odd: bool },
 }
 
-/// The last access of each thread, in the order of their first ones.
+/// The last access of each thread, in the order of the threads' first accesses.
 #[derive(Debug, Drop)]
 pub struct ByThread {
     nodes: Vec<Node>,
@@ -53,7 +53,7 @@ impl Model for ByThread {
 }
 
 impl ByThread {
-    /// No access yet.
+    /// Returns an empty record of accesses.
     pub fn new(alloc: Global) -> Self
         ensures { result.items ≡ [] }
     {
@@ -62,7 +62,7 @@ impl ByThread {
         }
     }
 
-    /// Takes the memory for one more thread.
+    /// Reserves the memory for one more thread.
     pub fn reserve(&mut self) -> Result<(), AllocError>
         ensures items { self.new.items ≡ self.old.items }
         ensures room { OnOk result (length self.new.items < self.new.capacity) }
@@ -70,7 +70,7 @@ impl ByThread {
         self.nodes.reserve(1)
     }
 
-    /// Forgets all accesses, and keeps their memory.
+    /// Removes all accesses, and keeps their memory.
     pub fn clear(&mut self)
         ensures items { self.new.items ≡ [] }
         ensures capacity { self.new.capacity ≡ self.old.capacity }
@@ -78,7 +78,7 @@ impl ByThread {
         self.nodes.clear();
     }
 
-    /// Notes an access in the place of that of its thread.
+    /// Records an access. It replaces the last one of its thread.
     pub fn note(&mut self, noted: Noted)
         requires { length self.old.items < self.old.capacity }
         ensures { self.new.items ≡ replaced noted self.old.items }
@@ -86,7 +86,7 @@ impl ByThread {
         note_in(&mut self.nodes, noted);
     }
 
-    /// Adds the links from all accesses to an event of a number.
+    /// Appends the links from all accesses to event `number`.
     pub fn push_links(&self, number: u64, links: &mut Vec<Link>) -> Result<(), AllocError>
         ensures { OnOk result (links.new.items ≡ links.old.items ++ map (link_from number) self.now.items) }
     {
@@ -95,7 +95,7 @@ impl ByThread {
 }
 
 impl Node {
-    /// Returns the index of the node that follows it on a side.
+    /// Returns the index of the next node on a side.
     fn next(&self, is_odd: bool) -> usize
         ensures { result ≡ next_of self.now is_odd }
     {
@@ -103,7 +103,7 @@ impl Node {
     }
 }
 
-/// Searches the node of a thread.
+/// Searches for the node of a thread.
 fn find(nodes: &[Node], thread: ThreadId) -> Search
     requires { AreFound nodes.now }
     ensures { IsSearched nodes.now thread result }
@@ -128,7 +128,7 @@ fn find(nodes: &[Node], thread: ThreadId) -> Search
     }
 }
 
-/// Has a node followed by another one on a side.
+/// Sets the next node on a side. Without a node at `index` nothing changes.
 fn link(nodes: &mut Vec<Node>, index: usize, is_odd: bool, next: usize)
     ensures items { nodes.new.items ≡ linked_in nodes.old.items index is_odd next }
     ensures capacity { vec_capacity nodes.new ≡ vec_capacity nodes.old }
@@ -143,7 +143,7 @@ fn link(nodes: &mut Vec<Node>, index: usize, is_odd: bool, next: usize)
     }
 }
 
-/// Notes an access in the place of that of its thread.
+/// Records an access. It replaces the last one of its thread.
 fn note_in(nodes: &mut Vec<Node>, noted: Noted)
     requires found { AreFound nodes.old.items }
     requires room { vec_len nodes.old < vec_capacity nodes.old }
@@ -164,7 +164,7 @@ fn note_in(nodes: &mut Vec<Node>, noted: Noted)
     }
 }
 
-/// Adds the links from the accesses of nodes to an event of a number.
+/// Appends the links from the accesses of nodes to event `number`.
 fn push_links_from(nodes: &[Node], number: u64, links: &mut Vec<Link>) -> Result<(), AllocError>
     ensures { OnOk result (links.new.items ≡ links.old.items ++ map (λ (n : Visited). link_from number n.noted) nodes.now) }
 {

@@ -1,24 +1,23 @@
-//! Guesses where entries stand, so that few look-ups need a hash. A guess is tried before it is used: nothing need be
-//! said of it.
+//! Guesses of entries by hash, which save most look-ups. Each guess is verified before use, so nothing depends on it.
 
 use std::alloc::{AllocError, Global};
 
-/// How many guesses are remembered at first.
+/// The initial number of slots.
 const FEWEST: usize = 64;
 
-/// How many are remembered at most.
+/// The maximum number of slots.
 const MOST: usize = 65_536;
 
-/// For each remainder of a sum the entry that was found last for one.
+/// A direct-mapped cache: the last entry that was found for each remainder of a hash.
 #[derive(Drop)]
 pub struct Guesses {
     entries: Vec<usize>,
-    /// How often a guess was wrong since there were so many.
+    /// The number of wrong guesses since the cache last grew.
     wrong: usize,
 }
 
 impl Guesses {
-    /// None yet. Takes no memory.
+    /// Returns an empty cache. It takes no memory.
     pub fn new(alloc: Global) -> Self {
         Guesses {
             entries: Vec::new(alloc),
@@ -26,12 +25,12 @@ impl Guesses {
         }
     }
 
-    /// Where the guess for a sum stands.
+    /// Returns the slot of a hash.
     fn slot_of(&self, sum: u32) -> usize {
         sum as usize & self.entries.len().wrapping_sub(1)
     }
 
-    /// The entry that is guessed for a sum.
+    /// Returns the guessed entry for a hash.
     pub fn at(&self, sum: u32) -> usize {
         let slot = self.slot_of(sum);
         if slot < self.entries.len() {
@@ -41,7 +40,7 @@ impl Guesses {
         }
     }
 
-    /// An entry was looked up for a sum. Where that was often so, twice as many are remembered.
+    /// Stores the entry that was looked up for a hash. The cache grows if it was wrong as often as it has slots.
     pub fn note(&mut self, sum: u32, entry: usize) -> Result<(), AllocError> {
         if self.wrong >= self.entries.len() {
             self.grow()?;
@@ -54,7 +53,7 @@ impl Guesses {
         Ok(())
     }
 
-    /// Twice as many are remembered, unless these are the most.
+    /// Doubles the number of slots, up to the maximum.
     fn grow(&mut self) -> Result<(), AllocError> {
         let count = self.entries.len();
         if count < MOST {

@@ -1,4 +1,4 @@
-//! The last accesses of one place.
+//! The last accesses to one place.
 
 ghost use Rattle.std.specs.Prelude.{◌≡◌, ◌++◌, [], None, OnOk, false};
 ghost use Rattle.accesses.specs.Kept.{HasSpare, IsNotedIn, IsMainNoted, IsBesideNoted};
@@ -17,12 +17,12 @@ pub struct Noted {
     pub number: u64,
     /// Its transaction's number, from 1.
     pub transaction: u64,
-    /// Its thread.
+    /// The event's thread.
     pub thread: ThreadId,
 }
 
 impl Noted {
-    /// The link from it to an event of a number.
+    /// Returns the link from this access to event `number`.
     pub fn link(self, number: u64) -> Link
         ensures { result ≡ link_from number self }
     {
@@ -36,28 +36,28 @@ impl Noted {
     }
 }
 
-/// The last main access of a place, and those beside it since then, the last of each thread.
+/// The last main access to a place, and the last non-main access of each thread since then.
 #[derive(Debug, Drop)]
-pub struct Lasts {
+pub struct PlaceAccesses {
     /// The last main access.
     pub main: Option<Noted>,
-    /// Those beside it since then, by thread.
+    /// The non-main accesses since then, by thread.
     pub beside: ByThread,
 }
 
-impl Lasts {
-    /// No access yet.
+impl PlaceAccesses {
+    /// Returns a place without accesses.
     pub fn new(alloc: Global) -> Self
         ensures main { result.main ≡ None }
         ensures beside { result.beside.items ≡ [] }
     {
-        Lasts {
+        PlaceAccesses {
             main: None,
             beside: ByThread::new(alloc),
         }
     }
 
-    /// Takes the memory for one more access beside the main one.
+    /// Reserves the memory for one more non-main access.
     pub fn reserve(&mut self) -> Result<(), AllocError>
         ensures main { self.new.main ≡ self.old.main }
         ensures beside { self.new.beside.items ≡ self.old.beside.items }
@@ -66,7 +66,7 @@ impl Lasts {
         self.beside.reserve()
     }
 
-    /// Notes an access in the place of those that it is against, and of the one of its thread.
+    /// Records an access. A main access replaces all others, and a non-main access replaces the last one of its thread.
     pub fn note(&mut self, is_main: bool, noted: Noted)
         requires { is_main ≡ false → HasSpare self.old }
         ensures { IsNotedIn is_main noted self.old self.new }
@@ -78,7 +78,7 @@ impl Lasts {
         }
     }
 
-    /// Notes a main access in the place of all others.
+    /// Records a main access, which replaces all others.
     fn note_main(&mut self, noted: Noted)
         ensures { IsMainNoted noted self.old self.new }
     {
@@ -86,7 +86,7 @@ impl Lasts {
         self.beside.clear();
     }
 
-    /// Notes an access beside the main one in the place of that of its thread.
+    /// Records a non-main access, which replaces the last one of its thread.
     fn note_beside(&mut self, noted: Noted)
         requires { HasSpare self.old }
         ensures { IsBesideNoted noted self.old self.new }
@@ -94,7 +94,7 @@ impl Lasts {
         self.beside.note(noted);
     }
 
-    /// Adds the links to an event of a number: from all accesses, or from the main one alone.
+    /// Appends the links to event `number`: from all accesses if the new one is main, else from the main access alone.
     pub fn push_links(
         &self,
         is_main: bool,
@@ -110,7 +110,7 @@ impl Lasts {
         Ok(())
     }
 
-    /// Adds the link from the main access.
+    /// Appends the link from the main access.
     fn push_main(&self, number: u64, links: &mut Vec<Link>) -> Result<(), AllocError>
         ensures { OnOk result (links.new.items ≡ links.old.items ++ main_links number self.now.main) }
     {

@@ -1,4 +1,4 @@
-//! The last accesses of a trace, from which the links of a new event are taken (Velodrome, PLDI 2008, section 4).
+//! The last accesses of a trace, which yield the links of a new event (Velodrome, PLDI 2008, section 4).
 #![tactic(auto)]
 
 mod accesses;
@@ -14,5 +14,5 @@ mod table;
 mod touch;
 
 pub use accesses::Accesses;
-pub use sums::{sum_of_item, sum_of_touched};
+pub use sums::{hash_of_item, hash_of_touched};
 pub use touch::thread_of;

@@ -1,4 +1,4 @@
-//! Where events meet.
+//! The places that events access.
 
 ghost use Rattle.std.specs.Prelude.{◌≡◌, refl, IfOk};
 ghost use Rattle.std.specs.Cmp.{partial_equiv_from_equiv, partial_order_from_agreeing_total};
@@ -16,14 +16,14 @@ use jvms_program::key::FieldKey;
 use std::alloc::AllocError;
 use std::cmp::Ordering;
 
-/// Where events meet: a thread, an object's monitor, or a variable.
+/// A place that events access: a thread, an object's monitor, or a variable.
 #[derive(Debug, Drop)]
 pub enum Place {
-    /// The events of a thread, with those that start it or wait for its end.
+    /// A thread: for its own events, and for those that start it or wait for its end.
     OfThread(ThreadId),
     /// The monitor of the object of a reference.
     OfMonitor(u32),
-    /// A field or an element of an array.
+    /// A field, or an element of an array.
     OfVariable(Variable),
 }
 
@@ -73,7 +73,7 @@ impl Ord for Place {
 }
 
 impl Place {
-    /// Returns a number for each kind of places.
+    /// Returns a number for the kind of place.
     fn kind(&self) -> u8
         ensures { result ≡ kind_of self.now }
     {
@@ -86,7 +86,7 @@ impl Place {
         }
     }
 
-    /// Returns its thread or its reference: 0 if it has none.
+    /// Returns the thread or the reference, or 0 if there is neither.
     fn first(&self) -> u32
         ensures { result ≡ first_of self.now }
     {
@@ -99,7 +99,7 @@ impl Place {
         }
     }
 
-    /// Returns the index of its element: 0 if it is none.
+    /// Returns the index of the element, or 0 if it is no element.
     fn second(&self) -> u32
         ensures { result ≡ second_of self.now }
     {
@@ -109,7 +109,7 @@ impl Place {
         }
     }
 
-    /// Returns the name of its field: none if it has no field.
+    /// Returns the name of the field, or an empty text if it is no field.
     fn name(&self) -> &[u16]
         ensures { result.now ≡ (field_of self.now).name }
     {
@@ -120,7 +120,7 @@ impl Place {
         }
     }
 
-    /// Returns the class of its field: none if it has no field.
+    /// Returns the class of the field, or an empty text if it is no field.
     fn class(&self) -> &[u16]
         ensures { result.now ≡ (field_of self.now).class }
     {
@@ -131,7 +131,7 @@ impl Place {
         }
     }
 
-    /// Returns the descriptor of its field: none if it has no field.
+    /// Returns the descriptor of the field, or an empty text if it is no field.
     fn descriptor(&self) -> &[u16]
         ensures { result.now ≡ (field_of self.now).descriptor }
     {
@@ -153,7 +153,7 @@ impl Place {
     }
 }
 
-/// Returns an order, or where it is none that of two texts.
+/// Returns the order, or the order of two texts if it is `Equal`.
 fn then_texts<'x>(order: Ordering, one: &'x [u16], other: &'x [u16]) -> Ordering
     ensures { result ≡ ordering_then order (slice_cmp nat_cmp one.now other.now) }
 {
@@ -163,7 +163,7 @@ fn then_texts<'x>(order: Ordering, one: &'x [u16], other: &'x [u16]) -> Ordering
     }
 }
 
-/// Whether a place is a thread.
+/// Decides whether a place is a thread.
 pub fn is_thread(place: &Place, thread: ThreadId) -> bool
     ensures { result ≡ same_place (OfThread thread) (place_of place.now) }
 {
@@ -173,7 +173,7 @@ pub fn is_thread(place: &Place, thread: ThreadId) -> bool
     }
 }
 
-/// Whether a place is an object's monitor.
+/// Decides whether a place is the monitor of an object.
 pub fn is_monitor(place: &Place, reference: u32) -> bool
     ensures { result ≡ same_place (OfMonitor reference) (place_of place.now) }
 {
@@ -183,7 +183,7 @@ pub fn is_monitor(place: &Place, reference: u32) -> bool
     }
 }
 
-/// Whether a place is a variable.
+/// Decides whether a place is a variable.
 pub fn is_variable(place: &Place, variable: &Variable) -> bool
     ensures { result ≡ same_place (OfVariable variable.now) (place_of place.now) }
 {
@@ -193,7 +193,7 @@ pub fn is_variable(place: &Place, variable: &Variable) -> bool
     }
 }
 
-/// The key of a field once more: its texts have one more owner.
+/// Clones the key of a field. The clone shares its texts.
 fn share_field(field: &FieldKey) -> Result<FieldKey, AllocError>
     ensures { IfOk result (λ k. k ≡ field.now) }
 {
@@ -204,7 +204,7 @@ fn share_field(field: &FieldKey) -> Result<FieldKey, AllocError>
     })
 }
 
-/// A variable once more: its texts have one more owner.
+/// Clones a variable. The clone shares its texts.
 pub fn share_variable(variable: &Variable) -> Result<Variable, AllocError>
     ensures { IfOk result (λ v. v ≡ variable.now) }
 {
@@ -223,7 +223,7 @@ pub fn share_variable(variable: &Variable) -> Result<Variable, AllocError>
     }
 }
 
-/// Returns a place once more: its texts have one more owner.
+/// Clones a place. The clone shares its texts.
 pub fn share_place(place: &Place) -> Result<Place, AllocError>
     ensures { IfOk result (λ p. p ≡ place.now) }
 {

@@ -1,10 +1,10 @@
-//! Where an access is noted.
+//! Positions in the table.
 
-/// The entry of an access's place, and whether the access is a main one.
+/// The entry of an accessed place, and the kind of access.
 #[derive(Clone, Copy, Debug)]
 pub struct Slot {
     /// The entry's index.
     pub index: usize,
-    /// Whether the access is a main one.
+    /// `true` for a main access.
     pub is_main: bool,
 }

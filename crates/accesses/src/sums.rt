@@ -1,15 +1,15 @@
-//! Sums over what items name: like things have one sum, and others mostly another. Tables of what was met last go by
-//! them; nothing rests on them.
+//! Hashes of what items name. Equal values have one hash, and others mostly different ones. Only caches use them, so
+//! nothing depends on them.
 
 use jvms_machine::trace::{Item, Variable};
 use jvms_program::key::{FieldKey, MethodKey};
 
-/// A sum with one number more.
+/// Returns a hash extended by one number.
 fn mixed(sum: u32, number: u32) -> u32 {
     sum.wrapping_mul(31).wrapping_add(number)
 }
 
-/// A sum with a name more.
+/// Returns a hash extended by a name.
 fn mixed_name(sum: u32, name: &[u16]) -> u32 {
     let mut all = sum;
     for unit in name {
@@ -18,7 +18,7 @@ fn mixed_name(sum: u32, name: &[u16]) -> u32 {
     all
 }
 
-/// A sum over a field: its name, and how long its class's is.
+/// Returns a hash of a field, by its name and the length of its class's name.
 fn sum_of_field(field: &FieldKey) -> u32 {
     mixed_name(
         (field.class.as_slice().len() % 1024) as u32,
@@ -26,14 +26,14 @@ fn sum_of_field(field: &FieldKey) -> u32 {
     )
 }
 
-/// A sum over a method: its name, and how long its class's name and its descriptor are.
+/// Returns a hash of a method, by its name and the lengths of its class's name and its descriptor.
 fn sum_of_method(method: &MethodKey) -> u32 {
     let class = (method.class.as_slice().len() % 1024) as u32;
     let descriptor = (method.descriptor.as_slice().len() % 1024) as u32;
     mixed_name(mixed(class, descriptor), method.name.as_slice())
 }
 
-/// A sum over a variable.
+/// Returns a hash of a variable.
 fn sum_of_variable(variable: &Variable) -> u32 {
     match variable {
         Variable::Instance { reference, field } => mixed(sum_of_field(field), *reference),
@@ -42,8 +42,8 @@ fn sum_of_variable(variable: &Variable) -> u32 {
     }
 }
 
-/// A sum over what an item's thread touches besides, or enters or leaves.
-pub fn sum_of_touched(item: &Item) -> u32 {
+/// Returns a hash of what an item touches, enters or leaves.
+pub fn hash_of_touched(item: &Item) -> u32 {
     match item {
         Item::Read { variable, .. } => sum_of_variable(variable),
         Item::Write { variable, .. } => sum_of_variable(variable),
@@ -56,9 +56,9 @@ pub fn sum_of_touched(item: &Item) -> u32 {
     }
 }
 
-/// A sum over an item.
-pub fn sum_of_item(item: &Item) -> u32 {
-    let touched = sum_of_touched(item);
+/// Returns a hash of an item.
+pub fn hash_of_item(item: &Item) -> u32 {
+    let touched = hash_of_touched(item);
     match item {
         Item::Read { thread, .. } => mixed(mixed(touched, *thread), 1),
         Item::Write { thread, .. } => mixed(mixed(touched, *thread), 2),

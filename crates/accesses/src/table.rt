@@ -1,5 +1,5 @@
-//! The table of places. Its entries stay where they are, so one that was found is found again by its index. A place is looked
-//! up by an order of places, whose time no choice of places makes worse.
+//! The table of places. Its entries never move, so an index stays valid. A place is looked up in a search tree, so no
+//! choice of places makes it slow.
 
 ghost use Rattle.std.specs.Prelude.{◌≡◌, ℕ, [], false, None, Some, IfOk, IfSome, OnOk, OnErr, MatchOption, slice_get};
 ghost use Rattle.std.specs.BTreeMap.{BTreeMap as Map, Updates};
@@ -14,19 +14,19 @@ ghost use Rattle.accesses.specs.Rooms.{HasRoomAt, IsEntryOf, IsNotedAt};
 ghost use Rattle.accesses.specs.Tables.{IsIndexed, Tells};
 ghost use Rattle.accesses.specs.declared.place.Place.{Place as Key};
 
-use crate::lasts::{Lasts, Noted};
+use crate::lasts::{PlaceAccesses, Noted};
 use crate::place::{Place, share_place};
 use crate::slot::Slot;
 use std::alloc::{AllocError, Global};
 use std::collections::BTreeMap;
 use std::marker::Model;
 
-/// What is kept at each place, in the order in which places were entered.
+/// The accesses to each place, in the order in which places were entered.
 #[derive(Drop)]
 pub struct Table {
-    /// Where the entry of each place stands.
+    /// The index of each place's entry.
     index: BTreeMap<Place, usize>,
-    entries: Vec<(Place, Lasts)>,
+    entries: Vec<(Place, PlaceAccesses)>,
     alloc: Global,
 }
 
@@ -41,7 +41,7 @@ impl Model for Table {
 }
 
 impl Table {
-    /// No place yet.
+    /// Returns an empty table.
     pub fn new(alloc: Global) -> Self
         ensures { result.entries ≡ [] }
     {
@@ -52,15 +52,15 @@ impl Table {
         }
     }
 
-    /// Returns the index of a place's entry.
+    /// Returns the index of a place's entry, if it has one.
     pub fn index_of(&self, place: &Place) -> Option<usize>
         ensures { Tells self.now.entries place.now result }
     {
         self.index.get(place).copied()
     }
 
-    /// Returns the entry at an index: its place, and what is kept there.
-    pub fn get(&self, index: usize) -> Option<(&Place, &Lasts)>
+    /// Returns the place and the accesses of the entry at an index.
+    pub fn get(&self, index: usize) -> Option<(&Place, &PlaceAccesses)>
         ensures entry { MatchOption result (slice_get self.now.entries index ≡ None) (λ e. slice_get self.now.entries index ≡ Some (e.0.now, e.1.now)) }
         ensures kept { IfSome result (λ e. AreAt (kept_in self.now.entries) (place_of e.0.now) (kept_at (place_of e.0.now) e.1.now)) }
     {
@@ -71,7 +71,7 @@ impl Table {
         Some((&entry.0, &entry.1))
     }
 
-    /// Returns the index of a place's entry, which is made if there is none yet.
+    /// Returns the index of a place's entry. Adds one if there is none.
     pub fn enter(&mut self, place: Place) -> Result<usize, AllocError>
         ensures same { kept_in self.new.entries ≡ kept_in self.old.entries }
         ensures at { IfOk result (λ n. IsEntryOf self.new.entries n (place_of place)) }
@@ -83,7 +83,7 @@ impl Table {
         }
     }
 
-    /// Makes the entry of a place that has none yet: it is put behind the others.
+    /// Appends an entry for a place that has none.
     fn add(&mut self, place: Place) -> Result<usize, AllocError>
         requires { lookup (same_keys place) self.old.entries ≡ None }
         ensures same { kept_in self.new.entries ≡ kept_in self.old.entries }
@@ -93,7 +93,7 @@ impl Table {
         add_in(&mut self.index, &mut self.entries, place, self.alloc)
     }
 
-    /// Takes the memory for one more access beside the main one of an entry.
+    /// Reserves the memory for one more non-main access at an entry.
     pub fn make_room(&mut self, index: usize) -> Result<(), AllocError>
         ensures same { kept_in self.new.entries ≡ kept_in self.old.entries }
         ensures room { OnOk result (HasRoomAt self.new.entries index) }
@@ -102,7 +102,7 @@ impl Table {
         make_room_in(&mut self.entries, index)
     }
 
-    /// Notes an access at its entry.
+    /// Records an access at its entry.
     pub fn note_at(&mut self, slot: Slot, noted: Noted)
         requires { MatchOption (slice_get self.old.entries slot.index) ⊥ (λ e. slot.is_main ≡ false → HasSpare e.1) }
         ensures { IsNotedAt slot noted self.old.entries self.new.entries }
@@ -111,10 +111,10 @@ impl Table {
     }
 }
 
-/// Makes the entry of a place that has none yet.
+/// Appends an entry for a place that has none.
 fn add_in(
     index: &mut BTreeMap<Place, usize>,
-    entries: &mut Vec<(Place, Lasts)>,
+    entries: &mut Vec<(Place, PlaceAccesses)>,
     place: Place,
     alloc: Global,
 ) -> Result<usize, AllocError>
@@ -128,11 +128,11 @@ fn add_in(
     entries.reserve(1)?;
     let count = entries.len();
     note_index(index, &place, count)?;
-    entries.push_reserved((place, Lasts::new(alloc)));
+    entries.push_reserved((place, PlaceAccesses::new(alloc)));
     Ok(count)
 }
 
-/// Notes where the entry of a place stands.
+/// Records the index of a place's entry.
 fn note_index(
     index: &mut BTreeMap<Place, usize>,
     place: &Place,
@@ -146,8 +146,8 @@ fn note_index(
     Ok(())
 }
 
-/// Takes the memory for one more access beside the main one of an entry.
-fn make_room_in(entries: &mut Vec<(Place, Lasts)>, index: usize) -> Result<(), AllocError>
+/// Reserves the memory for one more non-main access at an entry.
+fn make_room_in(entries: &mut Vec<(Place, PlaceAccesses)>, index: usize) -> Result<(), AllocError>
     ensures indexed { (m : Map Key ℕ) → IsIndexed m entries.old.items → IsIndexed m entries.new.items }
     ensures same { kept_in entries.new.items ≡ kept_in entries.old.items }
     ensures room { OnOk result (HasRoomAt entries.new.items index) }
@@ -160,8 +160,8 @@ fn make_room_in(entries: &mut Vec<(Place, Lasts)>, index: usize) -> Result<(), A
     entry.1.reserve()
 }
 
-/// Notes an access at its entry.
-fn note_in(entries: &mut Vec<(Place, Lasts)>, slot: Slot, noted: Noted)
+/// Records an access at its entry.
+fn note_in(entries: &mut Vec<(Place, PlaceAccesses)>, slot: Slot, noted: Noted)
     requires { MatchOption (slice_get entries.old.items slot.index) ⊥ (λ e. slot.is_main ≡ false → HasSpare e.1) }
     ensures indexed { (m : Map Key ℕ) → IsIndexed m entries.old.items → IsIndexed m entries.new.items }
     ensures noted { IsNotedAt slot noted entries.old.items entries.new.items }

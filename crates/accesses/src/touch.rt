@@ -1,26 +1,26 @@
-//! What an item's thread touches.
+//! The accesses of an item.
 
 ghost use Rattle.std.specs.Prelude.{◌≡◌, IfOk};
 ghost use Rattle.velodrome.specs.Conflicts.{thread_of};
 ghost use Rattle.accesses.specs.Accesses.{accesses_beside, OfMonitor, OfThread, beside_at, main_at};
 ghost use Rattle.accesses.specs.Places.{place_of};
-ghost use Rattle.accesses.specs.Touches.{access_of, touches, touches_at, touches_mainly as is_main_touch};
+ghost use Rattle.accesses.specs.Touches.{access_of, touches, touches_at, has_main_touch as is_main_touch};
 
 use crate::place::{Place, is_monitor, is_thread, is_variable, share_variable};
 use jvms_machine::machine::ThreadId;
 use jvms_machine::trace::Item;
 use std::alloc::AllocError;
 
-/// A place, and whether the access to it is against each other one there.
+/// An access: a place, and whether the access conflicts with every other one to it.
 #[derive(Debug, Drop)]
 pub struct Touch {
-    /// The place.
+    /// The accessed place.
     pub place: Place,
-    /// Whether the access is a main one.
+    /// `true` for a main access, which conflicts with every other one to the place.
     pub is_main: bool,
 }
 
-/// The thread whose item it is.
+/// Returns the thread of an item.
 pub fn thread_of(item: &Item) -> ThreadId
     ensures { result ≡ thread_of item.now }
 {
@@ -36,7 +36,7 @@ pub fn thread_of(item: &Item) -> ThreadId
     }
 }
 
-/// That the item is one of its thread.
+/// Returns the access of an item to its own thread.
 pub fn own(item: &Item) -> Touch
     ensures { access_of result ≡ main_at (OfThread (thread_of item.now)) }
 {
@@ -46,7 +46,7 @@ pub fn own(item: &Item) -> Touch
     }
 }
 
-/// What the thread touches besides.
+/// Returns the access of an item to what it touches, if it touches something.
 pub fn touched(item: &Item) -> Result<Option<Touch>, AllocError>
     ensures { IfOk result (λ o. touches o ≡ accesses_beside item.now) }
 {
@@ -67,7 +67,7 @@ pub fn touched(item: &Item) -> Result<Option<Touch>, AllocError>
     }
 }
 
-/// Whether the thread touches a place besides.
+/// Decides whether an item touches a place.
 pub fn is_touched(item: &Item, place: &Place) -> bool
     ensures { result ≡ touches_at item.now (place_of place.now) }
 {
@@ -83,8 +83,8 @@ pub fn is_touched(item: &Item, place: &Place) -> bool
     }
 }
 
-/// Whether what the thread touches besides is against each other access there.
-pub fn touches_mainly(item: &Item) -> bool
+/// Decides whether the access to what an item touches is a main one.
+pub fn has_main_touch(item: &Item) -> bool
     ensures { result ≡ is_main_touch item.now }
 {
     match item {
@@ -95,7 +95,7 @@ pub fn touches_mainly(item: &Item) -> bool
     }
 }
 
-/// An object's monitor.
+/// Returns a main access to an object's monitor.
 fn monitor(reference: u32) -> Touch
     ensures { access_of result ≡ main_at (OfMonitor reference) }
 {
@@ -105,7 +105,7 @@ fn monitor(reference: u32) -> Touch
     }
 }
 
-/// A thread that another one starts, or whose end it waited for.
+/// Returns the access to a thread that an item starts, or whose end it waited for.
 fn other_thread(thread: ThreadId) -> Touch
     ensures { access_of result ≡ beside_at (OfThread thread) }
 {

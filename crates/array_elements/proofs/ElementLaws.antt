@@ -1,4 +1,4 @@
--- Values that are put among the elements of an array.
+-- Values that are stored among the elements of an array.
 use Rattle.std.proofs.Common.{◌≡◌, ℕ, zero, suc, ◌<◌, List, ◌∷◌, map, replicate, ℤ, pos, slice_set, refl, sym, ap, ◌∙◌, arith}
 use Rattle.jvms_machine.specs.declared.value.Value.{Value}
 use Rattle.jvms_machine.specs.declared.value.Value.TheVariants as value
@@ -13,7 +13,7 @@ int_put old new i n is = ap (map value.Int) is ∙ sym (set_map value.Int old i 
 pub long_put : (old new : List ℤ) (i : ℕ) (n : ℤ) → new ≡ slice_set old i n → map value.Long new ≡ slice_set (map value.Long old) i (value.Long n)
 long_put old new i n is = ap (map value.Long) is ∙ sym (set_map value.Long old i n)
 
--- An int that is kept whole when it is narrowed.
+-- An int that narrowing doesn't change.
 pub narrowed_put : (old new : List ℤ) (i : ℕ) (n m : ℤ) → new ≡ slice_set old i m → m ≡ n → map value.Int new ≡ slice_set (map value.Int old) i (value.Int n)
 narrowed_put old new i n m is same = ap (map value.Int) is ∙ sym (set_map value.Int old i m) ∙ ap (λ k. slice_set (map value.Int old) i (value.Int k)) same
 
@@ -37,7 +37,7 @@ same_again zero i = refl
 same_again (suc n) zero = refl
 same_again (suc n) (suc i) = ap (λ l. value.Unset ∷ l) (same_again n i)
 
--- Nothing is put where there is no value.
+-- Nothing is stored where there are no values.
 pub unset_put : (n i : ℕ) (v : Value) → IsOfKind kind.Nothing v → replicate n value.Unset ≡ slice_set (replicate n value.Unset) i v
 unset_put n i value.Unset is = same_again n i
 unset_put n i (value.Int k) is = absurd is

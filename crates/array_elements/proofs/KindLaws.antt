@@ -1,4 +1,4 @@
--- What the kind that elements are held as tells of the type of an array's components.
+-- The kind of stored elements determines how instructions use the array's components.
 use Rattle.std.proofs.Common.{◌≡◌, ℕ, zero, suc, ℤ, List, if◌then◌else◌, true, Option, Some, None, refl, sym, ap, subst}
 use Rattle.std.proofs.Math.Dec.{eqb-suc-zero}
 use Rattle.std.specs.Prelude.{IfSome, IsSome, slice_get}
@@ -18,11 +18,11 @@ use Rattle.array_elements.specs.declared.kind.Kind.{Kind}
 use Rattle.array_elements.specs.declared.kind.Kind.TheVariants as kind
 use Rattle.array_elements.specs.Kinds.{kind_of, kind_of_element}
 
--- Components of a type are served by a kind of instruction, and of an int so much is kept.
+-- An instruction of a kind serves components of this type, and an int is stored there by this narrowing.
 abbrev Holds : ArrayKind → (ℤ → ℤ) → FieldType → Type 0
 Holds k kept t = (serves k t ≡ true) × ((n : ℤ) → stored_as t (value.Int n) ≡ value.Int (kept n))
 
--- The same by the kind that elements are held as.
+-- The kind of stored elements determines the instruction and the narrowing.
 abbrev Tells : Kind → FieldType → Type 0
 Tells kind.Int t = Holds array_kind.Int (λ n. n) t
 Tells kind.Byte t = Holds array_kind.Byte (narrowed narrow.Byte) t
@@ -88,13 +88,13 @@ char_is_kept t n m is same = subst (λ x. stored_as t (value.Int n) ≡ value.In
 pub short_is_kept : (t : FieldType) (n m : ℤ) → kind.Short ≡ kind_of t → m ≡ narrowed narrow.Short n → stored_as t (value.Int n) ≡ value.Int m
 short_is_kept t n m is same = subst (λ x. stored_as t (value.Int n) ≡ value.Int x) (sym same) ((tells kind.Short t is).1 n)
 
--- What is loaded, where it is served.
+-- The loaded element, if the instruction serves it.
 pub loads : (k : ArrayKind) (t : FieldType) (elements : List Value) (index : ℕ) (result : Option Value) → serves k t ≡ true → result ≡ slice_get elements index
     → IfSome result (λ v. (serves k t ≡ true) × (slice_get elements index ≡ Some v))
 loads k t elements index None served is = tt
 loads k t elements index (Some v) served is = (served, sym is)
 
--- What is kept, where it is served.
+-- The stored value, if the instruction serves it.
 pub stores : (k : ArrayKind) (t : FieldType) (elements : List Value) (index : ℕ) (v : Value) (result : Option Value) → serves k t ≡ true → IsSome (slice_get elements index)
     → IfSome result (λ kept. stored_as t v ≡ kept) → IfSome result (λ kept. (serves k t ≡ true) × (IsSome (slice_get elements index) × (stored_as t v ≡ kept)))
 stores k t elements index v None served there keeps = tt

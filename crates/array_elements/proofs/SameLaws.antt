@@ -1,4 +1,4 @@
--- Elements that a comparison finds the same.
+-- Elements that a comparison finds equal.
 use Rattle.std.proofs.Common.{◌≡◌, ℕ, List, map, true, ℤ, pos, refl, ap}
 use Rattle.std.specs.Prelude.{nat_eq}
 use Rattle.std.specs.Ordering.{int_eq}

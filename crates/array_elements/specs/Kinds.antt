@@ -1,4 +1,5 @@
--- What the elements of an array are held as (JVMS 6.5 bastore, castore, sastore for the narrow ones; else own).
+-- The kinds in which the elements of arrays are stored (JVMS 6.5 bastore, castore, sastore for the narrow ones, else
+-- own).
 use Rattle.std.specs.Prelude.{◌≡◌, ◌<◌, ◌==◌, if◌then◌else◌, pos}
 use Rattle.jvms_file.specs.declared.descriptor.Primitive.TheVariants as primitive
 use Rattle.jvms_file.specs.declared.descriptor.Element.{Element}
@@ -33,7 +34,7 @@ first_of kind.Reference = value.Null
 first_of kind.Nothing = value.Unset
 first_of _ = value.Int (pos 0)
 
--- A value can be held as an element of a kind: an int that is kept whole, a long, a reference, or null.
+-- A value can be an element of a kind: an int that narrowing doesn't change, a long, a reference, or null.
 abbrev pub IsOfKind : Kind → Value → Type 0
 IsOfKind kind.Int (value.Int n) = Unit {0}
 IsOfKind kind.Byte (value.Int n) = narrowed narrow.Byte n ≡ n

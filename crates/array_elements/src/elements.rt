@@ -9,14 +9,14 @@ ghost use Rattle.jvms_machine.specs.Heap.{stored_as};
 ghost use Rattle.jvms_machine.specs.declared.value.Value.TheVariants as value;
 ghost use Rattle.array_elements.specs.declared.kind.Kind.TheVariants as kind;
 ghost use Rattle.array_elements.specs.Kinds.{IsOfKind, first_of, kind_of};
-ghost use Rattle.array_elements.specs.Elements.{values_of, kind_held, reference_value};
+ghost use Rattle.array_elements.specs.Elements.{values_of, elements_kind, reference_value};
 
 use crate::kind::Kind;
 use jvms_file::insn::ArrayKind;
 use jvms_machine::value::Value;
 use std::alloc::{AllocError, Global};
 
-/// The elements of an array, by their kind. A reference is its number, and null is 0.
+/// The elements of an array, by their kind. A reference is stored as its number, and null as 0.
 #[derive(Debug, Drop)]
 pub enum Elements {
     Ints(Vec<i32>),
@@ -26,11 +26,11 @@ pub enum Elements {
     Shorts(Vec<i16>),
     Longs(Vec<i64>),
     References(Vec<u32>),
-    /// So many that have no value.
+    /// Elements without a value. Only their number is stored.
     Nothing(u32),
 }
 
-/// A byte's low eight bits.
+/// Returns a byte: the low eight bits of an int.
 #[inline(always)]
 fn byte(n: i32) -> i8
     ensures { result ≡ narrowed narrow.Byte n }
@@ -39,7 +39,7 @@ fn byte(n: i32) -> i8
     low
 }
 
-/// A short's low sixteen bits.
+/// Returns a short: the low sixteen bits of an int.
 #[inline(always)]
 fn short(n: i32) -> i16
     ensures { result ≡ narrowed narrow.Short n }
@@ -48,7 +48,7 @@ fn short(n: i32) -> i16
     low
 }
 
-/// A char's low sixteen bits.
+/// Returns a char: the low sixteen bits of an int.
 #[inline(always)]
 fn unsigned_short(n: i32) -> u16
     ensures { pos result ≡ narrowed narrow.Char n }
@@ -56,7 +56,7 @@ fn unsigned_short(n: i32) -> u16
     n.rem_euclid(1 << 16) as u16
 }
 
-/// A boolean's lowest bit.
+/// Returns a boolean: the lowest bit of an int.
 #[inline(always)]
 fn bit(n: i32) -> u8
     ensures { pos result ≡ narrowed narrow.Boolean n }
@@ -64,7 +64,7 @@ fn bit(n: i32) -> u8
     n.rem_euclid(2) as u8
 }
 
-/// The value of a reference that is held as its number.
+/// Returns the reference with this number, or null for 0.
 #[inline(always)]
 fn reference_value(number: u32) -> Value
     ensures { result ≡ reference_value number }
@@ -76,7 +76,7 @@ fn reference_value(number: u32) -> Value
     }
 }
 
-/// Puts an item at a place, if there is such a place.
+/// Stores an item at a place, if there is such a place.
 #[inline(always)]
 pub fn put<T: Copy>(items: &mut Vec<T>, index: usize, item: T)
     ensures { items.new.items ≡ slice_set items.old.items index item }
@@ -86,7 +86,7 @@ pub fn put<T: Copy>(items: &mut Vec<T>, index: usize, item: T)
     }
 }
 
-/// Puts an int at an index, if there is an element.
+/// Stores an int at an index, if there is an element.
 #[inline(always)]
 #[tactic(auto, using(crate::proofs::ElementLaws::int_put))]
 fn put_int(items: &mut Vec<i32>, index: usize, new: Value)
@@ -98,7 +98,7 @@ fn put_int(items: &mut Vec<i32>, index: usize, new: Value)
     }
 }
 
-/// Puts a byte at an index, if there is an element.
+/// Stores a byte at an index, if there is an element.
 #[inline(always)]
 #[tactic(auto, using(crate::proofs::ElementLaws::narrowed_put))]
 fn put_byte(items: &mut Vec<i8>, index: usize, new: Value)
@@ -110,7 +110,7 @@ fn put_byte(items: &mut Vec<i8>, index: usize, new: Value)
     }
 }
 
-/// Puts a boolean at an index, if there is an element.
+/// Stores a boolean at an index, if there is an element.
 #[inline(always)]
 #[tactic(auto, using(crate::proofs::ElementLaws::natural_put))]
 fn put_boolean(items: &mut Vec<u8>, index: usize, new: Value)
@@ -122,7 +122,7 @@ fn put_boolean(items: &mut Vec<u8>, index: usize, new: Value)
     }
 }
 
-/// Puts a char at an index, if there is an element.
+/// Stores a char at an index, if there is an element.
 #[inline(always)]
 #[tactic(auto, using(crate::proofs::ElementLaws::natural_put))]
 fn put_char(items: &mut Vec<u16>, index: usize, new: Value)
@@ -134,7 +134,7 @@ fn put_char(items: &mut Vec<u16>, index: usize, new: Value)
     }
 }
 
-/// Puts a short at an index, if there is an element.
+/// Stores a short at an index, if there is an element.
 #[inline(always)]
 #[tactic(auto, using(crate::proofs::ElementLaws::narrowed_put))]
 fn put_short(items: &mut Vec<i16>, index: usize, new: Value)
@@ -146,7 +146,7 @@ fn put_short(items: &mut Vec<i16>, index: usize, new: Value)
     }
 }
 
-/// Puts a long at an index, if there is an element.
+/// Stores a long at an index, if there is an element.
 #[inline(always)]
 #[tactic(auto, using(crate::proofs::ElementLaws::long_put))]
 fn put_long(items: &mut Vec<i64>, index: usize, new: Value)
@@ -158,7 +158,7 @@ fn put_long(items: &mut Vec<i64>, index: usize, new: Value)
     }
 }
 
-/// Puts a reference or null at an index, if there is an element.
+/// Stores a reference or null at an index, if there is an element.
 #[inline(always)]
 #[tactic(auto, using(crate::proofs::ElementLaws::null_put, crate::proofs::ElementLaws::reference_put))]
 fn put_reference(items: &mut Vec<u32>, index: usize, new: Value)
@@ -173,11 +173,11 @@ fn put_reference(items: &mut Vec<u32>, index: usize, new: Value)
 }
 
 impl Elements {
-    /// So many elements of a kind, each with the first value of that.
+    /// Creates `length` elements of a kind, each with the kind's first value.
     #[tactic(auto, using(crate::proofs::Lists::map_replicate))]
     pub fn new(alloc: Global, kind: Kind, length: u32) -> Result<Elements, AllocError>
         ensures values { IfOk result (λ e. values_of e ≡ replicate length (first_of kind)) }
-        ensures kind { IfOk result (λ e. kind_held e ≡ kind) }
+        ensures kind { IfOk result (λ e. elements_kind e ≡ kind) }
     {
         let count = length as usize;
         match kind {
@@ -192,10 +192,10 @@ impl Elements {
         }
     }
 
-    /// The same elements once more.
+    /// Copies the elements.
     pub fn copy(&self, alloc: Global) -> Result<Elements, AllocError>
         ensures values { IfOk result (λ e. values_of e ≡ values_of self.now) }
-        ensures kind { IfOk result (λ e. kind_held e ≡ kind_held self.now) }
+        ensures kind { IfOk result (λ e. elements_kind e ≡ elements_kind self.now) }
     {
         Ok(match self {
             Elements::Ints(items) => Elements::Ints(Vec::from_slice(alloc, items.as_slice())?),
@@ -213,11 +213,11 @@ impl Elements {
         })
     }
 
-    /// Returns whether all elements and their kind are the same.
+    /// Returns true only if all elements and their kind are the same.
     #[tactic(auto, using(crate::proofs::SameLaws::same_ints, crate::proofs::SameLaws::same_naturals, crate::proofs::SameLaws::same_longs, crate::proofs::SameLaws::same_references))]
     pub fn is_same(&self, other: &Elements) -> bool
         ensures values { result ≡ true → values_of self.now ≡ values_of other.now }
-        ensures kind { result ≡ true → kind_held self.now ≡ kind_held other.now }
+        ensures kind { result ≡ true → elements_kind self.now ≡ elements_kind other.now }
     {
         match (self, other) {
             (Elements::Ints(items), Elements::Ints(others)) => items == others,
@@ -232,7 +232,7 @@ impl Elements {
         }
     }
 
-    /// How many there are.
+    /// Returns the number of elements.
     #[inline(always)]
     pub fn len(&self) -> usize
         ensures { result ≡ length (values_of self.now) }
@@ -249,7 +249,7 @@ impl Elements {
         }
     }
 
-    /// The element at an index.
+    /// Returns the element at an index.
     #[inline(always)]
     pub fn get(&self, index: usize) -> Option<Value>
         ensures { result ≡ slice_get (values_of self.now) index }
@@ -272,11 +272,11 @@ impl Elements {
         }
     }
 
-    /// Puts a value at an index, if there is an element.
+    /// Stores a value at an index, if there is an element.
     pub fn put(&mut self, index: usize, value: Value)
-        requires { IsOfKind (kind_held self.old) value }
+        requires { IsOfKind (elements_kind self.old) value }
         ensures values { values_of self.new ≡ slice_set (values_of self.old) index value }
-        ensures kind { kind_held self.new ≡ kind_held self.old }
+        ensures kind { elements_kind self.new ≡ elements_kind self.old }
     {
         match self {
             Elements::Ints(items) => put_int(items, index, value),
@@ -290,11 +290,12 @@ impl Elements {
         }
     }
 
-    /// Whether an instruction of a kind loads and stores them: that of bytes does booleans too.
+    /// Returns true only if an instruction of a kind loads and stores these elements. That of bytes does so for
+    /// booleans too.
     #[inline(always)]
     #[tactic(auto, using(crate::proofs::KindLaws::ints_are_served, crate::proofs::KindLaws::bytes_are_served, crate::proofs::KindLaws::booleans_are_served, crate::proofs::KindLaws::chars_are_served, crate::proofs::KindLaws::shorts_are_served, crate::proofs::KindLaws::longs_are_served, crate::proofs::KindLaws::references_are_served))]
     fn are_served(&self, kind: ArrayKind) -> bool
-        ensures { (t : FieldType) → kind_held self.now ≡ kind_of t → IsTrue result → serves kind t ≡ true }
+        ensures { (t : FieldType) → elements_kind self.now ≡ kind_of t → IsTrue result → serves kind t ≡ true }
     {
         match (self, kind) {
             (Elements::Ints(_), ArrayKind::Int)
@@ -307,11 +308,12 @@ impl Elements {
         }
     }
 
-    /// What is kept of an int that is stored, where ints are held, and of a long, where longs are.
+    /// Returns the value that is stored for an int if the elements are ints, bytes, booleans, chars or shorts, and for
+    /// a long if they are longs.
     #[inline(always)]
     #[tactic(auto, using(crate::proofs::KindLaws::int_is_kept, crate::proofs::KindLaws::byte_is_kept, crate::proofs::KindLaws::boolean_is_kept, crate::proofs::KindLaws::char_is_kept, crate::proofs::KindLaws::short_is_kept))]
     fn kept(&self, value: Value) -> Option<Value>
-        ensures { (t : FieldType) → kind_held self.now ≡ kind_of t → IfSome result (λ kept. stored_as t value ≡ kept) }
+        ensures { (t : FieldType) → elements_kind self.now ≡ kind_of t → IfSome result (λ kept. stored_as t value ≡ kept) }
     {
         match (self, value) {
             (Elements::Ints(_), Value::Int(n)) => Some(Value::Int(n)),
@@ -324,11 +326,11 @@ impl Elements {
         }
     }
 
-    /// The element at an index, where an instruction of a kind loads them.
+    /// Returns the element at an index, if an instruction of a kind loads these elements.
     #[inline(always)]
     #[tactic(auto, using(crate::proofs::KindLaws::loads))]
     pub fn loaded(&self, kind: ArrayKind, index: usize) -> Option<Value>
-        ensures { (t : FieldType) → kind_held self.now ≡ kind_of t → IfSome result (λ v. (serves kind t ≡ true) × (slice_get (values_of self.now) index ≡ Some v)) }
+        ensures { (t : FieldType) → elements_kind self.now ≡ kind_of t → IfSome result (λ v. (serves kind t ≡ true) × (slice_get (values_of self.now) index ≡ Some v)) }
     {
         if !self.are_served(kind) {
             return None;
@@ -336,11 +338,12 @@ impl Elements {
         self.get(index)
     }
 
-    /// What is kept of an int or a long that is stored at an index, where an instruction of a kind stores such.
+    /// Returns the value that is stored for an int or a long at an index, if an instruction of a kind stores such
+    /// elements.
     #[inline(always)]
     #[tactic(auto, using(crate::proofs::KindLaws::stores))]
     pub fn stored(&self, kind: ArrayKind, index: usize, value: Value) -> Option<Value>
-        ensures { (t : FieldType) → kind_held self.now ≡ kind_of t → IfSome result (λ kept. (serves kind t ≡ true) × (IsSome (slice_get (values_of self.now) index) × (stored_as t value ≡ kept))) }
+        ensures { (t : FieldType) → elements_kind self.now ≡ kind_of t → IfSome result (λ kept. (serves kind t ≡ true) × (IsSome (slice_get (values_of self.now) index) × (stored_as t value ≡ kept))) }
     {
         if !self.are_served(kind) || self.get(index).is_none() {
             return None;

@@ -1,4 +1,4 @@
-//! What the elements of an array are, by the name of its class (JVMS 2.4, 4.4.1).
+//! The kinds of the elements of arrays, by the names of their classes (JVMS 2.4, 4.4.1).
 
 ghost use Rattle.std.specs.Prelude.{◌≡◌, drop};
 ghost use Rattle.jvms_machine.specs.Heap.{component_type};
@@ -6,10 +6,10 @@ ghost use Rattle.jvms_file.specs.declared.descriptor.Element.TheVariants as elem
 ghost use Rattle.array_elements.specs.Kinds.{kind_of, kind_of_element};
 ghost use Rattle.descriptor.specs.Scanning.{element_of};
 
-use descriptor::{Innermost, field_in};
+use descriptor::{ParsedElement, field_in};
 use jvms_file::descriptor::Primitive;
 
-/// What the elements of an array are held as.
+/// The kind in which the elements of an array are stored.
 #[derive(Clone, Copy, Debug, PartialEq, Eq)]
 pub enum Kind {
     Int,
@@ -19,11 +19,11 @@ pub enum Kind {
     Short,
     Long,
     Reference,
-    /// A float or a double, of which there is no value.
+    /// Floats or doubles, which have no values here.
     Nothing,
 }
 
-/// The kind of a primitive type.
+/// Returns the kind of a primitive type.
 fn kind_of_primitive(primitive: Primitive) -> Kind
     ensures { result ≡ kind_of_element (element.Primitive primitive) }
 {
@@ -38,17 +38,17 @@ fn kind_of_primitive(primitive: Primitive) -> Kind
     }
 }
 
-/// The kind of a type that is no array's.
-fn kind_of_innermost(innermost: Innermost<'_>) -> Kind
+/// Returns the kind of a type that is no array's.
+fn kind_of_innermost(innermost: ParsedElement<'_>) -> Kind
     ensures { result ≡ kind_of_element (element_of innermost.entry) }
 {
     match innermost {
-        Innermost::Primitive(primitive) => kind_of_primitive(primitive),
-        Innermost::Object(_) => Kind::Reference,
+        ParsedElement::Primitive(primitive) => kind_of_primitive(primitive),
+        ParsedElement::Object(_) => Kind::Reference,
     }
 }
 
-/// The descriptor of an array's components, by its class.
+/// Returns the descriptor of an array's components, from the name of its class.
 pub fn component(class: &[u16]) -> &[u16]
     ensures { result.now ≡ drop 1 class.now }
 {
@@ -58,7 +58,7 @@ pub fn component(class: &[u16]) -> &[u16]
     }
 }
 
-/// The kind of the components of an array, by its class.
+/// Returns the kind of the components of an array, from the name of its class.
 pub fn kind_of_array(class: &[u16]) -> Kind
     ensures { result ≡ kind_of (component_type class.now) }
 {

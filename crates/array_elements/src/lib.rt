@@ -1,4 +1,4 @@
-//! The elements of arrays (JVMS 2.4), held in their array's own kind.
+//! The elements of arrays (JVMS 2.4), stored by their kind.
 #![tactic(auto)]
 
 mod elements;

@@ -1,4 +1,4 @@
--- A fault of one step is the fault of those that go on from it.
+-- Proves that the fault of one step is that of the sequence.
 use Rattle.std.proofs.Common.{Result, Err, ap}
 use Rattle.jvms_file.specs.Results.{◌>>=◌}
 use Rattle.pool_entries.specs.declared.fault.EntryFault.{EntryFault}

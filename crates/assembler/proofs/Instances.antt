@@ -1,4 +1,4 @@
--- The definitions of an assembler that go down a list.
+-- Proves that the definitions of the assembler recurse over a list.
 use Rattle.std.proofs.Common.{◌≡◌, ℕ, ◌+◌, List, [], ◌∷◌, ◌++◌, length, Result, Ok, Err, refl, sym, ap, subst, ◌∙◌, arith}
 use Rattle.std.proofs.lemmas.List.{length_push}
 use Rattle.jvms_file.specs.declared.class_file.Constant.{Constant}
@@ -30,7 +30,7 @@ pub methods_loop : IsLoop methods_onto method_info
 unfolding methods_onto
 methods_loop = record { ends = λ seen pool. refl; steps = λ seen pool m ms. refl }
 
--- ---- Code, whose labels have no number
+-- ---- Code, whose labels have no index
 
 pub label_goes_on : (seen : List ℕ) (pool : List Constant) (name : List ℕ) (left rest : List CodeItem) (whole : Result (List ℕ × List Constant) EntryFault)
     → left ≡ item.Label name ∷ rest → operands_onto seen pool left ≡ whole → operands_onto seen pool rest ≡ whole
@@ -57,7 +57,7 @@ pub operands_done : (seen : List ℕ) (pool : List Constant) (left : List CodeIt
 unfolding operands_onto
 operands_done seen pool left whole none so_far = sym so_far ∙ ap (operands_onto seen pool) none
 
--- ---- Each instruction has one number
+-- ---- One index for each instruction
 
 abbrev how_many : Result (List ℕ × List Constant) EntryFault → ℕ
 how_many (Ok given) = length given.0

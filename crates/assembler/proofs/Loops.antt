@@ -1,4 +1,4 @@
--- Definitions that go down a list, and put what a step gives behind what was seen; and the loops that do so.
+-- Proves that loops over a list that append the results of steps meet definitions that do so by recursion.
 use Rattle.std.proofs.Common.{◌≡◌, ◌≤◌, ◌<◌, ℕ, ◌+◌, List, [], ◌∷◌, ◌++◌, length, drop, get_or, Result, Ok, Err, sym, ap, subst, ◌∙◌}
 use Rattle.std.proofs.Math.ListN.{drop_of_length-le}
 use Rattle.std.proofs.lemmas.List.{drop_more}
@@ -14,7 +14,7 @@ pub record IsLoop {X N E : Type 0} (onto : List N → List Constant → List X �
   pub ends : (seen : List N) (pool : List Constant) → onto seen pool [] ≡ Ok (seen, pool)
   pub steps : (seen : List N) (pool : List Constant) (x : X) (xs : List X) → onto seen pool (x ∷ xs) ≡ (step pool x >>= λ n. onto (seen ++ n.0 ∷ []) n.1 xs)
 
--- ---- What is left of a list
+-- ---- The rest of a list
 
 pub at_front : {X : Type 0} (xs : List X) (i : ℕ) (x : X) → i < length xs → x ≡ get_or xs i x → drop i xs ≡ x ∷ drop (i + 1) xs
 at_front xs i x below is = drop_more xs i x below ∙ ap (λ y. y ∷ drop (i + 1) xs) (sym is)
@@ -22,7 +22,7 @@ at_front xs i x below is = drop_more xs i x below ∙ ap (λ y. y ∷ drop (i + 
 pub none_left : {X : Type 0} (xs : List X) (i : ℕ) → length xs ≤ i → drop i xs ≡ []
 none_left xs i past = drop_of_length-le xs past
 
--- ---- The turns of a loop
+-- ---- The iterations of a loop
 
 pub goes_on : {X N E : Type 0} {onto : List N → List Constant → List X → Result (List N × List Constant) E} {step : List Constant → X → Result (N × List Constant) E}
     → IsLoop onto step → (seen : List N) (pool new : List Constant) (xs rest : List X) (x : X) (n : N) (left : List X) (whole : Result (List N × List Constant) E)
@@ -36,7 +36,7 @@ pub is_done : {X N E : Type 0} {onto : List N → List Constant → List X → R
     → left ≡ [] → onto seen pool left ≡ whole → whole ≡ Ok (seen, pool)
 is_done {X} {N} {E} {onto} loop seen pool left whole none so_far = sym so_far ∙ ap (onto seen pool) none ∙ loop.ends seen pool
 
--- Where a step fails, so does the whole.
+-- The fault of a step is that of the loop.
 pub entries_stop : {X N : Type 0} {onto : List N → List Constant → List X → Result (List N × List Constant) EntryFault} {step : List Constant → X → Result (N × List Constant) EntryFault}
     → IsLoop onto step → (e : EntryFault) (seen : List N) (pool : List Constant) (rest : List X) (x : X) (left : List X) (whole : Result (List N × List Constant) EntryFault)
     → left ≡ x ∷ rest → Fails e (step pool x) → onto seen pool left ≡ whole → Fails e whole

@@ -1,4 +1,4 @@
-//! The classes that catches name (JVMS 4.7.3).
+//! Adds the classes that catches name to the pool (JVMS 4.7.3).
 
 ghost use Rattle.std.specs.Prelude.{[]};
 ghost use Rattle.const_pool.specs.Interning.{pool_of};
@@ -6,12 +6,12 @@ ghost use Rattle.pool_entries.specs.Entries.{Gives};
 ghost use Rattle.assembly.specs.Operands.{catch_entry, catches_onto};
 ghost use Rattle.assembler.specs.Steps.{Enters};
 
-use held::items::Items;
+use shared_data::items::Items;
 use jasmin::source::{CatchLine, Caught};
 use pool_entries::{Entries, EntryFault};
 use std::alloc::Global;
 
-/// The number of the class that a catch names, 0 for all.
+/// Returns the index of the class that a catch names, or 0 for all.
 #[tactic(auto, unfolding(assembly::specs::Operands::catch_entry))]
 fn catch_entry(alloc: Global, entries: &mut Entries, caught: &Caught) -> Result<u16, EntryFault>
     ensures { Gives (catch_entry (pool_of entries.old) caught.now) result (pool_of entries.new) }
@@ -22,7 +22,7 @@ fn catch_entry(alloc: Global, entries: &mut Entries, caught: &Caught) -> Result<
     }
 }
 
-/// The numbers of the classes that catches name, in their order.
+/// Returns the indices of the classes that catches name, in their order.
 pub(crate) fn catches_of(
     alloc: Global,
     entries: &mut Entries,

@@ -1,4 +1,4 @@
-//! The class file of a source (JVMS 4.1).
+//! Assembles the class file of a source (JVMS 4.1).
 
 ghost use Rattle.std.specs.Prelude.{◌≡◌, nat_lt, ◌||◌, length, IfOk};
 ghost use Rattle.std.specs.List.{list_any};
@@ -11,40 +11,40 @@ use crate::fields::fields_of;
 use crate::methods::methods_of;
 use crate::throws::classes_of;
 use assembly::fault::AsmFault;
-use held::items::Items;
+use shared_data::items::Items;
 use jasmin::source::{MethodLines, Source};
 use jvms_file::class_file::ClassFile;
 use pool_entries::Entries;
 use std::alloc::Global;
 
-/// The most that a count of two bytes counts.
+/// The greatest count of two bytes.
 const MOST_COUNT: usize = 65535;
 
-/// The version of the class files that are written.
+/// The major version of the class files.
 const VERSION: u16 = 49;
 
-/// Whether a count of two bytes is too small for so many.
+/// Decides whether a count doesn't fit two bytes.
 fn is_too_many(count: usize) -> bool
     ensures { result ≡ nat_lt 65535 count }
 {
     count > MOST_COUNT
 }
 
-/// Whether a method has too many catches, or throws too many classes.
+/// Decides whether a method has too many catches, or throws too many classes.
 fn method_has_too_many(method: &MethodLines) -> bool
     ensures { result ≡ (are_too_many method.now.catches || are_too_many method.now.throws) }
 {
     is_too_many(method.catches.len()) || is_too_many(method.throws.len())
 }
 
-/// Whether one of some methods has too many catches, or throws too many classes.
+/// Decides whether a method among these has too many catches, or throws too many classes.
 fn any_has_too_many(methods: &[MethodLines]) -> bool
     ensures { result ≡ list_any (λ m. are_too_many m.catches || are_too_many m.throws) methods.now }
 {
     methods.iter().any(|method| method_has_too_many(method))
 }
 
-/// Whether a source has more members, interfaces, catches or thrown names than a count of two bytes takes.
+/// Decides whether the interfaces, fields, methods, catches or thrown names are more than a count of two bytes allows.
 fn has_too_many(source: &Source) -> bool
     ensures { result ≡ has_too_many_of source.now }
 {
@@ -54,7 +54,11 @@ fn has_too_many(source: &Source) -> bool
         || any_has_too_many(source.methods.as_slice())
 }
 
-/// The class file of a source, its parts, or why there is none.
+/// Returns the class file of a source, as plain data.
+///
+/// # Errors
+///
+/// Returns the first fault of the source, or `Memory` if memory ran out.
 #[tactic(auto, unfolding(assembly::specs::Assembled::assembled))]
 pub(crate) fn class_of(alloc: Global, source: &Source) -> Result<ClassFile, AsmFault>
     ensures exact { Answers result (assembled source.now) }

@@ -1,4 +1,4 @@
-//! Fields (JVMS 4.5).
+//! Assembles fields (JVMS 4.5).
 
 ghost use Rattle.std.specs.Prelude.{[]};
 ghost use Rattle.const_pool.specs.Interning.{pool_of};
@@ -7,13 +7,13 @@ ghost use Rattle.assembly.specs.Assembled.{value_entry, field_attributes, field_
 ghost use Rattle.assembler.specs.Steps.{Enters};
 
 use crate::names::CONSTANT_VALUE;
-use held::items::Items;
+use shared_data::items::Items;
 use jasmin::source::{FieldConstant, FieldLine};
 use jvms_file::class_file::{FieldAttribute, FieldInfo};
 use pool_entries::{Entries, EntryFault};
 use std::alloc::Global;
 
-/// The number of a field's value.
+/// Returns the index of a field's constant.
 fn value_entry(
     alloc: Global,
     entries: &mut Entries,
@@ -28,7 +28,7 @@ fn value_entry(
     }
 }
 
-/// The ConstantValue of a field that has a value (JVMS 4.7.2).
+/// Returns the ConstantValue attribute of a field that has a constant (JVMS 4.7.2).
 #[tactic(auto, unfolding(assembly::specs::Assembled::field_attributes))]
 fn field_attributes(
     alloc: Global,
@@ -49,7 +49,7 @@ fn field_attributes(
     }
 }
 
-/// A field whose parts are entries (JVMS 4.5).
+/// Returns the info of a field (JVMS 4.5).
 #[tactic(auto, unfolding(assembly::specs::Assembled::field_info))]
 fn field_info(
     alloc: Global,
@@ -69,7 +69,7 @@ fn field_info(
     })
 }
 
-/// The fields of a class, in their order.
+/// Returns the infos of a class's fields, in their order.
 pub(crate) fn fields_of(
     alloc: Global,
     entries: &mut Entries,

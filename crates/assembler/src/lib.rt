@@ -1,4 +1,4 @@
-//! The class file that a source in Jasmin is assembled to (JVMS 4), or why there is none.
+//! Assembles a Jasmin source to a class file (JVMS 4), or reports why it can't.
 #![tactic(auto)]
 
 mod assembling;

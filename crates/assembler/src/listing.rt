@@ -1,13 +1,13 @@
-//! The attributes of a member that has some of those that it may have.
+//! Lists the attributes that a member has.
 
 ghost use Rattle.std.specs.Prelude.{◌≡◌, ◌++◌, IfOk, OnOk};
 ghost use Rattle.assembler.specs.Steps.{listed};
 
-use held::items::Items;
+use shared_data::items::Items;
 use jvms_file::class_file::MethodAttribute;
 use std::alloc::{AllocError, Global};
 
-/// Puts an attribute behind others, if it is there.
+/// Appends an attribute, if there is one.
 fn push(
     attributes: &mut Items<MethodAttribute>,
     attribute: Option<MethodAttribute>,
@@ -20,7 +20,7 @@ fn push(
     }
 }
 
-/// The attributes of a method: its Code, if there is one, before its Exceptions.
+/// Returns the attributes of a method: its Code, if there is one, before its Exceptions, if there is one.
 pub(crate) fn attributes_of(
     alloc: Global,
     code: Option<MethodAttribute>,

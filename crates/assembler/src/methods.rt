@@ -1,4 +1,4 @@
-//! Methods (JVMS 4.6).
+//! Assembles methods (JVMS 4.6).
 
 ghost use Rattle.std.specs.Prelude.{◌≡◌, not, [], Ok, Err, IfOk, MatchResult};
 ghost use Rattle.const_pool.specs.Interning.{pool_of};
@@ -18,14 +18,18 @@ use crate::throws::throws_attribute;
 use assembly::fault::AsmFault;
 use code_bytes::code_within;
 use descriptor::{Flags, is_initializer_name};
-use held::items::Items;
+use shared_data::items::Items;
 use jasmin::source::{CodeItem, MethodLines};
 use jvms_file::class_file::{MethodAttribute, MethodInfo};
 use pool_entries::Entries;
 use source_labels::{Labels, LabelsFault, has_bad_range, has_undefined_label};
 use std::alloc::Global;
 
-/// Where the labels of code lead, each of which is defined once.
+/// Returns the labels of code.
+///
+/// # Errors
+///
+/// Returns `RepeatedLabel` if a label is defined twice, or `Memory` if memory ran out.
 fn labels_of<'s>(alloc: Global, code: &'s [CodeItem]) -> Result<Labels<'s>, AsmFault>
     ensures same { IfOk result (λ labels. labels ≡ code.now) }
     ensures once { MatchResult result (λ _. want (not (repeats_label code.now)) fault.RepeatedLabel ≡ Ok tt) (λ e. Answers (Err e) (want (not (repeats_label code.now)) fault.RepeatedLabel)) }
@@ -37,8 +41,12 @@ fn labels_of<'s>(alloc: Global, code: &'s [CodeItem]) -> Result<Labels<'s>, AsmF
     }
 }
 
-/// Where the labels of a method's code lead: each is defined once, each that something refers to is defined and leads
-/// to an instruction, or to the code's end as a range may, and each range holds an instruction.
+/// Returns the labels of a method's code, if they are good. Each is defined once. Each that is referred to marks an
+/// instruction, or the code's end if it ends a range. Each range contains an instruction.
+///
+/// # Errors
+///
+/// Returns `RepeatedLabel`, `UndefinedLabel` or `CatchRange` if they aren't, or `Memory` if memory ran out.
 #[tactic(auto, unfolding(assembly::specs::Assembled::labels_judged))]
 fn judged_labels<'s>(alloc: Global, method: &'s MethodLines) -> Result<Labels<'s>, AsmFault>
     ensures same { IfOk result (λ labels. labels ≡ method.now.code) }
@@ -54,7 +62,7 @@ fn judged_labels<'s>(alloc: Global, method: &'s MethodLines) -> Result<Labels<'s
     Ok(labels)
 }
 
-/// The Code of a method (JVMS 4.7.3). The labels are those of its code.
+/// Returns the Code attribute of a method (JVMS 4.7.3). `labels` are those of its code.
 #[tactic(auto, unfolding(assembly::specs::Assembled::code_attribute))]
 fn code_attribute(
     alloc: Global,
@@ -78,7 +86,7 @@ fn code_attribute(
     Ok(MethodAttribute::Code { name, code })
 }
 
-/// Whether a method has Code: all but native and abstract ones, and each `<clinit>` (JVMS 4.7.3).
+/// Decides whether a method has code. All but native and abstract methods have, and each `<clinit>` (JVMS 4.7.3).
 fn has_code(method: &MethodLines) -> bool
     ensures { result ≡ has_code method.now.name method.now.access }
 {
@@ -86,7 +94,7 @@ fn has_code(method: &MethodLines) -> bool
     is_initializer_name(method.name.as_slice()) || !(flags.is_native() || flags.is_abstract())
 }
 
-/// The Code of a method that has one (JVMS 4.7.3). The labels are those of its code.
+/// Returns the Code attribute of a method that has one (JVMS 4.7.3). `labels` are those of its code.
 #[tactic(auto, unfolding(assembly::specs::Assembled::code_attributes))]
 fn code_if_any(
     alloc: Global,
@@ -104,7 +112,7 @@ fn code_if_any(
     Ok(Some(code))
 }
 
-/// A method whose parts are entries (JVMS 4.6).
+/// Returns the info of a method (JVMS 4.6).
 #[tactic(auto, unfolding(assembly::specs::Assembled::method_info))]
 fn method_info(
     alloc: Global,
@@ -126,7 +134,7 @@ fn method_info(
     })
 }
 
-/// The methods of a class, in their order.
+/// Returns the infos of a class's methods, in their order.
 pub(crate) fn methods_of(
     alloc: Global,
     entries: &mut Entries,

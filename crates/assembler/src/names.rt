@@ -1,4 +1,4 @@
-//! The names of the attributes that are written (JVMS 4.7).
+//! The names of the attributes that the assembler writes (JVMS 4.7).
 
 /// The name `ConstantValue`.
 pub(crate) const CONSTANT_VALUE: [u16; 13] = [

@@ -1,4 +1,4 @@
-//! The entries of the constant pool that instructions name (JVMS 4.4, 6.5), numbered by first use.
+//! Adds the entries that instructions name to the constant pool (JVMS 4.4, 6.5), numbered by first use.
 
 ghost use Rattle.std.specs.Prelude.{◌≡◌, [], length, IfOk};
 ghost use Rattle.const_pool.specs.Interning.{pool_of};
@@ -7,13 +7,13 @@ ghost use Rattle.pool_entries.specs.Entries.{Gives, field_entry, method_entry};
 ghost use Rattle.assembly.specs.Operands.{loaded_entry, kind_of, operand_entry, operands_onto};
 ghost use Rattle.assembler.specs.Steps.{Enters};
 
-use held::items::Items;
+use shared_data::items::Items;
 use jasmin::source::{CodeItem, FieldName, LoadedConstant, MethodName, Operation};
 use jvms_file::insn::Invoke;
 use pool_entries::{Entries, EntryFault, MethodKind};
 use std::alloc::Global;
 
-/// The number of what `ldc` and `ldc_w` load.
+/// Returns the index of the constant that `ldc` or `ldc_w` loads.
 fn loaded_entry(
     alloc: Global,
     entries: &mut Entries,
@@ -28,7 +28,7 @@ fn loaded_entry(
     }
 }
 
-/// The number of a field (JVMS 4.4.2).
+/// Returns the index of a field (JVMS 4.4.2).
 fn field_entry(alloc: Global, entries: &mut Entries, field: &FieldName) -> Result<u16, EntryFault>
     ensures { Gives (field_entry (pool_of entries.old) field.now.class field.now.name field.now.descriptor) result (pool_of entries.new) }
 {
@@ -40,7 +40,8 @@ fn field_entry(alloc: Global, entries: &mut Entries, field: &FieldName) -> Resul
     )
 }
 
-/// Whose method an invocation names: an interface's by `invokeinterface`, else a class's (JVMS 4.4.2).
+/// Returns the kind of a method's entry: a method of an interface for `invokeinterface`, or else one of a class (JVMS
+/// 4.4.2).
 fn kind_of(how: Invoke) -> MethodKind
     ensures { result ≡ kind_of how }
 {
@@ -50,7 +51,7 @@ fn kind_of(how: Invoke) -> MethodKind
     }
 }
 
-/// The number of a method that is invoked so (JVMS 4.4.2).
+/// Returns the index of a method that an instruction invokes (JVMS 4.4.2).
 fn method_entry(
     alloc: Global,
     entries: &mut Entries,
@@ -68,7 +69,7 @@ fn method_entry(
     )
 }
 
-/// The number of the entry that an instruction names, 0 where it names none.
+/// Returns the index of the entry that an instruction names, or 0 if it names none.
 #[tactic(auto, unfolding(assembly::specs::Operands::operand_entry))]
 fn operand_entry(
     alloc: Global,
@@ -88,7 +89,7 @@ fn operand_entry(
     }
 }
 
-/// The numbers of the entries that the instructions of code name, one for each instruction.
+/// Returns the indices of the entries that the instructions of code name, one for each instruction.
 pub(crate) fn operands_of(
     alloc: Global,
     entries: &mut Entries,

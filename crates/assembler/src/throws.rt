@@ -1,4 +1,4 @@
-//! Classes that are named one after another: interfaces, and what methods throw (JVMS 4.1, 4.7.5).
+//! Adds lists of classes to the pool: interfaces, and those that methods throw (JVMS 4.1, 4.7.5).
 
 ghost use Rattle.std.specs.Prelude.{[]};
 ghost use Rattle.const_pool.specs.Interning.{pool_of};
@@ -7,13 +7,13 @@ ghost use Rattle.assembly.specs.Assembled.{throws_attributes};
 ghost use Rattle.assembler.specs.Steps.{Enters, listed};
 
 use crate::names::EXCEPTIONS;
-use held::items::Items;
-use held::shared::Text;
+use shared_data::items::Items;
+use shared_data::shared::Text;
 use jvms_file::class_file::MethodAttribute;
 use pool_entries::{Entries, EntryFault};
 use std::alloc::Global;
 
-/// The numbers of classes, by their names.
+/// Returns the indices of classes, by their names.
 pub(crate) fn classes_of(
     alloc: Global,
     entries: &mut Entries,
@@ -29,7 +29,7 @@ pub(crate) fn classes_of(
     Ok(numbers)
 }
 
-/// The Exceptions of a method that throws some (JVMS 4.7.5).
+/// Returns the Exceptions attribute of a method that throws some (JVMS 4.7.5).
 #[tactic(auto, unfolding(assembly::specs::Assembled::throws_attributes))]
 pub(crate) fn throws_attribute(
     alloc: Global,

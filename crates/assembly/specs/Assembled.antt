@@ -1,7 +1,8 @@
--- The class file that a source is assembled to, or why there is none. The entries of its constant pool are numbered by
--- first use: the class, its superclass, its interfaces, each field (its name, its descriptor, then the text
--- `ConstantValue` and the value), each method (its name, its descriptor, then the text `Code`, what its instructions
--- name in order, what its catches name; then the text `Exceptions` and its classes). Version 49.0.
+-- Defines the class file that a source is assembled to, of version 49.0, or the fault. The entries of its constant pool
+-- are numbered by first use, in this order: the class, its superclass, its interfaces, the fields and the methods. A
+-- field has its name, its descriptor, and the text `ConstantValue` with its value. A method has its name, its
+-- descriptor, the text `Code`, what its instructions name, and what its catches name. The text `Exceptions` with its
+-- classes follows.
 use Rattle.std.specs.Prelude.{ℕ, not, if◌then◌else◌, List, [], ◌∷◌, ◌++◌, Option, Some, None, Result, Ok, codes}
 use Rattle.jvms_file.specs.declared.class_file.Constant.{Constant}
 use Rattle.jvms_file.specs.declared.class_file.FieldAttribute.{FieldAttribute}
@@ -34,7 +35,7 @@ value_entry pool (constant.Integer n) = integer_entry pool n
 value_entry pool (constant.Long n) = long_entry pool n
 value_entry pool (constant.String text) = string_entry pool text
 
--- The ConstantValue of a field that has a value (JVMS 4.7.2).
+-- Returns the ConstantValue attribute of a field that has a value (JVMS 4.7.2).
 unfoldable pub field_attributes : List Constant → Option FieldConstant → Result (List FieldAttribute × List Constant) EntryFault
 field_attributes pool None = Ok ([], pool)
 field_attributes pool (Some c) = do
@@ -49,7 +50,7 @@ field_info pool f = do
   attributes ← field_attributes descriptor.1 f.constant
   Ok (record { access = f.access; name = name.0; descriptor = descriptor.0; attributes = attributes.0 }, attributes.1)
 
--- Fields behind others.
+-- Appends the infos of fields to those before.
 unfoldable pub fields_onto : List FieldInfo → List Constant → List FieldLine → Result (List FieldInfo × List Constant) EntryFault
 fields_onto seen pool [] = Ok (seen, pool)
 fields_onto seen pool (f ∷ fs) = do
@@ -58,15 +59,15 @@ fields_onto seen pool (f ∷ fs) = do
 
 -- ---- Methods
 
--- What a method's labels are wanted for: each is defined once, each that something refers to is defined and leads to an
--- instruction, or to the code's end as a range may, and each range holds an instruction.
+-- Judges the labels of a method. Each is defined once. Each that is referred to marks an instruction, or the code's end
+-- if it ends a range. Each range contains an instruction.
 unfoldable pub labels_judged : MethodLines → Result (Unit {0}) AsmFault
 labels_judged m = do
   _ ← want (not (repeats_label m.code)) fault.RepeatedLabel
   _ ← want (not (has_undefined_label m)) fault.UndefinedLabel
   want (not (has_bad_range m)) fault.CatchRange
 
--- The Code of a method (JVMS 4.7.3).
+-- Returns the Code attribute of a method (JVMS 4.7.3).
 unfoldable pub code_attribute : List Constant → MethodLines → Result (MethodAttribute × List Constant) AsmFault
 code_attribute pool m = do
   name ← numbered (text_entry pool (codes "Code"))
@@ -75,14 +76,14 @@ code_attribute pool m = do
   code ← code_within operands.0 caught.0 m
   Ok (method_attribute.Code name.0 code, caught.1)
 
--- A method that is native or abstract has none, <clinit> aside.
+-- Returns the Code attribute of a method that has one. A native or abstract method has none, except `<clinit>`.
 unfoldable pub code_attributes : List Constant → MethodLines → Result (List MethodAttribute × List Constant) AsmFault
 code_attributes pool m =
     if has_code m.name m.access
     then (code_attribute pool m >>= λ a. Ok (a.0 ∷ [], a.1))
     else Ok ([], pool)
 
--- The Exceptions of a method that throws some (JVMS 4.7.5).
+-- Returns the Exceptions attribute of a method that throws some (JVMS 4.7.5).
 unfoldable pub throws_attributes : List Constant → List (List ℕ) → Result (List MethodAttribute × List Constant) EntryFault
 throws_attributes pool [] = Ok ([], pool)
 throws_attributes pool (class ∷ classes) = do
@@ -90,7 +91,7 @@ throws_attributes pool (class ∷ classes) = do
   numbers ← classes_onto [] name.1 (class ∷ classes)
   Ok (method_attribute.Exceptions name.0 numbers.0 ∷ [], numbers.1)
 
--- Code comes before Exceptions.
+-- Returns the info of a method. Its Code attribute precedes its Exceptions attribute.
 unfoldable pub method_info : List Constant → MethodLines → Result (MethodInfo × List Constant) AsmFault
 method_info pool m = do
   _ ← labels_judged m

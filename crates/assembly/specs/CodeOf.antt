@@ -1,5 +1,4 @@
--- The code of a method as a class file has it (JVMS 4.7.3), made of a method's lines and the numbers of the entries that
--- they name.
+-- Defines the Code attribute of a method (JVMS 4.7.3) by the method's lines and the pool entries that they name.
 use Rattle.std.specs.Prelude.{ℕ, not, List, [], ◌∷◌, map, Result, Ok, ℤ, pos}
 use Rattle.jvms_file.specs.declared.class_file.Handler.{Handler}
 use Rattle.jvms_file.specs.declared.class_file.Code.{Code}
@@ -23,7 +22,7 @@ use Rattle.assembly.specs.Bytes.{bytes_from}
 
 -- ---- Instructions
 
--- An instruction that names the entry of number n; its targets are numbers of instructions.
+-- Returns the instruction of an operation that names the pool entry `n`. Its targets are numbers of instructions.
 unfoldable pub insn_of : List CodeItem → ℕ → Operation → Insn
 insn_of items n (operation.Alone code) = insn.Simple (simple_of code)
 insn_of items n (operation.PushByte k) = insn.Simple (simple.Push (push.Int k))
@@ -49,7 +48,7 @@ insns_from items _ _ = []
 
 -- ---- Handlers
 
--- A catch whose class has number n.
+-- Returns the handler of a catch whose class is the pool entry `n`.
 abbrev pub handler_of : List CodeItem → ℕ → CatchLine → Handler
 handler_of items n c =
     record { start = target items c.from; end = target items c.to; target = target items c.using; catch_type = n }
@@ -60,7 +59,7 @@ handlers_from items _ _ = []
 
 -- ---- The code
 
--- The code of a method; `operands` and `caught` are the numbers of the entries that its instructions and its catches
+-- Returns the code of a method. `operands` and `caught` are the pool entries that its instructions and its catches
 -- name.
 abbrev pub code_of : List ℕ → List ℕ → MethodLines → Code
 code_of operands caught m =
@@ -74,7 +73,7 @@ code_of operands caught m =
       attributes = [];
     }
 
--- It has at least one byte and at most 65535, and each branch reaches its label.
+-- Returns the code of a method if it has from 1 to 65535 bytes and each branch reaches its label, or else the fault.
 unfoldable pub code_within : List ℕ → List ℕ → MethodLines → Result Code AsmFault
 code_within operands caught m = do
   _ ← want (is_code_length (code_length operands m.code)) fault.CodeLength

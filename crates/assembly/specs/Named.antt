@@ -1,4 +1,4 @@
--- What the numbers that a method's code has name in a pool.
+-- Defines what the indices in a method's code name in a pool.
 use Rattle.std.specs.Prelude.{◌≡◌, ℕ, List, [], ◌∷◌, Some}
 use Rattle.jvms_file.specs.declared.class_file.Constant.{Constant}
 use Rattle.jvms_file.specs.declared.class_file.Constant.TheVariants as constant
@@ -15,7 +15,7 @@ use Rattle.pool_entries.specs.Entries.{method_constant}
 use Rattle.pool_entries.specs.Named.{IsString, IsMember}
 use Rattle.assembly.specs.Operands.{kind_of}
 
--- A number is that of a class's name.
+-- An index is that of a class with this name.
 abbrev pub NamesClass : List Constant → ℕ → List ℕ → Type 0
 NamesClass pool n name = IsU2 n × (class_name_at pool n ≡ Some name)
 
@@ -24,7 +24,7 @@ NamesLoad pool n (loaded.Integer k) = IsU2 n × (entry pool n ≡ Some (constant
 NamesLoad pool n (loaded.String text) = IsU2 n × IsString pool n text
 NamesLoad pool n (loaded.Class name) = NamesClass pool n name
 
--- A number is that of the entry that an instruction names, if it names one.
+-- An index is that of the entry that an instruction names, if the instruction names one.
 unfoldable pub NamesOperand : List Constant → ℕ → Operation → Type 0
 NamesOperand pool n (operation.Constant width c) = NamesLoad pool n c
 NamesOperand pool n (operation.ConstantLong k) = IsU2 n × (entry pool n ≡ Some (constant.Long k))
@@ -34,13 +34,13 @@ NamesOperand pool n (operation.Class how name) = NamesClass pool n name
 NamesOperand pool n (operation.MultiNewArray name count) = NamesClass pool n name
 NamesOperand pool n _ = Unit {0}
 
--- Each instruction has its number.
+-- The indices are those of the instructions, one for each.
 abbrev pub AreOperands : List Constant → List ℕ → List Operation → Type 0
 AreOperands pool [] [] = Unit {0}
 AreOperands pool (n ∷ numbers) (o ∷ os) = NamesOperand pool n o × AreOperands pool numbers os
 AreOperands pool _ _ = ⊥
 
--- A number is that of the class that a catch names, 0 for all.
+-- An index is that of the class that a catch names, or 0 for all.
 abbrev pub NamesCaught : List Constant → ℕ → Caught → Type 0
 NamesCaught pool n caught.All = n ≡ 0
 NamesCaught pool n (caught.Class name) = NamesClass pool n name
@@ -50,7 +50,7 @@ AreCaught pool [] [] = Unit {0}
 AreCaught pool (n ∷ numbers) (c ∷ cs) = NamesCaught pool n c.caught × AreCaught pool numbers cs
 AreCaught pool _ _ = ⊥
 
--- Each number is that of a class's name.
+-- The indices are those of the classes with these names.
 abbrev pub AreClasses : List Constant → List ℕ → List (List ℕ) → Type 0
 AreClasses pool [] [] = Unit {0}
 AreClasses pool (n ∷ numbers) (name ∷ names) = NamesClass pool n name × AreClasses pool numbers names

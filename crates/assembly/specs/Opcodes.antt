@@ -1,4 +1,4 @@
--- The opcodes of instructions with operands (JVMS 7).
+-- Defines the opcodes of instructions with operands (JVMS 7).
 use Rattle.std.specs.Prelude.{ℕ, ◌+◌}
 use Rattle.jvms_file.specs.declared.insn.Kind.{Kind}
 use Rattle.jvms_file.specs.declared.insn.Kind.TheVariants as kind
@@ -17,7 +17,7 @@ use Rattle.jvms_file.specs.declared.insn.ClassUse.TheVariants as class_use
 use Rattle.jvms_file.specs.declared.insn.ArrayType.{ArrayType}
 use Rattle.jvms_file.specs.declared.insn.ArrayType.TheVariants as array_type
 
--- The opcodes of loads, and those of stores, stand in this order.
+-- Returns the position of a kind among the opcodes of loads, and among those of stores.
 abbrev pub kind_number : Kind → ℕ
 kind_number kind.Int = 0
 kind_number kind.Long = 1
@@ -25,7 +25,7 @@ kind_number kind.Float = 2
 kind_number kind.Double = 3
 kind_number kind.Reference = 4
 
--- iload to aload, istore to astore, ret.
+-- Returns the opcode of iload to aload, of istore to astore, or of ret.
 abbrev pub local_opcode : LocalUse → ℕ
 local_opcode (local.Load k) = 21 + kind_number k
 local_opcode (local.Store k) = 54 + kind_number k
@@ -39,7 +39,7 @@ comparison_number comparison.GreaterOrEqual = 3
 comparison_number comparison.Greater = 4
 comparison_number comparison.LessOrEqual = 5
 
--- With an offset of two bytes.
+-- Returns the opcode of a branch with an offset of two bytes.
 abbrev pub branch_opcode : Branch → ℕ
 branch_opcode (branch.IfZero c) = 153 + comparison_number c
 branch_opcode (branch.IfInts c) = 159 + comparison_number c
@@ -50,7 +50,8 @@ branch_opcode branch.Subroutine = 168
 branch_opcode branch.IfNull = 198
 branch_opcode branch.IfNonNull = 199
 
--- With an offset of four bytes: goto_w and jsr_w; what stands here for another branch is never seen.
+-- Returns the opcode of a branch with an offset of four bytes: goto_w or jsr_w. The value for any other branch isn't
+-- used.
 abbrev pub wide_branch_opcode : Branch → ℕ
 wide_branch_opcode branch.Goto = 200
 wide_branch_opcode _ = 201
@@ -73,7 +74,7 @@ class_opcode class_use.NewArray = 189
 class_opcode class_use.CheckCast = 192
 class_opcode class_use.InstanceOf = 193
 
--- JVMS table 6.5.newarray-A
+-- Returns the number of a component type (JVMS table 6.5.newarray-A).
 abbrev pub array_type_number : ArrayType → ℕ
 array_type_number array_type.Boolean = 4
 array_type_number array_type.Char = 5

@@ -1,4 +1,4 @@
--- How many bytes an instruction takes as it is spelled (JVMS 6.5), and where it starts.
+-- Defines the sizes of instructions in bytes (JVMS 6.5), and where they start.
 use Rattle.std.specs.Prelude.{ℕ, ◌+◌, ◌-◌, ◌*◌, ◌^◌, Bool, false, not, ◌&&◌, ◌||◌, nat_le, if◌then◌else◌, List, [], ◌∷◌, length, slice_get, ℤ, pos, neg_ℤ, int_le, ◌-ℤ◌}
 use Rattle.std.specs.Option.{unwrap_or}
 use Rattle.jvms_file.specs.declared.insn.Invoke.{Invoke}
@@ -13,11 +13,11 @@ use Rattle.jasmin.specs.Denote.{target, operations}
 
 -- ---- Sizes
 
--- Whether a number stands from one to another.
+-- Decides whether a number is within the bounds.
 abbrev pub is_between : ℤ → ℤ → ℤ → Bool
 is_between least most n = int_le least n && int_le n most
 
--- A local's number of one byte, and a step of one.
+-- Decides whether a local variable's number fits one unsigned byte and an increment one signed byte.
 abbrev pub is_byte_step : ℕ → ℤ → Bool
 is_byte_step n by = nat_le n 255 && is_between (neg_ℤ (pos 128)) (pos 127) by
 
@@ -25,7 +25,7 @@ abbrev pub invoke_size : Invoke → ℕ
 invoke_size invoke.Interface = 5
 invoke_size _ = 3
 
--- The bytes of an instruction that names the entry of number n and starts at byte pc.
+-- Returns the size of an instruction that starts at byte `pc` and names the pool entry `n`.
 unfoldable pub size : ℕ → ℕ → Operation → ℕ
 size n pc (operation.Alone code) = 1
 size n pc (operation.PushByte k) = 2
@@ -45,12 +45,12 @@ size n pc (operation.Class how name) = 3
 size n pc (operation.NewArray type) = 2
 size n pc (operation.MultiNewArray name count) = 4
 
--- The byte behind instructions that begin at byte pc; `numbers` are those of the entries that they name.
+-- Returns the byte after instructions that start at byte `pc` and name the pool entries `numbers`.
 unfoldable pub end_from : ℕ → List ℕ → List Operation → ℕ
 end_from pc (n ∷ numbers) (o ∷ os) = end_from (pc + size n pc o) numbers os
 end_from pc _ _ = pc
 
--- The bytes at which they start.
+-- Returns the bytes at which instructions start.
 unfoldable pub starts_from : ℕ → List ℕ → List Operation → List ℕ
 starts_from pc (n ∷ numbers) (o ∷ os) = pc ∷ starts_from (pc + size n pc o) numbers os
 starts_from pc _ _ = []
@@ -63,22 +63,22 @@ starts_of numbers items = starts_from 0 numbers (operations items)
 
 -- ---- Offsets
 
--- The byte that a label stands at, in code whose instructions start at these bytes; what stands here for a label that
--- leads to no instruction is never seen.
+-- Returns the byte of a label in code whose instructions start at these bytes, or 0 for a label that marks no
+-- instruction. Assembled code refers to no such label.
 abbrev pub label_byte : List ℕ → List CodeItem → List ℕ → ℕ
 label_byte starts items label = unwrap_or (slice_get starts (target items label)) 0
 
--- How far a label is from byte pc.
+-- Returns the offset of a label from byte `pc`.
 abbrev pub offset : List ℕ → List CodeItem → ℕ → List ℕ → ℤ
 offset starts items pc label = pos (label_byte starts items label) -ℤ pos pc
 
--- A branch of two bytes of offset at byte pc can't reach its label.
+-- Decides whether a branch at byte `pc` can't reach its label with an offset of two bytes.
 unfoldable pub is_too_far : List ℕ → List CodeItem → ℕ → Operation → Bool
 is_too_far starts items pc (operation.Branch branch_width.Short how label) =
     not (is_between (neg_ℤ (pos (2 ^ 15))) (pos (2 ^ 15 - 1)) (offset starts items pc label))
 is_too_far starts items pc _ = false
 
--- One of the instructions that start at bytes `pcs` can't.
+-- Decides whether an instruction among those that start at bytes `pcs` can't reach its label.
 unfoldable pub any_too_far : List ℕ → List CodeItem → List ℕ → List Operation → Bool
 any_too_far starts items (pc ∷ pcs) (o ∷ os) = is_too_far starts items pc o || any_too_far starts items pcs os
 any_too_far starts items _ _ = false

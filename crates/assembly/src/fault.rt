@@ -1,4 +1,4 @@
-//! Why a source can't be assembled.
+//! The faults of a source that can't be assembled.
 
 ghost use Rattle.std.specs.Prelude.{◌≡◌};
 ghost use Rattle.assembly.specs.declared.fault.AsmFault.TheVariants.{Memory};
@@ -8,29 +8,29 @@ use pool_entries::EntryFault;
 use std::alloc::AllocError;
 use thiserror::Error;
 
-/// Why a source can't be assembled, by number.
+/// A fault of a source that can't be assembled, by number.
 #[derive(Clone, Copy, Debug, PartialEq, Eq, Error)]
 pub enum AsmFault {
-    /// A label that something refers to isn't defined, or stands behind the last instruction and isn't the end of a
-    /// catch's range.
+    /// A label that is referred to is undefined, or follows the last instruction and isn't the end of a catch's range.
     #[error("A01 UndefinedLabel")]
     UndefinedLabel,
     /// A label is defined twice in a method.
     #[error("A02 RepeatedLabel")]
     RepeatedLabel,
-    /// A branch of two bytes of offset can't reach its label; no branch is lengthened.
+    /// A branch with an offset of two bytes can't reach its label. No branch is lengthened.
     #[error("A03 BranchTooFar")]
     BranchTooFar,
-    /// The code of a method has no byte or more than 65535.
+    /// The code of a method is empty or has more than 65535 bytes.
     #[error("A04 CodeLength")]
     CodeLength,
-    /// The constant pool would need a number above 65534.
+    /// The constant pool would need an index above 65534.
     #[error("A05 PoolFull")]
     PoolFull,
-    /// There was no memory.
+    /// Memory ran out.
     #[error("A06 Memory")]
     Memory,
-    /// More than 65535 members, interfaces, catches, thrown names, or bytes of a text.
+    /// A list of members, interfaces, catches or thrown names has more than 65535 elements, or a text more than 65535
+    /// bytes.
     #[error("A07 TooMany")]
     TooMany,
     /// A catch's range doesn't begin before its end.

@@ -1,5 +1,6 @@
-//! What a source is assembled to, stated apart from the code that does it: the numbers of the constant pool's entries,
-//! the bytes of each instruction, and the class file of a source. `specs/` has the definitions that contracts cite.
+//! Defines the class file that a source is assembled to, apart from the code that assembles it. The definitions in
+//! `specs/`, which contracts cite, determine the indices of the constant pool's entries and the bytes of each
+//! instruction.
 #![tactic(auto)]
 
 pub mod fault;

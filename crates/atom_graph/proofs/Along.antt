@@ -1,11 +1,11 @@
--- What lies along a trail, as lists of its links in reverse.
+-- What is along a trail, as lists of its links in reverse.
 use Rattle.std.proofs.Common.{◌≡◌, ℕ, List, [], ◌∷◌, ◌++◌, map, reverse, refl, ap, ◌∙◌, append_assoc}
 use Rattle.std.proofs.lemmas.List.{map-append, reverse-append}
 use Rattle.velodrome.specs.declared.verdict.ConflictingPair.{ConflictingPair}
 use Rattle.atom_order.specs.declared.link.Link.{Link}
 use Rattle.atom_order.specs.Trails.{pairs_along, transactions_along}
 
--- The image of the first link stands behind those of the others.
+-- The image of the first link follows those of the others.
 last_image : {X : Type 0} (image : Link → X) (l : Link) (links : List Link) (xs : List X) → map image (reverse (l ∷ links)) ++ xs ≡ map image (reverse links) ++ image l ∷ xs
 last_image image l links xs =
     ap (λ (ls : List Link). map image ls ++ xs) (reverse-append (l ∷ []) links)

@@ -1,68 +1,68 @@
--- What taking an item comes to.
+-- The result of feeding an item.
 use Rattle.std.proofs.Common.{◌≡◌, ℕ, ◌+◌, ◌<◌, true, [], ◌∷◌, ◌++◌, length, Option, None, sym, ap, subst, ◌∙◌, arith}
 use Rattle.jvms_program.specs.declared.key.MethodKey.{MethodKey}
 use Rattle.jvms_machine.specs.declared.trace.Item.{Item}
 use Rattle.jvms_machine.specs.declared.trace.Item.TheVariants as item
 use Rattle.velodrome.specs.Conflicts.{thread_of}
 use Rattle.velodrome.specs.Transactions.{has_atomic, is_event, next_transaction}
-use Rattle.courses.specs.Courses.{course_in}
+use Rattle.thread_states.specs.ThreadStates.{thread_state_in}
 use Rattle.accesses.proofs.Conflicting.{conflict_is_against}
 use Rattle.atom_graph.specs.declared.stay.Stay.{Stay}
-use Rattle.atom_graph.specs.declared.walked.Walked.{Walked}
+use Rattle.atom_graph.specs.declared.walked.StoredTrace.{StoredTrace}
 use Rattle.atom_graph.specs.declared.watch.Watch.{Watch}
 use Rattle.atom_graph.specs.Checked.{IsChecker}
 use Rattle.atom_graph.specs.Checking.{with_item}
 use Rattle.atom_graph.specs.Reduced.{IsReady, MayClose}
-use Rattle.atom_graph.specs.Walked.{IsEntered, IsExited, IsHappened, IsSame, fed_of, over_by, stay_of}
+use Rattle.atom_graph.specs.StoredTrace.{IsEntered, IsExited, IsHappened, IsSame, fed_of, ending_transaction, stay_of}
 use Rattle.atom_graph.specs.Watched.{IsLeft, IsOn}
 use Rattle.atom_graph.proofs.Checked.{begun_few, checker_entered, checker_event, checker_exited, checker_same, events_ready, exits_ready, fed_is, idle}
 
-module _ (a a1 : Walked) (v : Watch) (is : IsChecker a v) (same : IsSame a a1) where
-  -- Once memory was taken it is right still.
+module _ (a a1 : StoredTrace) (v : Watch) (is : IsChecker a v) (same : IsSame a a1) where
+  -- After memory was reserved the checker is still right.
   pub prepared : IsChecker a1 v
   prepared = checker_same a a1 v v is same (idle v)
 
-  -- The items are one more.
-  pub taken_fed : (b : Walked) (i copy : Item) → copy ≡ i → b.courses.lines ≡ a1.courses.lines → b.items.items ≡ a1.items.items ++ copy ∷ [] → fed_of b ≡ with_item i (fed_of a)
+  -- There is one more item.
+  pub taken_fed : (b : StoredTrace) (i copy : Item) → copy ≡ i → b.courses.lines ≡ a1.courses.lines → b.items.items ≡ a1.items.items ++ copy ∷ [] → fed_of b ≡ with_item i (fed_of a)
   taken_fed b i copy copied lines items =
       fed_is a.courses.lines b.courses.lines (a.items.items ++ i ∷ []) b.items.items (lines ∙ same.lines)
       (items ∙ ap (λ j. a1.items.items ++ j ∷ []) copied ∙ ap (λ is. is ++ i ∷ []) same.items)
 
-  pub entered_right : (b : Walked) (t : ℕ) (m key : MethodKey) (i copy : Item) → i ≡ item.Enter t m → key ≡ m → copy ≡ i → IsEntered t key copy a1 b → IsChecker b v
+  pub entered_right : (b : StoredTrace) (t : ℕ) (m key : MethodKey) (i copy : Item) → i ≡ item.Enter t m → key ≡ m → copy ≡ i → IsEntered t key copy a1 b → IsChecker b v
   entered_right b t m key i copy entry keyed copied marked =
       checker_entered a1 v prepared b t m (subst (λ j. IsEntered t m j a1 b) (copied ∙ entry) (subst (λ k. IsEntered t k copy a1 b) keyed marked))
 
-  pub exit_may_close : (t : ℕ) (over : Option ℕ) → over ≡ over_by a1.courses.lines (course_in a1.courses.table t) → v.found ≡ None → MayClose over v.reduced.graph
+  pub exit_may_close : (t : ℕ) (over : Option ℕ) → over ≡ ending_transaction a1.courses.lines (thread_state_in a1.courses.table t) → v.found ≡ None → MayClose over v.reduced.graph
   exit_may_close t over over_is none = subst (λ o. MayClose o v.reduced.graph) (sym over_is) (exits_ready a1 v prepared t none)
 
-  pub exited_right : (b : Walked) (u : Watch) (t : ℕ) (m : MethodKey) (i copy : Item) (over : Option ℕ) → i ≡ item.Exit t m → copy ≡ i
-      → over ≡ over_by a1.courses.lines (course_in a1.courses.table t) → IsLeft over v u → IsExited t copy a1 b → IsChecker b u
+  pub exited_right : (b : StoredTrace) (u : Watch) (t : ℕ) (m : MethodKey) (i copy : Item) (over : Option ℕ) → i ≡ item.Exit t m → copy ≡ i
+      → over ≡ ending_transaction a1.courses.lines (thread_state_in a1.courses.table t) → IsLeft over v u → IsExited t copy a1 b → IsChecker b u
   exited_right b u t m i copy over exit copied over_is left marked =
       checker_exited a1 v prepared b u t m (subst (λ o. IsLeft o v u) over_is left) (subst (λ j. IsExited t j a1 b) (copied ∙ exit) marked)
 
   long : length a1.transactions.items ≡ length a.transactions.items
   long = ap length same.transactions
 
-  -- Few transactions have begun where there are few events.
+  -- If there are few events, few transactions have begun.
   pub begun_fits : length a.transactions.items < 100000000 → a1.begun < 9223372036854775808
   begun_fits few = let less = begun_few a v is in let begun = same.begun in omega arith
 
-  -- The transaction of a thread's event, and whether it is the first one.
+  -- The transaction of a thread's event, and whether the event begins it.
   abbrev IsNumbered : ℕ → ℕ → Type 0
-  IsNumbered t n = n ≡ next_transaction (course_in a1.courses.table t).transaction a1.begun
+  IsNumbered t n = n ≡ next_transaction (thread_state_in a1.courses.table t).transaction a1.begun
 
   abbrev IsStay : ℕ → Stay → Type 0
-  IsStay t s = s ≡ stay_of (course_in a1.courses.table t).transaction (has_atomic a1.courses.lines (course_in a1.courses.table t).methods)
+  IsStay t s = s ≡ stay_of (thread_state_in a1.courses.table t).transaction (has_atomic a1.courses.lines (thread_state_in a1.courses.table t).methods)
 
   abbrev n_at : Item → ℕ
-  n_at i = next_transaction (course_in a1.courses.table (thread_of i)).transaction a1.begun
+  n_at i = next_transaction (thread_state_in a1.courses.table (thread_of i)).transaction a1.begun
 
   abbrev s_at : Item → Stay
-  s_at i = stay_of (course_in a1.courses.table (thread_of i)).transaction (has_atomic a1.courses.lines (course_in a1.courses.table (thread_of i)).methods)
+  s_at i = stay_of (thread_state_in a1.courses.table (thread_of i)).transaction (has_atomic a1.courses.lines (thread_state_in a1.courses.table (thread_of i)).methods)
 
   pub event_may_be : (i : Item) (t n : ℕ) (s : Stay) → thread_of i ≡ t → is_event i ≡ true
-      → n ≡ next_transaction (course_in a1.courses.table t).transaction a1.begun
-      → s ≡ stay_of (course_in a1.courses.table t).transaction (has_atomic a1.courses.lines (course_in a1.courses.table t).methods)
+      → n ≡ next_transaction (thread_state_in a1.courses.table t).transaction a1.begun
+      → s ≡ stay_of (thread_state_in a1.courses.table t).transaction (has_atomic a1.courses.lines (thread_state_in a1.courses.table t).methods)
       → length a.transactions.items < 100000000 → v.found ≡ None → IsReady s n v.reduced.graph
   event_may_be i t n s of event numbered stays few none = subst (λ u. IsNumbered u n → IsStay u s → IsReady s n v.reduced.graph) of at numbered stays
     where
@@ -73,9 +73,9 @@ module _ (a a1 : Walked) (v : Watch) (is : IsChecker a v) (same : IsSame a a1) w
           (subst (λ k. IsReady (s_at i) k v.reduced.graph) (sym to_n)
           (events_ready a1 v prepared i event conflict_is_against (omega arith) none))
 
-  pub happened_right : (b : Walked) (u : Watch) (i copy : Item) (t n number : ℕ) (s : Stay) → thread_of i ≡ t → is_event i ≡ true → copy ≡ i
-      → n ≡ next_transaction (course_in a1.courses.table t).transaction a1.begun
-      → s ≡ stay_of (course_in a1.courses.table t).transaction (has_atomic a1.courses.lines (course_in a1.courses.table t).methods)
+  pub happened_right : (b : StoredTrace) (u : Watch) (i copy : Item) (t n number : ℕ) (s : Stay) → thread_of i ≡ t → is_event i ≡ true → copy ≡ i
+      → n ≡ next_transaction (thread_state_in a1.courses.table t).transaction a1.begun
+      → s ≡ stay_of (thread_state_in a1.courses.table t).transaction (has_atomic a1.courses.lines (thread_state_in a1.courses.table t).methods)
       → number ≡ length a.transactions.items + 1 → IsOn number n s i v u → IsHappened t n copy a1 b → IsChecker b u
   happened_right b u i copy t n number s of event copied numbered stays count on hap =
       subst (λ x. IsNumbered x n → IsStay x s → IsHappened x n i a1 b → IsChecker b u) of at numbered stays (subst (λ j. IsHappened t n j a1 b) copied hap)

@@ -1,11 +1,11 @@
--- What an event, and a transaction's end, make of the graph.
+-- How an event, and the end of a transaction, change the graph.
 use Rattle.std.proofs.Common.{◌≡◌, ◌≢◌, ℕ, ◌+◌, ◌<◌, ◌≤◌, Bool, true, false, not, cond, ◌||◌, ◌⊎◌, ◌↔◌, inl, inr, List, [], ◌∷◌, ◌++◌, length, take, sym, ap, subst, ◌∙◌, arith, length-append}
 use Rattle.std.proofs.lemmas.Bool.{cases_eq, false≢true}
 use Rattle.std.proofs.lemmas.List.{length_push, take-append-le}
 use Rattle.velodrome.specs.Conflicts.{conflict}
 use Rattle.velodrome.specs.Cycles.{AreAtomic, IsCycle, IsFirstAt, IsIn}
 use Rattle.velodrome.specs.Reach.{IsOpen}
-use Rattle.velodrome.specs.Transactions.{Event, Walk}
+use Rattle.velodrome.specs.Transactions.{Event, TraceState}
 use Rattle.velodrome.specs.Verdicts.{ArePairNumbers, IsShownCycle}
 use Rattle.atom_order.specs.declared.link.Link.{Link}
 use Rattle.atom_order.specs.Keeping.{IsKept, Leads}
@@ -28,8 +28,8 @@ use Rattle.atom_graph.proofs.Suffices.{MeetByAccesses, near, sound, suffices_lef
 
 -- ---- No event
 
--- A walk with the same events and the same open transactions has the same graph.
-pub graph_same : (w v : Walk) (s : Shape) (kept : List Last) → v.events ≡ w.events → v.transactions ≡ w.transactions → ((a : ℕ) → IsOpen v a ↔ IsOpen w a) → IsGraphOf w s kept → IsGraphOf v s kept
+-- A trace with the same events and the same open transactions has the same graph.
+pub graph_same : (w v : TraceState) (s : Shape) (kept : List Last) → v.events ≡ w.events → v.transactions ≡ w.transactions → ((a : ℕ) → IsOpen v a ↔ IsOpen w a) → IsGraphOf w s kept → IsGraphOf v s kept
 graph_same w v s kept events count opens g = record {
   keeps = subst (λ es. IsKept es v.transactions (order_of s)) (sym events) (subst (λ m. IsKept w.events m (order_of s)) (sym count) g.keeps);
   slots = g.slots ∙ ap (λ m. m + 1) (sym count);
@@ -38,7 +38,7 @@ graph_same w v s kept events count opens g = record {
 }
 
 -- A transaction is closed.
-pub graph_closed : (w v : Walk) (t : ℕ) (old new : Shape) (kept : List Last) → v.events ≡ w.events → v.transactions ≡ w.transactions
+pub graph_closed : (w v : TraceState) (t : ℕ) (old new : Shape) (kept : List Last) → v.events ≡ w.events → v.transactions ≡ w.transactions
     → ((a : ℕ) → IsOpen v a ↔ (IsOpen w a × (a ≢ t))) → IsClosing t old new → IsGraphOf w old kept → IsGraphOf v new kept
 graph_closed w v t old new kept events count opens closing g = record {
   keeps = subst (λ es. IsKept es v.transactions (order_of new)) (sym events) (subst (λ m. IsKept w.events m (order_of new)) (sym count) (closed_kept w.events w.transactions t old new g.keeps closing));
@@ -57,7 +57,7 @@ graph_closed w v t old new kept events count opens closing g = record {
 
 -- ---- An event begins a transaction
 
-module _ (meet : MeetByAccesses) (w v : Walk) (f : Event) (old new : Reduced) (g : IsGraphOf w old.graph (kept_of old.accesses))
+module _ (meet : MeetByAccesses) (w v : TraceState) (f : Event) (old new : Reduced) (g : IsGraphOf w old.graph (kept_of old.accesses))
     (numbered : f.number ≡ length w.events + 1) (to_events : v.events ≡ w.events ++ f ∷ []) (is_open : Bool)
     (newest : f.transaction ≡ w.transactions + 1) (count : v.transactions ≡ w.transactions + 1)
     (opens : (a : ℕ) → IsOpen v a ↔ (((a ≡ f.transaction) × (is_open ≡ true)) ⊎ IsOpen w a))
@@ -131,13 +131,13 @@ module _ (meet : MeetByAccesses) (w v : Walk) (f : Event) (old new : Reduced) (g
   pub graph_begun : IsGraphOf v new.graph (kept_of new.accesses)
   graph_begun = subst (λ (n : Shape). IsGraphOf v n (kept_of new.accesses)) (sym taken.grown.0) behind
 
--- ---- An event goes on with a transaction
+-- ---- An event continues a transaction
 
-module _ (meet : MeetByAccesses) (w v : Walk) (f : Event) (old new : Reduced) (g : IsGraphOf w old.graph (kept_of old.accesses))
+module _ (meet : MeetByAccesses) (w v : TraceState) (f : Event) (old new : Reduced) (g : IsGraphOf w old.graph (kept_of old.accesses))
     (numbered : f.number ≡ length w.events + 1) (to_events : v.events ≡ w.events ++ f ∷ [])
     (count : v.transactions ≡ w.transactions) (there : IsIn f.transaction old.graph.live)
     (opens : (a : ℕ) → IsOpen v a ↔ IsOpen w a)
-    (taken : IsTaken f.number f.transaction stay.GoesOn f.item old new) where
+    (taken : IsTaken f.number f.transaction stay.KeepsGoing f.item old new) where
   abbrev r : Shape
   r = old.graph
 
@@ -172,7 +172,7 @@ module _ (meet : MeetByAccesses) (w v : Walk) (f : Event) (old new : Reduced) (g
 
 -- ---- An event closes a cycle
 
-module _ (meet : MeetByAccesses) (w : Walk) (f : Event) (old : Reduced) (g : IsGraphOf w old.graph (kept_of old.accesses))
+module _ (meet : MeetByAccesses) (w : TraceState) (f : Event) (old : Reduced) (g : IsGraphOf w old.graph (kept_of old.accesses))
     (numbered : f.number ≡ length w.events + 1) (found : Found) (closed : IsClosedBy f.number f.transaction f.item old found) where
   abbrev now_events : List Event
   now_events = w.events ++ f ∷ []
@@ -194,7 +194,7 @@ module _ (meet : MeetByAccesses) (w : Walk) (f : Event) (old : Reduced) (g : IsG
         (closed_shown w.events w.transactions f chain old.graph g.keeps numbered chain_sound closed.closing closed.closes)));
   }
 
--- A cycle stays the first as more happens.
+-- A first cycle stays the first when more events follow.
 pub found_more : (events more : List Event) (f : Found) → IsFoundIn events f → IsFoundIn (events ++ more) f
 found_more events more f is = record {
   within = let bound = is.within in let long = length-append events more in omega arith;

@@ -1,10 +1,10 @@
--- What a checker says of the trace.
+-- The verdict of a checker on the trace.
 use Rattle.std.proofs.Common.{◌≡◌, ℕ, true, false, List, ◌++◌, length, Option, Some, None, refl, sym, subst, true≢false, is_some}
 use Rattle.velodrome.specs.Cycles.{AreAtomic, IsCycle}
 use Rattle.velodrome.specs.Orders.{IsOrder}
 use Rattle.velodrome.specs.Reach.{AreReached}
 use Rattle.velodrome.specs.Rearrangements.{IsRearrangement, IsSerial}
-use Rattle.velodrome.specs.Transactions.{Walk}
+use Rattle.velodrome.specs.Transactions.{TraceState}
 use Rattle.velodrome.specs.Verdicts.{IsVerdict}
 use Rattle.velodrome.specs.declared.verdict.Verdict.{Verdict}
 use Rattle.velodrome.specs.declared.verdict.Verdict.TheVariants as verdict
@@ -18,37 +18,37 @@ use Rattle.atom_order.proofs.Reached.{kept_atomic, kept_order}
 use Rattle.accesses.specs.Accesses.{Last}
 use Rattle.accesses.specs.Rooms.{kept_of}
 use Rattle.atom_graph.specs.declared.found.Found.{Found}
-use Rattle.atom_graph.specs.declared.walked.Walked.{Walked}
+use Rattle.atom_graph.specs.declared.walked.StoredTrace.{StoredTrace}
 use Rattle.atom_graph.specs.declared.watch.Watch.{Watch}
 use Rattle.atom_graph.specs.Checked.{IsChecker}
 use Rattle.atom_graph.specs.Checking.{walk_of}
 use Rattle.atom_graph.specs.Reduced.{IsShown}
-use Rattle.atom_graph.specs.Walked.{fed_of}
+use Rattle.atom_graph.specs.StoredTrace.{fed_of}
 use Rattle.atom_graph.specs.Watched.{IsFoundIn, IsGraphOf, IsWatched}
 
 -- ---- Verdicts
 
--- A cycle that was found is one of all events.
-pub found_cycle : (w : Walk) (f : Found) → IsFoundIn w.events f → (ts : List ℕ) × IsCycle w.events ts
+-- A cycle that was found is a cycle of all events.
+pub found_cycle : (w : TraceState) (f : Found) → IsFoundIn w.events f → (ts : List ℕ) × IsCycle w.events ts
 found_cycle w f is = (is.first.0.0, cycle_within _ w.events is.first.0.0 (λ e h. taken f.first_at w.events e h) is.first.0.1)
 
-pub found_verdict : (w : Walk) (f : Found) (x : Verdict) → IsFoundIn w.events f → IsShown f x → IsVerdict w x
+pub found_verdict : (w : TraceState) (f : Found) (x : Verdict) → IsFoundIn w.events f → IsShown f x → IsVerdict w x
 found_verdict w f x is shown = subst (IsVerdict w) (sym shown) (is.first, is.shown)
 
-pub graph_atomic : (w : Walk) (s : Shape) (kept : List Last) → IsGraphOf w s kept → AreAtomic w.events
+pub graph_atomic : (w : TraceState) (s : Shape) (kept : List Last) → IsGraphOf w s kept → AreAtomic w.events
 graph_atomic w s kept g = kept_atomic w.events w.transactions (order_of s) g.keeps
 
-pub graph_order : (w : Walk) (s : Shape) (kept : List Last) (order : List ℕ) → order ≡ s.dropped ++ s.live → IsGraphOf w s kept → IsOrder w.events w.transactions order
+pub graph_order : (w : TraceState) (s : Shape) (kept : List Last) (order : List ℕ) → order ≡ s.dropped ++ s.live → IsGraphOf w s kept → IsOrder w.events w.transactions order
 graph_order w s kept order is g = subst (IsOrder w.events w.transactions) (sym is) (kept_order w.events w.transactions (order_of s) g.keeps)
 
-pub graph_verdict : (w : Walk) (s : Shape) (kept : List Last) (order : List ℕ) → order ≡ s.dropped ++ s.live → IsGraphOf w s kept → IsVerdict w (verdict.Atomic order)
+pub graph_verdict : (w : TraceState) (s : Shape) (kept : List Last) (order : List ℕ) → order ≡ s.dropped ++ s.live → IsGraphOf w s kept → IsVerdict w (verdict.Atomic order)
 graph_verdict w s kept order is g = (graph_atomic w s kept g, graph_order w s kept order is g)
 
-module _ (a : Walked) (v : Watch) (is : IsChecker a v) where
-  abbrev w : Walk
+module _ (a : StoredTrace) (v : Watch) (is : IsChecker a v) where
+  abbrev w : TraceState
   w = walk_of (fed_of a)
 
-  -- What is watched, where nothing or something was found.
+  -- What the search has stored, when no cycle or one was found.
   pub watched_none : v.found ≡ None → IsGraphOf (walk_of (fed_of a)) v.reduced.graph (kept_of v.reduced.accesses)
   watched_none none = subst (λ (o : Option Found). IsWatched w v.reduced o) none is.watched
 
@@ -76,7 +76,7 @@ module _ (a : Walked) (v : Watch) (is : IsChecker a v) where
   serial_some order numbers none are serial =
       (graph_atomic w v.reduced.graph (kept_of v.reduced.accesses) (watched_none none), serial a.courses.lines a.items.items (order_asked order none are))
 
-  -- The fields of what was found, by a test.
+  -- The cycle, if one was found.
   pub some_found : is_some v.found ≡ true → (f : Found) × (v.found ≡ Some f)
   some_found = by v.found refl
     where

@@ -1,4 +1,4 @@
--- Places are one where their test says so.
+-- Places are equal if their test says so.
 use Rattle.std.proofs.Common.{◌≡◌, ℕ, true, ◌&&◌, ◌||◌, ◌==◌, List, inl, inr, refl, sym, ap, ◌∙◌, subst, true≢false}
 use Rattle.std.specs.Cmp.Lexicographic.{bytes_decides}
 use Rattle.std.proofs.lemmas.Bool.{and_from, and_parts, eq-eqb, eqb-true, or_cases, or_left, or_right}
@@ -70,7 +70,7 @@ same_places p q r one two = subst (λ s. same_place s r ≡ true) (sym (one_plac
 pub turned_place : (p q : Place) → same_place p q ≡ true → same_place q p ≡ true
 turned_place p q one = subst (λ s. same_place s p ≡ true) (one_place p q one) (own_place p)
 
--- What is against an access is against one that covers it at its place.
+-- What conflicts with an access conflicts with one that covers it at its place.
 pub against_covered : (x y k : Access) → same_place x.place k.place ≡ true → (x.is_main ≡ true → k.is_main ≡ true) → against x y ≡ true → against k y ≡ true
 against_covered x y k place covers is =
     let parts = and_parts (same_place x.place y.place) (x.is_main || y.is_main) is in
@@ -78,6 +78,6 @@ against_covered x y k place covers is =
     (same_places k.place x.place y.place (turned_place x.place k.place place) parts.0)
     (elim (or_cases x.is_main y.is_main parts.1) [ inl own ↦ or_left k.is_main y.is_main (covers own) | inr other ↦ or_right k.is_main y.is_main other ])
 
--- A main access is against each at its place.
+-- A main access conflicts with each access to its place.
 pub against_main : (x y : Access) → same_place x.place y.place ≡ true → y.is_main ≡ true → against x y ≡ true
 against_main x y place is = and_from (same_place x.place y.place) (x.is_main || y.is_main) place (or_right x.is_main y.is_main is)

@@ -1,4 +1,4 @@
--- What is remembered gives the links of a new event, and suffices still behind it and behind a transaction's end.
+-- The remembered accesses yield the links of a new event, and still suffice after it and after a transaction ends.
 use Rattle.std.proofs.Common.{◌≡◌, ◌≢◌, ℕ, ◌+◌, ◌<◌, true, not, ◌&&◌, ◌==◌, ◌⊎◌, ◌↔◌, inl, inr, List, [], ◌∷◌, ◌++◌, length, refl, sym, ap, subst, ◌∙◌, arith}
 use Rattle.std.proofs.lemmas.Bool.{and_from, and_parts, both_ways, cases_eq, eq-eqb, not-true, ne_eqb}
 use Rattle.jvms_machine.specs.declared.trace.Item.{Item}
@@ -16,7 +16,7 @@ use Rattle.accesses.specs.Accesses.{Access, AreLinks, IsAgainst, IsNoted, Last, 
 use Rattle.atom_graph.specs.Suffices.{IsOf, StandsFor, Suffices}
 use Rattle.atom_graph.proofs.Places.{against_covered, against_main, own_place, same_places}
 
--- Two items conflict exactly where two of their accesses are against each other.
+-- Two items conflict if and only if two of their accesses conflict.
 abbrev pub MeetByAccesses : Type 0
 MeetByAccesses = (a b : Item) → (conflict a b ≡ true) ↔ ((x : Access) × (y : Access) × IsIn x (accesses_of a) × IsIn y (accesses_of b) × (against x y ≡ true))
 
@@ -25,7 +25,7 @@ module _ (meet : MeetByAccesses) (events : List Event) (n : ℕ) (o : Order) (ke
   abbrev found : List Link
   found = live_links f.transaction o.live links
 
-  -- Each link that is left leads from another transaction, by a pair of events.
+  -- Each remaining link leads from another transaction, by a pair of events.
   pub sound : (l : Link) → IsIn l found → (l.from ≢ f.transaction) × ArePairNumbers (events ++ f ∷ []) l.from f.transaction l.pair
   sound l h =
       let in_links = filter_in (λ (m : Link). is_among m.from o.live && not (m.from == f.transaction)) l links h in
@@ -43,7 +43,8 @@ module _ (meet : MeetByAccesses) (events : List Event) (n : ℕ) (o : Order) (ke
         subst (λ (m : Link). ArePairNumbers (events ++ f ∷ []) m.from f.transaction m.pair) (sym source.3) pair,
       )
 
-  -- An event of a live transaction that conflicts with the new one leads to where a link begins, or to the new one's.
+  -- An event of a live transaction that conflicts with the new one leads to where a link begins, or to the new one's
+  -- transaction.
   pub near : (e : Event) → IsIn e events → conflict e.item f.item ≡ true → IsIn e.transaction o.live
       → (x : ℕ) × Leads o.live o.into e.transaction x × ((x ≡ f.transaction) ⊎ ((l : Link) × IsIn l found × (l.from ≡ x)))
   near e h is stands =
@@ -66,7 +67,7 @@ module _ (meet : MeetByAccesses) (events : List Event) (n : ℕ) (o : Order) (ke
             refl,
           )
 
--- Where fewer transactions are live, and what led among them leads still, it suffices still.
+-- If fewer transactions are live, and what led among them still leads, the accesses still suffice.
 pub suffices_left : (events : List Event) (o p : Order) (kept : List Last) → Suffices events o kept
     → ((y : ℕ) → IsIn y p.live → IsIn y o.live)
     → ((a b : ℕ) → IsIn a p.live → Leads o.live o.into a b → Leads p.live p.into a b)
@@ -99,7 +100,7 @@ module _ (meet : MeetByAccesses) (events : List Event) (o p : Order) (kept now :
           let is : IsOf f (last_of f.number f.transaction (thread_of f.item) new.0) = record { number = refl; transaction = refl; thread = refl; access = new.1 } in
           (f, in_right f events (f ∷ []) (inl refl), subst (λ (j : Last). IsOf f j) (sym new.2) is)
 
-  -- An event whose access a new one takes the place of conflicts with the new event.
+  -- An event whose access a new one replaces conflicts with the new event.
   taken_conflicts : (k : Last) (y : Access) (e : Event) → IsOf e k → IsIn y (accesses_of f.item) → TakesPlace f.item k y → conflict e.item f.item ≡ true
   unfolding accesses_of
   taken_conflicts k y e is g takes = elim takes.conflicts [
@@ -140,7 +141,7 @@ module _ (meet : MeetByAccesses) (events : List Event) (o p : Order) (kept now :
             },
           )
 
-  -- Behind a noted event what is remembered suffices.
+  -- After an event is recorded the remembered accesses suffice.
   pub suffices_more : Suffices (events ++ f ∷ []) p now
   suffices_more = record {
     are = are_now;

@@ -1,4 +1,4 @@
--- What the items of a trace make of the watch for a cycle.
+-- How the items of a trace change the search for a cycle.
 use Rattle.std.proofs.Common.{◌≡◌, ◌≢◌, ℕ, ◌+◌, ◌<◌, Bool, true, false, if◌then◌else◌, ◌⊎◌, ◌↔◌, inl, inr, List, [], ◌∷◌, ◌++◌, length, drop, Option, Some, None, refl, sym, ap, subst, ◌∙◌, arith}
 use Rattle.std.proofs.lemmas.Option.{none-some, same_Some}
 use Rattle.jvms_machine.specs.declared.trace.Item.{Item}
@@ -6,7 +6,7 @@ use Rattle.velodrome.specs.Conflicts.{thread_of}
 use Rattle.velodrome.specs.Cycles.{IsIn}
 use Rattle.velodrome.specs.Reach.{IsOpen}
 use Rattle.velodrome.specs.Specification.{Specification}
-use Rattle.velodrome.specs.Transactions.{Course, Event, Walk, begun_after, exited, happened, has_atomic, next_transaction, with_course}
+use Rattle.velodrome.specs.Transactions.{ThreadState, Event, TraceState, transactions_after, exited, happened, has_atomic, next_transaction, with_thread_state}
 use Rattle.atom_order.specs.Shapes.{Shape}
 use Rattle.atom_order.proofs.Members.{among_from_in}
 use Rattle.atom_order.proofs.Same.{usable_of_kept}
@@ -15,7 +15,7 @@ use Rattle.accesses.specs.Rooms.{kept_of}
 use Rattle.atom_graph.specs.declared.found.Found.{Found}
 use Rattle.atom_graph.specs.declared.reduced.Reduced.{Reduced}
 use Rattle.atom_graph.specs.Reduced.{IsLike, IsOverIn, IsReady, IsTaken, MayClose, StaysLive}
-use Rattle.atom_graph.specs.Walked.{course_after, over_by, stay_of}
+use Rattle.atom_graph.specs.StoredTrace.{course_after, ending_transaction, stay_of}
 use Rattle.atom_graph.specs.Watched.{IsGraphOf, IsLeftFrom, IsOnFrom, IsWatched}
 use Rattle.atom_graph.proofs.Growing.{cycle_found, found_more, graph_begun, graph_closed, graph_linked, graph_same}
 use Rattle.atom_graph.proofs.Steps.{IsFair, IsOpenBy, by_open, open_by, open_is}
@@ -25,11 +25,11 @@ chosen_some : (b : Bool) (n a : ℕ) → (if b then Some n else None) ≡ Some a
 chosen_some true n a is = (refl, sym (same_Some n a is))
 chosen_some false n a is = absurd (none-some a is)
 
--- ---- The open transactions behind a mark
+-- ---- The open transactions after a mark
 
-module _ (lines : Specification) (w : Walk) (fair : IsFair lines w) (t : ℕ) (course : Course) where
+module _ (lines : Specification) (w : TraceState) (fair : IsFair lines w) (t : ℕ) (course : ThreadState) where
   -- The thread stays in its transaction, or in none.
-  pub opens_stay : course.transaction ≡ (w.courses t).transaction → (a : ℕ) → IsOpen (with_course t course w) a ↔ IsOpen w a
+  pub opens_stay : course.transaction ≡ (w.courses t).transaction → (a : ℕ) → IsOpen (with_thread_state t course w) a ↔ IsOpen w a
   opens_stay same a = (λ is. forth (open_by w t course a is), λ is. by_open w t course a (back (open_is w t a is)))
     where
       forth : IsOpenBy w t course a → IsOpen w a
@@ -40,8 +40,8 @@ module _ (lines : Specification) (w : Walk) (fair : IsFair lines w) (t : ℕ) (c
       back (inl is) = inl (same ∙ is)
       back (inr other) = inr other
 
-  -- Its transaction is over.
-  pub opens_left : (n : ℕ) → (w.courses t).transaction ≡ Some n → course.transaction ≡ None → (a : ℕ) → IsOpen (with_course t course w) a ↔ (IsOpen w a × (a ≢ n))
+  -- Its transaction has ended.
+  pub opens_left : (n : ℕ) → (w.courses t).transaction ≡ Some n → course.transaction ≡ None → (a : ℕ) → IsOpen (with_thread_state t course w) a ↔ (IsOpen w a × (a ≢ n))
   opens_left n was none a = (λ is. forth (open_by w t course a is), λ is. by_open w t course a (back is.1 (open_is w t a is.0)))
     where
       forth : IsOpenBy w t course a → IsOpen w a × (a ≢ n)
@@ -54,11 +54,11 @@ module _ (lines : Specification) (w : Walk) (fair : IsFair lines w) (t : ℕ) (c
 
 -- ---- An event
 
-module _ (meet : MeetByAccesses) (lines : Specification) (w : Walk) (fair : IsFair lines w) (i : Item) where
+module _ (meet : MeetByAccesses) (lines : Specification) (w : TraceState) (fair : IsFair lines w) (i : Item) where
   abbrev t : ℕ
   t = thread_of i
 
-  abbrev course : Course
+  abbrev course : ThreadState
   course = w.courses t
 
   abbrev goes_on : Bool
@@ -70,13 +70,13 @@ module _ (meet : MeetByAccesses) (lines : Specification) (w : Walk) (fair : IsFa
   abbrev event : Event
   event = record { number = length w.events + 1; transaction = n; item = i }
 
-  abbrev v : Walk
+  abbrev v : TraceState
   v = happened lines i course n w
 
-  abbrev grown : Walk
-  grown = record { courses = w.courses; events = w.events ++ event ∷ []; transactions = begun_after course.transaction w.transactions }
+  abbrev grown : TraceState
+  grown = record { courses = w.courses; events = w.events ++ event ∷ []; transactions = transactions_after course.transaction w.transactions }
 
-  abbrev after : Course
+  abbrev after : ThreadState
   after = course_after lines n course
 
   opens_new : course.transaction ≡ None → (a : ℕ) → IsOpen v a ↔ (((a ≡ n) × (goes_on ≡ true)) ⊎ IsOpen w a)
@@ -107,13 +107,13 @@ module _ (meet : MeetByAccesses) (lines : Specification) (w : Walk) (fair : IsFa
   event_graph : (o : Option ℕ) (old new : Reduced) → course.transaction ≡ o → IsGraphOf w old.graph (kept_of old.accesses)
       → IsTaken (length w.events + 1) n (stay_of o goes_on) i old new → IsGraphOf v new.graph (kept_of new.accesses)
   event_graph None old new is g taken =
-      graph_begun meet w v event old new g refl refl goes_on (ap (λ o. next_transaction o w.transactions) is) (ap (λ o. begun_after o w.transactions) is) (opens_new is) taken
+      graph_begun meet w v event old new g refl refl goes_on (ap (λ o. next_transaction o w.transactions) is) (ap (λ o. transactions_after o w.transactions) is) (opens_new is) taken
   event_graph (Some m) old new is g taken =
       let own : n ≡ m = ap (λ o. next_transaction o w.transactions) is in
       let there : IsIn n old.graph.live = subst (λ k. IsIn k old.graph.live) (sym own) (g.keeps.opens m ((g.opens m).1 (t, is))) in
-      graph_linked meet w v event old new g refl refl (ap (λ o. begun_after o w.transactions) is) there (opens_on m is) taken
+      graph_linked meet w v event old new g refl refl (ap (λ o. transactions_after o w.transactions) is) there (opens_on m is) taken
 
-  -- Behind the event the watch is right again.
+  -- After the event the search is right again.
   pub event_watched : (found now : Option Found) (old new : Reduced) → IsWatched w old found
       → IsOnFrom (length w.events + 1) n (stay_of course.transaction goes_on) i found now old new → IsWatched v new now
   event_watched None None old new watched on = event_graph course.transaction old new refl watched on
@@ -134,12 +134,12 @@ module _ (meet : MeetByAccesses) (lines : Specification) (w : Walk) (fair : IsFa
 
 -- ---- The exit of a method
 
-module _ (lines : Specification) (w : Walk) (fair : IsFair lines w) (t : ℕ) where
-  abbrev left : Course
+module _ (lines : Specification) (w : TraceState) (fair : IsFair lines w) (t : ℕ) where
+  abbrev left : ThreadState
   left = exited lines (w.courses t)
 
-  abbrev u : Walk
-  u = with_course t left w
+  abbrev u : TraceState
+  u = with_thread_state t left w
 
   like : (old new : Reduced) → left.transaction ≡ (w.courses t).transaction → IsGraphOf w old.graph (kept_of old.accesses) → IsLike old new → IsGraphOf u new.graph (kept_of new.accesses)
   like old new same g is =
@@ -154,13 +154,13 @@ module _ (lines : Specification) (w : Walk) (fair : IsFair lines w) (t : ℕ) wh
       graph_closed w u n old.graph new.graph (kept_of new.accesses) refl refl
       (opens_left lines w fair t left n is (ap (λ b. if b then (w.courses t).transaction else None) stays)) over.0 (subst (IsGraphOf w old.graph) (sym over.1) g)
 
-  -- Behind the exit the watch is right again.
-  pub exit_watched : (found : Option Found) (old new : Reduced) → IsWatched w old found → IsLeftFrom (over_by lines (w.courses t)) found old new → IsWatched u new found
+  -- After the exit the search is right again.
+  pub exit_watched : (found : Option Found) (old new : Reduced) → IsWatched w old found → IsLeftFrom (ending_transaction lines (w.courses t)) found old new → IsWatched u new found
   exit_watched None old new watched over = exit_graph (has_atomic lines (drop 1 (w.courses t).methods)) (w.courses t).transaction old new refl refl watched over
   exit_watched (Some f) old new watched over = watched
 
   -- The graph is ready for the exit.
-  pub exit_ready : (s : Shape) (kept : List Last) → IsGraphOf w s kept → MayClose (over_by lines (w.courses t)) s
+  pub exit_ready : (s : Shape) (kept : List Last) → IsGraphOf w s kept → MayClose (ending_transaction lines (w.courses t)) s
   exit_ready s kept g = by (has_atomic lines (drop 1 (w.courses t).methods)) (w.courses t).transaction refl
     where
       by : (b : Bool) (o : Option ℕ) → (w.courses t).transaction ≡ o → MayClose (if b then None else o) s
@@ -169,12 +169,12 @@ module _ (lines : Specification) (w : Walk) (fair : IsFair lines w) (t : ℕ) wh
       by false (Some n) is = (usable_of_kept w.events w.transactions s g.keeps, among_from_in n s.live (g.keeps.opens n ((g.opens n).1 (t, is))))
 
 -- The entry of a method changes nothing.
-pub enter_watched : (lines : Specification) (w : Walk) (fair : IsFair lines w) (t : ℕ) (entered : Course) → entered.transaction ≡ (w.courses t).transaction
-    → (found : Option Found) (r : Reduced) → IsWatched w r found → IsWatched (with_course t entered w) r found
-enter_watched lines w fair t entered same None r watched = graph_same w (with_course t entered w) r.graph (kept_of r.accesses) refl refl (opens_stay lines w fair t entered same) watched
+pub enter_watched : (lines : Specification) (w : TraceState) (fair : IsFair lines w) (t : ℕ) (entered : ThreadState) → entered.transaction ≡ (w.courses t).transaction
+    → (found : Option Found) (r : Reduced) → IsWatched w r found → IsWatched (with_thread_state t entered w) r found
+enter_watched lines w fair t entered same None r watched = graph_same w (with_thread_state t entered w) r.graph (kept_of r.accesses) refl refl (opens_stay lines w fair t entered same) watched
 enter_watched lines w fair t entered same (Some f) r watched = watched
 
--- Where neither the graph nor what is remembered has changed, the watch is right still.
-pub like_watched : (w : Walk) (found : Option Found) (old new : Reduced) → IsLike old new → IsWatched w old found → IsWatched w new found
+-- If neither the graph nor the remembered accesses have changed, the search is still right.
+pub like_watched : (w : TraceState) (found : Option Found) (old new : Reduced) → IsLike old new → IsWatched w old found → IsWatched w new found
 like_watched w None old new is watched = subst (λ (s : Shape). IsGraphOf w s (kept_of new.accesses)) (sym is.graph) (subst (IsGraphOf w old.graph) (sym is.kept) watched)
 like_watched w (Some f) old new is watched = watched

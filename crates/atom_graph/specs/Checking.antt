@@ -1,31 +1,31 @@
--- What a checker was fed, and which items it takes.
+-- Defines what contracts see of a checker, and which items it accepts.
 use Rattle.std.specs.Prelude.{◌≡◌, not, ◌&&◌, nat_le, if◌then◌else◌, List, [], ◌∷◌, ◌++◌, length, Option, Some, None, Result, Ok, Err}
 use Rattle.jvms_machine.specs.declared.trace.Item.{Item}
 use Rattle.velodrome.specs.Specification.{Specification}
-use Rattle.velodrome.specs.Transactions.{Walk, walk, is_event, is_matched}
+use Rattle.velodrome.specs.Transactions.{TraceState, walk, is_event, is_matched}
 use Rattle.atom_graph.specs.declared.fault.FeedFault.{FeedFault}
 use Rattle.atom_graph.specs.declared.fault.FeedFault.TheVariants as fault
 
--- The items that were taken, under a specification.
+-- The items that were fed, under a specification.
 pub record Fed : Type 0 where
   pub lines : Specification
   pub items : List Item
 
-abbrev pub walk_of : Fed → Walk
+abbrev pub walk_of : Fed → TraceState
 walk_of fed = walk fed.lines fed.items
 
 abbrev pub with_item : Item → Fed → Fed
 with_item i fed = record { lines = fed.lines; items = fed.items ++ i ∷ [] }
 
--- Why an item isn't taken: it is an exit of another method than its thread's innermost open one, or an event past
--- 100,000,000 (own).
+-- Returns why an item is refused: it is an exit of a method other than its thread's innermost open one, or an event
+-- past 100,000,000 (own).
 abbrev pub fault_of : Fed → Item → Option FeedFault
 fault_of fed i =
     if not (is_matched (walk_of fed) i) then Some fault.Unmatched
     else if is_event i && nat_le 100000000 (length (walk_of fed).events) then Some fault.TooMany
     else None
 
--- An item is taken exactly where nothing is at fault with it, unless memory runs out; what isn't taken changes nothing.
+-- An item is accepted if and only if it has no fault, unless memory runs out. A refused item changes nothing.
 abbrev pub IsFeeding : Fed → Item → Result (Unit {0}) FeedFault → Fed → Type 0
 IsFeeding old i (Ok done) new = (fault_of old i ≡ None) × (new ≡ with_item i old)
 IsFeeding old i (Err fault.Memory) new = new ≡ old

@@ -2,5 +2,5 @@ pub mod Checked
 pub mod Checking
 pub mod Reduced
 pub mod Suffices
-pub mod Walked
+pub mod StoredTrace
 pub mod Watched

@@ -1,4 +1,4 @@
-//! The checker.
+//! The checker of atomicity, which is fed one item at a time.
 
 ghost use Rattle.std.specs.Prelude.{◌≡◌, ℕ, true, List, [], length, map, IfOk, MatchOption};
 ghost use Rattle.velodrome.specs.Conflicts.{thread_of};
@@ -14,11 +14,11 @@ ghost use Rattle.atom_graph.specs.Checking.{IsFeeding, walk_of};
 use crate::copies::copied_method;
 use crate::counts::Counts;
 use crate::fault::FeedFault;
-use crate::walked::Walked;
+use crate::walked::StoredTrace;
 use crate::watch::Watch;
 use atom_spec::Spec;
-use held::items::Items;
-use held::shared::Shared;
+use shared_data::items::Items;
+use shared_data::shared::Shared;
 use jvms_machine::machine::ThreadId;
 use jvms_machine::trace::Item;
 use jvms_program::key::MethodKey;
@@ -26,20 +26,20 @@ use std::alloc::{AllocError, Global};
 use std::marker::Model;
 use velodrome::verdict::Verdict;
 
-/// How many events are taken at most.
+/// The maximum number of events.
 const MOST_EVENTS: usize = 100_000_000;
 
-/// A checker of atomicity. Contracts see the specification's lines and the items that it was fed.
+/// A checker of atomicity. Contracts see the lines of the specification and the items that it was fed.
 #[derive(Drop)]
 pub struct Checker {
-    walked: Walked,
+    walked: StoredTrace,
     watch: Watch,
 }
 
 impl Model for Checker {
     ghost use Rattle.atom_graph.specs.Checked.{IsChecker};
     ghost use Rattle.atom_graph.specs.Checking.{Fed};
-    ghost use Rattle.atom_graph.specs.Walked.{fed_of};
+    ghost use Rattle.atom_graph.specs.StoredTrace.{fed_of};
 
     ghost Value = { Fed };
 
@@ -49,21 +49,21 @@ impl Model for Checker {
 }
 
 impl Checker {
-    /// A checker of traces under a specification.
+    /// Returns a checker of traces under a specification.
     pub fn new(alloc: Global, spec: Spec) -> Result<Self, AllocError>
         ensures { IfOk result (λ c. c ≡ record { lines = spec; items = [] }) }
     {
         let watch = Watch::new(alloc)?;
-        let walked = Walked::new(alloc, spec);
+        let walked = StoredTrace::new(alloc, spec);
         Ok(Checker { walked, watch })
     }
 
-    /// Takes an item behind those before. Where it is not taken nothing changes.
+    /// Feeds the next item. If it is refused nothing changes.
     ///
     /// # Errors
     ///
-    /// F01 where it is the exit of another method than its thread's innermost open one, F02 where it is an event past
-    /// 100,000,000, and F03 where there was no memory.
+    /// F01 if it is an exit of a method other than its thread's innermost open one. F02 if it is an event past
+    /// 100,000,000. F03 if memory ran out.
     pub fn feed(&mut self, item: &Item) -> Result<(), FeedFault>
         ensures { IsFeeding self.old item.now result self.new }
     {
@@ -79,7 +79,7 @@ impl Checker {
         }
     }
 
-    /// Takes the entry of a method.
+    /// Feeds the entry of a method.
     fn enter(&mut self, thread: ThreadId, method: &MethodKey, item: &Item) -> Result<(), FeedFault>
         requires { item.now ≡ Enter thread method.now }
         ensures { IsFeeding self.old item.now result self.new }
@@ -90,7 +90,7 @@ impl Checker {
         Ok(())
     }
 
-    /// Takes the exit of a method.
+    /// Feeds the exit of a method.
     fn exit(&mut self, thread: ThreadId, method: &MethodKey, item: &Item) -> Result<(), FeedFault>
         requires { item.now ≡ Exit thread method.now }
         ensures { IsFeeding self.old item.now result self.new }
@@ -105,7 +105,7 @@ impl Checker {
         Ok(())
     }
 
-    /// Takes an event.
+    /// Feeds an event.
     fn event(&mut self, thread: ThreadId, item: &Item) -> Result<(), FeedFault>
         requires thread { thread_of item.now ≡ thread }
         requires event { is_event item.now ≡ true }
@@ -125,7 +125,7 @@ impl Checker {
         Ok(())
     }
 
-    /// How many events and transactions the items are.
+    /// Returns the number of events and of transactions so far.
     pub fn counts(&self) -> Counts
         ensures events { result.events ≡ length (walk_of self.now).events }
         ensures transactions { result.transactions ≡ (walk_of self.now).transactions }
@@ -150,21 +150,21 @@ impl Checker {
         self.walked.transactions.as_slice()
     }
 
-    /// Returns whether the specification calls a method atomic.
+    /// Decides whether the specification calls a method atomic.
     pub fn is_atomic(&self, method: &MethodKey) -> bool
         ensures { result ≡ atomic_by self.now.lines method.now }
     {
         self.walked.courses.is_atomic(method)
     }
 
-    /// How many transactions open ones reach, while no cycle was found.
+    /// Returns the number of transactions that open ones reach, as long as there is no cycle.
     pub fn live(&self) -> u64
         ensures { AreAtomic (walk_of self.now).events → AreReached (walk_of self.now) result }
     {
         self.watch.reduced.graph.live().len() as u64
     }
 
-    /// Whether the trace is atomic, with an order of its transactions, or else its first cycle.
+    /// Returns the verdict: an order of the transactions if the trace is atomic, else its first cycle.
     pub fn verdict(&self) -> Result<Verdict, AllocError>
         ensures { IfOk result (IsVerdict (walk_of self.now)) }
     {
@@ -176,7 +176,7 @@ impl Checker {
         }
     }
 
-    /// The events in a serial order, if there is one.
+    /// Returns the events in a serial order, or `None` if there is a cycle.
     pub fn serial(&self) -> Result<Option<Vec<u64>>, AllocError>
         ensures { IfOk result (λ o. MatchOption o (((ts : List ℕ) × IsCycle (walk_of self.now).events ts) × ((numbers : List ℕ) → IsRearrangement (walk_of self.now).events numbers → ⊥))
             (λ v. AreAtomic (walk_of self.now).events × IsSerial (walk_of self.now).events v.items)) }

@@ -1,4 +1,4 @@
-//! Copies of items, which have the units of their names in common.
+//! Clones of items. They share the texts of names.
 
 ghost use Rattle.std.specs.Prelude.{◌≡◌, IfOk};
 
@@ -6,7 +6,7 @@ use jvms_machine::trace::{Item, Variable};
 use jvms_program::key::{FieldKey, MethodKey};
 use std::alloc::AllocError;
 
-/// A copy of a field's key.
+/// Clones a field's key.
 fn copied_field(field: &FieldKey) -> Result<FieldKey, AllocError>
     ensures { IfOk result (λ k. k ≡ field.now) }
 {
@@ -17,7 +17,7 @@ fn copied_field(field: &FieldKey) -> Result<FieldKey, AllocError>
     })
 }
 
-/// A copy of a method's key.
+/// Clones a method's key.
 pub(crate) fn copied_method(method: &MethodKey) -> Result<MethodKey, AllocError>
     ensures { IfOk result (λ k. k ≡ method.now) }
 {
@@ -28,7 +28,7 @@ pub(crate) fn copied_method(method: &MethodKey) -> Result<MethodKey, AllocError>
     })
 }
 
-/// A copy of a variable.
+/// Clones a variable.
 fn copied_variable(variable: &Variable) -> Result<Variable, AllocError>
     ensures { IfOk result (λ v. v ≡ variable.now) }
 {
@@ -47,7 +47,7 @@ fn copied_variable(variable: &Variable) -> Result<Variable, AllocError>
     }
 }
 
-/// A copy of an item.
+/// Clones an item.
 pub(crate) fn copied_item(item: &Item) -> Result<Item, AllocError>
     ensures { IfOk result (λ i. i ≡ item.now) }
 {

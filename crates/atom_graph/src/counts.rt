@@ -1,6 +1,6 @@
-//! How much was fed.
+//! Counts of what was fed.
 
-/// How many events and transactions a trace has. A transaction is counted from its first event on.
+/// The number of events and of transactions of a trace. A transaction counts from its first event on.
 #[derive(Clone, Copy, Debug, PartialEq, Eq)]
 pub struct Counts {
     pub events: u64,

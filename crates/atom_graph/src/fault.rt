@@ -1,4 +1,4 @@
-//! Why an item isn't taken.
+//! The reasons why an item is refused.
 
 ghost use Rattle.std.specs.Prelude.{◌≡◌};
 ghost use Rattle.atom_graph.specs.declared.fault.FeedFault.TheVariants as fault;
@@ -6,16 +6,16 @@ ghost use Rattle.atom_graph.specs.declared.fault.FeedFault.TheVariants as fault;
 use std::alloc::AllocError;
 use thiserror::Error;
 
-/// Why an item isn't taken.
+/// A reason why an item is refused.
 #[derive(Clone, Copy, Debug, PartialEq, Eq, Error)]
 pub enum FeedFault {
-    /// F01: an exit of another method than its thread's innermost open one.
+    /// F01: the item is an exit of a method other than its thread's innermost open one.
     #[error("F01 Unmatched")]
     Unmatched,
-    /// F02: an event past 100,000,000.
+    /// F02: the item is an event past 100,000,000.
     #[error("F02 TooMany")]
     TooMany,
-    /// F03: there was no memory.
+    /// F03: memory ran out.
     #[error("F03 Memory")]
     Memory,
 }

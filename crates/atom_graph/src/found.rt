@@ -1,4 +1,4 @@
-//! A cycle as it was first there.
+//! The first cycle of a trace.
 
 ghost use Rattle.std.specs.Prelude.{◌≡◌, ◌∷◌, [], IfOk, map, reverse};
 ghost use Rattle.atom_order.specs.declared.link.Link.{Link};
@@ -6,11 +6,11 @@ ghost use Rattle.atom_order.specs.Trails.{transactions_along, pairs_along};
 ghost use Rattle.atom_graph.specs.Reduced.{IsFoundBy, IsShown};
 
 use atom_order::{Closing, Link};
-use held::items::Items;
+use shared_data::items::Items;
 use std::alloc::{AllocError, Global};
 use velodrome::verdict::{ConflictingPair, Verdict};
 
-/// The transactions of a cycle and a pair of events from each to the next, and the event that closed it.
+/// The event that closed a cycle, the transactions of the cycle, and a pair of events from each to the next.
 #[derive(Debug, Drop)]
 pub(crate) struct Found {
     pub first_at: u64,
@@ -18,21 +18,21 @@ pub(crate) struct Found {
     pub pairs: Items<ConflictingPair>,
 }
 
-/// The transactions that links lead from, the last link's first.
+/// Returns the transactions that links lead from, the last link's first.
 fn sources(alloc: Global, trail: &[Link]) -> Result<Vec<u64>, AllocError>
     ensures { IfOk result (λ v. v.items ≡ map (λ (l : Link). l.from) (reverse trail.now)) }
 {
     trail.iter().rev().map(|link| link.from).collect(alloc)
 }
 
-/// The pairs of links, the last link's first.
+/// Returns the pairs of links, the last link's first.
 fn pairs(alloc: Global, trail: &[Link]) -> Result<Vec<ConflictingPair>, AllocError>
     ensures { IfOk result (λ v. v.items ≡ map (λ (l : Link). l.pair) (reverse trail.now)) }
 {
     trail.iter().rev().map(|link| link.pair).collect(alloc)
 }
 
-/// The transactions that links lead from, the last link's first, and behind them one more.
+/// Returns the transactions that links lead from, the last link's first, followed by one more.
 fn transactions_of(alloc: Global, trail: &[Link], last: u64) -> Result<Vec<u64>, AllocError>
     ensures { IfOk result (λ v. v.items ≡ transactions_along (last ∷ []) trail.now) }
 {
@@ -41,7 +41,7 @@ fn transactions_of(alloc: Global, trail: &[Link], last: u64) -> Result<Vec<u64>,
     Ok(transactions)
 }
 
-/// The pairs of links, the last link's first, and behind them one more.
+/// Returns the pairs of links, the last link's first, followed by one more.
 fn pairs_of(
     alloc: Global,
     trail: &[Link],
@@ -55,7 +55,7 @@ fn pairs_of(
 }
 
 impl Found {
-    /// The cycle that a link of an event closes.
+    /// Returns the cycle that a link of event `number` closes.
     pub(crate) fn by(alloc: Global, number: u64, closing: &Closing) -> Result<Self, AllocError>
         ensures { IfOk result (λ f. IsFoundBy number closing.now f) }
     {
@@ -67,7 +67,7 @@ impl Found {
         })
     }
 
-    /// What it says of the trace.
+    /// Returns the verdict that shows the cycle.
     pub(crate) fn verdict(&self, alloc: Global) -> Result<Verdict, AllocError>
         ensures { IfOk result (IsShown self.now) }
     {

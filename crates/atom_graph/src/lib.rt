@@ -1,5 +1,5 @@
-//! The checker of atomicity: whether the transactions of a trace have a cycle, told with the first event that closes one
-//! (Velodrome, PLDI 2008).
+//! The checker of atomicity. It decides whether the transactions of a trace have a cycle, and finds the first event
+//! that closes one (Velodrome, PLDI 2008).
 #![tactic(auto)]
 
 mod checker;

@@ -1,4 +1,4 @@
-//! The graph of live transactions, and the accesses that its links come from.
+//! The graph of live transactions, with the accesses that its links come from.
 
 ghost use Rattle.std.specs.Prelude.{◌≡◌, ◌++◌, [], IfOk, OnOk, OnErr, MatchOption};
 ghost use Rattle.atom_order.specs.Shapes.{ClosesCycle, no_transactions};
@@ -12,7 +12,7 @@ use atom_order::{Closing, Graph, Link};
 use jvms_machine::trace::Item;
 use std::alloc::{AllocError, Global};
 
-/// The graph of live transactions, and what is remembered of the trace.
+/// The graph of live transactions, and the remembered accesses of the trace.
 #[derive(Drop)]
 pub(crate) struct Reduced {
     pub graph: Graph,
@@ -20,7 +20,7 @@ pub(crate) struct Reduced {
 }
 
 impl Reduced {
-    /// Nothing has happened.
+    /// Returns the state before any event.
     pub(crate) fn new(alloc: Global) -> Result<Self, AllocError>
         ensures { IfOk result (λ r. (r.graph ≡ no_transactions) × (kept_of r.accesses ≡ [])) }
     {
@@ -30,8 +30,8 @@ impl Reduced {
         })
     }
 
-    /// An event happens in a transaction, unless one of its links closes a cycle. Where it does, or without memory,
-    /// nothing changes.
+    /// Adds an event in a transaction. If one of its links closes a cycle, returns that cycle. In that case, and
+    /// without memory, nothing changes.
     pub(crate) fn event(
         &mut self,
         alloc: Global,
@@ -56,7 +56,7 @@ impl Reduced {
         }
     }
 
-    /// A transaction is over, or none is.
+    /// Closes a transaction that ended, if there is one.
     pub(crate) fn leave(&mut self, over: Option<u64>) -> Result<(), AllocError>
         requires { MayClose over self.old.graph }
         ensures ok { OnOk result (IsOverIn over self.old self.new) }
@@ -68,7 +68,7 @@ impl Reduced {
         }
     }
 
-    /// All transactions, each once, with no edge from a later to an earlier one.
+    /// Returns all transactions, each once, with no edge from a later to an earlier one.
     pub(crate) fn order(&self, alloc: Global) -> Result<Vec<u64>, AllocError>
         ensures { IfOk result (λ v. v.items ≡ self.now.graph.dropped ++ self.now.graph.live) }
     {
@@ -78,8 +78,8 @@ impl Reduced {
     }
 }
 
-/// The graph grows by the links of an event, and by its transaction where it is the first one. Where a link closes a
-/// cycle, or without memory, nothing changes.
+/// Adds the links of an event to the graph, and its transaction if the event is the first. If a link closes a cycle,
+/// returns it. In that case, and without memory, nothing changes.
 fn grow(
     graph: &mut Graph,
     transaction: u64,
@@ -96,6 +96,6 @@ fn grow(
             graph.begin(is_open, links)?;
             Ok(None)
         }
-        Stay::GoesOn => graph.link(transaction, links.as_slice()),
+        Stay::KeepsGoing => graph.link(transaction, links.as_slice()),
     }
 }

@@ -1,44 +1,43 @@
-//! Items that were taken before. A trace repeats the same few again and again: an item that is remembered gets one owner
-//! more, and takes no memory of its own.
+//! A direct-mapped cache of fed items. A trace repeats the same few items, and equal items share one allocation.
 
 ghost use Rattle.std.specs.Prelude.{◌≡◌, IfOk, IfSome, IsTrue};
 
 use crate::copies::copied_item;
-use accesses::sum_of_item;
-use held::shared::Shared;
+use accesses::hash_of_item;
+use shared_data::shared::Shared;
 use jvms_machine::trace::Item;
 use std::alloc::{AllocError, Global};
 
-/// How many items are remembered at first.
+/// The initial number of slots.
 const FEWEST: usize = 64;
 
-/// How many are remembered at most.
+/// The maximum number of slots.
 const MOST: usize = 65_536;
 
-/// A few of the items that were taken: for each remainder of a sum the last one with it.
+/// The cached items: for each remainder of a hash the last item with it.
 #[derive(Drop)]
-pub(crate) struct Repeats {
+pub(crate) struct ItemCache {
     taken: Vec<Option<Shared<Item>>>,
-    /// How many items weren't remembered since there is room for so many.
+    /// The number of misses since the cache last grew.
     missed: usize,
     alloc: Global,
 }
 
-impl Repeats {
-    /// None was taken. Takes no memory.
+impl ItemCache {
+    /// Returns an empty cache. It takes no memory.
     pub(crate) fn new(alloc: Global) -> Self {
-        Repeats {
+        ItemCache {
             taken: Vec::new(alloc),
             missed: 0,
             alloc,
         }
     }
 
-    /// An item once more: with one owner more, if it is remembered, and else a copy.
+    /// Returns a shared item equal to this one: the cached one, or else a new clone.
     pub(crate) fn once_more(&mut self, item: &Item) -> Result<Shared<Item>, AllocError>
         ensures { IfOk result (λ i. i ≡ item.now) }
     {
-        let sum = sum_of_item(item);
+        let sum = hash_of_item(item);
         if let Some(taken) = self.taken_in(self.slot_of(sum), item)? {
             return Ok(taken);
         }
@@ -47,12 +46,12 @@ impl Repeats {
         Ok(taken)
     }
 
-    /// Where an item with a sum is remembered.
+    /// Returns the slot of a hash.
     fn slot_of(&self, sum: u32) -> usize {
         sum as usize & self.taken.len().wrapping_sub(1)
     }
 
-    /// The item in a slot, if it is this one.
+    /// Returns the item in a slot, if it equals this one.
     fn taken_in(&self, slot: usize, item: &Item) -> Result<Option<Shared<Item>>, AllocError>
         ensures { IfOk result (λ o. IfSome o (λ i. i ≡ item.now)) }
     {
@@ -62,7 +61,7 @@ impl Repeats {
         }
     }
 
-    /// Remembers an item that wasn't. Where many weren't, there is room for twice as many.
+    /// Stores an item that missed. The cache grows if it missed as often as it has slots.
     fn keep(&mut self, sum: u32, item: &Shared<Item>) -> Result<(), AllocError> {
         if self.missed >= self.taken.len() {
             self.grow()?;
@@ -75,7 +74,7 @@ impl Repeats {
         Ok(())
     }
 
-    /// Makes room for twice as many, unless there is room for the most.
+    /// Doubles the number of slots, up to the maximum.
     fn grow(&mut self) -> Result<(), AllocError> {
         let count = self.taken.len();
         if count < MOST {
@@ -88,7 +87,7 @@ impl Repeats {
     }
 }
 
-/// One owner more of an item that was taken, if it is the same as another.
+/// Shares a cached item, if it equals another one.
 fn same_one(taken: &Shared<Item>, item: &Item) -> Result<Option<Shared<Item>>, AllocError>
     ensures { IfOk result (λ o. IfSome o (λ i. i ≡ item.now)) }
 {
@@ -99,7 +98,7 @@ fn same_one(taken: &Shared<Item>, item: &Item) -> Result<Option<Shared<Item>>, A
     }
 }
 
-/// Whether two items are the same.
+/// Decides whether two items are equal.
 fn is_same(item: &Item, other: &Item) -> bool
     ensures { IsTrue result → item.now ≡ other.now }
 {

@@ -1,10 +1,10 @@
-//! The transaction of a thread's next event.
+//! How an event relates to its transaction.
 
-/// Whether an event is the first of its transaction.
+/// The position of an event in its transaction: the first event, or a later one.
 #[derive(Clone, Copy, Debug)]
 pub(crate) enum Stay {
-    /// It is, and the transaction goes on behind it or not.
+    /// The event is the first of its transaction, which stays open after it or not.
     Begins { is_open: bool },
-    /// The transaction goes on with it.
-    GoesOn,
+    /// The event continues an open transaction.
+    KeepsGoing,
 }

@@ -1,32 +1,32 @@
-//! What a trace has come to.
+//! The state of a trace, as the checker stores it.
 
 ghost use Rattle.std.specs.Prelude.{◌≡◌, ◌<◌, ◌^◌, [], drop, IfOk, if◌then◌else◌, Some, None};
-ghost use Rattle.velodrome.specs.Transactions.{begun_after, has_atomic, next_transaction};
-ghost use Rattle.courses.specs.Courses.{course_in};
-ghost use Rattle.atom_graph.specs.Walked.{HasRoomFor, IsEntered, IsExited, IsHappened, IsSame, over_by, stay_of};
+ghost use Rattle.velodrome.specs.Transactions.{transactions_after, has_atomic, next_transaction};
+ghost use Rattle.thread_states.specs.ThreadStates.{thread_state_in};
+ghost use Rattle.atom_graph.specs.StoredTrace.{HasRoomFor, IsEntered, IsExited, IsHappened, IsSame, ending_transaction, stay_of};
 
-use crate::repeats::Repeats;
+use crate::repeats::ItemCache;
 use crate::stay::Stay;
 use atom_spec::Spec;
-use courses::Courses;
-use held::shared::Shared;
+use thread_states::ThreadStates;
+use shared_data::shared::Shared;
 use jvms_machine::machine::ThreadId;
 use jvms_machine::trace::Item;
 use jvms_program::key::MethodKey;
 use std::alloc::{AllocError, Global};
 
-/// Each thread's open methods and transaction, the items, the transaction of each event, and how many have begun.
+/// The state of each thread, the items, the transaction of each event, and the number of transactions that have begun.
 #[derive(Drop)]
-pub(crate) struct Walked {
-    pub courses: Courses,
+pub(crate) struct StoredTrace {
+    pub courses: ThreadStates,
     pub items: Vec<Shared<Item>>,
-    pub repeats: Repeats,
+    pub repeats: ItemCache,
     pub transactions: Vec<u64>,
     pub begun: u64,
 }
 
-impl Walked {
-    /// Nothing has happened.
+impl StoredTrace {
+    /// Returns the state of an empty trace.
     pub(crate) fn new(alloc: Global, spec: Spec) -> Self
         ensures lines { result.courses.lines ≡ spec }
         ensures table { result.courses.table ≡ [] }
@@ -34,16 +34,16 @@ impl Walked {
         ensures transactions { result.transactions.items ≡ [] }
         ensures begun { result.begun ≡ 0 }
     {
-        Walked {
-            courses: Courses::new(alloc, spec),
+        StoredTrace {
+            courses: ThreadStates::new(alloc, spec),
             items: Vec::new(alloc),
-            repeats: Repeats::new(alloc),
+            repeats: ItemCache::new(alloc),
             transactions: Vec::new(alloc),
             begun: 0,
         }
     }
 
-    /// Takes the memory that an item of a thread needs, and the item once more.
+    /// Reserves the memory that an item of a thread needs, and returns a shared item equal to it.
     pub(crate) fn prepare(
         &mut self,
         thread: ThreadId,
@@ -58,7 +58,7 @@ impl Walked {
         self.repeats.once_more(item)
     }
 
-    /// The transaction of the next event of a thread that is in this one, or in none.
+    /// Returns the transaction of the next event of a thread that is in transaction `current`, if in any.
     pub(crate) fn next(&self, current: Option<u64>) -> u64
         requires { self.now.begun < 2 ^ 63 }
         ensures { result ≡ next_transaction current self.now.begun }
@@ -69,10 +69,11 @@ impl Walked {
         }
     }
 
-    /// How many transactions have begun behind the next event of a thread that is in this one, or in none.
+    /// Returns how many transactions have begun after the next event of a thread that is in transaction `current`, if
+    /// in any.
     fn begun_behind(&self, current: Option<u64>) -> u64
         requires { self.now.begun < 2 ^ 63 }
-        ensures { result ≡ begun_after current self.now.begun }
+        ensures { result ≡ transactions_after current self.now.begun }
     {
         match current {
             Some(_) => self.begun,
@@ -80,21 +81,21 @@ impl Walked {
         }
     }
 
-    /// Whether the next event of a thread that is in this transaction, or in none, is the first of its own.
+    /// Decides whether the next event of a thread begins a transaction or continues `current`.
     pub(crate) fn stay(&self, thread: ThreadId, current: Option<u64>) -> Stay
-        ensures { result ≡ stay_of current (has_atomic self.now.courses.lines (course_in self.now.courses.table thread).methods) }
+        ensures { result ≡ stay_of current (has_atomic self.now.courses.lines (thread_state_in self.now.courses.table thread).methods) }
     {
         match current {
-            Some(_) => Stay::GoesOn,
+            Some(_) => Stay::KeepsGoing,
             None => Stay::Begins {
                 is_open: self.courses.is_in_atomic(thread),
             },
         }
     }
 
-    /// The transaction that is over with a thread's next exit.
+    /// Returns the transaction that ends with a thread's next exit.
     pub(crate) fn over(&self, thread: ThreadId) -> Option<u64>
-        ensures { result ≡ over_by self.now.courses.lines (course_in self.now.courses.table thread) }
+        ensures { result ≡ ending_transaction self.now.courses.lines (thread_state_in self.now.courses.table thread) }
     {
         if self.courses.stays_in_atomic(thread) {
             return None;
@@ -102,7 +103,7 @@ impl Walked {
         self.courses.transaction(thread)
     }
 
-    /// An event happened in a transaction; the thread was in its current one, or in none.
+    /// Records an event in a transaction. `current` is the transaction that the thread was in, if in any.
     pub(crate) fn happened(
         &mut self,
         thread: ThreadId,
@@ -112,7 +113,7 @@ impl Walked {
     )
         requires room { HasRoomFor thread self.old }
         requires begun { self.old.begun < 2 ^ 63 }
-        requires current { current ≡ (course_in self.old.courses.table thread).transaction }
+        requires current { current ≡ (thread_state_in self.old.courses.table thread).transaction }
         ensures { IsHappened thread transaction item self.old self.new }
     {
         self.begun = self.begun_behind(current);
@@ -121,7 +122,7 @@ impl Walked {
         self.items.push_reserved(item);
     }
 
-    /// A thread entered a method.
+    /// Records that a thread entered a method.
     pub(crate) fn entered(&mut self, thread: ThreadId, method: MethodKey, item: Shared<Item>)
         requires { HasRoomFor thread self.old }
         ensures { IsEntered thread method item self.old self.new }
@@ -130,7 +131,7 @@ impl Walked {
         self.items.push_reserved(item);
     }
 
-    /// A thread left its innermost method.
+    /// Records that a thread left its innermost method.
     pub(crate) fn exited(&mut self, thread: ThreadId, item: Shared<Item>)
         requires { HasRoomFor thread self.old }
         ensures { IsExited thread item self.old self.new }

@@ -1,4 +1,4 @@
-//! The watch for a cycle.
+//! The search for a cycle.
 
 ghost use Rattle.std.specs.Prelude.{◌≡◌, [], None, IfOk, OnOk, OnErr};
 ghost use Rattle.atom_order.specs.Shapes.{no_transactions};
@@ -21,7 +21,7 @@ pub(crate) struct Watch {
 }
 
 impl Watch {
-    /// Nothing has happened.
+    /// Returns the state before any event.
     pub(crate) fn new(alloc: Global) -> Result<Self, AllocError>
         ensures { IfOk result (λ v. (v.reduced.graph ≡ no_transactions) × (kept_of v.reduced.accesses ≡ []) × (v.found ≡ None)) }
     {
@@ -32,7 +32,7 @@ impl Watch {
         })
     }
 
-    /// An event happens in a transaction. Without memory nothing changes.
+    /// Adds an event in a transaction, unless a cycle was found before. Without memory nothing changes.
     pub(crate) fn event(
         &mut self,
         number: u64,
@@ -52,7 +52,7 @@ impl Watch {
         Ok(())
     }
 
-    /// A transaction is over, or none is. Without memory nothing changes.
+    /// Closes a transaction that ended, unless a cycle was found before. Without memory nothing changes.
     pub(crate) fn leave(&mut self, over: Option<u64>) -> Result<(), AllocError>
         requires { self.old.found ≡ None → MayClose over self.old.reduced.graph }
         ensures ok { OnOk result (IsLeft over self.old self.new) }

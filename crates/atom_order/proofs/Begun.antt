@@ -1,4 +1,4 @@
--- What is kept as a transaction begins with its first event.
+-- What is kept after a transaction begins with its first event.
 use Rattle.std.proofs.Common.{◌≡◌, ◌≢◌, ℕ, ◌+◌, Bool, true, false, not, cond, ◌==◌, ◌&&◌, ◌||◌, ◌⊎◌, inl, inr, List, [], ◌∷◌, ◌++◌, length, get_or, refl, sym, ap, subst, ◌∙◌, arith}
 use Rattle.std.proofs.lemmas.Bool.{cases_Bool, cases_eq, cases_lt, ne_eqb, eqb-false, and_parts, and_from, false≢true, not-true}
 use Rattle.std.proofs.lemmas.List.{get_or_append_left, get_or_push, get_or_past, length_push, append-nil}
@@ -8,7 +8,7 @@ use Rattle.velodrome.specs.Cycles.{IsIn}
 use Rattle.velodrome.specs.Transactions.{Event}
 use Rattle.velodrome.specs.Verdicts.{ArePairNumbers}
 use Rattle.atom_order.specs.declared.link.Link.{Link}
-use Rattle.atom_order.specs.Keeping.{Order, IsKept, Leads, IsHeld, IsReach, IsLeft, with_new, with_links, with_drop}
+use Rattle.atom_order.specs.Keeping.{Order, IsKept, Leads, IsKeptLive, IsReach, IsLeft, with_new, with_links, with_drop}
 use Rattle.atom_order.specs.Reaching.{is_among, LeadForward}
 use Rattle.atom_order.specs.Shapes.{Shape, order_of, open_in, into_in, begun, live_links, is_empty, IsUsable}
 use Rattle.atom_order.proofs.Members.{in_left, in_right, in_cases, in_filter, filter_in, among_from_in, in_from_among}
@@ -18,7 +18,7 @@ use Rattle.atom_order.proofs.Reached.{live_apart}
 use Rattle.atom_order.proofs.Regions.{filter_append, filter_all, filter_none, all_closed, all_apart, all_sides, all_left}
 use Rattle.atom_order.proofs.Same.{kept_alike, usable_of_kept}
 
--- ---- Of links, those from live transactions but one
+-- ---- The links from live transactions other than one
 
 pub live_link_is : (t : ℕ) (live : List ℕ) (links : List Link) (l : Link) → IsIn l (live_links t live links) → IsIn l links × IsIn l.from live × (l.from ≢ t)
 live_link_is t live links l h =
@@ -31,7 +31,7 @@ in_live_links t live links l h stands other =
     in_filter (λ (k : Link). is_among k.from live && not (k.from == t)) l links
     (and_from (is_among l.from live) (not (l.from == t)) (among_from_in l.from live stands) (ap not (ne_eqb l.from t other))) h
 
--- ---- One slot more
+-- ---- One more slot
 
 pub get_or_more : {X : Type 0} (xs : List X) (x d : X) (y : ℕ) → get_or (xs ++ x ∷ []) y d ≡ cond (y == length xs) x (get_or xs y d)
 get_or_more {X} xs x d y = elim (cases_eq y (length xs)) [
@@ -45,7 +45,7 @@ get_or_more {X} xs x d y = elim (cases_eq y (length xs)) [
   ]
 ]
 
--- What is open in what has begun, where each transaction has a slot.
+-- Which transactions are open after one begins, if each has a slot.
 pub begun_open : (is_open : Bool) (links : List Link) (s : Shape) → length s.is_open ≡ length s.into → (y : ℕ)
     → open_in (begun is_open links s) y ≡ cond (y == length s.into) is_open (open_in s y)
 begun_open is_open links s fits y = get_or_more s.is_open is_open false y ∙ ap (λ m. cond (y == m) is_open (get_or s.is_open y false)) fits
@@ -59,7 +59,7 @@ begun_slots is_open links s n long = length_push s.into links ∙ (let e = long 
 pub begun_fits : (is_open : Bool) (links : List Link) (s : Shape) → length s.is_open ≡ length s.into → length (begun is_open links s).is_open ≡ length (begun is_open links s).into
 begun_fits is_open links s fits = length_push s.is_open is_open ∙ ap (λ m. m + 1) fits ∙ sym (length_push s.into links)
 
--- What was live is, and nothing else is but the new one.
+-- Live transactions stay live, and only the new one may be added.
 pub begun_live : (is_open : Bool) (links : List Link) (s : Shape) (y : ℕ) → IsIn y s.live → IsIn y (begun is_open links s).live
 begun_live is_open links s y h = by (is_open || not (is_empty links))
   where
@@ -86,7 +86,7 @@ new_is_live false [] s (inl is) = absurd (false≢true is)
 new_is_live false [] s (inr link) = absurd link.1
 new_is_live false (l ∷ links) s h = in_right (length s.into) s.live (length s.into ∷ []) (inl refl)
 
--- ---- What is kept
+-- ---- What the graph keeps
 
 module _ (events : List Event) (n : ℕ) (s : Shape) (f : Event) (links : List Link) (k : IsKept events n (order_of s))
     (fits : length s.is_open ≡ length s.into) (long : length s.into ≡ n + 1) (newest : f.transaction ≡ n + 1) (numbered : f.number ≡ length events + 1)
@@ -106,7 +106,7 @@ module _ (events : List Event) (n : ℕ) (s : Shape) (f : Event) (links : List L
   abbrev new : Order
   new = with_new t (order_of s)
 
-  -- The new one is open and behind the others, with its links.
+  -- The new transaction is open and last, with its links.
   abbrev with_event : Order
   with_event = record {
     dropped = s.dropped;
@@ -192,7 +192,7 @@ module _ (events : List Event) (n : ℕ) (s : Shape) (f : Event) (links : List L
       })
       kept_event
 
-  -- ---- It is closed, and a link holds it
+  -- ---- It is closed, and a link keeps it live
 
   closed_at_once : (y : ℕ) → cond (y == t) false (open_in s y) ≡ cond (y == t) false (cond (y == t) true (open_in s y))
   closed_at_once y = by (y == t) (open_in s y)
@@ -225,7 +225,7 @@ module _ (events : List Event) (n : ℕ) (s : Shape) (f : Event) (links : List L
       })
       (drops now (n + 1) with_event t (λ x. is_among x all) kept_event (held_left l h))
 
-  -- ---- It is closed, and nothing holds it
+  -- ---- It is closed, and nothing keeps it live
 
   abbrev begun_dropped : Order
   begun_dropped = record {
@@ -252,7 +252,7 @@ module _ (events : List Event) (n : ℕ) (s : Shape) (f : Event) (links : List L
       opens y (inr apart) is =
           sym (passed_by y f.transaction true (open_in s y) apart) ∙ sym (passed_by y f.transaction false (cond (y == f.transaction) true (open_in s y)) apart) ∙ is
 
-      held : (y : ℕ) → IsIn y s.live → IsHeld s.live (open_in s) (into_in s) y
+      held : (y : ℕ) → IsIn y s.live → IsKeptLive s.live (open_in s) (into_in s) y
           → (cond (y == f.transaction) false (cond (y == f.transaction) true (open_in s y)) ≡ true)
           ⊎ ((l : Link) × IsIn l (cond (y == f.transaction) links (into_in s y)) × IsIn l.from (s.live ++ f.transaction ∷ []) × (is_among l.from s.live ≡ true))
       held y h (inl is) = inl (passed_by y f.transaction false (cond (y == f.transaction) true (open_in s y)) (other y h) ∙ passed_by y f.transaction true (open_in s y) (other y h) ∙ is)
@@ -303,13 +303,13 @@ module _ (events : List Event) (n : ℕ) (s : Shape) (f : Event) (links : List L
   pub begun_usable : (is_open : Bool) → IsUsable (begun is_open links s)
   begun_usable is_open = usable_of_kept now (n + 1) (begun is_open links s) (begun_kept is_open)
 
-  -- What led before leads now.
+  -- What led before still leads.
   pub begun_leads : (is_open : Bool) (a b : ℕ) → Leads s.live (into_in s) a b → Leads (begun is_open links s).live (into_in (begun is_open links s)) a b
   begun_leads is_open a b =
       leads_more s.live (begun is_open links s).live (into_in s) (into_in (begun is_open links s)) a b (begun_live is_open links s)
       (λ y l h g. subst (IsIn l) (sym (begun_into is_open links s y ∙ passed_by y (length s.into) links (into_in s y) (λ same. other y h (same ∙ sym slot)))) g)
 
-  -- Where an earlier event is in conflict with the new one, its transaction leads to the new one's.
+  -- If an earlier event conflicts with the new one, its transaction leads to the new one's.
   pub begun_leads_now : (is_open : Bool) (e : Event) → IsIn e events → conflict e.item f.item ≡ true → IsIn e.transaction s.live
       → Leads (begun is_open links s).live (into_in (begun is_open links s)) e.transaction f.transaction
   begun_leads_now is_open e h against stands =

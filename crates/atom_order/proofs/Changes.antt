@@ -1,4 +1,4 @@
--- What closing a transaction and adding links to one come to.
+-- The effect of closing a transaction and of adding links to one.
 use Rattle.std.proofs.Common.{◌≡◌, ℕ, ◌+◌, ◌<◌, ◌≤◌, Bool, true, false, not, cond, ◌||◌, ◌&&◌, ◌==◌, ◌⊎◌, inl, inr, List, [], ◌∷◌, ◌++◌, length, take, drop, get_or, set, refl, sym, ap, subst, ◌∙◌, arith}
 use Rattle.std.proofs.lemmas.Bool.{both_ways, cases_Bool, cases_eq, cases_lt, or_cases, false≢true, true≢false, not-true, and_parts}
 use Rattle.std.proofs.lemmas.List.{take-append-drop, append-nil, get_or-set_same, get_or-set_other, get_or_past, get_or_default, length-set, length-drop}
@@ -6,7 +6,7 @@ use Rattle.std.specs.List.{filter, list_any}
 use Rattle.velodrome.specs.Cycles.{IsIn}
 use Rattle.atom_order.specs.declared.link.Link.{Link}
 use Rattle.atom_order.specs.Keeping.{sides}
-use Rattle.atom_order.specs.Reaching.{is_among, marked, unheld}
+use Rattle.atom_order.specs.Reaching.{is_among, marked, to_be_dropped}
 use Rattle.atom_order.specs.Marking.{has_key, HasMarks}
 use Rattle.atom_order.specs.Shapes.{Shape, open_in, into_in, IsUsable, IsMoved, AreParts, IsClosing, IsLinking}
 use Rattle.atom_order.proofs.Members.{among_from_in, in_from_among, filter_in}
@@ -22,7 +22,7 @@ module _ (dropped : List ℕ) (opens : List Bool) (into : List (List Link)) (t :
   old live = record { dropped = dropped; live = live; is_open = opens; into = into }
 
   abbrev gone : List ℕ → List ℕ → List ℕ
-  gone live region = unheld (λ y. cond (y == t) false (get_or opens y false)) (λ y. is_among y live) (λ y. get_or into y []) [] region
+  gone live region = to_be_dropped (λ y. cond (y == t) false (get_or opens y false)) (λ y. is_among y live) (λ y. get_or into y []) [] region
 
   abbrev Closes : List ℕ → List ℕ → List ℕ → Type 0
   Closes front live region =
@@ -65,7 +65,7 @@ module _ (dropped : List ℕ) (opens : List Bool) (into : List (List Link)) (t :
       (subst (λ l. Closes (take place live) l (t ∷ drop (place + 1) live)) (ap (λ r. take place live ++ r) (sym cut) ∙ take-append-drop place live)
       (closes_split (take place live) (drop (place + 1) live)))
 
-  -- ---- Closing one that is held itself
+  -- ---- Closing one that stays live itself
 
   abbrev Stays : List ℕ → List ℕ → Type 0
   Stays live region =
@@ -204,7 +204,7 @@ length-filter P (x ∷ xs) = by (length-filter P xs) (P x)
     by more true = omega arith
     by more false = omega arith
 
--- What closing comes to, by its parts.
+-- The effect of closing, from its two parts.
 pub closes_by_parts : (old new : Shape) (t place : ℕ) (gone left : List ℕ) → place < length old.live → get_or old.live place 0 ≡ t → IsUsable old → AreParts t place old gone left
     → new.dropped ≡ old.dropped ++ gone → new.live ≡ take place old.live ++ left
     → ((y : ℕ) → open_in new y ≡ cond (y == t) false (open_in old y))
@@ -226,7 +226,7 @@ long_by_parts s t place gone left less parts =
     let three = ap length parts.left_are in
     omega arith
 
--- ---- Links are added into a slot
+-- ---- Adding links to a slot
 
 pub added_at : (into : List (List Link)) (t : ℕ) (old new links : List Link) → t < length into → old ≡ get_or into t old → new ≡ old ++ links
     → (y : ℕ) → get_or (set into t new) y [] ≡ cond (y == t) (get_or into y [] ++ links) (get_or into y [])

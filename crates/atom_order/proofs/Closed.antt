@@ -1,4 +1,4 @@
--- What is kept as a transaction is closed.
+-- What is kept after a transaction is closed.
 use Rattle.std.proofs.Common.{◌≡◌, ℕ, true, List, sym, subst}
 use Rattle.std.specs.List.{filter}
 use Rattle.velodrome.specs.Cycles.{IsIn}
@@ -10,7 +10,7 @@ use Rattle.atom_order.proofs.Kept.{drops, leads_left, leads_more}
 use Rattle.atom_order.proofs.Same.{kept_alike, usable_of_kept}
 
 module _ (events : List Event) (n t : ℕ) (old new : Shape) (k : IsKept events n (order_of old)) (closing : IsClosing t old new) where
-  -- What stays was live.
+  -- What stays live was live.
   pub closed_was_live : (y : ℕ) → IsIn y new.live → IsIn y old.live × (closing.keeps y ≡ true)
   closed_was_live y h = filter_in closing.keeps y old.live (subst (IsIn y) closing.live h)
 
@@ -23,7 +23,7 @@ module _ (events : List Event) (n t : ℕ) (old new : Shape) (k : IsKept events 
   pub closed_usable : IsUsable new
   closed_usable = usable_of_kept events n new closed_kept
 
-  -- What led from one that stays leads still.
+  -- From a transaction that stays live, what led before still leads.
   pub closed_leads : (a b : ℕ) → IsIn a new.live → Leads old.live (into_in old) a b → Leads new.live (into_in new) a b
   closed_leads a b h leads =
       leads_more (filter closing.keeps old.live) new.live (into_in old) (into_in new) a b

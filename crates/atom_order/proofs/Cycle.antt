@@ -1,4 +1,4 @@
--- A trail back to a transaction from one that the new event is tied to closes a cycle.
+-- A trail back to a transaction from one that conflicts with the new event closes a cycle.
 use Rattle.std.proofs.Common.{◌≡◌, ◌≢◌, ℕ, zero, suc, ◌+◌, ◌<◌, ◌≤◌, inl, inr, List, [], ◌∷◌, ◌++◌, length, take, refl, sym, ap, subst, arith}
 use Rattle.std.proofs.lemmas.Bool.{ne_eqb}
 use Rattle.std.proofs.lemmas.List.{length_push, take_all, take-append-le}
@@ -34,7 +34,7 @@ module _ (events : List Event) (n : ℕ) (o : Order) (f : Event) (k : IsKept eve
   abbrev Lower : ℕ → ℕ → Type 0
   Lower x y = rank x < rank y
 
-  -- Edges lead round through these, from each to the next, with these pairs, and all but the last rise.
+  -- Edges lead round through these with these pairs, and all but the last rise in the order.
   abbrev IsGood : List ℕ → List ConflictingPair → Type 0
   IsGood ts ps = AreEdgesRound now t ts × ArePairsRound now t ts ps × Pairs Lower ts
 
@@ -49,7 +49,7 @@ module _ (events : List Event) (n : ℕ) (o : Order) (f : Event) (k : IsKept eve
         ((up, in_all (Lower x) ts (λ y h. let more = all_in (Lower b) ts y good.2.0 h in omega arith)), good.2),
       )
 
-  -- Along a trail the edges lead from the one where it ends.
+  -- The edges along a trail begin at its end.
   along : (links : List Link) (b : ℕ) (ts : List ℕ) (ps : List ConflictingPair) → IsTrail o.live o.into t b links → IsGood (b ∷ ts) ps
       → (rest : List ℕ) × (transactions_along (b ∷ ts) links ≡ t ∷ rest) × IsGood (t ∷ rest) (pairs_along ps links) × (length ts ≤ length rest)
   along [] b ts ps same good = (ts, ap (λ x. x ∷ ts) same, subst (λ x. IsGood (x ∷ ts) ps) same good, omega arith)
@@ -87,7 +87,7 @@ module _ (events : List Event) (n : ℕ) (o : Order) (f : Event) (k : IsKept eve
       before : (m : ℕ) → m < f.number → AreAtomic (take m (events ++ f ∷ []))
       before m less = atomic_within (take m (events ++ f ∷ [])) events (λ e h. taken m events e (subst (IsIn e) (take-append-le m events (f ∷ []) (omega arith)) h)) (kept_atomic events n o k)
 
--- More events don't move where a cycle is first.
+-- More events don't change where the first cycle is.
 pub first_longer : (events more : List Event) (n : ℕ) → n ≤ length events → IsFirstAt events n → IsFirstAt (events ++ more) n
 first_longer events more n fits at = (
   (at.0.0, subst (λ es. IsCycle es at.0.0) (sym (take-append-le n events more fits)) at.0.1),

@@ -1,4 +1,4 @@
--- Edges of a trace with one event more, and of a part of a trace.
+-- Edges of a trace with one more event, and of a part of a trace.
 use Rattle.std.proofs.Common.{◌≡◌, ◌≢◌, ℕ, ◌<◌, true, ◌⊎◌, inl, inr, List, [], ◌∷◌, ◌++◌, refl, sym, ap, ◌∙◌, arith}
 use Rattle.velodrome.specs.Conflicts.{conflict}
 use Rattle.velodrome.specs.Cycles.{IsIn, IsPair, IsEdge, AreEdgesRound, IsCycle, AreAtomic}
@@ -26,7 +26,7 @@ cycle_within xs ys (a ∷ ts) w c = (c.0, c.1, round_within xs ys a (a ∷ ts) w
 pub atomic_within : (xs ys : List Event) → IsWithin xs ys → AreAtomic ys → AreAtomic xs
 atomic_within xs ys w atomic ts c = atomic ts (cycle_within xs ys ts w c)
 
--- An event of a before the last one, in conflict with it.
+-- An event of a is earlier than the last one and conflicts with it.
 abbrev pub IsTied : List Event → Event → ℕ → Type 0
 IsTied events f a = (e : Event) × IsIn e events × (e.transaction ≡ a) × (conflict e.item f.item ≡ true)
 

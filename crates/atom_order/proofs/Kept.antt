@@ -1,4 +1,4 @@
--- What is kept stays right as a transaction begins, as an event is added, and as one is closed.
+-- What is kept stays right when a transaction begins, when an event is added, and when one is closed.
 use Rattle.std.proofs.Common.{◌≡◌, ◌≢◌, ℕ, suc, ◌&&◌, ◌+◌, ◌<◌, ◌≤◌, Bool, true, false, not, cond, ◌==◌, ◌⊎◌, inl, inr, List, [], ◌∷◌, ◌++◌, length, refl, sym, ap, subst, ◌∙◌, arith, length-append}
 use Rattle.std.proofs.lemmas.Bool.{eq-eqb, eqb-false, ne_eqb, both_ways, cases_eq, false≢true, not-true}
 use Rattle.std.proofs.lemmas.List.{append_assoc, length_push}
@@ -9,7 +9,7 @@ use Rattle.velodrome.specs.Orders.{AreNumbersTo, NoneLeadsBack}
 use Rattle.velodrome.specs.Transactions.{Event}
 use Rattle.velodrome.specs.Verdicts.{ArePairNumbers}
 use Rattle.atom_order.specs.declared.link.Link.{Link}
-use Rattle.atom_order.specs.Keeping.{IsClosed, Leads, sides, IsHeld, Order, IsKept, with_new, with_links, IsReach, with_drop, IsLeft}
+use Rattle.atom_order.specs.Keeping.{IsClosed, Leads, sides, IsKeptLive, Order, IsKept, with_new, with_links, IsReach, with_drop, IsLeft}
 use Rattle.atom_order.specs.Reaching.{is_among, LeadForward}
 use Rattle.atom_order.proofs.Members.{in_left, in_right, in_cases, all_in, in_all, in_filter, filter_in, in_sides, sides_in, among_from_in, in_from_among}
 use Rattle.atom_order.proofs.Pairs.{Pairs, pairs_joined, pairs_back, pairs_across, pairs_of_all, pairs_both, pairs_sides, Differ, distinct_pairs, pairs_distinct, NotBack, order_pairs, pairs_order, differ_sides}
@@ -27,7 +27,7 @@ leads_to_live live into a b h leads =
 pub leads_by_link : (live : List ℕ) (into : ℕ → List Link) (y : ℕ) (l : Link) → IsIn y live → IsIn l (into y) → Leads live into l.from y
 leads_by_link live into y l h g P closed is = closed y l h g is
 
--- More transactions and more links lead as well.
+-- With more transactions and more links everything that led still leads.
 pub leads_more : (live more : List ℕ) (into onto : ℕ → List Link) (a b : ℕ) → ((y : ℕ) → IsIn y live → IsIn y more)
     → ((y : ℕ) (l : Link) → IsIn y live → IsIn l (into y) → IsIn l (onto y)) → Leads live into a b → Leads more onto a b
 leads_more live more into onto a b grows gains leads P closed h =
@@ -50,7 +50,7 @@ forward events into (y ∷ ys) ties p = (here, forward events into ys (λ z l h 
 pub links_lead_forward : (events : List Event) (n : ℕ) (o : Order) → IsKept events n o → LeadForward o.into o.live
 links_lead_forward events n o k = forward events o.into o.live k.ties (pairs_back (NotBack events) o.dropped o.live (order_pairs events (o.dropped ++ o.live) k.ordered))
 
--- ---- Those on the two sides of a test are the same ones
+-- ---- The two sides of a test have the same members
 
 pub length_sides : (P : ℕ → Bool) (xs : List ℕ) → length (sides P xs) ≡ length xs
 length_sides P [] = refl
@@ -149,7 +149,7 @@ module _ (events : List Event) (n : ℕ) (o : Order) (k : IsKept events n o) whe
       opens y is (inl same) = in_right y o.live (t ∷ []) (inl same)
       opens y is (inr other) = grows y (k.opens y (sym (passed_by y t true (o.is_open y) other) ∙ is))
 
-      held : (y : ℕ) → IsIn y o.live ⊎ IsIn y (t ∷ []) → IsHeld (o.live ++ t ∷ []) (λ y. cond (y == t) true (o.is_open y)) (λ y. cond (y == t) [] (o.into y)) y
+      held : (y : ℕ) → IsIn y o.live ⊎ IsIn y (t ∷ []) → IsKeptLive (o.live ++ t ∷ []) (λ y. cond (y == t) true (o.is_open y)) (λ y. cond (y == t) [] (o.into y)) y
       held y (inl h) = elim (k.held y h) [
         | inl is ↦ inl (passed_by y t true (o.is_open y) (not_new y h) ∙ is)
         | inr link ↦ inr (link.0, subst (IsIn link.0) (sym (into_old y h)) link.1, grows link.0.from link.2)
@@ -212,7 +212,7 @@ module _ (events : List Event) (n : ℕ) (o : Order) (f : Event) (links : List L
   link_leads l h = leads_by_link (sides P o.live) onto u l (spreads u there)
       (subst (IsIn l) (sym (chosen u u (o.into u ++ links) (o.into u) refl)) (in_right l (o.into u) links h))
 
-  -- Where an earlier event is in conflict with the new one, its transaction leads to the new one's.
+  -- If an earlier event conflicts with the new one, its transaction leads to the new one's.
   pub leads_now : (e : Event) → IsIn e events → conflict e.item f.item ≡ true → IsIn e.transaction o.live → Leads (sides P o.live) onto e.transaction u
   leads_now e h against stands =
       let next = near e h against stands in
@@ -223,7 +223,7 @@ module _ (events : List Event) (n : ℕ) (o : Order) (f : Event) (links : List L
             (subst (λ v. Leads (sides P o.live) onto v u) link.2 (link_leads link.0 link.1))
       ]
 
-  -- A transaction that is tied to the new event isn't reached by its own.
+  -- The new event's transaction doesn't reach one that conflicts with the event.
   tied_apart : (a : ℕ) → IsIn a o.live → a ≢ u → IsTied events f a → P a ≡ true → ⊥
   tied_apart a h other tied is = elim next.2 [
     | inl same ↦ both_ways (P next.0 && not (next.0 == u)) (subst (λ v. (P v && not (v == u)) ≡ false) (sym same) none) ends
@@ -325,13 +325,13 @@ module _ (events : List Event) (n : ℕ) (o : Order) (f : Event) (links : List L
           (subst (λ v. Leads (sides P o.live) (λ y. cond (y == f.transaction) (o.into y ++ links) (o.into y)) v f.transaction) tied.2
           (leads_now tied.0 tied.1 tied.3 (subst (λ v. IsIn v o.live) (sym tied.2) h)))
 
--- ---- A transaction is closed, and what isn't reached any more is dropped
+-- ---- A transaction is closed, and what is no longer reached is dropped
 
 module _ (events : List Event) (n : ℕ) (o : Order) (c : ℕ) (P : ℕ → Bool) (k : IsKept events n o) (left : IsLeft c P o) where
   apart_now : o.dropped ++ sides P o.live ≡ (o.dropped ++ filter (λ x. not (P x)) o.live) ++ filter P o.live
   apart_now = sym (append_assoc o.dropped (filter (λ x. not (P x)) o.live) (filter P o.live))
 
-  -- What leads among all leads among those that are left.
+  -- What led among all still leads among those that are left.
   pub leads_left : (a b : ℕ) → P a ≡ true → Leads o.live o.into a b → Leads (filter P o.live) o.into a b
   leads_left a b is leads Q closed h = second (P b) (Q b) (leads (λ x. P x && Q x) whole (ap (λ v. v && Q a) is ∙ h))
     where

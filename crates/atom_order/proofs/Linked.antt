@@ -1,4 +1,4 @@
--- What is kept as an event is added to a live transaction, with links into it; or the cycle that a link closes.
+-- What is kept after an event is added to a live transaction with links into it, or the cycle that a link closes.
 use Rattle.std.proofs.Common.{◌≡◌, ◌≢◌, ℕ, ◌+◌, true, cond, ◌==◌, ◌⊎◌, List, [], ◌∷◌, ◌++◌, length, take, get_or, sym, ap, subst, Bool, false}
 use Rattle.velodrome.specs.Conflicts.{conflict}
 use Rattle.velodrome.specs.Cycles.{IsIn, IsCycle, IsFirstAt}
@@ -34,7 +34,7 @@ module _ (t : ℕ) (links : List Link) (old new : Shape) (linking : IsLinking t 
       by true = in_left l (into_in old y) links h
       by false = h
 
-  -- What led before leads now.
+  -- What led before still leads.
   pub linked_leads : (a b : ℕ) → Leads old.live (into_in old) a b → Leads new.live (into_in new) a b
   linked_leads a b = leads_more old.live new.live (into_in old) (into_in new) a b linked_live (λ y l _ h. gains y l h)
 
@@ -53,7 +53,7 @@ module _ (events : List Event) (n : ℕ) (f : Event) (links : List Link) (old ne
   pub linked_usable : IsUsable new
   linked_usable = usable_of_kept (events ++ f ∷ []) n new linked_kept
 
-  -- Where an earlier event is in conflict with the new one, its transaction leads to the new one's.
+  -- If an earlier event conflicts with the new one, its transaction leads to the new one's.
   pub linked_leads_now : (e : Event) → IsIn e events → conflict e.item f.item ≡ true → IsIn e.transaction old.live → Leads new.live (into_in new) e.transaction f.transaction
   linked_leads_now e h against stands =
       let t = f.transaction in

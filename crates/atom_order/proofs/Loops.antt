@@ -1,4 +1,4 @@
--- A set of keys follows what is marked, one step after another.
+-- A set of keys follows the marks, one step at a time.
 use Rattle.std.proofs.Common.{◌≡◌, ℕ, ◌+◌, ◌<◌, Bool, true, false, not, cond, ◌||◌, ◌&&◌, ◌==◌, List, [], ◌∷◌, ◌++◌, length, take, get_or, refl, sym, ap, subst, ◌∙◌, arith}
 use Rattle.std.proofs.lemmas.Bool.Decides.{nat_tests}
 use Rattle.std.proofs.lemmas.List.{take_more}
@@ -6,7 +6,7 @@ use Rattle.std.specs.List.{list_any}
 use Rattle.std.specs.Ordering.{nat_cmp}
 use Rattle.std.specs.BTreeMap.{is_at}
 use Rattle.atom_order.specs.declared.link.Link.{Link}
-use Rattle.atom_order.specs.Reaching.{is_among, leads_from, marked, holds, unheld}
+use Rattle.atom_order.specs.Reaching.{is_among, leads_from, marked, holds, to_be_dropped}
 use Rattle.atom_order.specs.Marking.{has_key, HasMarks}
 
 same_key : (y q : ℕ) → is_at (nat_cmp y) q ≡ (q == y)
@@ -59,17 +59,17 @@ module _ (starts : ℕ → Bool) (into : ℕ → List Link) where
       subst (HasMarks keys) (sym (more_so_far region i y less is ∙ ap (λ b. cond b (y ∷ so_far region i) (so_far region i)) now)) has
 
 module _ (opens lives : ℕ → Bool) (into : ℕ → List Link) where
-  unheld_last : (gone xs : List ℕ) (y : ℕ) → unheld opens lives into gone (xs ++ y ∷ [])
-      ≡ cond (opens y || holds lives (unheld opens lives into gone xs) (into y)) (unheld opens lives into gone xs) (y ∷ unheld opens lives into gone xs)
+  unheld_last : (gone xs : List ℕ) (y : ℕ) → to_be_dropped opens lives into gone (xs ++ y ∷ [])
+      ≡ cond (opens y || holds lives (to_be_dropped opens lives into gone xs) (into y)) (to_be_dropped opens lives into gone xs) (y ∷ to_be_dropped opens lives into gone xs)
   unheld_last gone [] y = refl
   unheld_last gone (x ∷ xs) y = unheld_last (cond (opens x || holds lives gone (into x)) gone (x ∷ gone)) xs y
 
   abbrev gone_so_far : List ℕ → ℕ → List ℕ
-  gone_so_far region i = unheld opens lives into [] (take i region)
+  gone_so_far region i = to_be_dropped opens lives into [] (take i region)
 
   more_gone : (region : List ℕ) (i y : ℕ) → i < length region → get_or region i 0 ≡ y
       → gone_so_far region (i + 1) ≡ cond (opens y || holds lives (gone_so_far region i) (into y)) (gone_so_far region i) (y ∷ gone_so_far region i)
-  more_gone region i y less is = ap (unheld opens lives into []) (take_more region i 0 less ∙ ap (λ z. take i region ++ z ∷ []) is) ∙ unheld_last [] (take i region) y
+  more_gone region i y less is = ap (to_be_dropped opens lives into []) (take_more region i 0 less ∙ ap (λ z. take i region ++ z ∷ []) is) ∙ unheld_last [] (take i region) y
 
   pub gone_more : (region keys more : List ℕ) (i y : ℕ) → i < length region → get_or region i 0 ≡ y → HasMarks keys (gone_so_far region i)
       → ((q : ℕ) → has_key more q ≡ cond (is_at (nat_cmp y) q) true (has_key keys q))

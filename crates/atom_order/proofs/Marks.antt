@@ -1,4 +1,4 @@
--- What is marked: the starts, and exactly what links from marked ones lead into.
+-- What is marked: the starts, and exactly those with a link from a marked one.
 use Rattle.std.proofs.Common.{◌≡◌, ℕ, Bool, true, false, cond, ◌||◌, ◌⊎◌, inl, inr, List, [], ◌∷◌, refl, sym, ap, subst, ◌∙◌}
 use Rattle.std.proofs.lemmas.Bool.{or_cases, false≢true}
 use Rattle.velodrome.specs.Cycles.{IsIn}
@@ -43,7 +43,7 @@ module _ (starts : ℕ → Bool) (into : ℕ → List Link) where
   stays marks [] x h = h
   stays marks (y ∷ ys) x h = stays (more_marks marks y) ys x (stays_by (enters marks y) marks x y h)
 
-  -- What is marked was, or stands in the list.
+  -- Whatever is marked was marked before, or is in the list.
   pub marked_only : (marks ys : List ℕ) (x : ℕ) → IsIn x (marked starts into marks ys) → IsIn x marks ⊎ IsIn x ys
   marked_only marks [] x h = inl h
   marked_only marks (y ∷ ys) x h =
@@ -77,7 +77,7 @@ module _ (starts : ℕ → Bool) (into : ℕ → List Link) where
       ]))
   links_marked marks (y ∷ ys) x l forward (inr h) g m = links_marked (more_marks marks y) ys x l forward.1 h g m
 
-  -- Why something is marked.
+  -- The reason why a transaction is marked.
   pub marked_since : (marks ys : List ℕ) (x : ℕ) → IsIn x (marked starts into marks ys)
       → IsIn x marks ⊎ (IsIn x ys × ((starts x ≡ true) ⊎ LinkFrom (marked starts into marks ys) (into x)))
   marked_since marks [] x h = inl h

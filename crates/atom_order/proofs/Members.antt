@@ -42,7 +42,7 @@ in_from_among x [] h = absurd (false≢true h)
 in_from_among x (y ∷ ys) h =
     elim (or_cases (x == y) (is_among x ys) h) [ inl e ↦ inl (eqb-true x y e) | inr r ↦ inr (in_from_among x ys r) ]
 
--- ---- What a filter keeps
+-- ---- What a filter selects
 
 module _ {X : Type 0} (P : X → Bool) where
   pub in_filter : (x : X) (xs : List X) → P x ≡ true → IsIn x xs → IsIn x (filter P xs)

@@ -1,4 +1,4 @@
--- Places of transactions that were moved.
+-- The places of transactions that were moved.
 use Rattle.std.proofs.Common.{◌≡◌, ◌≢◌, ℕ, zero, suc, ◌+◌, ◌<◌, ◌≤◌, Bool, ◌==◌, inl, inr, List, [], ◌∷◌, ◌++◌, length, take, drop, get_or, sym, ap, subst, ◌∙◌, arith, length-append}
 use Rattle.std.proofs.lemmas.Bool.{eqb-false}
 use Rattle.std.proofs.lemmas.List.{take-append-drop, get_or-take, take-append-le, take-take, length-take-le, drop_more}
@@ -63,14 +63,14 @@ module _ (place : ℕ) (live : List ℕ) (fits : place ≤ length live) (distinc
   back : Pairs Differ region
   back = pairs_back Differ (take place live) region (subst (Pairs Differ) (sym (take-append-drop place live)) (distinct_pairs live distinct))
 
-  -- Some are left out.
+  -- Some are removed.
   pub moved_filter : IsMoved place live (take place live ++ filter P region)
   moved_filter = moved place live (filter P region) fits distinct (λ x h. (filter_in P x region h).0) (pairs_filter Differ P region back)
 
-  -- Some are put behind the others.
+  -- Some are moved after the others.
   pub moved_sides : IsMoved place live (take place live ++ sides P region)
   moved_sides = moved place live (sides P region) fits distinct (λ x h. sides_in P x region h) (pairs_sides Differ P [] region back (λ x y _ _ p q. differ_sides P x y p q))
 
--- A transaction at its place, between those in front of it and those behind.
+-- The live transactions from a place on begin with the one at the place.
 pub cut_at : (place t : ℕ) (live : List ℕ) → place < length live → get_or live place 0 ≡ t → drop place live ≡ t ∷ drop (place + 1) live
 cut_at place t live less is = drop_more live place 0 less ∙ ap (λ x. x ∷ drop (place + 1) live) is

@@ -1,4 +1,4 @@
--- The best of some links, and of one more.
+-- The best of some links, after one more.
 use Rattle.std.proofs.Common.{◌≡◌, ℕ, ◌≤◌, inl, inr, List, [], ◌∷◌, ◌++◌, Option, Some, None, refl, sym, subst, ◌∙◌, arith}
 use Rattle.std.proofs.lemmas.Option.{none-some, same_Some}
 use Rattle.velodrome.specs.Cycles.{IsIn}
@@ -35,19 +35,19 @@ module _ (links : List Link) (link : Link) (entries : List (ℕ × ℕ)) where
     least = λ l m h is. last_or l h (λ k. distance_in entries k.from ≡ Some m → n ≤ m) (λ g. low l m g) (λ own. let same = same_Some n m (sym at ∙ own) in omega arith) is;
   }
 
-  -- No number is kept for the last link's transaction.
+  -- No distance is stored for the last link's transaction.
   pub best_stays : (best : Option Near) → distance_in entries link.from ≡ None → IsBest links entries best → IsBest all entries best
   best_stays None none far = far_more none far
   best_stays (Some near) none nearest = near_stays near (λ n at. absurd (none-some n (sym none ∙ at))) nearest
 
-  -- The last link's is the first number.
+  -- The last link's distance is the first one.
   pub best_first : (n : ℕ) → distance_in entries link.from ≡ Some n → AreFar links entries → IsNearest all entries (record { link = link; distance = n })
   best_first n at far = near_now n at (λ l m h is. absurd (none-some m (sym (far l h) ∙ is)))
 
-  -- The last link's number isn't less.
+  -- The last link's distance isn't less.
   pub best_before : (before : Near) (n : ℕ) → distance_in entries link.from ≡ Some n → before.distance ≤ n → IsNearest links entries before → IsNearest all entries before
   best_before before n at low nearest = near_stays before (λ m is. let same = same_Some n m (sym at ∙ is) in omega arith) nearest
 
-  -- The last link's number is less.
+  -- The last link's distance is less.
   pub best_now : (before : Near) (n : ℕ) → distance_in entries link.from ≡ Some n → n ≤ before.distance → IsNearest links entries before → IsNearest all entries (record { link = link; distance = n })
   best_now before n at low nearest = near_now n at (λ l m h is. let high = nearest.least l m h is in omega arith)

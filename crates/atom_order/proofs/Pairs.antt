@@ -1,4 +1,4 @@
--- What holds of each element of a list and each behind it.
+-- A relation between each element of a list and each later one.
 use Rattle.std.proofs.Common.{◌≡◌, ℕ, Bool, true, false, not, cond, ◌==◌, inl, inr, List, [], ◌∷◌, ◌++◌, refl, sym, ap, subst, ◌∙◌}
 use Rattle.std.proofs.lemmas.Bool.{ne_eqb, not-true, both_ways}
 use Rattle.std.specs.List.{AllByRecursion, IsDistinct, filter}
@@ -60,7 +60,7 @@ module _ {X : Type 0} (R : X → X → Type 0) where
     pairs_both S T xs (λ y z h g. each y z (inr h) (inr g)) p.1 q.1,
   )
 
-  -- One side of a test is put behind the other.
+  -- One side of a test is moved after the other.
   pub pairs_sides : (P : X → Bool) (front xs : List X) → Pairs R (front ++ xs)
       → ((x y : X) → IsIn x xs → IsIn y xs → P x ≡ false → P y ≡ true → R x y)
       → Pairs R (front ++ (filter (λ y. not (P y)) xs ++ filter P xs))

@@ -1,4 +1,4 @@
--- Where live transactions stand.
+-- The places of live transactions.
 use Rattle.std.proofs.Common.{◌≡◌, ℕ, zero, suc, ◌+◌, ◌-◌, ◌<◌, ◌≤◌, leb, Bool, true, false, ◌⊎◌, inl, inr, List, [], ◌∷◌, ◌++◌, length, take, drop, get_or, refl, sym, ap, subst, ◌∙◌, arith}
 use Rattle.std.proofs.lemmas.List.{get_or_default, get_or_append_left, get_or_push, length_push, length-drop, get_or-drop, take-append-drop}
 use Rattle.std.proofs.lemmas.Bool.{cases_Bool, cases_lt, lt-leb, le-leb, both_ways}
@@ -21,7 +21,7 @@ in_at d (y ∷ ys) x (inr h) = let more = in_at d ys x h in let bound = more.1 i
 pub among_at : (xs : List ℕ) (i x : ℕ) → i < length xs → get_or xs i 0 ≡ x → is_among x xs ≡ true
 among_at xs i x h is = among_from_in x xs (subst (λ v. IsIn v xs) is (at_in 0 xs i h))
 
--- What is live is found at its place.
+-- A live transaction is found at its place.
 pub found : (live places : List ℕ) (opens : List Bool) (into : List (List Link)) → ArePlaces live places opens into → (t : ℕ) → IsIn t live
     → (t < length into) × (get_or places t 0 < length live) × (get_or live (get_or places t 0) 0 ≡ t)
 found live places opens into are t h =
@@ -38,12 +38,12 @@ not_found live places opens into are t none = elim (cases_Bool (is_among t live)
   | inr is ↦ is
 ]
 
--- What is read at an index.
+-- Reading a list at an index.
 pub read_at : (xs : List ℕ) (i x : ℕ) → x ≡ get_or xs i x → i < length xs → get_or xs i 0 ≡ x
 read_at xs i x is less = get_or_default xs i 0 x less ∙ sym is
 
 module _ (live places : List ℕ) (opens : List Bool) (into : List (List Link)) (are : ArePlaces live places opens into) (b : Bool) (links : List Link) where
-  -- A slot more.
+  -- One more slot.
   pub places_same : (place : ℕ) → ArePlaces live (places ++ place ∷ []) (opens ++ b ∷ []) (into ++ links ∷ [])
   places_same place =
       let one = length_push places place in
@@ -58,7 +58,7 @@ module _ (live places : List ℕ) (opens : List Bool) (into : List (List Link)) 
         at = λ i less. get_or_append_left places (place ∷ []) 0 (get_or live i 0) (let slot = are.slots i less in omega arith) ∙ are.at i less;
       }
 
-  -- A live transaction more.
+  -- One more live transaction.
   pub places_more : (t : ℕ) → t ≡ length into → ArePlaces (live ++ t ∷ []) (places ++ length live ∷ []) (opens ++ b ∷ []) (into ++ links ∷ [])
   places_more t is = record {
     places_fit = same.places_fit;
@@ -93,7 +93,7 @@ places_by live live' places places' opens opens' into into' are a b c d =
     subst (λ l. ArePlaces l places' opens' into') (sym a)
     (subst (λ p. ArePlaces live p opens' into') (sym b) (subst (λ o. ArePlaces live places o into') (sym c) (subst (λ i. ArePlaces live places opens i) (sym d) are)))
 
--- What stands at a place or behind it.
+-- What is at this place or a later one.
 pub behind_is : (live places : List ℕ) (opens : List Bool) (into : List (List Link)) → ArePlaces live places opens into → (place at t : ℕ) → at < length live → get_or live at 0 ≡ t
     → leb place at ≡ is_among t (drop place live)
 behind_is live places opens into are place at t less is = elim (cases_lt at place) [ inl before ↦ lt-leb place at before ∙ sym (none before) | inr behind ↦ le-leb place at behind ∙ sym (some behind) ]

@@ -33,7 +33,7 @@ rises events (y ∷ ys) a b p h g d = by (cases_eq b y) (cases_eq a y) (rises ev
         let three = more (tail_of a y ys h f) (tail_of b y ys g e) d in
         omega arith
 
--- All edges rise in a rank.
+-- All edges rise in this rank.
 abbrev pub Rises : List Event → (ℕ → ℕ) → Type 0
 Rises events rank = (a b : ℕ) → IsEdge events a b → rank a < rank b
 

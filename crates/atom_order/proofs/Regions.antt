@@ -1,12 +1,12 @@
--- The live transactions from one on: what it reaches, and what isn't held once it is closed.
+-- The live transactions from one on: what it reaches, and what doesn't stay live after it is closed.
 use Rattle.std.proofs.Common.{◌≡◌, ℕ, Bool, true, false, not, cond, ◌&&◌, ◌==◌, ◌⊎◌, inl, inr, List, [], ◌∷◌, ◌++◌, refl, sym, ap, subst, ◌∙◌}
 use Rattle.std.proofs.lemmas.Bool.{eq-eqb, eqb-false, and_parts, and_from, false≢true, cases_Bool, cases_eq, not-true, both_ways}
 use Rattle.std.proofs.lemmas.List.{append_assoc, append-nil}
 use Rattle.std.specs.List.{filter}
 use Rattle.velodrome.specs.Cycles.{IsIn}
 use Rattle.atom_order.specs.declared.link.Link.{Link}
-use Rattle.atom_order.specs.Keeping.{IsClosed, sides, IsHeld, IsLeft}
-use Rattle.atom_order.specs.Reaching.{is_among, marked, unheld, LeadForward}
+use Rattle.atom_order.specs.Keeping.{IsClosed, sides, IsKeptLive, IsLeft}
+use Rattle.atom_order.specs.Reaching.{is_among, marked, to_be_dropped, LeadForward}
 use Rattle.atom_order.proofs.Members.{in_left, in_right, in_cases, among_from_in, in_from_among}
 use Rattle.atom_order.proofs.Pairs.{Pairs, Differ, pairs_across}
 use Rattle.atom_order.proofs.Marks.{starts_marked, links_marked, marked_only}
@@ -38,7 +38,7 @@ pub forward_back : (into : ℕ → List Link) (xs ys : List ℕ) → LeadForward
 forward_back into [] ys f = f
 forward_back into (x ∷ xs) ys f = forward_back into xs ys f.1
 
--- No link leads into a front one from one behind the front.
+-- No link leads into the front part from the rest.
 pub forward_front : (into : ℕ → List Link) (xs ys : List ℕ) (x : ℕ) (l : Link) → LeadForward into (xs ++ ys) → IsIn x xs → IsIn l (into x) → IsIn l.from ys → ⊥
 forward_front into [] ys x l f h g m = absurd h
 forward_front into (z ∷ xs) ys x l f (inl e) g m = f.0 l (subst (λ v. IsIn l (into v)) e g) (inr (in_right l.from xs ys m))
@@ -91,7 +91,7 @@ module _ (into : ℕ → List Link) (front : List ℕ) (t : ℕ) (behind : List 
         | inr is ↦ is
       ]
 
-  -- Where nothing is to be searched, all from t on counts as reached.
+  -- If nothing needs to be searched, all from t on count as reached.
   pub all_closed : IsClosed (front ++ region) into (λ x. is_among x region)
   all_closed y l stands g is =
       elim (in_cases y front region stands) [
@@ -122,10 +122,10 @@ module _ (into : ℕ → List Link) (front : List ℕ) (t : ℕ) (behind : List 
         | inr is ↦ is
       ]
 
--- ---- What isn't held once a transaction is closed
+-- ---- What doesn't stay live after a transaction is closed
 
 module _ (opens : ℕ → Bool) (into : ℕ → List Link) (front : List ℕ) (t : ℕ) (behind : List ℕ) (f : LeadForward into (front ++ t ∷ behind))
-    (apart : Pairs Differ (front ++ t ∷ behind)) (held : (y : ℕ) → IsIn y (front ++ t ∷ behind) → IsHeld (front ++ t ∷ behind) opens into y)
+    (apart : Pairs Differ (front ++ t ∷ behind)) (held : (y : ℕ) → IsIn y (front ++ t ∷ behind) → IsKeptLive (front ++ t ∷ behind) opens into y)
     (live_opens : (y : ℕ) → opens y ≡ true → IsIn y (front ++ t ∷ behind)) where
   abbrev all : List ℕ
   all = front ++ t ∷ behind
@@ -140,7 +140,7 @@ module _ (opens : ℕ → Bool) (into : ℕ → List Link) (front : List ℕ) (t
   opens_now y = cond (y == t) false (opens y)
 
   abbrev gone : List ℕ
-  gone = unheld opens_now lives into [] rest
+  gone = to_be_dropped opens_now lives into [] rest
 
   abbrev keeps : ℕ → Bool
   keeps x = is_among x all && not (is_among x gone)
@@ -184,7 +184,7 @@ module _ (opens : ℕ → Bool) (into : ℕ → List Link) (front : List ℕ) (t
       was_open true v g = absurd (false≢true g)
       was_open false v g = g
 
-      in_front : (y : ℕ) → IsIn y front → IsHeld (front ++ t ∷ behind) opens into y → HeldNow y
+      in_front : (y : ℕ) → IsIn y front → IsKeptLive (front ++ t ∷ behind) opens into y → HeldNow y
       in_front y g (inl o) = inl (passed_by y t false (opens y) (λ same. front_apart y g (inl same)) ∙ o)
       in_front y g (inr link) = inr (link.0, link.1, link.2, not_gone link.0.from link.2 (λ h. forward_front into front rest y link.0 f g link.1 (gone_in link.0.from h)))
 
@@ -204,7 +204,7 @@ module _ (opens : ℕ → Bool) (into : ℕ → List Link) (front : List ℕ) (t
       twice true = refl
       twice false = refl
 
-  -- Where the transaction itself is held, all is.
+  -- If the transaction itself stays live, all do.
   pub all_left : (dropped : List ℕ) → (l : Link) → IsIn l (into t) → IsIn l.from all → IsLeft t lives (record { dropped = dropped; live = all; is_open = opens; into = into })
   all_left dropped link g from = record {
     closed = λ y l stands g is. among_from_in y all stands;
@@ -216,7 +216,7 @@ module _ (opens : ℕ → Bool) (into : ℕ → List Link) (front : List ℕ) (t
       was_open true v g = absurd (false≢true g)
       was_open false v g = g
 
-      by : (y : ℕ) → (y ≡ t) ⊎ (y ≡ t → ⊥) → IsHeld (front ++ t ∷ behind) opens into y
+      by : (y : ℕ) → (y ≡ t) ⊎ (y ≡ t → ⊥) → IsKeptLive (front ++ t ∷ behind) opens into y
           → (cond (y == t) false (opens y) ≡ true) ⊎ ((l : Link) × IsIn l (into y) × IsIn l.from (front ++ t ∷ behind) × (is_among l.from (front ++ t ∷ behind) ≡ true))
       by y (inl same) old = inr (link, subst (λ v. IsIn link (into v)) (sym same) g, from, among_from_in link.from all from)
       by y (inr other) (inl o) = inl (passed_by y t false (opens y) other ∙ o)

@@ -1,4 +1,4 @@
--- Orders that are alike are kept alike, and what is kept can be used.
+-- What the graph keeps for an order it keeps for an equal one, and that is usable.
 use Rattle.std.proofs.Common.{◌≡◌, ℕ, inl, inr, List, ◌++◌, sym, ap, subst, ◌∙◌}
 use Rattle.velodrome.specs.Cycles.{IsIn}
 use Rattle.velodrome.specs.Orders.{AreNumbersTo, NoneLeadsBack}
@@ -9,7 +9,7 @@ use Rattle.atom_order.proofs.Pairs.{pairs_distinct}
 use Rattle.atom_order.proofs.Kept.{leads_more, links_lead_forward}
 use Rattle.atom_order.proofs.Reached.{live_apart}
 
--- The second order is the first, but for links into what isn't live.
+-- The second order is the first, except for links into transactions that aren't live.
 pub record IsAlike (o p : Order) : Type 0 where
   pub dropped : p.dropped ≡ o.dropped
   pub live : p.live ≡ o.live

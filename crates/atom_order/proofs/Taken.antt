@@ -1,11 +1,11 @@
--- Numbers of a list that is gone through.
+-- A prefix of a list, while a loop goes through it.
 use Rattle.std.proofs.Common.{◌≡◌, ◌≢◌, ℕ, ◌+◌, ◌<◌, true, false, List, [], ◌∷◌, ◌++◌, length, take, get_or, inl, inr, sym, ap, ◌∙◌}
 use Rattle.std.proofs.lemmas.Bool.{cases_Bool, both_ways}
 use Rattle.std.proofs.lemmas.List.{take_more}
 use Rattle.atom_order.specs.Reaching.{is_among}
 use Rattle.atom_order.proofs.Members.{in_left, in_right, among_from_in, in_from_among}
 
--- What is none of one more is none of these, and not the one.
+-- A number that is not in one more is not in these, and is not that one.
 pub none_more : (xs : List ℕ) (i q : ℕ) → i < length xs → is_among q (take (i + 1) xs) ≡ false → (is_among q (take i xs) ≡ false) × (q ≢ get_or xs i 0)
 none_more xs i q less none = (elim (cases_Bool (is_among q (take i xs))) [ inl is ↦ absurd (before is) | inr is ↦ is ], last)
   where

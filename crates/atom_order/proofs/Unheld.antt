@@ -1,9 +1,9 @@
--- What isn't held: exactly what is neither open nor led into by a live transaction that is held.
+-- What doesn't stay live: exactly what is neither open nor has a link from a live one that stays.
 use Rattle.std.proofs.Common.{◌≡◌, ℕ, Bool, true, false, not, cond, ◌||◌, ◌&&◌, ◌⊎◌, inl, inr, List, [], ◌∷◌, refl, sym, ap, subst, ◌∙◌}
 use Rattle.std.proofs.lemmas.Bool.{or_cases, and_parts, and_from, false≢true, true≢false, cases_Bool, not-true, both_ways}
 use Rattle.velodrome.specs.Cycles.{IsIn}
 use Rattle.atom_order.specs.declared.link.Link.{Link}
-use Rattle.atom_order.specs.Reaching.{is_among, holds, unheld, LeadForward}
+use Rattle.atom_order.specs.Reaching.{is_among, holds, to_be_dropped, LeadForward}
 use Rattle.atom_order.proofs.Members.{among_from_in, in_from_among}
 
 or_true : (a b : Bool) → b ≡ true → (a || b) ≡ true
@@ -45,11 +45,11 @@ module _ (opens lives : ℕ → Bool) (into : ℕ → List Link) where
   grows_by true gone x y h = h
   grows_by false gone x y h = inr h
 
-  pub stay_gone : (gone ys : List ℕ) (x : ℕ) → IsIn x gone → IsIn x (unheld opens lives into gone ys)
+  pub stay_gone : (gone ys : List ℕ) (x : ℕ) → IsIn x gone → IsIn x (to_be_dropped opens lives into gone ys)
   stay_gone gone [] x h = h
   stay_gone gone (y ∷ ys) x h = stay_gone (more_gone gone y) ys x (grows_by (stays gone y) gone x y h)
 
-  pub gone_only : (gone ys : List ℕ) (x : ℕ) → IsIn x (unheld opens lives into gone ys) → IsIn x gone ⊎ IsIn x ys
+  pub gone_only : (gone ys : List ℕ) (x : ℕ) → IsIn x (to_be_dropped opens lives into gone ys) → IsIn x gone ⊎ IsIn x ys
   gone_only gone [] x h = inl h
   gone_only gone (y ∷ ys) x h = elim (gone_only (more_gone gone y) ys x h) [ inl l ↦ by (stays gone y) l | inr r ↦ inr (inr r) ]
     where
@@ -58,14 +58,14 @@ module _ (opens lives : ℕ → Bool) (into : ℕ → List Link) where
       by false (inl e) = inr (inl e)
       by false (inr h) = inl h
 
-  -- Nothing that is gone is open, or led into by a live one that isn't.
-  pub gone_since : (gone ys : List ℕ) (x : ℕ) → IsIn x (unheld opens lives into gone ys)
-      → IsIn x gone ⊎ ((opens x ≡ false) × ((l : Link) → IsIn l (into x) → lives l.from ≡ true → IsIn l.from (unheld opens lives into gone ys)))
+  -- What is dropped is not open, and has no link from a live one that stays.
+  pub gone_since : (gone ys : List ℕ) (x : ℕ) → IsIn x (to_be_dropped opens lives into gone ys)
+      → IsIn x gone ⊎ ((opens x ≡ false) × ((l : Link) → IsIn l (into x) → lives l.from ≡ true → IsIn l.from (to_be_dropped opens lives into gone ys)))
   gone_since gone [] x h = inl h
   gone_since gone (y ∷ ys) x h = elim (gone_since (more_gone gone y) ys x h) [ inl l ↦ by (stays gone y) refl l | inr r ↦ inr r ]
     where
       by : (b : Bool) → stays gone y ≡ b → IsIn x (cond b gone (y ∷ gone))
-          → IsIn x gone ⊎ ((opens x ≡ false) × ((l : Link) → IsIn l (into x) → lives l.from ≡ true → IsIn l.from (unheld opens lives into gone (y ∷ ys))))
+          → IsIn x gone ⊎ ((opens x ≡ false) × ((l : Link) → IsIn l (into x) → lives l.from ≡ true → IsIn l.from (to_be_dropped opens lives into gone (y ∷ ys))))
       by true is h = inl h
       by false is (inr h) = inl h
       by false is (inl e) =
@@ -76,17 +76,17 @@ module _ (opens lives : ℕ → Bool) (into : ℕ → List Link) where
                 stay_gone gone (y ∷ ys) l.from (in_from_among l.from gone (none_holds lives gone (into y) l parts.1 (subst (λ v. IsIn l (into v)) e g) live)),
           )
 
-  -- What isn't gone is open, or led into by a live one that isn't.
-  pub held_since : (gone ys : List ℕ) (x : ℕ) → LeadForward into ys → IsIn x ys → (IsIn x (unheld opens lives into gone ys) → ⊥)
-      → (opens x ≡ true) ⊎ ((l : Link) × IsIn l (into x) × (lives l.from ≡ true) × (IsIn l.from (unheld opens lives into gone ys) → ⊥))
+  -- What stays is open, or has a link from a live one that stays.
+  pub held_since : (gone ys : List ℕ) (x : ℕ) → LeadForward into ys → IsIn x ys → (IsIn x (to_be_dropped opens lives into gone ys) → ⊥)
+      → (opens x ≡ true) ⊎ ((l : Link) × IsIn l (into x) × (lives l.from ≡ true) × (IsIn l.from (to_be_dropped opens lives into gone ys) → ⊥))
   held_since gone [] x forward h none = absurd h
   held_since gone (y ∷ ys) x forward (inr h) none = held_since (more_gone gone y) ys x forward.1 h none
   held_since gone (y ∷ ys) x forward (inl e) none =
-      subst (λ v. (opens v ≡ true) ⊎ ((l : Link) × IsIn l (into v) × (lives l.from ≡ true) × (IsIn l.from (unheld opens lives into gone (y ∷ ys)) → ⊥))) (sym e)
+      subst (λ v. (opens v ≡ true) ⊎ ((l : Link) × IsIn l (into v) × (lives l.from ≡ true) × (IsIn l.from (to_be_dropped opens lives into gone (y ∷ ys)) → ⊥))) (sym e)
       (by (stays gone y) refl)
     where
-      by : (b : Bool) → stays gone y ≡ b → (opens y ≡ true) ⊎ ((l : Link) × IsIn l (into y) × (lives l.from ≡ true) × (IsIn l.from (unheld opens lives into gone (y ∷ ys)) → ⊥))
-      by false is = absurd (none (subst (λ v. IsIn v (unheld opens lives into gone (y ∷ ys))) (sym e)
+      by : (b : Bool) → stays gone y ≡ b → (opens y ≡ true) ⊎ ((l : Link) × IsIn l (into y) × (lives l.from ≡ true) × (IsIn l.from (to_be_dropped opens lives into gone (y ∷ ys)) → ⊥))
+      by false is = absurd (none (subst (λ v. IsIn v (to_be_dropped opens lives into gone (y ∷ ys))) (sym e)
           (stay_gone (more_gone gone y) ys y (subst (λ b. IsIn y (cond b gone (y ∷ gone))) (sym is) (inl refl)))))
       by true is = elim (or_cases (opens y) (holds lives gone (into y)) is) [
         | inl o ↦ inl o

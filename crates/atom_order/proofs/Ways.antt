@@ -46,7 +46,7 @@ module _ (live : List ℕ) (into : ℕ → List Link) (t : ℕ) where
       by true is z (inr g) = each z g
       by false is z g = each z g
 
-  -- What the pass has kept, once it has seen some of the order.
+  -- The distances that are stored after a part of the order.
   pub record AreSoFar (seen : List ℕ) (count : ℕ) (entries : List (ℕ × ℕ)) : Type 0 where
     pub kept : (x n : ℕ) → distance_in entries x ≡ Some n → IsDistance live into t x n × (n < count)
     pub all : (x : ℕ) (trail : List Link) → IsIn x seen → IsTrail live into t x trail → (n : ℕ) × (distance_in entries x ≡ Some n)
@@ -72,7 +72,7 @@ module _ (live : List ℕ) (into : ℕ → List Link) (place t : ℕ) (less : pl
   pub region_live : (x : ℕ) → IsIn x region → IsIn x live
   region_live x h = subst (IsIn x) whole (in_right x (take place live) region h)
 
-  -- Links lead back only from what is there from the place on.
+  -- Links lead back only from transactions at the place or later.
   trail_region : (x : ℕ) (trail : List Link) → IsTrail live into t x trail → IsIn x region
   trail_region x [] same = subst (IsIn x) (sym (cut_at place t live less is)) (inl same)
   trail_region x (l ∷ trail) way =
@@ -82,7 +82,7 @@ module _ (live : List ℕ) (into : ℕ → List Link) (place t : ℕ) (less : pl
         | inr h ↦ h
       ]
 
-  -- What a link leads from has been seen before.
+  -- A link's transaction was visited before.
   earlier : (i y : ℕ) (l : Link) → i < length region → get_or region i 0 ≡ y → IsIn l (into y) → IsIn l.from region → IsIn l.from (take i region)
   earlier i y l low here g h =
       elim (in_cases l.from (take i region) (drop i region) (subst (IsIn l.from) (sym (take-append-drop i region)) h)) [
@@ -96,7 +96,7 @@ module _ (live : List ℕ) (into : ℕ → List Link) (place t : ℕ) (less : pl
     y_live : IsIn y live
     y_live = region_live y (subst (λ v. IsIn v region) here (at_in 0 region i low))
 
-    -- A number is kept where a first link leads from, and it is no more than the others of a trail.
+    -- A distance is stored where the first link of a trail leads from, and it is at most the length of the rest.
     back_from : (l : Link) (others : List Link) → IsIn l (into y) → IsTrail live into t l.from others → (m : ℕ) × (distance_in entries l.from ≡ Some m) × (m ≤ length others)
     back_from l others g way =
         let some = so.all l.from others (earlier i y l low here g (trail_region l.from others way)) way in
@@ -145,7 +145,7 @@ module _ (live : List ℕ) (into : ℕ → List Link) (place t : ℕ) (less : pl
       | inr last ↦ elim last [ inl same ↦ inr same | inr none ↦ absurd none ]
     ]
 
-    -- A distance more is kept.
+    -- One more distance is stored.
     pub one_more : (more : List (ℕ × ℕ)) (n : ℕ) → IsNext t y (into y) entries n → ((q : ℕ) → distance_in more q ≡ cond (is_at (nat_cmp y) q) (Some n) (distance_in entries q))
         → AreSoFar live into t (take (i + 1) region) (i + 1) more
     one_more more n next updates = record {
@@ -187,7 +187,7 @@ module _ (live : List ℕ) (into : ℕ → List Link) (place t : ℕ) (less : pl
     all = λ x trail way. so.all x trail (subst (IsIn x) (sym (take_all i region far)) (trail_region x trail way)) way;
   }
 
-  -- Where a link leads from a marked one, it closes a cycle.
+  -- A link from a marked transaction closes a cycle.
   pub marked_closes : (keys : List ℕ) (links : List Link) → HasMarks keys (marked (λ y. y == t) into [] region) → list_any (λ (l : Link). has_key keys l.from) links ≡ true
       → ((l : Link) (trail : List Link) → IsIn l links → IsTrail live into t l.from trail → ⊥) → ⊥
   marked_closes keys links has some none =
@@ -196,7 +196,7 @@ module _ (live : List ℕ) (into : ℕ → List Link) (place t : ℕ) (less : pl
       let way = marked_trail live into t [] region (λ x h. absurd h) region_live link.0.from link.2 in
       none link.0 way.0 link.1 way.1
 
--- A cycle is closed, where one is.
+-- The result is a cycle, because one exists.
 pub closed_or : {X E : Type 0} (r : Result (Option X) E) (ClosesNone Linked Same : Type 0) (Closes : X → Type 0) → IfOk r (λ o. MatchOption o ClosesNone Closes) → (ClosesNone → ⊥) → Same
     → IfOk r (λ o. MatchOption o Linked (λ c. Same × Closes c))
 closed_or (Ok None) ClosesNone Linked Same Closes h some same = absurd (some h)
@@ -206,7 +206,7 @@ closed_or (Err e) ClosesNone Linked Same Closes h some same = tt
 -- ---- The way back
 
 module _ (live : List ℕ) (into : ℕ → List Link) (t : ℕ) (entries : List (ℕ × ℕ)) (are : AreDistances live into t entries) where
-  -- A nearest link is the first of a shortest way.
+  -- A nearest link is the first of a shortest trail.
   pub step_back : (x n : ℕ) (near : Near) → distance_in entries x ≡ Some n → x ≢ t → IsNearest (into x) entries near → IsIn x live × (near.distance + 1 ≡ n)
   step_back x n near at other nearest = by (are.kept x n at).trail (are.kept x n at).way (are.kept x n at).long
     where
@@ -231,7 +231,7 @@ module _ (live : List ℕ) (into : ℕ → List Link) (t : ℕ) (entries : List 
   pub ends_at : (x n : ℕ) → distance_in entries x ≡ Some n → x ≡ t → n ≡ 0
   ends_at x n at same = let low = (are.kept x n at).least [] same in omega arith
 
-  -- Any way back from a link is at least as long as the nearest one's.
+  -- Any trail back from a link is at least as long as the nearest one's.
   pub no_shorter : (links : List Link) (near : Near) → IsNearest links entries near → (l : Link) (others : List Link) → IsIn l links → IsTrail live into t l.from others → near.distance ≤ length others
   no_shorter links near nearest l others h way =
       let some = are.all l.from others way in

@@ -1,5 +1,5 @@
--- What is kept of a trace: an order of its transactions, those that open ones reach at its end, and links between these
--- that stand for all edges from them (Velodrome, section 4).
+-- Defines what is kept of a trace (Velodrome, section 4): an order of its transactions, those that open ones reach at
+-- its end, and links between these that represent all edges from them.
 use Rattle.std.specs.Prelude.{◌≡◌, ◌≢◌, ℕ, ◌≤◌, ◌==◌, Bool, true, false, not, cond, ◌⊎◌, List, [], ◌∷◌, ◌++◌, length}
 use Rattle.std.specs.List.{filter}
 use Rattle.velodrome.specs.Cycles.{IsIn, IsEdge}
@@ -8,21 +8,21 @@ use Rattle.velodrome.specs.Transactions.{Event}
 use Rattle.velodrome.specs.Verdicts.{ArePairNumbers}
 use Rattle.atom_order.specs.declared.link.Link.{Link}
 
--- A set that links don't leave.
+-- No link between live transactions leaves the set.
 abbrev pub IsClosed : List ℕ → (ℕ → List Link) → (ℕ → Bool) → Type 0
 IsClosed live into P = (y : ℕ) (l : Link) → IsIn y live → IsIn l (into y) → P l.from ≡ true → P y ≡ true
 
--- Links lead from a to b, through others or none: b is in each set with a that links don't leave.
+-- Links lead from a to b in any number of steps, even none: every set that has a and that links don't leave has b.
 abbrev pub Leads : List ℕ → (ℕ → List Link) → ℕ → ℕ → Type 0
 Leads live into a b = (P : ℕ → Bool) → IsClosed live into P → P a ≡ true → P b ≡ true
 
--- Those outside of a set, and behind them those in it.
+-- Returns the numbers outside of a set, followed by those in it.
 abbrev pub sides : (ℕ → Bool) → List ℕ → List ℕ
 sides P xs = filter (λ x. not (P x)) xs ++ filter P xs
 
--- An open transaction, or one that a link leads into from a live one.
-abbrev pub IsHeld : List ℕ → (ℕ → Bool) → (ℕ → List Link) → ℕ → Type 0
-IsHeld live is_open into y = (is_open y ≡ true) ⊎ ((l : Link) × IsIn l (into y) × IsIn l.from live)
+-- The transaction is open, or a link leads into it from a live one.
+abbrev pub IsKeptLive : List ℕ → (ℕ → Bool) → (ℕ → List Link) → ℕ → Type 0
+IsKeptLive live is_open into y = (is_open y ≡ true) ⊎ ((l : Link) × IsIn l (into y) × IsIn l.from live)
 
 pub record Order : Type 0 where
   pub dropped : List ℕ
@@ -36,11 +36,11 @@ pub record IsKept (events : List Event) (transactions : ℕ) (o : Order) : Type 
   pub ordered : NoneLeadsBack events (o.dropped ++ o.live)
   pub placed : (e : Event) → IsIn e events → IsIn e.transaction (o.dropped ++ o.live)
   pub opens : (y : ℕ) → o.is_open y ≡ true → IsIn y o.live
-  pub held : (y : ℕ) → IsIn y o.live → IsHeld o.live o.is_open o.into y
+  pub held : (y : ℕ) → IsIn y o.live → IsKeptLive o.live o.is_open o.into y
   pub ties : (y : ℕ) (l : Link) → IsIn y o.live → IsIn l (o.into y) → (l.from ≢ y) × ArePairNumbers events l.from y l.pair
   pub covers : (a b : ℕ) → IsIn a o.live → IsEdge events a b → Leads o.live o.into a b
 
--- A transaction begins: it is open, and the last.
+-- Returns the order after transaction t begins. It is open and the last.
 abbrev pub with_new : ℕ → Order → Order
 with_new t o = record {
   dropped = o.dropped;
@@ -49,7 +49,7 @@ with_new t o = record {
   into = λ y. cond (y == t) [] (o.into y);
 }
 
--- Links are added into a transaction, and those that it reaches are put behind the others.
+-- Returns the order with links added into transaction t, and what it reaches moved after the others.
 abbrev pub with_links : ℕ → List Link → (ℕ → Bool) → Order → Order
 with_links t links P o = record {
   dropped = o.dropped;
@@ -58,13 +58,13 @@ with_links t links P o = record {
   into = λ y. cond (y == t) (o.into y ++ links) (o.into y);
 }
 
--- A set that has a transaction, that no link leaves, and from which none leads into the transaction.
+-- The set has transaction t, no link leaves it, and none leads from it into t.
 pub record IsReach (t : ℕ) (links : List Link) (P : ℕ → Bool) (o : Order) : Type 0 where
   pub itself : P t ≡ true
   pub closed : IsClosed o.live o.into P
   pub apart : (l : Link) → IsIn l (o.into t) ⊎ IsIn l links → P l.from ≡ false
 
--- A transaction is closed, and what isn't held any more is dropped.
+-- Returns the order after transaction t is closed and all outside of the set are dropped.
 abbrev pub with_drop : ℕ → (ℕ → Bool) → Order → Order
 with_drop t P o = record {
   dropped = o.dropped ++ filter (λ x. not (P x)) o.live;
@@ -73,7 +73,7 @@ with_drop t P o = record {
   into = o.into;
 }
 
--- What open transactions reach, once one of them is closed.
+-- The set has what open transactions reach after t is closed.
 pub record IsLeft (t : ℕ) (P : ℕ → Bool) (o : Order) : Type 0 where
   pub closed : IsClosed o.live o.into P
   pub opens : (y : ℕ) → cond (y == t) false (o.is_open y) ≡ true → P y ≡ true

@@ -1,11 +1,11 @@
--- The graph as data: lists by transaction, from 0, which none is (own).
+-- Defines the graph as data: lists indexed by transaction, from 0. No transaction has number 0 (own).
 use Rattle.std.specs.Prelude.{◌≡◌, ℕ, ◌<◌, ◌≤◌, ◌==◌, Bool, true, false, not, cond, ◌||◌, ◌&&◌, List, [], ◌∷◌, ◌++◌, length, get_or, take, drop}
 use Rattle.std.specs.List.{IsDistinct, filter}
 use Rattle.velodrome.specs.Cycles.{IsIn}
 use Rattle.atom_order.specs.declared.link.Link.{Link}
 use Rattle.atom_order.specs.declared.link.Closing.{Closing}
-use Rattle.atom_order.specs.Keeping.{Order, sides, IsHeld, IsReach, IsLeft}
-use Rattle.atom_order.specs.Reaching.{is_among, marked, unheld, LeadForward}
+use Rattle.atom_order.specs.Keeping.{Order, sides, IsKeptLive, IsReach, IsLeft}
+use Rattle.atom_order.specs.Reaching.{is_among, marked, to_be_dropped, LeadForward}
 use Rattle.atom_order.specs.Marking.{has_key, HasMarks}
 use Rattle.atom_order.specs.Trails.{IsTrail}
 
@@ -27,14 +27,14 @@ order_of s = record { dropped = s.dropped; live = s.live; is_open = open_in s; i
 abbrev pub no_transactions : Shape
 no_transactions = record { dropped = []; live = []; is_open = false ∷ []; into = [] ∷ [] }
 
--- Each live transaction has a slot, which tells its place.
+-- Each live transaction has a slot with its place.
 pub record ArePlaces (live places : List ℕ) (opens : List Bool) (into : List (List Link)) : Type 0 where
   pub places_fit : length places ≡ length into
   pub opens_fit : length opens ≡ length into
   pub slots : (i : ℕ) → i < length live → get_or live i 0 < length into
   pub at : (i : ℕ) → i < length live → get_or places (get_or live i 0) 0 ≡ i
 
--- From a place on, the live transactions were put into another order, or some left out.
+-- From a place on, the live transactions were put into another order or removed.
 pub record IsMoved (place : ℕ) (live now : List ℕ) : Type 0 where
   pub front : take place now ≡ take place live
   pub fits : place ≤ length live
@@ -42,7 +42,7 @@ pub record IsMoved (place : ℕ) (live now : List ℕ) : Type 0 where
   pub members : (x : ℕ) → IsIn x now → IsIn x live
   pub distinct : IsDistinct (λ x y. x == y) now
 
--- Of links, those from live transactions but this one.
+-- Returns the links that lead from live transactions other than t.
 abbrev pub live_links : ℕ → List ℕ → List Link → List Link
 live_links t live links = filter (λ (l : Link). is_among l.from live && not (l.from == t)) links
 
@@ -50,7 +50,7 @@ abbrev pub is_empty : List Link → Bool
 is_empty [] = true
 is_empty (l ∷ links) = false
 
--- A transaction begins with links. Where it is closed already and has none, it is dropped at once.
+-- Returns the graph after a transaction begins with links. If it is closed and has no links, it is dropped immediately.
 abbrev pub begun : Bool → List Link → Shape → Shape
 begun is_open links s = record {
   dropped = cond (is_open || not (is_empty links)) s.dropped (s.dropped ++ length s.into ∷ []);
@@ -59,14 +59,14 @@ begun is_open links s = record {
   into = s.into ++ links ∷ [];
 }
 
--- What holds of the graph between events.
+-- The invariant of the graph between events.
 pub record IsUsable (s : Shape) : Type 0 where
   pub distinct : IsDistinct (λ x y. x == y) s.live
   pub leads : LeadForward (into_in s) s.live
   pub opens : (y : ℕ) → open_in s y ≡ true → IsIn y s.live
-  pub held : (y : ℕ) → IsIn y s.live → IsHeld s.live (open_in s) (into_in s) y
+  pub held : (y : ℕ) → IsIn y s.live → IsKeptLive s.live (open_in s) (into_in s) y
 
--- A transaction was closed, and what isn't held any more dropped.
+-- A transaction was closed, and what doesn't stay live was dropped.
 pub record IsClosing (t : ℕ) (old new : Shape) : Type 0 where
   pub keeps : ℕ → Bool
   pub left : IsLeft t keeps (order_of old)
@@ -76,14 +76,14 @@ pub record IsClosing (t : ℕ) (old new : Shape) : Type 0 where
   pub into : (y : ℕ) → keeps y ≡ true → into_in new y ≡ into_in old y
   pub slots : length new.into ≡ length old.into
 
--- From a place on, what nothing holds once a transaction is closed, and the others.
+-- The live transactions from a place on: those that don't stay live after t is closed, and the others.
 pub record AreParts (t place : ℕ) (s : Shape) (gone left : List ℕ) : Type 0 where
   pub keys : List ℕ
-  pub has : HasMarks keys (unheld (λ y. cond (y == t) false (open_in s y)) (λ y. is_among y s.live) (into_in s) [] (drop place s.live))
+  pub has : HasMarks keys (to_be_dropped (λ y. cond (y == t) false (open_in s y)) (λ y. is_among y s.live) (into_in s) [] (drop place s.live))
   pub gone_are : gone ≡ filter (λ x. has_key keys x) (drop place s.live)
   pub left_are : left ≡ filter (λ x. not (has_key keys x)) (drop place s.live)
 
--- Links into a transaction were added.
+-- Links into transaction t were added.
 pub record IsLinking (t : ℕ) (links : List Link) (old new : Shape) : Type 0 where
   pub reaches : ℕ → Bool
   pub reach : IsReach t links reaches (order_of old)
@@ -93,17 +93,18 @@ pub record IsLinking (t : ℕ) (links : List Link) (old new : Shape) : Type 0 wh
   pub into : (y : ℕ) → into_in new y ≡ cond (y == t) (into_in old y ++ links) (into_in old y)
   pub slots : length new.into ≡ length old.into
 
--- A link closes a cycle: others lead back from where it begins to the transaction, no more than by any other way.
+-- A link closes a cycle: its trail leads back from where it begins to the transaction, and no other link has a shorter
+-- one.
 pub record ClosesCycle (t : ℕ) (links : List Link) (s : Shape) (c : Closing) : Type 0 where
   pub among : IsIn c.by links
   pub way : IsTrail s.live (into_in s) t c.by.from c.trail.items
   pub shortest : (l : Link) (others : List Link) → IsIn l links → IsTrail s.live (into_in s) t l.from others → length c.trail.items ≤ length others
 
--- No way leads back to the transaction from where a link begins.
+-- No trail leads back to the transaction from where a link begins.
 abbrev pub ClosesNone : ℕ → List Link → Shape → Type 0
 ClosesNone t links s = (l : Link) (trail : List Link) → IsIn l links → IsTrail s.live (into_in s) t l.from trail → ⊥
 
--- From a place on, those that a transaction reaches, put behind the others.
+-- The live transactions from a place on, with those that t reaches moved after the others.
 pub record ArePushedBack (t place : ℕ) (links : List Link) (s : Shape) (numbers : List ℕ) : Type 0 where
   pub keys : List ℕ
   pub has : HasMarks keys (marked (λ y. y == t) (into_in s) [] (drop place s.live))

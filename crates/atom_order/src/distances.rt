@@ -1,4 +1,4 @@
-//! Distances: the least number of links that lead back from a transaction to another one.
+//! Distances: the least number of links that lead back from one transaction to another.
 
 ghost use Rattle.std.specs.Prelude.{◌++◌, ◌∷◌, [], List};
 ghost use Rattle.atom_order.specs.Distances.{IsBest};
@@ -7,16 +7,16 @@ ghost use Rattle.atom_order.specs.declared.link.Link.{Link};
 use crate::link::Link;
 use std::collections::BTreeMap;
 
-/// A link, and the distance of the transaction that it leads from.
+/// A link, with the distance of the transaction that it leads from.
 #[derive(Clone, Copy)]
 pub struct Near {
     /// The link.
     pub link: Link,
-    /// How many links lead back from there, at the least.
+    /// The least number of links that lead back from that transaction.
     pub distance: usize,
 }
 
-/// Returns a link if its transaction is nearer than that of the best link so far, else the best.
+/// Returns the link if its transaction is nearer than that of the best link so far, else the best one.
 fn nearer(best: Option<Near>, link: Link, distances: &BTreeMap<u64, usize>) -> Option<Near>
     ensures { (links : List Link) → IsBest links distances.now.entries best → IsBest (links ++ link ∷ []) distances.now.entries result }
 {
@@ -35,7 +35,7 @@ fn nearer(best: Option<Near>, link: Link, distances: &BTreeMap<u64, usize>) -> O
     }
 }
 
-/// Returns the first of the links whose transactions have the least distance, if any has one.
+/// Returns the first link whose transaction has the least distance, if any has one.
 pub fn nearest(links: &[Link], distances: &BTreeMap<u64, usize>) -> Option<Near>
     ensures { IsBest links.now distances.now.entries result }
 {

@@ -4,7 +4,7 @@ ghost use Rattle.std.specs.Prelude.{ℕ, ◌==◌, ◌||◌, ◌&&◌, not, cond
 ghost use Rattle.std.specs.List.{list_any};
 ghost use Rattle.std.specs.Ordering.{nat_cmp};
 ghost use Rattle.atom_order.specs.declared.link.Link.{Link};
-ghost use Rattle.atom_order.specs.Reaching.{is_among, marked, unheld};
+ghost use Rattle.atom_order.specs.Reaching.{is_among, marked, to_be_dropped};
 ghost use Rattle.atom_order.specs.Shapes.{no_transactions, live_links, begun, open_in, into_in, IsUsable, IsClosing, IsLinking, ClosesCycle, AreParts};
 ghost use Rattle.velodrome.specs.Cycles.{IsIn};
 ghost use Rattle.atom_order.specs.Marking.{HasMarks, has_key};
@@ -13,12 +13,12 @@ mod shortest;
 
 use crate::link::{Closing, Link};
 use crate::links::Links;
-use crate::moves::{forget, inside, outside, rearrange, set_behind};
+use crate::moves::{forget, inside, outside, rearrange, moved_to_end};
 use std::alloc::{AllocError, Global};
 use std::collections::BTreeSet;
 use std::marker::Model;
 
-/// Transactions by number, from 1: an order of all, and links between the live ones.
+/// Transactions by number, from 1: an order of all of them, and the links between the live ones.
 #[derive(Drop)]
 pub struct Graph {
     dropped: Vec<u64>,
@@ -29,7 +29,7 @@ pub struct Graph {
     alloc: Global,
 }
 
-/// Live transactions in two parts.
+/// The live transactions from a place on, in two parts: those to drop, and the others.
 #[derive(Drop)]
 struct Parts {
     gone: Vec<u64>,
@@ -47,7 +47,7 @@ impl Model for Graph {
 }
 
 impl Graph {
-    /// No transaction yet.
+    /// Returns a graph without transactions.
     pub fn new(alloc: Global) -> Result<Self, AllocError>
         ensures { IfOk result (λ g. g ≡ no_transactions) }
     {
@@ -63,7 +63,7 @@ impl Graph {
         })
     }
 
-    /// Where a transaction stands among the live ones.
+    /// Returns the place of a transaction among the live ones, if it is live.
     fn place_of(&self, transaction: u64) -> Option<usize>
         ensures { MatchOption result (is_among transaction self.now.live ≡ false) (λ i. (i < length self.now.live) × (get_or self.now.live i 0 ≡ transaction)) }
     {
@@ -81,7 +81,7 @@ impl Graph {
         Some(place)
     }
 
-    /// Whether an open transaction reaches it, or it is open itself.
+    /// Decides whether a transaction is live: it is open, or an open one reaches it.
     pub fn is_live(&self, transaction: u64) -> bool
         ensures { result ≡ is_among transaction self.now.live }
     {
@@ -91,35 +91,35 @@ impl Graph {
         }
     }
 
-    /// The live transactions in order.
+    /// Returns the live transactions in order.
     pub fn live(&self) -> &[u64]
         ensures { result.now ≡ self.now.live }
     {
         self.live.as_slice()
     }
 
-    /// The dropped transactions in order: all before the live ones.
+    /// Returns the dropped transactions in order. All of them come before the live ones.
     pub fn dropped(&self) -> &[u64]
         ensures { result.now ≡ self.now.dropped }
     {
         self.dropped.as_slice()
     }
 
-    /// The number of the next transaction.
+    /// Returns the number of the next transaction.
     pub fn next(&self) -> u64
         ensures { result ≡ length self.now.into }
     {
         self.into.len() as u64
     }
 
-    /// Each transaction that has begun is open or closed, and has links into it. Does nothing: a caller's proof learns it.
+    /// Proves to a caller that the lists of open marks and of links have the same length. It does nothing.
     pub fn slots_fit(&self)
         ensures { length self.now.is_open ≡ length self.now.into }
     {
         let _ = &self.dropped;
     }
 
-    /// Of links, those from live transactions but this one.
+    /// Returns the links that lead from live transactions other than this one.
     pub fn live_links(&self, transaction: u64, links: &[Link]) -> Result<Vec<Link>, AllocError>
         ensures { IfOk result (λ v. v.items ≡ live_links transaction self.now.live links.now) }
     {
@@ -130,7 +130,7 @@ impl Graph {
             .collect(self.alloc)
     }
 
-    /// The next transaction begins, with these links. Where it is closed already and has none, it is dropped at once.
+    /// Begins the next transaction with these links. If it is closed and has no links, it is dropped immediately.
     /// Without memory nothing changes.
     pub fn begin(&mut self, is_open: bool, links: Vec<Link>) -> Result<(), AllocError>
         requires { length self.old.into < 2 ^ 63 }
@@ -157,7 +157,7 @@ impl Graph {
         Ok(())
     }
 
-    /// The links into a transaction: none where it hasn't begun.
+    /// Returns the links into a transaction, or none if it hasn't begun.
     fn links_into(&self, transaction: u64) -> &[Link]
         ensures { result.now ≡ into_in self.now transaction }
     {
@@ -168,7 +168,7 @@ impl Graph {
         self.into[slot].as_slice()
     }
 
-    /// Whether a transaction is open.
+    /// Decides whether a transaction is open.
     pub fn is_open(&self, transaction: u64) -> bool
         ensures { result ≡ open_in self.now transaction }
     {
@@ -179,7 +179,7 @@ impl Graph {
         self.is_open[slot]
     }
 
-    /// Whether a link leads into a transaction from a marked one.
+    /// Decides whether a link leads into a transaction from a marked one.
     fn is_led(&self, transaction: u64, marks: &BTreeSet<u64>) -> bool
         ensures { result ≡ list_any (λ (l : Link). has_key marks.now.keys l.from) (into_in self.now transaction) }
     {
@@ -188,14 +188,14 @@ impl Graph {
             .any(|link| marks.contains(&link.from))
     }
 
-    /// Whether it is this transaction, or a link leads into it from a marked one.
+    /// Decides whether y is this transaction, or a link leads into y from a marked one.
     fn is_entered(&self, y: u64, transaction: u64, marks: &BTreeSet<u64>) -> bool
         ensures { result ≡ ((y == transaction) || list_any (λ (l : Link). has_key marks.now.keys l.from) (into_in self.now y)) }
     {
         y == transaction || self.is_led(y, marks)
     }
 
-    /// Of a part of the order, a transaction and what it reaches by links within the part.
+    /// Returns the transaction and what it reaches by links, within a part of the order.
     fn reached(&self, region: &[u64], transaction: u64) -> Result<BTreeSet<u64>, AllocError>
         ensures { IfOk result (λ s. HasMarks s.keys (marked (λ y. y == transaction) (into_in self.now) [] region.now)) }
     {
@@ -208,7 +208,7 @@ impl Graph {
         Ok(marks)
     }
 
-    /// Whether a link leads into a transaction from a live one that isn't gone.
+    /// Decides whether a link leads into a transaction from a live one that is not to be dropped.
     fn is_linked(&self, transaction: u64, gone: &BTreeSet<u64>) -> bool
         ensures { result ≡ list_any (λ (l : Link). is_among l.from self.now.live && not (has_key gone.now.keys l.from)) (into_in self.now transaction) }
     {
@@ -216,7 +216,7 @@ impl Graph {
             && !gone.contains(&link.from))
     }
 
-    /// Whether it stays, once a transaction is closed and these are gone.
+    /// Decides whether y stays live after a transaction closes and these are dropped.
     fn is_held(&self, y: u64, closing: u64, gone: &BTreeSet<u64>) -> bool
         ensures { result ≡ (cond (y == closing) false (open_in self.now y)
             || list_any (λ (l : Link). is_among l.from self.now.live && not (has_key gone.now.keys l.from)) (into_in self.now y)) }
@@ -224,10 +224,10 @@ impl Graph {
         y != closing && self.is_open(y) || self.is_linked(y, gone)
     }
 
-    /// Of a part of the order, those that nothing holds once a transaction is closed.
-    fn unheld(&self, region: &[u64], closing: u64) -> Result<BTreeSet<u64>, AllocError>
+    /// Returns the transactions of a part of the order that don't stay live after one closes.
+    fn to_be_dropped(&self, region: &[u64], closing: u64) -> Result<BTreeSet<u64>, AllocError>
         ensures { IfOk result (λ s. HasMarks s.keys
-            (unheld (λ y. cond (y == closing) false (open_in self.now y)) (λ y. is_among y self.now.live) (into_in self.now) [] region.now)) }
+            (to_be_dropped (λ y. cond (y == closing) false (open_in self.now y)) (λ y. is_among y self.now.live) (into_in self.now) [] region.now)) }
     {
         let mut gone = BTreeSet::new(self.alloc);
         for y in region {
@@ -238,8 +238,8 @@ impl Graph {
         Ok(gone)
     }
 
-    /// Closes a transaction that is live: what open ones don't reach any more is dropped, behind what was before. Without
-    /// memory for it nothing changes.
+    /// Closes a live transaction. Those that open ones no longer reach are appended to the dropped ones. Without memory
+    /// nothing changes.
     pub fn close(&mut self, transaction: u64) -> Result<(), AllocError>
         requires live { is_among transaction self.old.live ≡ true }
         requires usable { IsUsable self.old }
@@ -252,7 +252,7 @@ impl Graph {
         }
     }
 
-    /// Whether a link leads into a transaction from a live one.
+    /// Decides whether a link leads into a transaction from a live one.
     fn has_live_link(&self, transaction: u64) -> bool
         ensures { result ≡ list_any (λ (l : Link). is_among l.from self.now.live) (into_in self.now transaction) }
     {
@@ -261,7 +261,7 @@ impl Graph {
             .any(|link| self.is_live(link.from))
     }
 
-    /// The live transactions from a place on.
+    /// Returns the live transactions from a place on.
     fn live_from(&self, place: usize) -> &[u64]
         requires { place < length self.now.live }
         ensures { result.now ≡ drop place self.now.live }
@@ -269,13 +269,13 @@ impl Graph {
         &self.live[place..]
     }
 
-    /// The live transactions from a place on, in two parts: those that nothing holds once one is closed, and the others.
+    /// Splits the live transactions from a place on into those that don't stay live after one closes, and the others.
     fn parts(&self, closing: u64, place: usize) -> Result<Parts, AllocError>
         requires { place < length self.now.live }
         ensures { IfOk result (λ p. AreParts closing place self.now p.gone.items p.left.items) }
     {
         let region = self.live_from(place);
-        let gone = self.unheld(region, closing)?;
+        let gone = self.to_be_dropped(region, closing)?;
         Ok(Parts {
             gone: inside(self.alloc, region, &gone)?,
             left: outside(self.alloc, region, &gone)?,
@@ -307,18 +307,18 @@ impl Graph {
         Ok(())
     }
 
-    /// Whether a link leads from a transaction at a place or behind it.
+    /// Decides whether a link leads from a transaction at this place or a later one.
     fn leads_back(&self, links: &[Link], place: usize) -> bool
         requires { place < length self.now.live }
         ensures { result ≡ list_any (λ (l : Link). is_among l.from (drop place self.now.live)) links.now }
     {
         links
             .iter()
-            .any(|link| self.stands_behind(link.from, place))
+            .any(|link| self.is_at_or_after(link.from, place))
     }
 
-    /// Whether a transaction stands at a place or behind it.
-    fn stands_behind(&self, transaction: u64, place: usize) -> bool
+    /// Decides whether a transaction is at this place or a later one.
+    fn is_at_or_after(&self, transaction: u64, place: usize) -> bool
         ensures { result ≡ is_among transaction (drop place self.now.live) }
     {
         let _ = &self.dropped;
@@ -328,8 +328,8 @@ impl Graph {
         }
     }
 
-    /// Adds links into a live transaction, and puts what it reaches after the others where a link leads back. Where one
-    /// closes a cycle, returns a shortest cycle that one closes. Then, and without memory, nothing changes.
+    /// Adds links into a live transaction. If one leads back, the transaction and what it reaches move after the
+    /// others. If some close a cycle, returns a shortest such cycle. In that case, and without memory, nothing changes.
     pub fn link(&mut self, transaction: u64, links: &[Link]) -> Result<Option<Closing>, AllocError>
         requires live { is_among transaction self.old.live ≡ true }
         requires usable { IsUsable self.old }
@@ -370,7 +370,7 @@ impl Graph {
         Ok(None)
     }
 
-    /// Adds links into the transaction at a place, and puts what is marked behind the others from there on.
+    /// Adds links into the transaction at a place, and moves the marked transactions from there on after the others.
     fn push_back(
         &mut self,
         transaction: u64,
@@ -386,7 +386,7 @@ impl Graph {
         ensures ok { OnOk result (IsLinking transaction links.now self.old self.new) }
         ensures err { OnErr result (self.new ≡ self.old) }
     {
-        let numbers = set_behind(self.alloc, self.live_from(place), marks)?;
+        let numbers = moved_to_end(self.alloc, self.live_from(place), marks)?;
         let slot = &mut self.into[transaction as usize];
         slot.append(links)?;
         rearrange(&mut self.live, &mut self.places, place, numbers.as_slice());

@@ -1,4 +1,4 @@
-//! The order of transactions and the links between those that open ones reach (Velodrome, PLDI 2008, section 4).
+//! The order of transactions, and the links between those that open ones reach (Velodrome, PLDI 2008, section 4).
 #![tactic(auto)]
 
 mod distances;

@@ -2,8 +2,8 @@
 
 use velodrome::verdict::ConflictingPair;
 
-/// A link from a transaction to the one that it is kept with: an event of the first is before, and conflicts with, one
-/// of the second.
+/// A link into a transaction, from another one. An event of that one is earlier than an event of this one, and they
+/// conflict.
 #[derive(Clone, Copy, Debug, PartialEq, Eq)]
 pub struct Link {
     /// The transaction that it leads from.
@@ -12,11 +12,12 @@ pub struct Link {
     pub pair: ConflictingPair,
 }
 
-/// A link that would close a cycle.
+/// A link that would close a cycle, with the rest of the cycle.
 #[derive(Debug, Drop)]
 pub struct Closing {
     /// The link itself.
     pub by: Link,
-    /// Links back from where it begins to where it leads, each into the transaction that the one before leads from.
+    /// The links of the cycle from where the link begins back to where it leads. Each leads into the transaction that
+    /// the one before leads from.
     pub trail: Vec<Link>,
 }

@@ -6,7 +6,7 @@ use crate::link::Link;
 use std::alloc::{AllocError, Global};
 use std::marker::Model;
 
-/// Links, which contracts see as the list of them.
+/// The links into a transaction. Contracts see them as a list.
 #[derive(Debug, Drop)]
 pub struct Links {
     links: Vec<Link>,
@@ -22,7 +22,7 @@ impl Model for Links {
 }
 
 impl Links {
-    /// No links.
+    /// Returns an empty list of links.
     pub fn new(alloc: Global) -> Self
         ensures { result ≡ [] }
     {
@@ -31,21 +31,21 @@ impl Links {
         }
     }
 
-    /// These links.
+    /// Wraps a list of links.
     pub fn from_vec(links: Vec<Link>) -> Self
         ensures { result ≡ links.items }
     {
         Links { links }
     }
 
-    /// The links in order.
+    /// Returns the links in order.
     pub fn as_slice(&self) -> &[Link]
         ensures { result.now ≡ self.now }
     {
         self.links.as_slice()
     }
 
-    /// Puts links behind the others. Without memory for them nothing changes.
+    /// Appends links. Without memory for them nothing changes.
     pub fn append(&mut self, more: &[Link]) -> Result<(), AllocError>
         ensures ok { OnOk result (self.new ≡ self.old ++ more.now) }
         ensures err { OnErr result (self.new ≡ self.old) }

@@ -1,4 +1,4 @@
-//! Changes of the lists that a graph is.
+//! Changes to the lists of a graph.
 
 ghost use Rattle.std.specs.Prelude.{◌≡◌, ◌≢◌, ℕ, ◌+◌, ◌<◌, ◌≤◌, ◌++◌, [], false, true, not, length, take, get_or, IfOk};
 ghost use Rattle.std.specs.List.{filter};
@@ -11,7 +11,7 @@ use crate::links::Links;
 use std::alloc::{AllocError, Global};
 use std::collections::BTreeSet;
 
-/// Of numbers, those in a set.
+/// Returns the numbers that are in a set.
 pub fn inside(alloc: Global, numbers: &[u64], set: &BTreeSet<u64>) -> Result<Vec<u64>, AllocError>
     ensures { IfOk result (λ v. v.items ≡ filter (λ x. has_key set.now.keys x) numbers.now) }
 {
@@ -22,7 +22,7 @@ pub fn inside(alloc: Global, numbers: &[u64], set: &BTreeSet<u64>) -> Result<Vec
         .collect(alloc)
 }
 
-/// Of numbers, those that aren't in a set.
+/// Returns the numbers that aren't in a set.
 pub fn outside(alloc: Global, numbers: &[u64], set: &BTreeSet<u64>) -> Result<Vec<u64>, AllocError>
     ensures { IfOk result (λ v. v.items ≡ filter (λ x. not (has_key set.now.keys x)) numbers.now) }
 {
@@ -33,8 +33,8 @@ pub fn outside(alloc: Global, numbers: &[u64], set: &BTreeSet<u64>) -> Result<Ve
         .collect(alloc)
 }
 
-/// Numbers, those of a set behind the others.
-pub fn set_behind(
+/// Returns the numbers with those of a set moved after the others.
+pub fn moved_to_end(
     alloc: Global,
     numbers: &[u64],
     set: &BTreeSet<u64>,
@@ -47,7 +47,7 @@ pub fn set_behind(
     Ok(all)
 }
 
-/// Puts numbers in the place of all from one on.
+/// Replaces all numbers from a place on.
 pub fn put_from(list: &mut Vec<u64>, place: usize, numbers: &[u64])
     requires { place + length numbers.now ≤ length list.old.items }
     ensures { list.new.items ≡ take place list.old.items ++ numbers.now }
@@ -56,7 +56,7 @@ pub fn put_from(list: &mut Vec<u64>, place: usize, numbers: &[u64])
     let _ = list.extend_from_slice(numbers);
 }
 
-/// Notes where the transactions from a place on stand.
+/// Records the places of the live transactions from one on.
 pub fn note_places(places: &mut Vec<usize>, live: &[u64], from: usize)
     requires slots { (i : ℕ) → i < length live.now → get_or live.now i 0 < length places.old.items }
     requires apart { (i j : ℕ) → i < j → j < length live.now → get_or live.now i 0 ≢ get_or live.now j 0 }
@@ -69,7 +69,7 @@ pub fn note_places(places: &mut Vec<usize>, live: &[u64], from: usize)
     }
 }
 
-/// Forgets the links into a transaction.
+/// Removes the links into a transaction.
 fn forget_one(into: &mut Vec<Links>, transaction: u64, alloc: Global)
     ensures len { length into.new.items ≡ length into.old.items }
     ensures others { (y : ℕ) → y ≢ transaction → get_or into.new.items y [] ≡ get_or into.old.items y [] }
@@ -80,7 +80,7 @@ fn forget_one(into: &mut Vec<Links>, transaction: u64, alloc: Global)
     }
 }
 
-/// Forgets the links into transactions.
+/// Removes the links into transactions.
 pub fn forget(into: &mut Vec<Links>, gone: &[u64], alloc: Global)
     ensures len { length into.new.items ≡ length into.old.items }
     ensures others { (y : ℕ) → is_among y gone.now ≡ false → get_or into.new.items y [] ≡ get_or into.old.items y [] }
@@ -90,7 +90,7 @@ pub fn forget(into: &mut Vec<Links>, gone: &[u64], alloc: Global)
     }
 }
 
-/// Puts transactions in the place of all live ones from one on, and notes where they stand.
+/// Replaces all live transactions from a place on, and records their places.
 pub fn rearrange(live: &mut Vec<u64>, places: &mut Vec<usize>, place: usize, numbers: &[u64])
     requires fits { place + length numbers.now ≤ length live.old.items }
     requires moved { IsMoved place live.old.items (take place live.old.items ++ numbers.now) }

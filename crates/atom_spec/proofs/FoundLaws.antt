@@ -1,4 +1,4 @@
--- What is found among texts and values.
+-- Look-up among texts and values.
 use Rattle.std.proofs.Common.{◌≡◌, ℕ, Bool, true, false, cond, List, [], ◌∷◌, map, Option, Some, None, Vec, Global, refl, sym, ap, ◌∙◌}
 use Rattle.std.specs.Map.{lookup, remove_entry}
 use Rattle.std.specs.Ordering.{is_eq, match_ordering, nat_cmp}
@@ -32,7 +32,7 @@ same_turned a b = nat_list_eq_equiv.symm a b
 pub same_is : (a b : List ℕ) → same_text a b ≡ true → a ≡ b
 same_is a b h = (bytes_decides a b).0 h
 
--- ---- A text that is put
+-- ---- Setting the value of a text
 
 abbrev pub key_cmp : Vec ℕ Global → Vec ℕ Global → Ordering
 key_cmp a b = slice_cmp nat_cmp a.items b.items
@@ -41,28 +41,28 @@ covered : {X : Type 0} (b : Bool) (x y z : X) → cond b x z ≡ cond b x (cond 
 covered true x y z = refl
 covered false x y z = refl
 
--- Which of two that are not the same is asked for first doesn't matter.
+-- Two tests that exclude each other may be made in either order.
 apart : {X : Type 0} (a b : Bool) (x y z : X) → (b ≡ true → a ≡ false) → cond a y (cond b x z) ≡ cond b x (cond a y z)
 apart a false x y z h = refl
 apart a true x y z h = rw (h refl) refl
 
-found_in_order : {X : Type 0} (t : Ordering) (k : Vec ℕ Global) (v : X) (e : Vec ℕ Global × X) (entries : Entries X) (q : List ℕ) → key_cmp k e.0 ≡ t
+method_in_order : {X : Type 0} (t : Ordering) (k : Vec ℕ Global) (v : X) (e : Vec ℕ Global × X) (entries : Entries X) (q : List ℕ) → key_cmp k e.0 ≡ t
     → found (seen (insert_entry key_cmp entries k v)) q ≡ cond (same_text q k.items) (Some v) (found (seen entries) q)
     → found (seen (match_ordering t ((k, v) ∷ e ∷ entries) ((e.0, v) ∷ entries) (e ∷ insert_entry key_cmp entries k v))) q ≡ cond (same_text q k.items) (Some v) (found (seen (e ∷ entries)) q)
-found_in_order Less k v e entries q is more = refl
-found_in_order Equal k v e entries q is more =
+method_in_order Less k v e entries q is more = refl
+method_in_order Equal k v e entries q is more =
     let same : k.items ≡ e.0.items = exact_bytes k.items e.0.items is in
     let here : same_text q e.0.items ≡ same_text q k.items = ap (λ l. same_text q l) (sym same) in
     ap (λ b. cond b (Some v) (found (seen entries) q)) here ∙ covered (same_text q k.items) (Some v) (Some e.1) (found (seen entries) q)
     ∙ ap (λ b. cond (same_text q k.items) (Some v) (cond b (Some e.1) (found (seen entries) q))) (sym here)
-found_in_order Greater k v e entries q is more =
+method_in_order Greater k v e entries q is more =
     ap (λ o. cond (same_text q e.0.items) (Some e.1) o) more
     ∙ apart (same_text q e.0.items) (same_text q k.items) (Some v) (Some e.1) (found (seen entries) q)
     (λ same. ap (λ l. same_text l e.0.items) (same_is q k.items same) ∙ sym (is_eq-slice_cmp k.items e.0.items) ∙ ap is_eq is)
 
 found_inserted : {X : Type 0} (entries : Entries X) (k : Vec ℕ Global) (v : X) (q : List ℕ) → found (seen (insert_entry key_cmp entries k v)) q ≡ cond (same_text q k.items) (Some v) (found (seen entries) q)
 found_inserted [] k v q = refl
-found_inserted (e ∷ entries) k v q = found_in_order (key_cmp k e.0) k v e entries q refl (found_inserted entries k v q)
+found_inserted (e ∷ entries) k v q = method_in_order (key_cmp k e.0) k v e entries q refl (found_inserted entries k v q)
 
 pub found_put : {X : Type 0} (old new : Entries X) (k : Vec ℕ Global) (text : List ℕ) (v : X) (before : List (List ℕ × X)) → k.items ≡ text → new ≡ insert_entry key_cmp old k v → seen old ≡ before
     → (q : List ℕ) → found (seen new) q ≡ cond (same_text q text) (Some v) (found before q)
@@ -70,9 +70,9 @@ found_put old new k text v before is put was q =
     ap (λ l. found (seen l) q) put ∙ found_inserted old k v q ∙ ap (λ l. cond (same_text q l) (Some v) (found (seen old) q)) is
     ∙ ap (λ l. cond (same_text q text) (Some v) (found l q)) was
 
--- ---- A text that is taken out
+-- ---- Removing the value of a text
 
--- Another text than one that is asked for isn't the one of the same entry.
+-- A text that differs from the one asked for differs from the key that matches it.
 asked_apart : (text q k : List ℕ) → is_eq (slice_cmp nat_cmp text k) ≡ true → same_text q text ≡ false → same_text q k ≡ false
 asked_apart text q k is other =
     let same : text ≡ k = same_is text k (sym (is_eq-slice_cmp text k) ∙ is) in
@@ -83,7 +83,7 @@ kept_by : {X : Type 0} (text q : List ℕ) (other : same_text q text ≡ false) 
 kept_by text q other true e entries is more = sym (ap (λ b. cond b (Some e.1) (found (seen entries) q)) (asked_apart text q e.0.items is other))
 kept_by text q other false e entries is more = ap (λ o. cond (same_text q e.0.items) (Some e.1) o) more
 
--- Other texts are found as before.
+-- The values of other texts are unchanged.
 still_found : {X : Type 0} (text q : List ℕ) (other : same_text q text ≡ false) (entries : Entries X) → found (seen (remove_entry (asks text) entries)) q ≡ found (seen entries) q
 still_found text q other [] = refl
 still_found text q other (e ∷ entries) = kept_by text q other (asks text e.0) e entries refl (still_found text q other entries)

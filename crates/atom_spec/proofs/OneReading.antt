@@ -22,7 +22,7 @@ use Rattle.atom_spec.proofs.SpecLines.{cut_line, word_clear}
 
 -- ---- Patterns
 
--- A class and a name are parted at the first dot.
+-- The first dot separates the class from the name.
 parted : (c d x y : List ℕ) → IsNameOf sort.Class c → IsNameOf sort.Class d → spelled c ++ 46 ∷ x ≡ spelled d ++ 46 ∷ y → (c ≡ d) × (x ≡ y)
 parted c d x y left right e =
     let parts = one_cut 46 (spelled c) x (spelled d) y (class_clear c left) (class_clear d right) e in
@@ -95,7 +95,7 @@ record IsWritten (line : List ℕ) : Type 0 where
   is : IsLine by_line
   text : line ≡ line_text by_line
 
--- A line that is skipped, or that of a specification.
+-- The line is skipped, or it is a line of a specification.
 abbrev IsFine : List ℕ → Type 0
 IsFine line = (is_skipped line ≡ true) ⊎ IsWritten line
 

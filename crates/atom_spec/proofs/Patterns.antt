@@ -1,4 +1,4 @@
--- Patterns, and the texts that write none.
+-- Patterns, and the texts that are none.
 use Rattle.std.proofs.Common.{◌≡◌, ◌≢◌, ℕ, ◌+◌, ◌<◌, ◌==◌, Bool, true, false, List, [], ◌∷◌, ◌++◌, Option, Some, None, refl, sym, ap, ◌∙◌, arith}
 use Rattle.std.specs.Prelude.{codes, nat_eq}
 use Rattle.std.specs.Cmp.Lexicographic.{pointwise}
@@ -20,7 +20,7 @@ use Rattle.atom_spec.specs.Parts.{dots_of, IsPatternWith}
 
 -- ---- Dots
 
--- A pattern's sort shows in its dots.
+-- The dots of a pattern's text show its kind.
 pub pattern_dots : (p : Pattern) → IsPattern p → dots_in (pattern_text p) ≡ dots_of p
 pattern_dots pattern.All is = refl
 pattern_dots (pattern.Class class) is =
@@ -29,7 +29,7 @@ pattern_dots (pattern.Named class name) is =
     joined_count (spelled class) (46 ∷ spelled name) 0 1 (name_dots sort.Class class is.0) (behind_dot (spelled name) 0 (name_dots sort.Method name is.1))
 pattern_dots (pattern.Exactly class name descriptor) is = member_dots sort.Method sort.MethodDescriptor class name descriptor is
 
--- A text with so many dots is that of a pattern with so many.
+-- A text with n dots can only be that of a pattern with n dots.
 pub of_so_many : (n : ℕ) (text : List ℕ) (o : Option Pattern) → dots_in text ≡ n → IsReadAs (IsPatternWith n) pattern_text text o → IsReadAs IsPattern pattern_text text o
 of_so_many n text (Some p) many read = (read.0.is, read.1)
 of_so_many n text None many read = λ p is e. read p (record { has = sym (pattern_dots p is) ∙ ap dots_in (sym e) ∙ many; is = is }) e
@@ -51,7 +51,7 @@ no_method text none (pattern.Class class) is e = absurd (let no = is.has in omeg
 no_method text none (pattern.Named class name) is e = absurd (let no = is.has in omega arith)
 no_method text none (pattern.Exactly class name descriptor) is e = none (method_key class name descriptor) is.is e
 
--- ---- A class, or its methods with a name
+-- ---- A class, or its methods with one name
 
 pub class_clear : (class : List ℕ) → IsNameOf sort.Class class → has 46 (spelled class) ≡ false
 class_clear class is = spelled_no_dot class (no_dot sort.Class class is)

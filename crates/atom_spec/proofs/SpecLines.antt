@@ -1,4 +1,4 @@
--- The lines of a specification, and the texts that write none.
+-- The lines of a specification, and the texts that are none.
 use Rattle.std.proofs.Common.{◌≡◌, ◌≢◌, ℕ, Bool, true, false, List, [], ◌∷◌, ◌++◌, refl, sym, ap, ◌∙◌}
 use Rattle.escapes.specs.Cuts.{has}
 use Rattle.escapes.proofs.Cutting.{one_cut, no_first}
@@ -11,7 +11,7 @@ pub word_clear : (b : Bool) → has 32 (word_text b) ≡ false
 word_clear true = refl
 word_clear false = refl
 
--- A line's text, cut at its first space.
+-- The first space cuts a line's text into its word and its pattern.
 pub cut_line : (text word rest : List ℕ) (l : SpecificationLine) → text ≡ word ++ 32 ∷ rest → has 32 word ≡ false → text ≡ line_text l → (word ≡ word_text l.is_atomic) × (rest ≡ pattern_text l.pattern)
 cut_line text word rest l split clear e =
     one_cut 32 word rest (word_text l.is_atomic) (pattern_text l.pattern) clear (word_clear l.is_atomic) (sym split ∙ e)

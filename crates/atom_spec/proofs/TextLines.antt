@@ -1,4 +1,4 @@
--- Lines that are read one behind another.
+-- Lines that are read one after another.
 use Rattle.std.proofs.Common.{◌≡◌, ◌≢◌, ℕ, suc, ◌+◌, ◌<◌, ◌≤◌, ◌==◌, Bool, true, false, cond, List, [], ◌∷◌, ◌++◌, length, refl, sym, ap, subst, ◌∙◌, append_assoc, length-append, arith}
 use Rattle.std.specs.List.{slice_split, onto_first}
 use Rattle.std.proofs.lemmas.Bool.{or_parts}
@@ -30,7 +30,7 @@ first_line (x ∷ xs) ys none =
     let both = or_parts (x == 10) (has 10 xs) none in
     first_step x xs ys both.0 (first_line xs ys both.1)
 
--- ---- One line further
+-- ---- The next line
 
 added : (line : List ℕ) (b : Bool) (old new : List SpecificationLine) (before : Lines) → b ≡ true → Adds line b old new → AreLines before old → AreLines (before ++ line ∷ []) new
 added line true old new before is adds are = adds before are

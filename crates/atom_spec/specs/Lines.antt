@@ -1,4 +1,4 @@
--- The lines of a specification, as they are written.
+-- Defines how the lines of a specification are spelled.
 use Rattle.std.specs.Prelude.{◌≡◌, ◌≢◌, ℕ, Bool, true, false, ◌==◌, if◌then◌else◌, List, [], ◌∷◌, ◌++◌, codes}
 use Rattle.jvms_program.specs.declared.key.MethodKey.{MethodKey}
 use Rattle.escapes.specs.declared.sort.NameSort.TheVariants as sort
@@ -8,35 +8,35 @@ use Rattle.velodrome.specs.declared.specification.Pattern.{Pattern}
 use Rattle.velodrome.specs.declared.specification.Pattern.TheVariants as pattern
 use Rattle.velodrome.specs.declared.specification.SpecificationLine.{SpecificationLine}
 
--- `*`, `C.*`, `C.m` and `C.m.D`
+-- Returns the text of a pattern: `*`, `C.*`, `C.m` or `C.m.D`.
 abbrev pub pattern_text : Pattern → List ℕ
 pattern_text pattern.All = codes "*"
 pattern_text (pattern.Class class) = spelled class ++ 46 ∷ codes "*"
 pattern_text (pattern.Named class name) = spelled class ++ 46 ∷ spelled name
 pattern_text (pattern.Exactly class name descriptor) = member_text class name descriptor
 
--- A pattern that a line may have: its names and its descriptor are well formed (JVMS 4.2, 4.3), and `C.*` is that of a
--- class, not of its methods that are named `*`.
+-- A line may have this pattern: its names and its descriptor are well formed (JVMS 4.2, 4.3). `C.*` is the pattern of a
+-- class, so no name in a pattern `C.m` is `*`.
 abbrev pub IsPattern : Pattern → Type 0
 IsPattern pattern.All = Unit {0}
 IsPattern (pattern.Class class) = IsNameOf sort.Class class
 IsPattern (pattern.Named class name) = IsNameOf sort.Class class × IsNameOf sort.Method name × (name ≢ codes "*")
 IsPattern (pattern.Exactly class name descriptor) = IsMember sort.Method sort.MethodDescriptor class name descriptor
 
--- What a line says of methods.
+-- Returns the word for atomic or plain.
 abbrev pub word_text : Bool → List ℕ
 word_text true = codes "atomic"
 word_text false = codes "plain"
 
--- A line as it is written: the word, one space and the pattern.
+-- Returns the text of a line: the word, one space and the pattern.
 abbrev pub line_text : SpecificationLine → List ℕ
 line_text l = word_text l.is_atomic ++ 32 ∷ pattern_text l.pattern
 
--- A line that a specification may have.
+-- A specification may have this line.
 abbrev pub IsLine : SpecificationLine → Type 0
 IsLine l = IsPattern l.pattern
 
--- A line that is empty or begins with `#` is skipped.
+-- A line is skipped if it is empty or begins with `#`.
 abbrev pub is_skipped : List ℕ → Bool
 is_skipped [] = true
 is_skipped (b ∷ bs) = b == 35

@@ -1,4 +1,4 @@
--- Specifications as texts. What stands behind the last LF is a line too, which is skipped where it is empty.
+-- Defines specifications as texts. The text after the last LF is a line too, and it is skipped if it is empty.
 use Rattle.std.specs.Prelude.{◌≡◌, ◌≢◌, ℕ, suc, Bool, false, not, ◌==◌, List, [], ◌∷◌, ◌++◌, length, filter, map, Result, Ok, Err}
 use Rattle.std.specs.List.{slice_split, AllByRecursion}
 use Rattle.velodrome.specs.declared.specification.SpecificationLine.{SpecificationLine}
@@ -6,16 +6,16 @@ use Rattle.atom_spec.specs.declared.fault.SpecFault.{SpecFault}
 use Rattle.atom_spec.specs.declared.fault.SpecFault.TheVariants as fault
 use Rattle.atom_spec.specs.Lines.{IsLine, line_text, is_skipped}
 
--- The lines of a text.
+-- Returns the lines of a text.
 abbrev pub lines_of : List ℕ → List (List ℕ)
 lines_of text = slice_split (λ b. b == 10) text
 
--- These lines, but those that are skipped, are those of a specification.
+-- The lines that are not skipped are those of the specification.
 pub record AreLines (lines : List (List ℕ)) (specification : List SpecificationLine) : Type 0 where
   pub may_stand : AllByRecursion IsLine specification
   pub written : filter (λ l. not (is_skipped l)) lines ≡ map line_text specification
 
--- Line `line` is the first that is neither skipped nor that of a specification.
+-- Line `line` is the first that is neither skipped nor a line of a specification.
 pub record IsFaulty (text : List ℕ) (line : ℕ) : Type 0 where
   pub before : List (List ℕ)
   pub here : List ℕ
@@ -27,7 +27,8 @@ pub record IsFaulty (text : List ℕ) (line : ℕ) : Type 0 where
   pub kept : is_skipped here ≡ false
   pub none : (l : SpecificationLine) → IsLine l → here ≢ line_text l
 
--- The answer is the specification that the text is, or its first faulty line. Where memory ran out it is neither.
+-- The result is the specification of the text, or its first faulty line. If memory ran out the result says nothing of
+-- the text.
 abbrev pub IsRead : List ℕ → Result (List SpecificationLine) SpecFault → Type 0
 IsRead text (Ok specification) = AreLines (lines_of text) specification
 IsRead text (Err (fault.Syntax line)) = IsFaulty text line

@@ -1,4 +1,4 @@
-//! Why a text is no specification.
+//! The reasons why a text is no specification.
 
 ghost use Rattle.std.specs.Prelude.{◌≡◌};
 ghost use Rattle.atom_spec.specs.declared.fault.SpecFault.TheVariants as fault;
@@ -6,13 +6,13 @@ ghost use Rattle.atom_spec.specs.declared.fault.SpecFault.TheVariants as fault;
 use std::alloc::AllocError;
 use thiserror::Error;
 
-/// Why a text is no specification.
+/// A reason why a text is no specification.
 #[derive(Clone, Copy, Debug, PartialEq, Eq, Error)]
 pub enum SpecFault {
-    /// E01: the first line, from 1, that is neither skipped nor that of a specification.
+    /// E01: the number of the first line, from 1, that is neither skipped nor a line of a specification.
     #[error("E01 Syntax line {line}")]
     Syntax { line: usize },
-    /// E02: there was no memory.
+    /// E02: memory ran out.
     #[error("E02 Memory")]
     Memory,
 }

@@ -1,4 +1,4 @@
-//! Which methods are to be atomic: a specification's text, and what it says of a method.
+//! Specifications: reads which methods are to be atomic, and decides it for a method.
 #![tactic(auto)]
 
 mod fault;

@@ -1,4 +1,4 @@
-//! The lines of a specification.
+//! Reads the lines of a specification.
 
 ghost use Rattle.std.specs.Prelude.{◌≡◌, IfOk};
 ghost use Rattle.escapes.specs.Readings.{IsReadAs};
@@ -7,13 +7,13 @@ ghost use Rattle.atom_spec.specs.Parts.{IsWord, Adds};
 
 use crate::pattern::pattern_of;
 use escapes::cut;
-use held::items::Items;
+use shared_data::items::Items;
 use std::alloc::{AllocError, Global};
 use velodrome::specification::SpecificationLine;
 
 const SPACE: u8 = b' ';
 
-/// Whether a line's word says `atomic`; `None` where it is neither word.
+/// Decides whether a line's word is `atomic` or `plain`. Returns `None` if it is neither.
 fn word_of(text: &[u8]) -> Option<bool>
     ensures { IsReadAs IsWord word_text text.now result }
 {
@@ -24,7 +24,7 @@ fn word_of(text: &[u8]) -> Option<bool>
     }
 }
 
-/// The line of a specification that a text writes; `None` where it writes none.
+/// Reads a line of a specification. Returns `None` if the text is none.
 fn line_of(alloc: Global, text: &[u8]) -> Result<Option<SpecificationLine>, AllocError>
     ensures { IfOk result (IsReadAs IsLine line_text text.now) }
 {
@@ -40,14 +40,15 @@ fn line_of(alloc: Global, text: &[u8]) -> Result<Option<SpecificationLine>, Allo
     }
 }
 
-/// Whether a line is skipped.
+/// Decides whether a line is skipped.
 fn is_skipped(line: &[u8]) -> bool
     ensures { result ≡ line_is_skipped line.now }
 {
     matches!(line, [] | [b'#', ..])
 }
 
-/// Puts a line behind the others, unless it is skipped. The answer is whether it is one of the two.
+/// Appends a line to the others, unless it is skipped. Returns `false` if it is neither skipped nor a line of a
+/// specification.
 pub(crate) fn add(
     alloc: Global,
     lines: &mut Items<SpecificationLine>,

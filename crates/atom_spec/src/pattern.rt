@@ -1,4 +1,4 @@
-//! The patterns of lines.
+//! Reads the patterns of lines.
 
 ghost use Rattle.std.specs.Prelude.{◌≡◌, ℕ, List, ◌==◌, IfOk, codes};
 ghost use Rattle.jvms_file.specs.Names.{same_text};
@@ -13,14 +13,14 @@ use velodrome::specification::Pattern;
 
 const DOT: u8 = b'.';
 
-/// Whether a text is a star.
+/// Decides whether a text is `*`.
 fn is_star(text: &[u8]) -> bool
     ensures { result ≡ same_text text.now (codes "*") }
 {
     text == b"*".as_slice()
 }
 
-/// The pattern that a text without dots writes: `*`.
+/// Reads the pattern `*` from a text without dots.
 fn all_of(text: &[u8]) -> Option<Pattern>
     ensures { IsReadAs (IsPatternWith 0) pattern_text text.now result }
 {
@@ -31,7 +31,7 @@ fn all_of(text: &[u8]) -> Option<Pattern>
     }
 }
 
-/// The pattern that a text with one dot writes: `C.*` or `C.m`.
+/// Reads a pattern `C.*` or `C.m` from a text with one dot.
 fn class_or_name_of(alloc: Global, text: &[u8]) -> Result<Option<Pattern>, AllocError>
     ensures { IfOk result (IsReadAs (IsPatternWith 1) pattern_text text.now) }
 {
@@ -50,7 +50,7 @@ fn class_or_name_of(alloc: Global, text: &[u8]) -> Result<Option<Pattern>, Alloc
     }
 }
 
-/// The pattern that a text with two dots writes: `C.m.D`.
+/// Reads a pattern `C.m.D` from a text with two dots.
 fn exactly_of(alloc: Global, text: &[u8]) -> Result<Option<Pattern>, AllocError>
     ensures { IfOk result (IsReadAs (IsPatternWith 2) pattern_text text.now) }
 {
@@ -70,7 +70,7 @@ fn exactly_of(alloc: Global, text: &[u8]) -> Result<Option<Pattern>, AllocError>
     }
 }
 
-/// The pattern that a text writes; `None` where it writes none.
+/// Reads a pattern. Returns `None` if the text is none.
 pub(crate) fn pattern_of(alloc: Global, text: &[u8]) -> Result<Option<Pattern>, AllocError>
     ensures { IfOk result (IsReadAs IsPattern pattern_text text.now) }
 {

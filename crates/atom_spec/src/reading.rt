@@ -1,17 +1,17 @@
-//! The lines of a text.
+//! Reads all lines of a text.
 
 ghost use Rattle.atom_spec.specs.Specs.{IsRead};
 
 use crate::fault::SpecFault;
 use crate::line::add;
 use escapes::cut;
-use held::items::Items;
+use shared_data::items::Items;
 use std::alloc::Global;
 use velodrome::specification::SpecificationLine;
 
 const LINE_FEED: u8 = b'\n';
 
-/// The lines of a specification that a text is.
+/// Reads the lines of a specification.
 pub(crate) fn lines_of(alloc: Global, text: &[u8]) -> Result<Items<SpecificationLine>, SpecFault>
     ensures { IsRead text.now result }
 {

@@ -10,21 +10,21 @@ use crate::reading::lines_of;
 use crate::table::Table;
 use built_in::is_built_in;
 use descriptor::is_initializer_name;
-use held::items::Items;
-use held::shared::Shared;
+use shared_data::items::Items;
+use shared_data::shared::Shared;
 use jvms_program::key::MethodKey;
 use std::alloc::{AllocError, Global};
 use std::marker::Model;
 use velodrome::specification::SpecificationLine;
 
-/// Lines, and the table of what they say.
+/// The lines, and the look-up table of what they say.
 #[derive(Drop)]
 struct Parts {
     lines: Items<SpecificationLine>,
     table: Table,
 }
 
-/// Which methods are to be atomic. Contracts see the list of its lines. Copies share it.
+/// A specification of which methods are to be atomic. Contracts see the list of its lines. Copies share it.
 #[derive(Drop)]
 pub struct Spec {
     parts: Shared<Parts>,
@@ -42,7 +42,7 @@ impl Model for Spec {
     ghost invariant = { λ s. Says s.parts.table s.parts.lines };
 }
 
-/// What lines say.
+/// Returns the table of what the lines say.
 fn table_of(alloc: Global, lines: &[SpecificationLine]) -> Result<Table, AllocError>
     ensures { IfOk result (λ table. Says table lines.now) }
 {
@@ -54,14 +54,14 @@ fn table_of(alloc: Global, lines: &[SpecificationLine]) -> Result<Table, AllocEr
 }
 
 impl Spec {
-    /// The specification that a text is. Each line is ended by LF, which the last may lack.
+    /// Reads a specification. LF ends each line, and the last may lack it.
     ///
     /// # Errors
     ///
-    /// E01 with the first line, from 1, that is neither empty, nor begins with `#`, nor is `atomic` or `plain`, one space
-    /// and a pattern; E02 where there was no memory.
+    /// E01 with the number of the first faulty line, from 1. A line is faulty unless it is empty, begins with `#`, or
+    /// is `atomic` or `plain`, one space and a pattern. E02 if memory ran out.
     pub fn read(alloc: Global, text: &str) -> Result<Spec, SpecFault>
-        // The specification that the text is, or its first faulty line, unless memory runs out.
+        // The result is the specification of the text, or its first faulty line, unless memory runs out.
         ensures { IsRead text.now result }
     {
         let lines = lines_of(alloc, text.as_bytes())?;
@@ -71,7 +71,7 @@ impl Spec {
         })
     }
 
-    /// Returns the same specification once more. It takes no memory, however many lines there are.
+    /// Clones the specification. The clone shares its lines, however many there are.
     pub fn copy(&self) -> Result<Spec, AllocError>
         ensures { IfOk result (λ spec. spec ≡ self.now) }
     {
@@ -80,14 +80,14 @@ impl Spec {
         })
     }
 
-    /// The lines in order.
+    /// Returns the lines in order.
     pub fn lines(&self) -> &[SpecificationLine]
         ensures { result.now ≡ self.now }
     {
         self.parts.get().lines.as_slice()
     }
 
-    /// Whether a method is to be atomic: the last line that speaks of it decides, and without one it isn't. `<clinit>`
+    /// Decides whether a method is to be atomic. The last line about it decides, and without one it is not. `<clinit>`
     /// and the methods of built-in classes never are.
     #[tactic(auto, unfolding(velodrome::specs::Specification::is_atomic))]
     pub fn is_atomic(&self, method: &MethodKey) -> bool

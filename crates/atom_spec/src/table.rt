@@ -1,4 +1,4 @@
-//! What the lines of a specification say, by class, name and descriptor.
+//! Look-up tables of what the lines of a specification say, by class, name and descriptor.
 
 ghost use Rattle.std.specs.Prelude.{◌≡◌, ℕ, List, true, false, ◌&&◌, OnOk, if◌then◌else◌};
 ghost use Rattle.jvms_file.specs.Names.{same_text};
@@ -8,21 +8,21 @@ use jvms_program::key::MethodKey;
 use std::alloc::{AllocError, Global};
 use velodrome::specification::{Pattern, SpecificationLine};
 
-/// What is said of the methods of a class with a name: of each descriptor that lines name, and of all others.
+/// The decision for the methods of a class with one name: for each descriptor that lines name, and for all others.
 #[derive(Drop)]
 struct NameTable {
     other: bool,
     exactly: Texts<bool>,
 }
 
-/// What is said of the methods of a class: of each name that lines name, and of all others.
+/// The decision for the methods of a class: for each name that lines name, and for all others.
 #[derive(Drop)]
 struct ClassTable {
     other: bool,
     names: Texts<NameTable>,
 }
 
-/// What is said of methods: of each class that lines name, and of all others.
+/// The decision for all methods: for each class that lines name, and for all others.
 #[derive(Drop)]
 pub(crate) struct Table {
     other: bool,
@@ -32,7 +32,7 @@ pub(crate) struct Table {
 impl NameTable {
     ghost use Rattle.atom_spec.specs.Tables.{said_of_name};
 
-    /// The same of all descriptors.
+    /// Returns a table with one decision for all descriptors.
     fn new(alloc: Global, other: bool) -> NameTable
         ensures { (q : List ℕ) → said_of_name result q ≡ other }
     {
@@ -42,7 +42,7 @@ impl NameTable {
         }
     }
 
-    /// What is said of a descriptor.
+    /// Returns the decision for a descriptor.
     fn said(&self, descriptor: &[u16]) -> bool
         ensures { result ≡ said_of_name self.now descriptor.now }
     {
@@ -52,7 +52,7 @@ impl NameTable {
         }
     }
 
-    /// Says so of a descriptor.
+    /// Sets the decision for a descriptor.
     fn put(&mut self, alloc: Global, descriptor: &[u16], said: bool) -> Result<(), AllocError>
         ensures { OnOk result ((q : List ℕ) → said_of_name self.new q ≡ (if same_text q descriptor.now then said else said_of_name self.old q)) }
     {
@@ -63,7 +63,7 @@ impl NameTable {
 impl ClassTable {
     ghost use Rattle.atom_spec.specs.Tables.{said_of_name, said_of_class};
 
-    /// The same of all names.
+    /// Returns a table with one decision for all names.
     fn new(alloc: Global, other: bool) -> ClassTable
         ensures { (p q : List ℕ) → said_of_class result p q ≡ other }
     {
@@ -73,7 +73,7 @@ impl ClassTable {
         }
     }
 
-    /// What is said of a name and a descriptor.
+    /// Returns the decision for a name and a descriptor.
     fn said(&self, name: &[u16], descriptor: &[u16]) -> bool
         ensures { result ≡ said_of_class self.now name.now descriptor.now }
     {
@@ -83,7 +83,7 @@ impl ClassTable {
         }
     }
 
-    /// Takes out what is said of a name.
+    /// Removes the table of a name and returns it. Without one, returns a table of the common decision.
     fn take(&mut self, alloc: Global, name: &[u16]) -> NameTable
         ensures value { (q : List ℕ) → said_of_name result q ≡ said_of_class self.old name.now q }
         ensures others { (p q : List ℕ) → same_text p name.now ≡ false → said_of_class self.new p q ≡ said_of_class self.old p q }
@@ -94,14 +94,14 @@ impl ClassTable {
         }
     }
 
-    /// Says so of a name.
+    /// Sets the decision for all methods of a name.
     fn put_name(&mut self, alloc: Global, name: &[u16], said: bool) -> Result<(), AllocError>
         ensures { OnOk result ((p q : List ℕ) → said_of_class self.new p q ≡ (if same_text p name.now then said else said_of_class self.old p q)) }
     {
         self.names.put(alloc, name, NameTable::new(alloc, said))
     }
 
-    /// Says so of a name with a descriptor.
+    /// Sets the decision for a name with a descriptor.
     fn put_exactly(
         &mut self,
         alloc: Global,
@@ -120,11 +120,11 @@ impl ClassTable {
 impl Table {
     ghost use Rattle.jvms_program.specs.declared.key.MethodKey.{MethodKey};
     ghost use Rattle.velodrome.specs.Specification.{is_of};
-    ghost use Rattle.atom_spec.specs.Tables.{said_of_class, said_of};
+    ghost use Rattle.atom_spec.specs.Tables.{said_of_class, verdict_with_text};
 
-    /// The same of all methods.
+    /// Returns a table with one decision for all methods.
     pub(crate) fn new(alloc: Global, other: bool) -> Table
-        ensures { (m : MethodKey) → said_of result m ≡ other }
+        ensures { (m : MethodKey) → verdict_with_text result m ≡ other }
     {
         Table {
             other,
@@ -132,9 +132,9 @@ impl Table {
         }
     }
 
-    /// What is said of a method.
+    /// Returns the decision for a method.
     pub(crate) fn said(&self, method: &MethodKey) -> bool
-        ensures { result ≡ said_of self.now method.now }
+        ensures { result ≡ verdict_with_text self.now method.now }
     {
         match self.classes.find(method.class.as_slice()) {
             Some(table) => table.said(method.name.as_slice(), method.descriptor.as_slice()),
@@ -142,10 +142,10 @@ impl Table {
         }
     }
 
-    /// Takes out what is said of a class.
+    /// Removes the table of a class and returns it. Without one, returns a table of the common decision.
     fn take(&mut self, alloc: Global, class: &[u16]) -> ClassTable
-        ensures value { (m : MethodKey) → same_text m.class class.now ≡ true → said_of_class result m.name m.descriptor ≡ said_of self.old m }
-        ensures others { (m : MethodKey) → same_text m.class class.now ≡ false → said_of self.new m ≡ said_of self.old m }
+        ensures value { (m : MethodKey) → same_text m.class class.now ≡ true → said_of_class result m.name m.descriptor ≡ verdict_with_text self.old m }
+        ensures others { (m : MethodKey) → same_text m.class class.now ≡ false → verdict_with_text self.new m ≡ verdict_with_text self.old m }
     {
         match self.classes.take(class) {
             Some(table) => table,
@@ -153,14 +153,14 @@ impl Table {
         }
     }
 
-    /// Says so of a class.
+    /// Sets the decision for all methods of a class.
     fn put_class(&mut self, alloc: Global, class: &[u16], said: bool) -> Result<(), AllocError>
-        ensures { OnOk result ((m : MethodKey) → said_of self.new m ≡ (if same_text m.class class.now then said else said_of self.old m)) }
+        ensures { OnOk result ((m : MethodKey) → verdict_with_text self.new m ≡ (if same_text m.class class.now then said else verdict_with_text self.old m)) }
     {
         self.classes.put(alloc, class, ClassTable::new(alloc, said))
     }
 
-    /// Says so of the methods of a class with a name.
+    /// Sets the decision for the methods of a class with one name.
     fn put_name(
         &mut self,
         alloc: Global,
@@ -168,14 +168,14 @@ impl Table {
         name: &[u16],
         said: bool,
     ) -> Result<(), AllocError>
-        ensures { OnOk result ((m : MethodKey) → said_of self.new m ≡ (if same_text m.class class.now && same_text m.name name.now then said else said_of self.old m)) }
+        ensures { OnOk result ((m : MethodKey) → verdict_with_text self.new m ≡ (if same_text m.class class.now && same_text m.name name.now then said else verdict_with_text self.old m)) }
     {
         let mut table = self.take(alloc, class);
         table.put_name(alloc, name, said)?;
         self.classes.put(alloc, class, table)
     }
 
-    /// Says so of one method.
+    /// Sets the decision for one method.
     fn put_exactly(
         &mut self,
         alloc: Global,
@@ -184,16 +184,16 @@ impl Table {
         descriptor: &[u16],
         said: bool,
     ) -> Result<(), AllocError>
-        ensures { OnOk result ((m : MethodKey) → said_of self.new m ≡ (if same_text m.class class.now && same_text m.name name.now && same_text m.descriptor descriptor.now then said else said_of self.old m)) }
+        ensures { OnOk result ((m : MethodKey) → verdict_with_text self.new m ≡ (if same_text m.class class.now && same_text m.name name.now && same_text m.descriptor descriptor.now then said else verdict_with_text self.old m)) }
     {
         let mut table = self.take(alloc, class);
         table.put_exactly(alloc, name, descriptor, said)?;
         self.classes.put(alloc, class, table)
     }
 
-    /// Says what a line says.
+    /// Sets the decision of a line for all methods of its pattern.
     pub(crate) fn put(&mut self, alloc: Global, line: &SpecificationLine) -> Result<(), AllocError>
-        ensures { OnOk result ((m : MethodKey) → said_of self.new m ≡ (if is_of line.now.pattern m then line.now.is_atomic else said_of self.old m)) }
+        ensures { OnOk result ((m : MethodKey) → verdict_with_text self.new m ≡ (if is_of line.now.pattern m then line.now.is_atomic else verdict_with_text self.old m)) }
     {
         let said = line.is_atomic;
         match &line.pattern {

@@ -1,4 +1,4 @@
-//! Values by texts.
+//! A map from texts to values.
 
 ghost use Rattle.std.specs.Prelude.{◌≡◌, ℕ, List, [], false, Some, OnOk, if◌then◌else◌};
 ghost use Rattle.std.specs.Option.{option_copied};
@@ -9,7 +9,7 @@ use std::alloc::{AllocError, Global};
 use std::collections::BTreeMap;
 use std::marker::Model;
 
-/// Values by texts, in the texts' order. Contracts see the list of both.
+/// A map from texts to values, in the texts' order. Contracts see the list of its entries.
 #[derive(Drop)]
 pub(crate) struct Texts<V> {
     values: BTreeMap<Vec<u16>, V>,
@@ -24,7 +24,7 @@ impl<V> Model for Texts<V> {
 }
 
 impl<V> Texts<V> {
-    /// No value of any text.
+    /// Returns an empty map.
     pub(crate) fn new(alloc: Global) -> Self
         ensures { result ≡ [] }
     {
@@ -33,14 +33,14 @@ impl<V> Texts<V> {
         }
     }
 
-    /// The value of a text.
+    /// Returns the value of a text.
     pub(crate) fn find(&self, text: &[u16]) -> Option<&V>
         ensures { option_copied result ≡ found self.now text.now }
     {
         self.values.get(text)
     }
 
-    /// Takes the value of a text out.
+    /// Removes the value of a text and returns it.
     pub(crate) fn take(&mut self, text: &[u16]) -> Option<V>
         ensures value { result ≡ found self.old text.now }
         ensures others { (q : List ℕ) → same_text q text.now ≡ false → found self.new q ≡ found self.old q }
@@ -48,7 +48,7 @@ impl<V> Texts<V> {
         self.values.remove(text)
     }
 
-    /// Puts the value of a text.
+    /// Sets the value of a text.
     pub(crate) fn put(&mut self, alloc: Global, text: &[u16], value: V) -> Result<(), AllocError>
     where
         V: Drop,

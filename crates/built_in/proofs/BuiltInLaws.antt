@@ -14,7 +14,7 @@ any_append p (x ∷ xs) ys = or_step (p x) (list_any p xs) (list_any p ys) (list
     or_step true b c d h = refl
     or_step false b c d h = h
 
--- A class that is built in is one of those below Throwable, or another.
+-- A built-in class is one of those below Throwable, or another.
 pub built_in_when : (name : List ℕ) (a b : Bool) → a ≡ list_any (λ (c : Class). same_text c.name name) ordinary_classes
     → b ≡ list_any (λ (c : Class). same_text c.name name) (drop 1 throwable_classes) → (a || b) ≡ is_built_in name
 unfolding is_built_in built_in_classes

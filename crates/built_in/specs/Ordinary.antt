@@ -1,4 +1,4 @@
--- The built-in classes but for those below Throwable.
+-- The built-in classes, except those below Throwable (own).
 use Rattle.std.specs.Prelude.{true, List, [], ◌∷◌, codes}
 use Rattle.jvms_program.specs.declared.program.Class.{Class}
 use Rattle.jvms_program.specs.BuiltIn.{object, object_class, class_with, interface_with, field, print_stream_class, thread_class, runnable_class, throwable_class}

@@ -15,7 +15,7 @@ use crate::throwables::{BELOW, push_below, throwable_class};
 use jvms_program::program::Class;
 use std::alloc::{AllocError, Global};
 
-/// The names of the built-in classes but for those below Throwable.
+/// The names of the built-in classes, except those below Throwable.
 const ORDINARY: [&str; 10] = [
     "java/lang/Object",
     "java/lang/String",
@@ -29,7 +29,7 @@ const ORDINARY: [&str; 10] = [
     "java/lang/Throwable",
 ];
 
-/// Puts the built-in classes but for those below Throwable.
+/// Appends the built-in classes, except those below Throwable, to an empty list.
 fn put_ordinary(alloc: Global, classes: &mut Vec<Class>) -> Result<(), AllocError>
     requires { classes.old.items ≡ [] }
     ensures { OnOk result (classes.new.items ≡ ordinary_classes) }
@@ -47,7 +47,7 @@ fn put_ordinary(alloc: Global, classes: &mut Vec<Class>) -> Result<(), AllocErro
     Ok(())
 }
 
-/// The built-in classes.
+/// Returns the built-in classes.
 pub fn built_in_classes(alloc: Global) -> Result<Vec<Class>, AllocError>
     ensures { IfOk result (λ classes. classes.items ≡ built_in_classes) }
 {
@@ -57,21 +57,21 @@ pub fn built_in_classes(alloc: Global) -> Result<Vec<Class>, AllocError>
     Ok(classes)
 }
 
-/// Whether a name is one of these.
+/// Decides whether a name is one of these.
 fn is_one_of(names: &[&str], name: &[u16]) -> bool
     ensures { result ≡ list_any (λ n. same_text n.now name.now) names.now }
 {
     names.iter().any(|n| is_text(n, name))
 }
 
-/// Whether a name is that of one of these classes below Throwable.
+/// Decides whether a name is that of one of these classes below Throwable.
 fn is_below(below: &[(&str, &str)], name: &[u16]) -> bool
     ensures { result ≡ list_any (λ p. same_text p.1.now name.now) below.now }
 {
     below.iter().any(|(_, n)| is_text(n, name))
 }
 
-/// Whether a class is built in, by its name.
+/// Decides whether a class of this name is built in.
 pub fn is_built_in(name: &[u16]) -> bool
     ensures { result ≡ is_built_in name.now }
 {

@@ -6,16 +6,16 @@ ghost use Rattle.jvms_program.specs.BuiltIn.{object, class_with, interface_with,
 use crate::code::{call_run, load, return_void, target_field};
 use crate::members::{abstracted, coded, field, native};
 use crate::text::text;
-use held::items::Items;
-use held::shared::Text;
+use shared_data::items::Items;
+use shared_data::shared::Text;
 use jvms_file::insn::{Branch, FieldUse};
 use jvms_program::program::{Class, ClassKind, Field, Instruction, Method};
 use std::alloc::{AllocError, Global};
 
-/// The name of the class above all others.
+/// The name of the class that all others extend.
 pub(crate) const OBJECT: &str = "java/lang/Object";
 
-/// A class with a superclass.
+/// Creates a class with a superclass.
 pub(crate) fn class_with(
     alloc: Global,
     superclass: &str,
@@ -36,7 +36,7 @@ pub(crate) fn class_with(
     })
 }
 
-/// An interface with no superinterfaces.
+/// Creates an interface without superinterfaces.
 pub(crate) fn interface_with(
     alloc: Global,
     methods: Vec<Method>,
@@ -54,7 +54,7 @@ pub(crate) fn interface_with(
     })
 }
 
-/// Puts the methods of an object.
+/// Appends the methods of an object to an empty list.
 fn put_object_methods(alloc: Global, methods: &mut Vec<Method>) -> Result<(), AllocError>
     requires { methods.old.items ≡ [] }
     ensures { OnOk result (methods.new.items ≡ object_class.methods) }
@@ -88,7 +88,7 @@ pub(crate) fn runnable_class(alloc: Global) -> Result<Class, AllocError>
     interface_with(alloc, methods, "java/lang/Runnable")
 }
 
-/// The constructor of a thread with a target.
+/// Creates the constructor of a thread with a target.
 fn thread_constructor(alloc: Global) -> Result<Method, AllocError>
     ensures { IfOk result (λ m. m ≡ coded (codes "<init>") (codes "(Ljava/lang/Runnable;)V") (load 0 ∷ load 1 ∷ target_field FieldUse.Put ∷ return_void ∷ [])) }
 {
@@ -97,7 +97,7 @@ fn thread_constructor(alloc: Global) -> Result<Method, AllocError>
     coded(alloc, "<init>", "(Ljava/lang/Runnable;)V", code)
 }
 
-/// A thread's run, which calls the target's run, if there is a target.
+/// Creates a thread's run, which calls the target's run if there is a target.
 fn thread_run(alloc: Global) -> Result<Method, AllocError>
     ensures { IfOk result (λ m. m ≡ coded (codes "run") (codes "()V") (load 0 ∷ target_field FieldUse.Get ∷ Instruction.Branch Branch.IfNull 6 ∷ load 0 ∷ target_field FieldUse.Get ∷ call_run ∷ return_void ∷ [])) }
 {
@@ -117,7 +117,7 @@ fn thread_run(alloc: Global) -> Result<Method, AllocError>
     coded(alloc, "run", "()V", code)
 }
 
-/// The constructor of most classes, which does nothing.
+/// Creates the constructor of most classes, which does nothing.
 pub(crate) fn plain_constructor(alloc: Global) -> Result<Method, AllocError>
     ensures { IfOk result (λ m. m ≡ coded (codes "<init>") (codes "()V") (return_void ∷ [])) }
 {
@@ -125,7 +125,7 @@ pub(crate) fn plain_constructor(alloc: Global) -> Result<Method, AllocError>
     coded(alloc, "<init>", "()V", code)
 }
 
-/// Puts the methods of a thread.
+/// Appends the methods of a thread to an empty list.
 fn put_thread_methods(alloc: Global, methods: &mut Vec<Method>) -> Result<(), AllocError>
     requires { methods.old.items ≡ [] }
     ensures { OnOk result (methods.new.items ≡ thread_class.methods) }
@@ -138,7 +138,7 @@ fn put_thread_methods(alloc: Global, methods: &mut Vec<Method>) -> Result<(), Al
     Ok(())
 }
 
-/// A thread, which has a target to run.
+/// Creates the class of threads, which have a target to run.
 pub(crate) fn thread_class(alloc: Global) -> Result<Class, AllocError>
     ensures { IfOk result (λ c. c ≡ thread_class) }
 {
@@ -156,7 +156,7 @@ pub(crate) fn thread_class(alloc: Global) -> Result<Class, AllocError>
     )
 }
 
-/// Puts the methods of a stream that prints.
+/// Appends the methods of a printing stream to an empty list.
 fn put_print_methods(alloc: Global, methods: &mut Vec<Method>) -> Result<(), AllocError>
     requires { methods.old.items ≡ [] }
     ensures { OnOk result (methods.new.items ≡ print_stream_class.methods) }
@@ -171,7 +171,7 @@ fn put_print_methods(alloc: Global, methods: &mut Vec<Method>) -> Result<(), All
     Ok(())
 }
 
-/// A stream that prints.
+/// Creates the class of printing streams.
 pub(crate) fn print_stream_class(alloc: Global) -> Result<Class, AllocError>
     ensures { IfOk result (λ c. c ≡ print_stream_class) }
 {
@@ -189,7 +189,7 @@ pub(crate) fn print_stream_class(alloc: Global) -> Result<Class, AllocError>
     )
 }
 
-/// What is serializable and has no members.
+/// Creates a serializable class without members.
 pub(crate) fn serializable_class(alloc: Global, name: &str) -> Result<Class, AllocError>
     ensures { IfOk result (λ c. c ≡ class_with object (codes "java/io/Serializable" ∷ []) [] [] name.now) }
 {
@@ -199,7 +199,7 @@ pub(crate) fn serializable_class(alloc: Global, name: &str) -> Result<Class, All
     class_with(alloc, OBJECT, interfaces, fields, methods, name)
 }
 
-/// The class of the stream `out`.
+/// Creates the class with the stream `out`.
 pub(crate) fn system_class(alloc: Global) -> Result<Class, AllocError>
     ensures { IfOk result (λ c. c ≡ class_with object [] (field true (codes "out") (codes "Ljava/io/PrintStream;") ∷ []) [] (codes "java/lang/System")) }
 {

@@ -5,34 +5,34 @@ ghost use Rattle.jvms_program.specs.BuiltIn.{load, return_void, return_reference
 
 use crate::text::text;
 use descriptor::{field_type, method_type};
-use held::boxed::Boxed;
-use held::shared::Shared;
+use shared_data::boxed::Boxed;
+use shared_data::shared::Shared;
 use jvms_file::insn::{FieldUse, Invoke, Kind, LocalUse, ReturnInsn, Simple};
 use jvms_program::program::{FieldReference, Instruction, MethodReference};
 use std::alloc::{AllocError, Global};
 
-/// Pushes the reference in a local.
+/// Creates the instruction that pushes the reference in a local.
 pub(crate) fn load(local: u16) -> Instruction
     ensures { result ≡ load local }
 {
     Instruction::Simple(Simple::Local(LocalUse::Load(Kind::Reference), local))
 }
 
-/// Returns nothing.
+/// Creates the instruction that returns nothing.
 pub(crate) fn return_void() -> Instruction
     ensures { result ≡ return_void }
 {
     Instruction::Simple(Simple::Return(ReturnInsn::Void))
 }
 
-/// Returns a reference.
+/// Creates the instruction that returns a reference.
 pub(crate) fn return_reference() -> Instruction
     ensures { result ≡ return_reference }
 {
     Instruction::Simple(Simple::Return(ReturnInsn::Value(Kind::Reference)))
 }
 
-/// Uses a field.
+/// Creates an instruction on a field.
 fn field_insn(
     alloc: Global,
     how: FieldUse,
@@ -55,7 +55,7 @@ fn field_insn(
     Ok(Instruction::Field(how, Boxed::new(alloc, reference)?))
 }
 
-/// Uses a thread's target.
+/// Creates an instruction on a thread's target.
 pub(crate) fn target_field(alloc: Global, how: FieldUse) -> Result<Instruction, AllocError>
     ensures { IfOk result (λ i. i ≡ target_field how) }
 {
@@ -68,7 +68,7 @@ pub(crate) fn target_field(alloc: Global, how: FieldUse) -> Result<Instruction, 
     )
 }
 
-/// Uses a Throwable's message.
+/// Creates an instruction on a Throwable's message.
 pub(crate) fn message_field(alloc: Global, how: FieldUse) -> Result<Instruction, AllocError>
     ensures { IfOk result (λ i. i ≡ message_field how) }
 {
@@ -81,7 +81,7 @@ pub(crate) fn message_field(alloc: Global, how: FieldUse) -> Result<Instruction,
     )
 }
 
-/// Calls a Runnable's run.
+/// Creates the instruction that calls a Runnable's run.
 pub(crate) fn call_run(alloc: Global) -> Result<Instruction, AllocError>
     ensures { IfOk result (λ i. i ≡ call_run) }
 {

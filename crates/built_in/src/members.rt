@@ -5,13 +5,13 @@ ghost use Rattle.jvms_program.specs.BuiltIn.{method, coded, native, abstracted, 
 
 use crate::text::text;
 use descriptor::{field_type, method_type};
-use held::items::Items;
-use held::shared::Shared;
+use shared_data::items::Items;
+use shared_data::shared::Shared;
 use jvms_program::instructions::Instructions;
 use jvms_program::program::{Body, Field, Instruction, Method, MethodFlags};
 use std::alloc::{AllocError, Global};
 
-/// The flags of a method that has none.
+/// Returns the flags of a method that has none.
 fn no_flags() -> MethodFlags
     ensures { result ≡ no_flags }
 {
@@ -24,7 +24,7 @@ fn no_flags() -> MethodFlags
     }
 }
 
-/// A method.
+/// Creates a method.
 fn method(
     alloc: Global,
     name: &str,
@@ -47,7 +47,7 @@ fn method(
     })
 }
 
-/// A method with code.
+/// Creates a method with code, with a stack of 2 and 2 locals.
 pub(crate) fn coded(
     alloc: Global,
     name: &str,
@@ -65,7 +65,7 @@ pub(crate) fn coded(
     method(alloc, name, descriptor, no_flags(), Some(body))
 }
 
-/// A native method.
+/// Creates a native method.
 pub(crate) fn native(alloc: Global, name: &str, descriptor: &str) -> Result<Method, AllocError>
     ensures { IfOk result (λ m. m ≡ native name.now descriptor.now) }
 {
@@ -76,7 +76,7 @@ pub(crate) fn native(alloc: Global, name: &str, descriptor: &str) -> Result<Meth
     method(alloc, name, descriptor, flags, None)
 }
 
-/// An abstract method.
+/// Creates an abstract method.
 pub(crate) fn abstracted(alloc: Global, name: &str, descriptor: &str) -> Result<Method, AllocError>
     ensures { IfOk result (λ m. m ≡ abstracted name.now descriptor.now) }
 {
@@ -87,7 +87,7 @@ pub(crate) fn abstracted(alloc: Global, name: &str, descriptor: &str) -> Result<
     method(alloc, name, descriptor, flags, None)
 }
 
-/// A field.
+/// Creates a field.
 pub(crate) fn field(
     alloc: Global,
     is_static: bool,

@@ -3,11 +3,11 @@
 ghost use Rattle.std.specs.Prelude.{◌≡◌, IfOk};
 ghost use Rattle.jvms_file.specs.Names.{same_text};
 
-use held::items::Items;
-use held::shared::{Shared, Text};
+use shared_data::items::Items;
+use shared_data::shared::{Shared, Text};
 use std::alloc::{AllocError, Global};
 
-/// The units of an ASCII text.
+/// Creates the text of an ASCII string.
 pub(crate) fn text(alloc: Global, ascii: &str) -> Result<Text, AllocError>
     ensures { IfOk result (λ units. units ≡ ascii.now) }
 {
@@ -18,7 +18,7 @@ pub(crate) fn text(alloc: Global, ascii: &str) -> Result<Text, AllocError>
     Shared::new(alloc, Items::from_vec(units))
 }
 
-/// Whether bytes and units are the same text.
+/// Decides whether bytes and units are the same text.
 fn are_same(bytes: &[u8], units: &[u16]) -> bool
     ensures { result ≡ same_text bytes.now units.now }
 {
@@ -31,14 +31,14 @@ fn are_same(bytes: &[u8], units: &[u16]) -> bool
     }
 }
 
-/// Whether units are those of an ASCII text.
+/// Decides whether units are those of an ASCII string.
 pub fn is_text(ascii: &str, units: &[u16]) -> bool
     ensures { result ≡ same_text ascii.now units.now }
 {
     are_same(ascii.as_bytes(), units)
 }
 
-/// Whether a name is an ASCII text.
+/// Decides whether a name is an ASCII string.
 pub fn is_named(name: &[u16], ascii: &str) -> bool
     ensures { result ≡ same_text name.now ascii.now }
 {

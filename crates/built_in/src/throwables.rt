@@ -1,4 +1,4 @@
-//! The classes of what is thrown: Throwable and the built-in ones below it.
+//! The classes of exceptions: Throwable and the built-in ones below it.
 
 ghost use Rattle.std.specs.Prelude.{◌≡◌, ◌∷◌, ◌++◌, [], codes, map, IfOk, OnOk};
 ghost use Rattle.jvms_program.specs.BuiltIn.{coded, field, load, return_void, return_reference, message_field, throwable_constructors, throwable_class, throwable_below};
@@ -11,7 +11,7 @@ use jvms_file::insn::FieldUse;
 use jvms_program::program::{Class, Method};
 use std::alloc::{AllocError, Global};
 
-/// The built-in classes below Throwable: the superclass of each, and its name.
+/// The built-in classes below Throwable, each as the name of its superclass and its own name.
 pub(crate) const BELOW: [(&str, &str); 27] = [
     ("java/lang/Throwable", "java/lang/Exception"),
     ("java/lang/Throwable", "java/lang/Error"),
@@ -96,7 +96,7 @@ pub(crate) const BELOW: [(&str, &str); 27] = [
     ),
 ];
 
-/// The constructor that stores a message.
+/// Creates the constructor that stores a message.
 fn message_constructor(alloc: Global) -> Result<Method, AllocError>
     ensures { IfOk result (λ m. m ≡ coded (codes "<init>") (codes "(Ljava/lang/String;)V") (load 0 ∷ load 1 ∷ message_field FieldUse.Put ∷ return_void ∷ [])) }
 {
@@ -105,7 +105,7 @@ fn message_constructor(alloc: Global) -> Result<Method, AllocError>
     coded(alloc, "<init>", "(Ljava/lang/String;)V", code)
 }
 
-/// What gives the message.
+/// Creates the method that returns the message.
 fn get_message(alloc: Global) -> Result<Method, AllocError>
     ensures { IfOk result (λ m. m ≡ coded (codes "getMessage") (codes "()Ljava/lang/String;") (load 0 ∷ message_field FieldUse.Get ∷ return_reference ∷ [])) }
 {
@@ -114,7 +114,7 @@ fn get_message(alloc: Global) -> Result<Method, AllocError>
     coded(alloc, "getMessage", "()Ljava/lang/String;", code)
 }
 
-/// What Throwable and each class below it have.
+/// Creates the constructors of Throwable and of each class below it.
 fn throwable_constructors(alloc: Global) -> Result<Vec<Method>, AllocError>
     ensures { IfOk result (λ methods. methods.items ≡ throwable_constructors) }
 {
@@ -123,7 +123,7 @@ fn throwable_constructors(alloc: Global) -> Result<Vec<Method>, AllocError>
     Ok(vec![in alloc; plain, message]?)
 }
 
-/// Throwable.
+/// Creates the class Throwable.
 pub(crate) fn throwable_class(alloc: Global) -> Result<Class, AllocError>
     ensures { IfOk result (λ c. c ≡ throwable_class) }
 {
@@ -141,7 +141,7 @@ pub(crate) fn throwable_class(alloc: Global) -> Result<Class, AllocError>
     )
 }
 
-/// A class below Throwable, with its superclass.
+/// Creates a class below Throwable, with its superclass.
 fn throwable_below(alloc: Global, superclass: &str, name: &str) -> Result<Class, AllocError>
     ensures { IfOk result (λ c. c ≡ throwable_below superclass.now name.now) }
 {
@@ -151,7 +151,7 @@ fn throwable_below(alloc: Global, superclass: &str, name: &str) -> Result<Class,
     class_with(alloc, superclass, interfaces, fields, methods, name)
 }
 
-/// Puts classes below Throwable behind others.
+/// Appends classes below Throwable.
 pub(crate) fn push_below(
     alloc: Global,
     classes: &mut Vec<Class>,

@@ -1,4 +1,4 @@
--- What a book of a campaign answers.
+-- The answers of a campaign's book.
 use Rattle.std.proofs.Common.{◌≡◌, List, ◌∙◌, subst}
 use Rattle.std.specs.Prelude.{Result}
 use Rattle.jvms_program.specs.declared.program.Class.{Class}

@@ -1,4 +1,4 @@
--- What is found of the results of a table gives the numbers of those that differ.
+-- The findings for the results of a table yield the numbers of those that differ.
 use Rattle.std.proofs.Common.{◌≡◌, ℕ, zero, suc, ◌+◌, inl, inr, List, [], ◌∷◌, length, map, Option, Some, None, refl, sym, ap, ◌∙◌, subst, add-zero, add-one, zero-add, arith}
 use Rattle.std.specs.Prelude.{Result, Ok, Err, filter_map, slice_get}
 use Rattle.std.specs.List.{AllZip, range_with_len}

@@ -18,7 +18,7 @@ use Rattle.campaign_book.specs.Rows.{row_at}
 use Rattle.campaign_book.proofs.Found.{skip_right}
 use Rattle.campaign.specs.Tables.{HasNoCycle, IsBeginning, IsTable}
 
--- What is at a place of a list with one more is there without it, or is the one more.
+-- An element of a list with one more is in the list without it, or is the last one.
 get_push : (xs : List JobResult) (x : JobResult) (k : ℕ) (r : JobResult) → slice_get (xs ++ x ∷ []) k ≡ Some r → (slice_get xs k ≡ Some r) ⊎ ((k ≡ length xs) × (x ≡ r))
 get_push [] x zero r is = inr (refl, same_Some x r is)
 get_push [] x (suc k) r is = absurd (none-some r is)

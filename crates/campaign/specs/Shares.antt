@@ -1,4 +1,4 @@
--- What shares count, what a shared book answers, and what stands for a campaign until its name is chosen.
+-- Defines what shares count, what a shared book answers, and the placeholder for a campaign before its name is chosen.
 use Rattle.std.specs.Prelude.{ℕ, ◌+◌, List, [], cond, false, is_ok, Result}
 use Rattle.jvms_program.specs.declared.program.Class.{Class}
 use Rattle.jvms_machine.specs.declared.machine.Entry.TheVariants as entry
@@ -8,11 +8,11 @@ use Rattle.campaign_book.specs.declared.row.Row.{Row}
 use Rattle.campaign_book.specs.Books.{IsBook}
 use Rattle.campaign_book.specs.Rows.{IsStoring}
 
--- An entry that was stored adds 1, and any other answer nothing.
+-- A stored entry adds 1, and any other answer adds nothing.
 abbrev pub after_answer : ℕ → Result (Unit {0}) StoreFault → ℕ
 after_answer n answer = n + cond (is_ok answer) 1 0
 
--- A book of this program and this plan answered so when it was given this row: others may have stored before.
+-- A book of this program and this plan gave this answer for this row. Other workers may have stored rows before.
 abbrev pub IsAnswer : List Class → Plan → Row → Result (Unit {0}) StoreFault → Type 0
 IsAnswer program plan row answer =
     (old : List Row) × (new : List Row)

@@ -1,4 +1,4 @@
--- The table of a campaign (own).
+-- Defines the table of a campaign (own).
 use Rattle.std.specs.Prelude.{◌≡◌, ℕ, ◌+◌, ◌<◌, ◌≤◌, ◌⊎◌, List, length, true, false, Some, slice_get}
 use Rattle.jvms_program.specs.declared.program.Class.{Class}
 use Rattle.campaign_jobs.specs.declared.plan.Plan.{Plan}
@@ -6,7 +6,7 @@ use Rattle.campaign_jobs.specs.declared.result.JobResult.{JobResult}
 use Rattle.campaign_jobs.specs.Atomicities.{has_cycle}
 use Rattle.campaign_jobs.specs.Reports.{IsResultOf}
 
--- The job of a number has no cycle.
+-- The job with this number has no cycle.
 abbrev pub HasNoCycle : List Class → Plan → ℕ → Type 0
 HasNoCycle program plan number = (r : JobResult) → IsResultOf program plan number r → has_cycle r.atomicity ≡ false
 
@@ -14,7 +14,7 @@ HasNoCycle program plan number = (r : JobResult) → IsResultOf program plan num
 abbrev pub HasNoCycleAt : List JobResult → ℕ → Type 0
 HasNoCycleAt results k = (r : JobResult) → slice_get results k ≡ Some r → has_cycle r.atomicity ≡ false
 
--- The results of the jobs from 0 on. If the plan stops, none but the last has a cycle.
+-- The results are those of the jobs from 0 on. If the plan stops, none but the last has a cycle.
 pub record IsBeginning (program : List Class) (plan : Plan) (results : List JobResult) : Type 0 where
   pub within : length results ≤ plan.jobs
   pub right : (k : ℕ) (r : JobResult) → slice_get results k ≡ Some r → IsResultOf program plan k r
@@ -25,7 +25,7 @@ abbrev pub EndsWithCycle : List JobResult → Type 0
 EndsWithCycle results =
     (k : ℕ) × (r : JobResult) × (k + 1 ≡ length results) × (slice_get results k ≡ Some r) × (has_cycle r.atomicity ≡ true)
 
--- The results of all jobs or, if the plan stops, of those up to the first with a cycle.
+-- The results are those of all jobs. If the plan stops, they may end with the first that has a cycle.
 pub record IsTable (program : List Class) (plan : Plan) (results : List JobResult) : Type 0 where
   pub beginning : IsBeginning program plan results
   pub all : (length results ≡ plan.jobs) ⊎ ((plan.stop ≡ true) × EndsWithCycle results)

@@ -1,4 +1,5 @@
--- A campaign as a list of events: the next number, the bound, what each seat knows, and the book (own).
+-- Defines a campaign as a list of events on its whole state (own). The state has the next number, the bound, what
+-- each seat knows, and the book.
 use Rattle.std.specs.Prelude.{ℕ, List, [], ◌∷◌, ◌++◌, All, Option, Some, None, fold}
 use Rattle.jvms_program.specs.declared.program.Class.{Class}
 use Rattle.campaign_jobs.specs.declared.plan.Plan.{Plan}
@@ -9,12 +10,12 @@ use Rattle.campaign_book.specs.Rows.{IsRight, refusal}
 use Rattle.campaign_desk.specs.Events as desk
 use Rattle.campaign_desk.specs.Facts.{IsDesk}
 
--- A seat takes a step at the desk, or an entry is given to the book.
+-- A seat takes a step at the desk, or the book gets an entry to store.
 pub data Event : Type 0 where
   Step : desk.Event → Event
   Store : Row → Event
 
--- A seat lowers the bound by a report with a cycle, and a result that is stored is that of its job.
+-- A seat lowers the bound only by a report with a cycle, and a result that is stored is that of its job.
 abbrev pub IsEvent : List Class → Plan → Event → Type 0
 IsEvent program plan (Step (desk.Lower w number)) = HasCycle program plan number
 IsEvent program plan (Step e) = Unit {0}
@@ -24,7 +25,7 @@ pub record Whole : Type 0 where
   pub desk : desk.DeskState
   pub rows : List Row
 
--- A row is appended if there is no reason against it.
+-- Appends a row if there is no reason against it.
 abbrev pub stored : Option StoreFault → List Row → Row → List Row
 stored None rows row = rows ++ row ∷ []
 stored (Some fault) rows row = rows
@@ -39,7 +40,7 @@ after_all plan s events = fold (after plan) s events
 abbrev pub first_state : Plan → ℕ → Whole
 first_state plan workers = record { desk = desk.first_state plan.jobs workers; rows = [] }
 
--- The desk and the book fit the plan.
+-- The desk and the book are consistent with the plan.
 abbrev pub IsState : List Class → Plan → ℕ → Whole → Type 0
 IsState program plan workers s =
     IsDesk plan.jobs workers s.desk.next s.desk.bound s.desk.seats × IsBook program plan s.rows

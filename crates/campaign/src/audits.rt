@@ -1,4 +1,4 @@
-//! The audit of a table, whose jobs are run again.
+//! The audit of a table: runs its jobs again.
 
 ghost use Rattle.std.specs.Prelude.{◌≡◌, ◌<◌, ◌↔◌, IfOk, IsTrue, length};
 ghost use Rattle.campaign.specs.Audits.{AreDifferent, IsFinding, IsFindingAt};
@@ -11,7 +11,7 @@ use rayon::prelude::*;
 use std::alloc::{AllocError, Global};
 use std::thread::Threads;
 
-/// Returns whether two results are the same.
+/// Returns whether two results are equal.
 fn is_same(first: JobResult, second: JobResult) -> bool
     ensures { IsTrue result ↔ first ≡ second }
 {
@@ -22,7 +22,7 @@ fn is_same(first: JobResult, second: JobResult) -> bool
 ///
 /// # Errors
 ///
-/// There was no memory.
+/// Memory ran out.
 #[tactic(auto, using(campaign_jobs::proofs::OneResult::is_one), unfolding(crate::specs::Audits::IsFinding))]
 fn finding(
     alloc: Global,
@@ -43,12 +43,12 @@ fn finding(
     Some(Ok(number))
 }
 
-/// Runs the jobs of a table again, and returns the numbers whose result differs, in rising order. The threads are those of
-/// `rayon`.
+/// Runs the jobs of a table again, and returns the numbers of those whose result differs, in ascending order. The
+/// threads are those of `rayon`.
 ///
 /// # Errors
 ///
-/// There was no memory.
+/// Memory ran out.
 pub fn audit(
     rt: &(impl Threads + Sync),
     alloc: Global,
@@ -62,7 +62,7 @@ pub fn audit(
 {
     (0..table.results.len() as u64)
         .into_par_iter()
-        // A job is worth a thread. Else fewer than 2,048 of them would share one.
+        // Each job is worth a thread of its own. By default all jobs share one thread if they are fewer than 2,048.
         .with_min_len(1)
         .filter_map(
             |number: u64| -> Option<Result<u64, AllocError>>

@@ -1,19 +1,19 @@
-//! What is called before and after each job.
+//! Calls before and after each job.
 
 use campaign_jobs::JobResult;
 
-/// Is called before and after each job, by the thread that runs it. No lock is held then.
+/// A gate: the thread that runs a job calls it before and after. It holds no lock at those times.
 pub trait Gate {
-    /// Is called before the job of a number is run or skipped.
+    /// Runs before the job with this number is run or skipped.
     fn before(&self, number: u64);
 
-    /// Is called once the job of a number was run or skipped, unless there was no memory for it.
+    /// Runs after the job with this number was run or skipped, unless memory ran out for it.
     fn after(&self, number: u64);
 
-    /// Is called once a job was run, with its result, before that is stored. Does nothing unless a gate says otherwise.
+    /// Runs after a job was run, with its result, and before that is stored. The default does nothing.
     fn reported(&self, _number: u64, _job: JobResult) {}
 
-    /// Is called once all workers are back, by the thread that waited for them. Does nothing unless a gate says otherwise.
+    /// Runs after all workers are back, in the thread that waited for them. The default does nothing.
     fn ended(&self) {}
 }
 

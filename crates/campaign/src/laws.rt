@@ -7,12 +7,12 @@ ghost use Rattle.campaign.specs.Whole.{EventsKeep};
 ghost use Rattle.campaign_jobs.specs.declared.plan.Plan.{Plan};
 ghost use Rattle.campaign_jobs.specs.declared.result.JobResult.{JobResult};
 
-/// Each list of events leads to a state in which desk and book fit the plan.
+/// Proves that each list of events leads to a state in which desk and book are consistent with the plan.
 pub fn events_keep_a_campaign()
     ensures { EventsKeep }
 {}
 
-/// A plan has one table of a program, whoever ran which job.
+/// Proves that a plan has one table of a program, whichever worker ran which job.
 pub fn a_plan_has_one_table()
     ensures { (program : List Class) (plan : Plan) (first second : List JobResult) → IsTable program plan first → IsTable program plan second → first ≡ second }
 {}

@@ -49,7 +49,7 @@ fn hire<C: Campaign>(
     workers
 }
 
-/// Takes the shares back, and returns whether there was no memory for a worker.
+/// Moves the shares back, and returns whether memory ran out for a worker.
 fn dismiss<C: Campaign>(mut workers: Vec<Worker<C>>, shares: &mut Vec<Share<C>>) -> bool
     requires room { (vec_len shares.old ≡ 0) × (vec_len workers ≤ vec_capacity shares.old) }
     ensures { vec_len shares.new ≡ vec_len workers }
@@ -118,12 +118,12 @@ fn run_named<'a, C: Campaign + Send + Sync, G: Gate + Sync, R: Threads + Wait + 
     }
 }
 
-/// Runs the jobs of a plan on this number of workers, and returns the table. It is that of the plan, for every number of
-/// workers, whatever the gate does and in whatever order the workers take their steps. It waits for them.
+/// Runs the jobs of a plan on this number of workers, and returns the table. It waits for the workers. The table is the
+/// plan's, for every number of workers, every gate and every order of the workers' steps.
 ///
 /// # Errors
 ///
-/// G01 for more than 1,000,000 jobs, else G02 for no worker or more than 64, else G04 or G05 where there was no memory.
+/// G01 for more than 1,000,000 jobs, else G02 for no worker or more than 64. Else G04 or G05 if memory ran out.
 pub fn run_campaign<'a, G: Gate + Sync, R: Threads + Wait + Sync>(
     rt: &R,
     alloc: Global,
@@ -135,7 +135,7 @@ pub fn run_campaign<'a, G: Gate + Sync, R: Threads + Wait + Sync>(
     requires fits { IsTrue (fits program.now plan.now) }
     ensures limits { KeepsLimits plan.now.jobs workers result }
     ensures table { IfOk result (λ table. IsTable program.now plan.now table.results.items) }
-    // The book that is left is of this program and this plan. Its type keeps the rest.
+    // The book that is left is of this program and this plan. Its type ensures the rest.
     ensures book { IfErr result (KeepsBook program.now plan.now) }
 {
     match Desk::open(alloc, plan.jobs, workers) {

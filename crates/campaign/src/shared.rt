@@ -1,7 +1,7 @@
-//! The book that workers share, behind a lock.
+//! The book that workers share, guarded by a lock.
 
 ghost use Rattle.std.specs.Prelude.{◌≡◌, ◌<◌, ◌+◌, [], length, vec_len, replicate, IfOk, sum};
-ghost use Rattle.campaign_book.specs.Entries.{row_of, IsEntryOf};
+ghost use Rattle.campaign_book.specs.Entries.{transition_of, IsEntryOf};
 ghost use Rattle.campaign_book.specs.Rows.{IsStoring};
 ghost use Rattle.campaign.specs.Shares.{after_answer, IsAnswer};
 
@@ -11,7 +11,7 @@ use std::marker::{Brand, Model};
 use std::sync::ledger::{self, Blank, Ledger};
 use std::sync::{Mutex, Wait};
 
-/// One campaign, which has one program and one plan. Types that name it keep that.
+/// A campaign: one program and one plan. Types that name it depend on these.
 pub trait Campaign: Ledger {
     ghost use Rattle.std.specs.Prelude.{List};
     ghost use Rattle.jvms_program.specs.declared.program.Class.{Class};
@@ -46,7 +46,7 @@ impl<C: Campaign> Model for Share<C> {
     ghost invariant = { λ s. s.token.parts ≡ 1 };
 }
 
-/// What the lock guards: the book, and the sum of what the shares have stored.
+/// The data that the lock guards: the book, and the number of entries that the shares have stored.
 #[derive(Drop)]
 struct Guarded<'a, C: Campaign> {
     book: Book<'a>,
@@ -62,8 +62,8 @@ impl<'a, C: Campaign> Guarded<'a, C> {
         requires { IsEntryOf C.program C.plan entry }
         ensures program { self.new.book.program ≡ self.old.book.program }
         ensures plan { self.new.book.plan ≡ self.old.book.plan }
-        ensures rows { IsStoring self.old.book.plan self.old.book.rows (row_of entry.entry) result self.new.book.rows }
-        ensures answer { IsAnswer C.program C.plan (row_of entry.entry) result }
+        ensures rows { IsStoring self.old.book.plan self.old.book.rows (transition_of entry.entry) result self.new.book.rows }
+        ensures answer { IsAnswer C.program C.plan (transition_of entry.entry) result }
         ensures share { share.new ≡ after_answer share.old result }
     {
         let Guarded { book, stored } = self;
@@ -76,19 +76,19 @@ impl<'a, C: Campaign> Guarded<'a, C> {
     }
 }
 
-/// A book behind a lock. Its type keeps that the book is of the campaign that it names, and that the shares count its
-/// entries.
+/// A book guarded by a lock. Its type ensures that the book is of the campaign that it names, and that the shares count
+/// its entries.
 #[derive(Drop)]
 pub struct SharedBook<'a, C: Campaign> {
     lock: Mutex<Guarded<'a, C>>,
 }
 
 impl<'a, C: Campaign> SharedBook<'a, C> {
-    /// Puts an empty book behind a lock, and returns it with a share for each worker.
+    /// Wraps an empty book in a lock, and returns it with a share for each worker.
     ///
     /// # Errors
     ///
-    /// There was no memory.
+    /// Memory ran out.
     pub fn new(
         alloc: Global,
         blank: Blank,
@@ -111,7 +111,7 @@ impl<'a, C: Campaign> SharedBook<'a, C> {
         Ok((SharedBook { lock }, shares))
     }
 
-    /// Stores an entry while it holds the lock, and returns what `Book::store` returns. A stored entry adds 1 to the share.
+    /// Stores an entry under the lock, and returns what `Book::store` returns. A stored entry adds 1 to the share.
     pub fn put(
         &self,
         rt: &impl Wait,
@@ -120,13 +120,13 @@ impl<'a, C: Campaign> SharedBook<'a, C> {
     ) -> Result<(), StoreFault>
         // A report is of the campaign's program and plan.
         requires { IsEntryOf C.program C.plan entry }
-        ensures answer { IsAnswer C.program C.plan (row_of entry.entry) result }
+        ensures answer { IsAnswer C.program C.plan (transition_of entry.entry) result }
         ensures share { share.new ≡ after_answer share.old result }
     {
         self.lock.lock(rt).store(share, entry)
     }
 
-    /// Takes all shares back, and returns the book. It holds as many entries as they have stored.
+    /// Consumes all shares, and returns the book. It has as many entries as the shares have stored.
     pub fn close(self, mut shares: Vec<Share<C>>) -> Book<'a>
         requires { (vec_len shares ≡ C.parts) × (0 < C.parts) }
         ensures program { result.program ≡ C.program }

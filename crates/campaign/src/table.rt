@@ -1,4 +1,4 @@
-//! The table that a book leads to.
+//! The table of a campaign, made from its book.
 
 ghost use Rattle.std.specs.Prelude.{◌≡◌, ℕ, ◌<◌, IfOk, IfErr, IsTrue, None, true, ◌&&◌};
 ghost use Rattle.campaign.specs.Tables.{HasNoCycle, IsTable};
@@ -19,7 +19,7 @@ pub struct Table {
     pub results: Vec<JobResult>,
 }
 
-/// Runs a job, and stores its report. It has no entry yet.
+/// Runs a job that has no entry yet, and stores its report.
 fn run_missing<'a>(
     alloc: Global,
     book: &mut Book<'a>,
@@ -47,7 +47,7 @@ fn run_missing<'a>(
     }
 }
 
-/// Returns the result of a job that the table needs: that of the book or, if it has none, of a run, which is then stored.
+/// Returns the result of a job that the table needs. It is the book's, or else that of a run, which is then stored.
 fn result_at<'a>(
     alloc: Global,
     book: &mut Book<'a>,
@@ -80,11 +80,11 @@ fn is_last(plan: &Plan, last: JobResult) -> bool
     plan.stop && last.atomicity.has_cycle()
 }
 
-/// Returns the table of a book's program and plan. The jobs that it needs and the book lacks are run and stored.
+/// Returns the table of a book's program and plan. Runs and stores the jobs that it needs and the book lacks.
 ///
 /// # Errors
 ///
-/// There was no memory.
+/// Memory ran out.
 pub(crate) fn table_of<'a>(
     alloc: Global,
     book: &mut Book<'a>,

@@ -15,7 +15,7 @@ use program::Program;
 use std::alloc::Global;
 use std::sync::Wait;
 
-/// A worker's seat and share, and whether there was no memory for it.
+/// A worker's seat and share, and whether memory ran out for it.
 #[derive(Drop)]
 pub(crate) struct Worker<C: Campaign> {
     pub seat: Seat,
@@ -23,7 +23,7 @@ pub(crate) struct Worker<C: Campaign> {
     pub failed: bool,
 }
 
-/// What the workers of a campaign have in common. Its type keeps that all of it is of one campaign.
+/// The data that the workers of a campaign share. Its type ensures that all of it is of one campaign.
 #[derive(Drop)]
 pub(crate) struct Work<'a, 'w, C: Campaign> {
     pub alloc: Global,
@@ -37,12 +37,12 @@ pub(crate) struct Work<'a, 'w, C: Campaign> {
 }
 
 impl<'a, C: Campaign> Work<'a, '_, C> {
-    /// Stores that a number is skipped, if the bound is below it. Returns false if the job has to be run, and true also if the
-    /// book has an entry of the number.
+    /// Stores that a number is skipped, if the bound is below it. Returns `false` if the job has to be run. Returns
+    /// `true` also if the book has an entry with this number.
     ///
     /// # Errors
     ///
-    /// There was no memory.
+    /// Memory ran out.
     fn skip(&self, rt: &impl Wait, worker: &mut Worker<C>, number: u64) -> Result<bool, StoreFault>
         requires seat { IsSeatOf self.now.desk.now worker.old.seat }
         ensures seat { IsSeatOf self.now.desk.now worker.new.seat }
@@ -60,7 +60,7 @@ impl<'a, C: Campaign> Work<'a, '_, C> {
         }
     }
 
-    /// Lowers the bound by the number of a job with a cycle.
+    /// Lowers the bound to the number of a job with a cycle.
     fn lower(&self, worker: &mut Worker<C>, number: u64)
         requires seat { IsSeatOf self.now.desk.now worker.old.seat }
         requires job { number < self.now.desk.now.jobs }
@@ -74,7 +74,7 @@ impl<'a, C: Campaign> Work<'a, '_, C> {
     ///
     /// # Errors
     ///
-    /// There was no memory.
+    /// Memory ran out.
     fn run<G: Gate>(
         &self,
         rt: &impl Wait,
@@ -108,7 +108,7 @@ impl<'a, C: Campaign> Work<'a, '_, C> {
     ///
     /// # Errors
     ///
-    /// There was no memory.
+    /// Memory ran out.
     fn job<G: Gate>(
         &self,
         rt: &impl Wait,
@@ -131,7 +131,7 @@ impl<'a, C: Campaign> Work<'a, '_, C> {
         self.run(rt, gate, worker, number)
     }
 
-    /// Draws numbers, and runs or skips their jobs, until no job is left or there is no memory.
+    /// Draws numbers, and runs or skips their jobs, until no job is left or memory runs out.
     pub(crate) fn work<G: Gate>(&self, rt: &impl Wait, gate: &G, worker: &mut Worker<C>)
         requires seat { IsSeatOf self.now.desk.now worker.old.seat }
         ensures seat { IsSeatOf self.now.desk.now worker.new.seat }

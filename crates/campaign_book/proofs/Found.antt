@@ -52,7 +52,7 @@ skip_of plan rows (Skipped k because) e =
     let q = and_parts (nat_lt because k) (has_cycle_at because rows) p.1 in
     (p.0, ltb-true because k q.0, q.1)
 
--- `IsSkip` still holds once rows are appended.
+-- `IsSkip` still holds after rows are appended.
 skip_longer : (plan : Plan) (rows more : List Row) (row : Row) → IsSkip plan rows row → IsSkip plan (rows ++ more) row
 skip_longer plan rows more (Done k o) s = tt
 skip_longer plan rows more (Skipped k because) s = (s.0, s.1, ap is_some_cycle (find-append (is_at because) rows more) ∙ either (row_at because rows) s.2)
@@ -68,7 +68,7 @@ skips plan past (x ∷ xs) r =
     let rest = subst (λ (rs : List Row). All (IsSkip plan rs) xs) (append_assoc past (x ∷ []) xs) (skips plan (past ++ x ∷ []) xs r.1) in
     cons_all (IsSkip plan (past ++ x ∷ xs)) x xs (skip_longer plan past (x ∷ xs) x (skip_of plan past x (not-false (is_skippable plan past x) t.2))) rest
 
--- If the row of a number is a result with a cycle, the job of this number has one.
+-- If the row with a number is a result with a cycle, the job with this number has one.
 cycle_right : (program : List Class) (plan : Plan) (k : ℕ) (rows : List Row) → All (IsRight program plan) rows → has_cycle_at k rows ≡ true → HasCycle program plan k
 cycle_right program plan k rows all e = by (row_at k rows) refl e
   where
@@ -85,7 +85,7 @@ done_right program plan k rows n result b e =
     let f = found (IsRight program plan) k rows (Done n result) b.right e in
     subst (λ j. IsResultOf program plan j result) f.1 f.0
 
--- A number is skipped only by a plan that stops, where the result of a smaller one has a cycle.
+-- A number is skipped only by a plan that stops, and only if the result of a smaller one has a cycle.
 pub skip_right : (program : List Class) (plan : Plan) (k : ℕ) (rows : List Row) (n because : ℕ) → IsBook program plan rows → find (is_at k) rows ≡ Some (Skipped n because) → (plan.stop ≡ true) × (because < k) × HasCycle program plan because
 skip_right program plan k rows n because b e =
     let f = found (IsSkip plan rows) k rows (Skipped n because) (skips plan [] rows b.replays) e in
@@ -94,7 +94,7 @@ skip_right program plan k rows n because b e =
     let less = s.1 in
     (s.0, omega arith, cycle_right program plan because rows b.right s.2)
 
--- No later row has a number of an earlier one, and no two rows have the same number.
+-- No later row has the number of an earlier one, and no two rows have the same number.
 differ : (plan : Plan) (past rows : List Row) → Replays plan past rows → (k : ℕ) → (has_number k past ≡ true → count_by (is_at k) rows ≡ 0) × (count_by (is_at k) rows ≤ 1)
 differ plan past [] r k = ((λ _. refl), omega arith)
 differ plan past (x ∷ xs) r k = by (is_at k x) refl (differ plan (past ++ x ∷ []) xs r.1 k) (sum_by-cons (λ row. cond (is_at k row) 1 0) x xs)

@@ -1,4 +1,4 @@
--- Says what contracts see of a book, and what holds of every book.
+-- Defines what contracts see of a book, and the invariant of every book.
 use Rattle.std.specs.Prelude.{◌≡◌, ℕ, ◌<◌, List, [], All, true, count_by, length}
 use Rattle.jvms_program.specs.declared.program.Class.{Class}
 use Rattle.campaign_jobs.specs.declared.plan.Plan.{Plan}

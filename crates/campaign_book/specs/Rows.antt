@@ -1,4 +1,4 @@
--- Says which rows a book stores, and why it refuses others.
+-- Defines which rows a book stores, and why it refuses others.
 use Rattle.std.specs.Prelude.{◌≡◌, ℕ, ◌+◌, ◌==◌, nat_lt, List, [], ◌∷◌, ◌++◌, Bool, true, false, not, ◌&&◌, cond, Option, Some, None, is_some, if◌then◌else◌, Result, Ok, Err}
 use Rattle.std.specs.List.{find}
 use Rattle.jvms_program.specs.declared.program.Class.{Class}
@@ -30,7 +30,7 @@ is_done (Skipped number because) = false
 abbrev pub is_at : ℕ → Row → Bool
 is_at number row = number_of row == number
 
--- Returns the first row of a number, if there is one.
+-- Returns the first row with a number, if there is one.
 abbrev pub row_at : ℕ → List Row → Option Row
 row_at number rows = find (is_at number) rows
 
@@ -43,7 +43,7 @@ abbrev pub is_some_cycle : Option Row → Bool
 is_some_cycle None = false
 is_some_cycle (Some row) = is_cycle row
 
--- There is a row of this number, and the first is a result with a cycle.
+-- A row has this number, and the first such row is a result with a cycle.
 abbrev pub has_cycle_at : ℕ → List Row → Bool
 has_cycle_at number rows = is_some_cycle (row_at number rows)
 

@@ -12,7 +12,7 @@ use program::Program;
 use std::alloc::Global;
 use std::marker::Model;
 
-/// Stores the rows of a campaign, in order. Its type keeps that each result is that of its job, and that each row
+/// A book: the rows of a campaign, in order. Its type ensures that each result is that of its job, and that each row
 /// could be stored after those before it.
 #[derive(Drop)]
 pub struct Book<'a> {
@@ -33,7 +33,7 @@ impl<'a> Model for Book<'a> {
     ghost invariant = { λ b. IsBook b.program.now b.plan.now b.rows × (b.totals ≡ totals_of b.rows) };
 }
 
-/// Returns whether there is a row of a number and it is a result with a cycle.
+/// Returns whether the row with a number exists and is a result with a cycle.
 fn has_cycle_at(rows: &Rows, number: u64) -> bool
     ensures { result ≡ has_cycle_at number rows.now }
 {
@@ -55,7 +55,7 @@ fn is_skippable(plan: &Plan, rows: &Rows, row: &Row) -> bool
     }
 }
 
-/// Returns the first reason for which a book refuses a row, memory aside.
+/// Returns the first reason for which a book refuses a row, apart from lack of memory.
 fn refusal(plan: &Plan, rows: &Rows, row: &Row) -> Option<StoreFault>
     ensures { result ≡ refusal plan.now rows.now row.now }
 {
@@ -87,7 +87,7 @@ impl<'a> Book<'a> {
     ghost use Rattle.std.specs.Prelude.{◌≡◌, []};
     ghost use Rattle.campaign_book.specs.Rows.{row_at, IsStoring};
     ghost use Rattle.campaign_book.specs.Books.{IsBook, totals_of};
-    ghost use Rattle.campaign_book.specs.Entries.{row_of, IsEntryOf};
+    ghost use Rattle.campaign_book.specs.Entries.{transition_of, IsEntryOf};
 
     /// Returns an empty book of a program and a plan. Takes no memory.
     pub fn new(alloc: Global, program: &'a Program, plan: &'a Plan) -> Book<'a>
@@ -114,15 +114,15 @@ impl<'a> Book<'a> {
     /// Returns the first fault that applies, and then changes nothing:
     ///
     /// - G07: the number isn't below the number of jobs.
-    /// - G03: the book has an entry of this number.
-    /// - G06: the entry skips its number, and may not.
+    /// - G03: the book has an entry with this number.
+    /// - G06: the entry skips its number, and must not.
     /// - G04: memory ran out.
     pub fn store(&mut self, entry: BookEntry<'a>) -> Result<(), StoreFault>
         // If the entry is a report, it is of the book's program and plan.
         requires { IsEntryOf self.old.program self.old.plan entry }
         ensures program { self.new.program ≡ self.old.program }
         ensures plan { self.new.plan ≡ self.old.plan }
-        ensures rows { IsStoring self.old.plan self.old.rows (row_of entry.entry) result self.new.rows }
+        ensures rows { IsStoring self.old.plan self.old.rows (transition_of entry.entry) result self.new.rows }
         ensures was { IsBook self.old.program self.old.plan self.old.rows }
         ensures is { IsBook self.new.program self.new.plan self.new.rows }
     {
@@ -145,7 +145,7 @@ impl<'a> Book<'a> {
         self.rows.as_slice()
     }
 
-    /// Returns the row of a number, if there is one.
+    /// Returns the row with a number, if there is one.
     pub fn find(&self, number: u64) -> Option<Row>
         ensures row { result ≡ row_at number self.now.rows }
         ensures kept { IsBook self.now.program self.now.plan self.now.rows }

@@ -1,12 +1,12 @@
-//! What a book is given to store.
+//! The entries that a book stores.
 
 ghost use Rattle.std.specs.Prelude.{◌≡◌};
-ghost use Rattle.campaign_book.specs.Entries.{row_of};
+ghost use Rattle.campaign_book.specs.Entries.{transition_of};
 
 use crate::row::Row;
 use campaign_jobs::Report;
 
-/// Says what a book is given to store.
+/// An entry that a book stores.
 #[derive(Drop)]
 pub enum BookEntry<'a> {
     /// The report of a job.
@@ -18,7 +18,7 @@ pub enum BookEntry<'a> {
 impl BookEntry<'_> {
     /// Returns the entry as plain data.
     pub fn row(&self) -> Row
-        ensures { result ≡ row_of self.now }
+        ensures { result ≡ transition_of self.now }
     {
         match self {
             BookEntry::Done(report) => Row::Done {

@@ -7,13 +7,14 @@ ghost use Rattle.campaign_book.specs.declared.row.Row.{Row};
 ghost use Rattle.campaign_book.specs.Books.{IsBook, IsSkip};
 ghost use Rattle.campaign_book.specs.Rows.{is_at};
 
-/// A book has at most one row of each number.
+/// Proves that a book has at most one row for each number.
 pub fn numbers_differ()
     ensures { (program : List Class) (plan : Plan) (rows : List Row) → IsBook program plan rows
         → (number : ℕ) → count_by (is_at number) rows ≤ 1 }
 {}
 
-/// If a book skips a number, its plan stops, and it has the report of a smaller number with a cycle.
+/// Proves that a book skips a number only if its plan stops and the book has the report of a smaller number with a
+/// cycle.
 pub fn a_skip_has_its_cycle()
     ensures { (program : List Class) (plan : Plan) (rows : List Row) → IsBook program plan rows
         → All (IsSkip plan rows) rows }

@@ -4,16 +4,16 @@ ghost use Rattle.std.specs.Prelude.{◌≡◌};
 
 use campaign_jobs::JobResult;
 
-/// Says what an entry of a book is, as plain data.
+/// A row: an entry of a book as plain data.
 #[derive(Clone, Copy, Debug, PartialEq, Eq)]
 pub enum Row {
-    /// The result of the job of a number.
+    /// The result of the job with a number.
     Done { number: u64, result: JobResult },
     /// A number that is skipped because of another one. In a book, the other is smaller and its job has a cycle.
     Skipped { number: u64, because: u64 },
 }
 
-/// Counts the rows of a book.
+/// The totals of a book's rows.
 #[derive(Clone, Copy, Debug, PartialEq, Eq)]
 pub struct Totals {
     /// The number of rows.

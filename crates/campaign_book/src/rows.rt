@@ -8,7 +8,7 @@ use std::alloc::{AllocError, Global};
 use std::collections::BTreeMap;
 use std::marker::Model;
 
-/// Keeps the rows of a book, and finds them by their numbers. Contracts see their list.
+/// The rows of a book, which are looked up by number. Contracts see their list.
 #[derive(Drop)]
 pub(crate) struct Rows {
     list: Vec<Row>,
@@ -47,14 +47,14 @@ impl Rows {
         self.list.as_slice()
     }
 
-    /// Returns the row of a number, if there is one.
+    /// Returns the row with a number, if there is one.
     pub(crate) fn at(&self, number: u64) -> Option<Row>
         ensures { result ≡ row_at number self.now }
     {
         self.places.get(&number).copied()
     }
 
-    /// Appends a row of a new number. Nothing changes if memory runs out.
+    /// Appends a row with a new number. Nothing changes if memory runs out.
     pub(crate) fn push(&mut self, row: Row) -> Result<(), AllocError>
         requires { has_number (number_of row) self.old ≡ false }
         ensures ok { OnOk result (self.new ≡ self.old ++ row ∷ []) }

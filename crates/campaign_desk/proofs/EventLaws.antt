@@ -1,4 +1,4 @@
--- Each list of events leads to words and lists that fit each other.
+-- Each list of events leads to words and lists that are consistent with each other.
 use Rattle.std.proofs.Common.{◌≡◌, ℕ, ◌+◌, min, List, [], ◌∷◌, set, Bool, true, false, cond, refl, inl, arith}
 use Rattle.std.proofs.lemmas.Bool.Decides.{nat_tests}
 use Rattle.std.proofs.lemmas.List.Folds.{sum_by-replicate}

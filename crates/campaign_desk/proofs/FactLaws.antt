@@ -1,4 +1,4 @@
--- Each kind of step keeps that the words and the seats' lists fit each other.
+-- Each kind of step keeps the words and the seats' lists consistent with each other.
 use Rattle.std.proofs.Common.{◌≡◌, ◌≢◌, ◌⊎◌, ℕ, zero, suc, ◌+◌, ◌<◌, ◌≤◌, ◌==◌, min, List, [], ◌∷◌, ◌++◌, length, set, All, Bool, true, false, cond, nat_lt, eq-eqb, get_or, refl, sym, ap, subst, inl, inr, ⊎_elim, arith}
 use Rattle.std.specs.List.{sum_by}
 use Rattle.std.proofs.lemmas.List.Sums.{sum_by-cons, sum_by_push, get_or-le-sum_by, count_by-le-length}
@@ -35,7 +35,7 @@ module _ {A : Type 0} (f : A → ℕ) where
       omega (arith, sum_by-cons f x xs)
   get_elem-le-sum_by (x ∷ xs) (suc i) v e = omega (arith, get_elem-le-sum_by xs i v e, sum_by-cons f x xs)
 
--- what holds of all elements holds of one
+-- what all elements have, one element has
 all_get : {A : Type 0} (P : A → Type 0) (xs : List A) (i : ℕ) (v : A) → All P xs → get_elem? xs i ≡ some v → P v
 all_get P [] i v all e = absurd (some-ne-none v (sym e))
 all_get P (x ∷ xs) zero v all e = subst P (some-injective x v e) (all zero v (omega arith))
@@ -49,7 +49,7 @@ module _ (jobs workers next bound : ℕ) (seats : List Knowledge) (id : ℕ) (v 
   pub its_jobs : v.jobs ≡ jobs
   its_jobs = all_get (λ (u : Knowledge). u.jobs ≡ jobs) seats id v d.same_jobs at
 
-  -- what is counted once the seat knows w
+  -- what is counted after the seat's knowledge becomes w
   module _ (w : Knowledge) where
     abbrev after_set : List Knowledge
     after_set = set seats id w
@@ -213,7 +213,7 @@ module _ (jobs workers next bound : ℕ) (seats : List Knowledge) (id : ℕ) (v 
       by true e = job_keeps (let h = ltb-true next v.jobs e in let j = its_jobs in omega arith)
       by false e = late_draw_keeps new (let h = ltb-false next v.jobs e in let j = its_jobs in omega arith)
 
--- what holds of all numbers that are counted in a list holds of its elements
+-- what all counted numbers of a list have, its elements have
 pub all_counted : (P : ℕ → Type 0) (xs : List ℕ) → ((x : ℕ) → 0 < count_of x xs → P x) → All P xs
 all_counted P xs each k d h =
     let x = get_or xs k d in

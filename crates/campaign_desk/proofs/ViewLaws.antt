@@ -1,4 +1,4 @@
--- The seats of all views, as one list: how it changes by a step, a split and a join.
+-- The seats of all views as one list, after a step, a split and a join.
 use Rattle.std.proofs.Common.{◌≡◌, ℕ, zero, suc, ◌+◌, ◌≤◌, List, [], ◌∷◌, ◌++◌, length, set, get_or, cond, ◌==◌, inl, inr, ⊎_elim, refl, sym, ap, ◌∙◌, subst, arith}
 use Rattle.std.specs.List.{sum_by}
 use Rattle.std.proofs.lemmas.List.Sums.{sum_by-cons, sum_by-append, sum_by_push, sum_by-le, get_or-le-sum_by}

@@ -1,4 +1,4 @@
--- Says what `open` and `claim` return.
+-- Defines what `open` and `claim` return.
 use Rattle.std.specs.Prelude.{◌≡◌, ℕ, ◌<◌, ◌≤◌, All, false, ◌⊎◌, Result, Ok, Err}
 use Rattle.campaign_desk.specs.declared.fault.DeskFault.{DeskFault}
 use Rattle.campaign_desk.specs.declared.fault.DeskFault.TheVariants as fault
@@ -8,7 +8,7 @@ use Rattle.campaign_desk.specs.declared.knowledge.Knowledge.{Knowledge}
 use Rattle.campaign_desk.specs.Limits.{most_jobs, most_workers, FitsLimits}
 use Rattle.campaign_desk.specs.Knowledge.{after_done, after_draw}
 
--- The limits on jobs are tested first, then those on workers. Only within both is memory asked for.
+-- The limit on jobs is tested first, then that on workers. Memory is allocated only within both.
 abbrev pub KeepsLimits : {X : Type 0} → ℕ → ℕ → Result X DeskFault → Type 0
 KeepsLimits jobs workers (Ok x) = FitsLimits jobs workers
 KeepsLimits jobs workers (Err fault.TooManyJobs) = most_jobs < jobs

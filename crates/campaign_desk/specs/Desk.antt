@@ -1,11 +1,11 @@
--- Says what a contract sees of a desk and of a seat.
+-- Defines what a contract sees of a desk and of a seat.
 use Rattle.std.specs.Prelude.{◌≡◌, ℕ, ◌<◌, List, true, map, replicate}
 use Rattle.atomic_table.specs.Seated.{TableId}
 use Rattle.campaign_desk.specs.declared.knowledge.Knowledge.{Knowledge}
 use Rattle.campaign_desk.specs.declared.knowledge.Terms.{Terms}
 use Rattle.campaign_desk.specs.Knowledge.{first_knowledge}
 
--- A desk has a table, which no two desks share, a number of jobs, and a number of workers.
+-- A desk has a table, which no other desk has, a number of jobs, and a number of workers.
 pub record DeskValue : Type 0 where
   pub table : TableId
   pub jobs : ℕ

@@ -1,4 +1,4 @@
--- Says what a desk does, as a list of events, each of one seat.
+-- Defines what a desk does, as a list of events, each of one seat.
 use Rattle.std.specs.Prelude.{ℕ, ◌+◌, List, if◌then◌else◌, min, set, fold}
 use mathlib.Core.Option.{Option, some, none}
 use lib.ListN.{get_elem?}

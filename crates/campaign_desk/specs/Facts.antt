@@ -1,26 +1,26 @@
--- Says what holds of the two words and of the seats' lists after every list of events.
+-- Defines what every list of events ensures of the two words and of the seats' lists.
 use Rattle.std.specs.Prelude.{◌≡◌, ℕ, ◌+◌, ◌<◌, ◌≤◌, ◌==◌, List, ◌⊎◌, All, min, length}
 use Rattle.std.specs.Prelude.{nat_lt, if◌then◌else◌, count_by}
 use Rattle.std.specs.List.{sum_by}
 use Rattle.campaign_desk.specs.declared.knowledge.Knowledge.{Knowledge}
 
--- Counts a number in a list.
+-- Returns how often a number is in a list.
 abbrev pub count_of : ℕ → List ℕ → ℕ
 count_of x numbers = count_by (λ y. y == x) numbers
 
--- Counts a number in what all seats drew.
+-- Returns how often the seats drew a number.
 abbrev pub draw_count : ℕ → List Knowledge → ℕ
 draw_count x seats = sum_by (λ seat. count_of x seat.draws) seats
 
--- Counts a number in what all seats lowered the bound to.
+-- Returns how often the seats lowered the bound to a number.
 abbrev pub lowering_count : ℕ → List Knowledge → ℕ
 lowering_count x seats = sum_by (λ seat. count_of x seat.lowerings) seats
 
--- Counts a number in the bounds that all seats read.
+-- Returns how often the seats read a number as the bound.
 abbrev pub bound_count : ℕ → List Knowledge → ℕ
 bound_count x seats = sum_by (λ seat. count_of x seat.bounds) seats
 
--- Counts the seats that know that no job is left.
+-- Returns the number of seats that know that no job is left.
 abbrev pub done_count : List Knowledge → ℕ
 done_count seats = count_by (λ seat. seat.is_done) seats
 
@@ -28,7 +28,7 @@ done_count seats = count_by (λ seat. seat.is_done) seats
 abbrev pub once_below : ℕ → ℕ → ℕ
 once_below x n = if nat_lt x n then 1 else 0
 
--- The next number, the bound and the seats' lists fit each other.
+-- The next number, the bound and the seats' lists are consistent with each other.
 pub record IsDesk (jobs workers next bound : ℕ) (seats : List Knowledge) : Type 0 where
   pub all_seats : length seats ≡ workers
   pub same_jobs : All (λ seat. seat.jobs ≡ jobs) seats
@@ -36,12 +36,13 @@ pub record IsDesk (jobs workers next bound : ℕ) (seats : List Knowledge) : Typ
   pub draws : (x : ℕ) → draw_count x seats ≡ once_below x (min next jobs)
   -- Each seat that is done adds at most one.
   pub next_limit : next ≤ jobs + done_count seats
-  -- A seat is done only once no job is left.
+  -- A seat is done only if no job is left.
   pub done : 0 < done_count seats → jobs ≤ next
-  -- The bound is jobs, or the least number that a seat lowered it to.
+  -- The bound is the number of jobs, or the least number to which a seat lowered it.
   pub bound_limit : bound ≤ jobs
   pub bound_is : (bound ≡ jobs) ⊎ (0 < lowering_count bound seats)
   pub bound_least : (x : ℕ) → x < bound → lowering_count x seats ≡ 0
-  -- Each bound that a seat read is jobs or a number that a seat lowered to, never below the bound.
+  -- Each bound that a seat read is the number of jobs, or a number to which a seat lowered it. It is never below the
+  -- bound.
   pub bounds_are : (x : ℕ) → 0 < bound_count x seats → (x ≡ jobs) ⊎ (0 < lowering_count x seats)
   pub bounds_least : (x : ℕ) → x < bound → bound_count x seats ≡ 0

@@ -1,4 +1,4 @@
--- Says what one seat knows, and what each kind of step adds to it.
+-- Defines what one seat knows, and what each kind of step adds to it.
 use Rattle.std.specs.Prelude.{ℕ, ◌≤◌, All, List, [], ◌∷◌, ◌++◌, replicate}
 use Rattle.std.specs.Prelude.{true, false, if◌then◌else◌, nat_lt}
 use Rattle.campaign_desk.specs.declared.knowledge.Knowledge.{Knowledge}
@@ -35,7 +35,8 @@ after_lower seat number = record seat { lowerings = seat.lowerings ++ number ∷
 abbrev pub after_bound : Knowledge → ℕ → Knowledge
 after_bound seat bound = record seat { bounds = seat.bounds ++ bound ∷ [] }
 
--- The number is at most jobs, each number that the seat lowered to, and each bound that it read.
+-- The number is at most the number of jobs, each number to which the seat lowered the bound, and each bound that it
+-- read.
 abbrev pub IsLeastFor : Knowledge → ℕ → Type 0
 IsLeastFor seat n =
     (n ≤ seat.jobs) × All (λ x. n ≤ x) seat.lowerings × All (λ x. n ≤ x) seat.bounds

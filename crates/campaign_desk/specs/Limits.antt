@@ -1,11 +1,11 @@
--- Says how many jobs and workers a desk may have.
+-- Defines how many jobs and workers a desk may have.
 use Rattle.std.specs.Prelude.{ℕ, ◌<◌, ◌≤◌}
 
--- Limits the jobs of a desk.
+-- The maximum number of jobs of a desk.
 abbrev pub most_jobs : ℕ
 most_jobs = 1000000
 
--- Limits the workers of a desk.
+-- The maximum number of workers of a desk.
 abbrev pub most_workers : ℕ
 most_workers = 64
 

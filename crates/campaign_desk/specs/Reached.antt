@@ -1,4 +1,4 @@
--- Says what holds between any two steps: a list of events leads to the words and to all views.
+-- Defines what holds between any two steps: a list of events leads to the words and to all views.
 use Rattle.std.specs.Prelude.{◌≡◌, ℕ, List, [], ◌∷◌}
 use Rattle.std.specs.List.{sum_by}
 use Rattle.atomic_table.specs.Table.{State}
@@ -20,17 +20,17 @@ LeadTo jobs workers next bound seats events =
     (s.next ≡ next) × (s.bound ≡ bound) × SameSeats s.seats seats
 
 -- Within the limits, some list of events leads to this next number, this bound and these seats.
-abbrev pub IsReached : ℕ → ℕ → ℕ → ℕ → List Knowledge → Type 0
-IsReached jobs workers next bound seats =
+abbrev pub IsFastDecision : ℕ → ℕ → ℕ → ℕ → List Knowledge → Type 0
+IsFastDecision jobs workers next bound seats =
     FitsLimits jobs workers × ((events : List Event) × LeadTo jobs workers next bound seats events)
 
 -- Some list of events leads to the words of a table and to the seats of all its views.
 abbrev pub IsReachedTable : {S : Type 0} → Terms → State S (List Knowledge) → Type 0
 IsReachedTable terms table =
     (next : ℕ) × (bound : ℕ) × (table.words ≡ next ∷ bound ∷ [])
-    × IsReached terms.jobs terms.workers next bound (seats_of table.views)
+    × IsFastDecision terms.jobs terms.workers next bound (seats_of table.views)
 
--- These events lead to words and lists that fit each other.
+-- These events lead to words and lists that are consistent with each other.
 abbrev pub LeadToDesk : ℕ → ℕ → List Event → Type 0
 LeadToDesk jobs workers events =
     let s = after_all (first_state jobs workers) events in

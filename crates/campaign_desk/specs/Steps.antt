@@ -1,4 +1,4 @@
--- Says what each kind of step on the table adds to the seat that takes it.
+-- Defines what each kind of step on the table adds to the seat that takes it.
 use Rattle.std.specs.Prelude.{◌≡◌, ℕ, ◌<◌, List, All}
 use Rattle.atomic_table.specs.Table.{Me, Step}
 use Rattle.campaign_desk.specs.declared.knowledge.Knowledge.{Knowledge}
@@ -22,7 +22,8 @@ module _ {S : Type 0} where
   IsLower step old bound new =
       (seat : Knowledge) → old ≡ one_seat seat → new ≡ one_seat (after_lower seat step.first)
 
-  -- A seat read the bound, which is at most all that it had lowered to or read.
+  -- A seat read the bound. It is at most each number to which the seat had lowered it, and each bound that the seat had
+  -- read.
   abbrev pub IsBound : Step S → Me S (List Knowledge) → ℕ → Me S (List Knowledge) → Type 0
   IsBound step old bound new =
       (seat : Knowledge) → old ≡ one_seat seat

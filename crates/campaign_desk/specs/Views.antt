@@ -1,4 +1,4 @@
--- Says what a view of the table is: a list of seats. The first view has all, a worker's has one.
+-- Defines a view of the table as a list of seats. The first view has all, and a worker's has one.
 use Rattle.std.specs.Prelude.{◌≡◌, List, [], ◌∷◌, ◌++◌}
 use Rattle.atomic_table.specs.Table.{Me}
 use Rattle.atomic_table.specs.Seated.{TableId}
@@ -20,11 +20,11 @@ abbrev pub other_seats : List Knowledge → List Knowledge
 other_seats [] = []
 other_seats (seat ∷ seats) = seats
 
--- Puts the seats of another view before those of a view.
+-- Returns the seats of another view followed by those of this one.
 abbrev pub joined_seats : List Knowledge → List Knowledge → List Knowledge
 joined_seats seats others = others ++ seats
 
--- A view has no seats once another view has taken them.
+-- A view has no seats after another view took them.
 abbrev pub no_seats : List Knowledge
 no_seats = []
 

@@ -1,9 +1,9 @@
-//! The desk: only `open` takes memory, and no call waits for another worker.
+//! The desk of a campaign. Only `open` allocates memory, and no call waits for another worker.
 
 ghost use Rattle.std.specs.Prelude.{◌≡◌, ◌<◌, All, vec_len, IfOk};
 ghost use Rattle.campaign_desk.specs.Knowledge.{after_lower, after_bound, IsLeastFor};
 ghost use Rattle.campaign_desk.specs.Facts.{IsDesk};
-ghost use Rattle.campaign_desk.specs.Reached.{IsReached};
+ghost use Rattle.campaign_desk.specs.Reached.{IsFastDecision};
 ghost use Rattle.campaign_desk.specs.Desk.{new_seats, knowledge_of};
 
 use crate::fault::DeskFault;
@@ -14,13 +14,13 @@ use atomic_table::Table;
 use std::alloc::Global;
 use std::marker::Model;
 
-/// Limits the jobs of a desk.
+/// The maximum number of jobs of a desk.
 const MOST_JOBS: u64 = 1_000_000;
 
-/// Limits the workers of a desk.
+/// The maximum number of workers of a desk.
 const MOST_WORKERS: u64 = 64;
 
-/// Shares two words among workers: the next number to draw, and a bound.
+/// A desk: two words that workers share, the next number to draw and a bound.
 #[derive(Drop)]
 pub struct Desk {
     table: Table<(), View, Terms, DeskRule, Global>,
@@ -45,8 +45,10 @@ impl Desk {
     /// Opens a desk, and returns it with a seat for each worker. Job 0 is the next, and the bound is the number of
     /// jobs.
     ///
-    /// `TooManyJobs` comes first, for more than 1,000,000 jobs. Then `TooManyWorkers`, for no worker or more than 64,
-    /// and `Memory`.
+    /// # Errors
+    ///
+    /// The first that applies: `TooManyJobs` for more than 1,000,000 jobs, `TooManyWorkers` for no worker or more than
+    /// 64, and `Memory` if memory ran out.
     pub fn open(alloc: Global, jobs: u64, workers: u64) -> Result<(Desk, Vec<Seat>), DeskFault>
         ensures limits { KeepsLimits jobs workers result }
         ensures desk { IfOk result (λ r. (r.0.jobs ≡ jobs) × (r.0.workers ≡ workers)) }
@@ -75,8 +77,8 @@ impl Desk {
         ))
     }
 
-    /// Returns the next job, or that none is left. Takes one load and at most one addition, and no step at a seat that
-    /// got `Done` before.
+    /// Returns the next job, or that none is left. It takes one load and at most one addition. At a seat that got
+    /// `Done` before it takes no step.
     pub fn claim(&self, seat: &mut Seat) -> Claim
         requires desk { IsSeatOf self.now seat.old }
         ensures desk { IsSeatOf self.now seat.new }
@@ -97,7 +99,7 @@ impl Desk {
         Claim::Job(number)
     }
 
-    /// Lowers the bound to a job's number, if that is less, by one step.
+    /// Lowers the bound to a job's number, if that is less, in one step.
     pub fn lower(&self, seat: &mut Seat, number: u64)
         requires desk { IsSeatOf self.now seat.old }
         requires job { number < self.now.jobs }
@@ -107,7 +109,7 @@ impl Desk {
         lower_bound(&self.table.shared, &mut seat.pass, number);
     }
 
-    /// Returns the bound, by one load: the number of jobs, or the least number that a seat has lowered it to.
+    /// Returns the bound, in one load: the number of jobs, or the least number to which a seat has lowered it.
     pub fn bound(&self, seat: &mut Seat) -> u64
         requires desk { IsSeatOf self.now seat.old }
         ensures desk { IsSeatOf self.now seat.new }
@@ -117,11 +119,12 @@ impl Desk {
         load_bound(&self.table.shared, &mut seat.pass)
     }
 
-    /// Closes the desk with all its seats, and returns the next number and the bound. What the seats know fits these.
+    /// Closes the desk with all its seats, and returns the next number and the bound. The knowledge of the seats is
+    /// consistent with them.
     pub fn close(self, mut seats: Vec<Seat>) -> (u64, u64)
         requires all { vec_len seats ≡ self.workers }
         requires desk { All (λ s. s.table ≡ self.table) seats.items }
-        ensures reached { IsReached self.jobs self.workers result.0 result.1
+        ensures reached { IsFastDecision self.jobs self.workers result.0 result.1
             (knowledge_of seats.items) }
         ensures facts { IsDesk self.jobs self.workers result.0 result.1 (knowledge_of seats.items) }
     {

@@ -1,10 +1,10 @@
-//! Why a desk is refused.
+//! The reasons why a desk is refused.
 
 ghost use Rattle.std.specs.Prelude.{◌≡◌};
 
 use thiserror::Error;
 
-/// Says why a desk is refused. The first reason that applies is returned, in this order.
+/// A reason why a desk is refused. The first reason that applies is returned, in this order.
 #[derive(Clone, Copy, Debug, PartialEq, Eq, Error)]
 pub enum DeskFault {
     /// G01: there are more than 1,000,000 jobs.

@@ -1,4 +1,4 @@
-//! What a seat knows, and the rule of the table: proofs speak of it, and no value of it is made.
+//! The knowledge of a seat, and the rule of the table. Only proofs use them, and no value of them exists at run time.
 
 ghost use Rattle.campaign_desk.specs.Reached.{IsReachedTable};
 ghost use Rattle.campaign_desk.specs.Views.{first_view, first_seat, other_seats, joined_seats, no_seats};
@@ -6,24 +6,24 @@ ghost use Rattle.campaign_desk.specs.Views.{first_view, first_seat, other_seats,
 use atomic_table::{Join, Split, TableRule};
 use std::collections::LinkedList;
 
-/// Lists what a seat's steps have returned.
+/// The knowledge of a seat: what its steps have returned.
 pub struct Knowledge {
     /// The number of jobs of its desk.
     pub jobs: u64,
-    /// The numbers that it drew, in order.
+    /// The numbers that the seat drew, in order.
     pub draws: LinkedList<u64>,
-    /// The numbers that it lowered the bound to, in order.
+    /// The numbers to which the seat lowered the bound, in order.
     pub lowerings: LinkedList<u64>,
-    /// The bounds that it read, in order.
+    /// The bounds that the seat read, in order.
     pub bounds: LinkedList<u64>,
-    /// Whether it knows that no job is left.
+    /// `true` if the seat knows that no job is left.
     pub is_done: bool,
 }
 
-/// Lists what the seats of a pass know: one seat, several, or none once another pass took them.
+/// A view: the knowledge of the seats of a pass. It has one seat, several, or none after another pass took them.
 pub type View = LinkedList<Knowledge>;
 
-/// Says what a desk is opened for.
+/// The terms of a desk: its numbers of jobs and workers.
 #[derive(Drop)]
 pub struct Terms {
     /// The number of jobs.
@@ -32,7 +32,7 @@ pub struct Terms {
     pub workers: u64,
 }
 
-/// Keeps that some list of events leads to the words and to all views.
+/// The rule of the table: some list of events leads to the words and to all views.
 pub struct DeskRule;
 
 impl TableRule<(), View, Terms> for DeskRule {
@@ -41,7 +41,8 @@ impl TableRule<(), View, Terms> for DeskRule {
     ghost first = { first_view };
 }
 
-/// Splits off the first seat of a pass, and joins the seats of two passes.
+/// The splitting and joining of passes. A split takes the first seat of a pass, and a join takes all seats of another
+/// one.
 pub struct Seats;
 
 impl Split<View> for Seats {

@@ -6,12 +6,12 @@ ghost use Rattle.campaign_desk.specs.Facts.{IsDesk};
 ghost use Rattle.campaign_desk.specs.Events.{Event};
 ghost use Rattle.campaign_desk.specs.Reached.{LeadToDesk};
 
-/// Each list of events leads to words and lists that fit each other.
+/// Proves that each list of events leads to words and lists that are consistent with each other.
 pub fn events_lead_to_a_desk()
     ensures desk { (jobs workers : ℕ) (events : List Event) → LeadToDesk jobs workers events }
 {}
 
-/// The next number is at most the number of jobs plus that of seats.
+/// Proves that the next number is at most the number of jobs plus the number of seats.
 #[tactic(auto, using(crate::proofs::FactLaws::next_most))]
 pub fn the_next_number_has_a_limit()
     ensures next { (jobs workers next bound : ℕ) (seats : List Knowledge)

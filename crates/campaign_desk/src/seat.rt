@@ -1,4 +1,4 @@
-//! A worker's seat at a desk, split off the pass of all seats and joined to it again.
+//! A worker's seat at a desk, split off the pass of all seats and later joined to it.
 
 ghost use Rattle.std.specs.Prelude.{◌≡◌, ◌<◌, ◌≤◌, [], ◌∷◌, ◌++◌, All, vec_capacity};
 ghost use Rattle.campaign_desk.specs.Knowledge.{opening_seats};
@@ -9,7 +9,7 @@ use crate::knowledge::Seats;
 use crate::steps::{Pass, Words};
 use std::marker::Model;
 
-/// Lets one worker take steps at a desk. Contracts see what these steps returned.
+/// A seat, at which one worker takes steps. Contracts see what these steps returned.
 #[derive(Drop)]
 pub struct Seat {
     pub(crate) pass: Pass,
@@ -28,16 +28,16 @@ impl Model for Seat {
     ghost invariant = { λ s. HoldsOneSeat s.pass.me × (s.is_done ≡ (seat_of s.pass.me.0).is_done) };
 }
 
-/// Says what a worker does next.
+/// The result of a claim: what a worker does next.
 #[derive(Clone, Copy, Debug, PartialEq, Eq)]
 pub enum Claim {
-    /// Run the job of this number.
+    /// The next job to run, by its number.
     Job(u64),
     /// No job is left.
     Done,
 }
 
-/// Splits a pass of all seats, and pushes each into a vector that has room for them.
+/// Splits a pass of all seats, and pushes each into a vector with capacity for them.
 pub(crate) fn split_seats(
     words: &Words,
     mut pass: Pass,

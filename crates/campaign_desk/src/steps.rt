@@ -1,4 +1,4 @@
-//! The four kinds of atomic step on a desk's two words: nothing else reads or writes them.
+//! The four kinds of atomic step on a desk's two words. Nothing else reads or writes the words.
 
 ghost use Rattle.std.specs.Prelude.{◌≡◌, ◌<◌, All, false};
 ghost use Rattle.campaign_desk.specs.Knowledge.{after_look, after_draw, after_lower, after_bound, IsLeastFor};
@@ -8,41 +8,41 @@ ghost use Rattle.campaign_desk.specs.Steps.{IsLook, IsDraw, IsLower, IsBound};
 use crate::knowledge::{DeskRule, Terms, View};
 use atomic_table::{Play, Seat, Shared};
 
-/// Holds the two words: word 0 is the next number, and word 1 the bound.
+/// The two words: word 0 is the next number, and word 1 the bound.
 pub(crate) type Words = Shared<(), View, Terms, DeskRule>;
 
-/// Takes steps on the words for the seats of its view.
+/// A pass, which takes steps on the words for the seats of its view.
 pub(crate) type Pass = Seat<(), View>;
 
-/// Marks a load of the next number.
+/// A load of the next number.
 struct Look;
 
 impl Play<(), View> for Look {
     ghost then = { IsLook };
 }
 
-/// Marks an addition of one to the next number.
+/// An addition of one to the next number.
 struct Draw;
 
 impl Play<(), View> for Draw {
     ghost then = { IsDraw };
 }
 
-/// Marks a minimum of the bound and a number.
+/// A minimum of the bound and a number.
 struct Lower;
 
 impl Play<(), View> for Lower {
     ghost then = { IsLower };
 }
 
-/// Marks a load of the bound.
+/// A load of the bound.
 struct Bound;
 
 impl Play<(), View> for Bound {
     ghost then = { IsBound };
 }
 
-/// Returns the next number, by a load.
+/// Returns the next number, in one load.
 pub(crate) fn load_next(words: &Words, pass: &mut Pass) -> u64
     requires words { IsPassOf words.now.table_id pass.old.table_id }
     requires one { HoldsOneSeat pass.old.me }
@@ -52,7 +52,7 @@ pub(crate) fn load_next(words: &Words, pass: &mut Pass) -> u64
     words.load::<Look>(pass, 0)
 }
 
-/// Returns the next number and adds one to it, by a fetch_add.
+/// Returns the next number and adds one to it, in one `fetch_add`.
 pub(crate) fn draw_next(words: &Words, pass: &mut Pass) -> u64
     requires words { IsPassOf words.now.table_id pass.old.table_id }
     requires one { HoldsOneSeat pass.old.me }
@@ -64,7 +64,7 @@ pub(crate) fn draw_next(words: &Words, pass: &mut Pass) -> u64
     words.fetch_add::<Draw>(pass, 0, 1)
 }
 
-/// Lowers the bound to a number, if that is less, by a fetch_min.
+/// Lowers the bound to a number, if that is less, in one `fetch_min`.
 pub(crate) fn lower_bound(words: &Words, pass: &mut Pass, number: u64)
     requires words { IsPassOf words.now.table_id pass.old.table_id }
     requires one { HoldsOneSeat pass.old.me }
@@ -74,7 +74,7 @@ pub(crate) fn lower_bound(words: &Words, pass: &mut Pass, number: u64)
     words.fetch_min::<Lower>(pass, 1, number);
 }
 
-/// Returns the bound, by a load.
+/// Returns the bound, in one load.
 pub(crate) fn load_bound(words: &Words, pass: &mut Pass) -> u64
     requires words { IsPassOf words.now.table_id pass.old.table_id }
     requires one { HoldsOneSeat pass.old.me }

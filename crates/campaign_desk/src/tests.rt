@@ -11,7 +11,7 @@ use std::test::*;
 use std::thread;
 use std::thread::Threads;
 
-/// Claims until no job is left, and returns the numbers of the jobs. None if memory ran out.
+/// Claims until no job is left, and returns the numbers of the jobs, or `None` if memory ran out.
 fn draw_all(alloc: Global, desk: &Desk, mut seat: Seat) -> Option<(Seat, Vec<u64>)>
     requires desk { IsSeatOf desk.now seat }
     requires first { seat.knowledge.draws ≡ [] }
@@ -31,7 +31,7 @@ fn draw_all(alloc: Global, desk: &Desk, mut seat: Seat) -> Option<(Seat, Vec<u64
     None
 }
 
-/// Opens a desk of some jobs for two workers. None if memory ran out.
+/// Opens a desk of some jobs for two workers. Returns `None` if memory ran out.
 fn open_for_two(alloc: Global, jobs: u64) -> Option<(Desk, Seat, Seat)>
     ensures jobs { IfSome result (λ r. r.0.jobs ≡ jobs) }
     ensures workers { IfSome result (λ r. r.0.workers ≡ 2) }
@@ -47,7 +47,7 @@ fn open_for_two(alloc: Global, jobs: u64) -> Option<(Desk, Seat, Seat)>
     Some((desk, first, second))
 }
 
-/// Closes a desk for two workers. None if memory ran out.
+/// Closes a desk for two workers. Returns `None` if memory ran out.
 fn close_for_two(alloc: Global, desk: Desk, first: Seat, second: Seat) -> Option<(u64, u64)>
     requires two { desk.workers ≡ 2 }
     requires first { IsSeatOf desk first }
@@ -61,7 +61,8 @@ fn close_for_two(alloc: Global, desk: Desk, first: Seat, second: Seat) -> Option
     Some(desk.close(seats))
 }
 
-/// Returns the bound that the second seat reads first, after the first lowers it to 5, and after it lowers it to 7.
+/// Returns three bounds that the second seat reads: at first, after the first seat lowers it to 5, and after it lowers
+/// it to 7.
 fn bounds_read(desk: &Desk, first: &mut Seat, second: &mut Seat) -> [u64; 3]
     requires jobs { 7 < desk.now.jobs }
     requires first { HasDrawn desk.now first.old first.old.knowledge.draws }
@@ -76,8 +77,8 @@ fn bounds_read(desk: &Desk, first: &mut Seat, second: &mut Seat) -> [u64; 3]
     [opening, lowered, desk.bound(second)]
 }
 
-/// Returns what two threads draw until both are done, each job once, and then the bounds that `bounds_read` reads. None
-/// if memory ran out.
+/// Returns what two threads draw until both are done, each job once, with the bounds that `bounds_read` returns.
+/// Returns `None` if memory ran out.
 fn draw_by_two<R: Threads + Sync>(
     rt: &R,
     alloc: Global,
@@ -117,7 +118,8 @@ fn two_threads_draw_each_job_once_and_share_the_bound(rt: HostRuntime) -> Result
     Ok(())
 }
 
-/// Claims thrice at a desk of one job, and returns the claims and the words at the end. None if memory ran out.
+/// Claims three times at a desk of one job, and returns the claims and the words at the end. Returns `None` if memory
+/// ran out.
 fn claims_of_one_job(alloc: Global) -> Option<([Claim; 3], (u64, u64))> {
     let (desk, mut first, second) = open_for_two(alloc, 1)?;
     let claims = [
@@ -136,7 +138,7 @@ fn a_seat_that_is_done_stays_done(rt: HostRuntime) {
     assert_eq!(rt; words, (1, 1));
 }
 
-/// Whether a desk is refused for this reason.
+/// Returns whether a desk is refused for this reason.
 fn is_refused(alloc: Global, jobs: u64, workers: u64, reason: DeskFault) -> bool {
     matches!(Desk::open(alloc, jobs, workers), Err(fault) if fault == reason)
 }

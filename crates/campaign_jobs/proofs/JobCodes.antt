@@ -1,4 +1,4 @@
--- Results of jobs are equal in one way at most.
+-- Two results of jobs are equal in at most one way.
 use Rattle.std.proofs.Common.{◌≡◌, ℕ, zero, suc, Option, Some, None, refl}
 use Rattle.std.specs.Coded.{Coded, Coded-set, code_by, coded_option, coded_ℕ, coded×}
 use Rattle.jvms_machine.specs.declared.machine.Status.{Status}

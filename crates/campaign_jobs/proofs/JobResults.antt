@@ -1,27 +1,27 @@
--- What a checker says of the items of a job is the job's result.
+-- The verdict of a checker on the items of a job is the job's result.
 use Rattle.std.proofs.Common.{◌≡◌, ℕ, List, length, ap, ◌∙◌, subst, Option}
 use Rattle.std.specs.Prelude.{Result, Ok, Err, IfOk, MatchOption}
-use Rattle.jvms_machine.specs.Opening.{NotMade}
+use Rattle.jvms_machine.specs.Opening.{StartFault}
 use Rattle.velodrome.specs.declared.verdict.Verdict.{Verdict}
 use Rattle.velodrome.specs.declared.verdict.Verdict.TheVariants as verdict
 use Rattle.velodrome.specs.Cycles.{AreAtomic, IsCycle}
 use Rattle.velodrome.specs.Rearrangements.{IsRearrangement, IsSerial}
 use Rattle.velodrome.specs.Specification.{Specification}
-use Rattle.velodrome.specs.Transactions.{Walk}
+use Rattle.velodrome.specs.Transactions.{TraceState}
 use Rattle.velodrome.specs.Verdicts.{IsVerdict}
 use Rattle.atom_graph.specs.Checking.{Fed, walk_of}
 use Rattle.runs.specs.declared.ending.Ending.{Ending}
 use Rattle.program_runs.specs.Judgements.{IsFedWith}
-use Rattle.program_runs.specs.Shown.{EndsAs, Shown}
+use Rattle.program_runs.specs.Shown.{HasEnding, Shown}
 use Rattle.campaign_jobs.specs.Atomicities.{IsAtomicityOf, atomicity_of}
 use Rattle.campaign_jobs.specs.Reports.{HasNoneIn, IsResultIn, IsSerialIn}
 
-verdict_is : (w : Walk) (v : Verdict) → IsVerdict w v → IsAtomicityOf w.events (atomicity_of v)
+verdict_is : (w : TraceState) (v : Verdict) → IsVerdict w v → IsAtomicityOf w.events (atomicity_of v)
 verdict_is w (verdict.Atomic order) is = is.0
 verdict_is w (verdict.Cycle first_at transactions pairs) is = is.0
 
-pub result_is : (lines : Specification) (shown : Result Shown NotMade) (ending : Ending) (fed : Fed) (v : Verdict) (events : ℕ)
-    → EndsAs shown ending → IsFedWith shown lines fed → IsVerdict (walk_of fed) v → events ≡ length (walk_of fed).events
+pub result_is : (lines : Specification) (shown : Result Shown StartFault) (ending : Ending) (fed : Fed) (v : Verdict) (events : ℕ)
+    → HasEnding shown ending → IsFedWith shown lines fed → IsVerdict (walk_of fed) v → events ≡ length (walk_of fed).events
     → IsResultIn lines shown (record { atomicity = atomicity_of v; status = ending.status; turns = ending.turns; events = events })
 result_is lines (Err why) ending fed v events ends fed_is is count = absurd ends
 result_is lines (Ok shown) ending fed v events ends fed_is is count =
@@ -40,7 +40,7 @@ Says items r fed =
     (((ts : List ℕ) × IsCycle (walk_of fed).events ts) × ((numbers : List ℕ) → IsRearrangement (walk_of fed).events numbers → ⊥))
     (λ v. AreAtomic (walk_of fed).events × IsSerial (walk_of fed).events (items v)))
 
-pub serial_is : {V E : Type 0} → (items : V → List ℕ) (r : Result (Option V) E) (lines : Specification) (shown : Result Shown NotMade) (fed : Fed)
+pub serial_is : {V E : Type 0} → (items : V → List ℕ) (r : Result (Option V) E) (lines : Specification) (shown : Result Shown StartFault) (fed : Fed)
     → IsFedWith shown lines fed → Says items r fed → IfOk r (λ o. MatchOption o (HasNoneIn lines shown) (λ v. IsSerialIn lines shown (items v)))
 serial_is items r lines (Err why) fed fed_is says = absurd fed_is
 serial_is items r lines (Ok shown) fed fed_is says = subst (λ (f : Fed). Says items r f) fed_is says

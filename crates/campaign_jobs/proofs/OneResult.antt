@@ -4,7 +4,7 @@ use Rattle.std.proofs.Math.Logic.{∥∥₁_elim}
 use Rattle.std.proofs.lemmas.Bool.Decides.{nat_tests}
 use Rattle.std.specs.Prelude.{Result, Ok, Err}
 use Rattle.jvms_program.specs.declared.program.Class.{Class}
-use Rattle.jvms_machine.specs.Opening.{NotMade}
+use Rattle.jvms_machine.specs.Opening.{StartFault}
 use Rattle.atom_order.proofs.Cycle.{taken}
 use Rattle.atom_order.proofs.Edges.{cycle_within}
 use Rattle.velodrome.specs.Cycles.{IsCycle, IsFirstAt}
@@ -19,7 +19,7 @@ use Rattle.campaign_jobs.specs.Atomicities.{IsAtomicityOf}
 use Rattle.campaign_jobs.proofs.JobCodes.{same_prop}
 use Rattle.campaign_jobs.specs.Reports.{IsResultIn, IsResultOf, job_shown}
 
--- A cycle of the first events is one of all.
+-- A cycle of the first events is a cycle of all.
 cycle_taken : (events : List Event) (n : ℕ) (transactions : List ℕ) → IsCycle (take n events) transactions → IsCycle events transactions
 cycle_taken events n transactions cycle = cycle_within (take n events) events transactions (λ e h. taken n events e h) cycle
 
@@ -42,7 +42,7 @@ same_parts r s atomicity_is status_is turns_is events_is =
     ∙ ap (λ x. record { atomicity = s.atomicity; status = s.status; turns = x; events = r.events }) turns_is
     ∙ ap (λ x. record { atomicity = s.atomicity; status = s.status; turns = s.turns; events = x }) events_is
 
-one_in : (lines : Specification) (shown : Result Shown NotMade) (r s : JobResult) → IsResultIn lines shown r → IsResultIn lines shown s → r ≡ s
+one_in : (lines : Specification) (shown : Result Shown StartFault) (r s : JobResult) → IsResultIn lines shown r → IsResultIn lines shown s → r ≡ s
 one_in lines (Err why) r s first second = absurd first
 one_in lines (Ok shown) r s first second =
     same_parts r s (one_atomicity (walk lines shown.items).events r.atomicity s.atomicity first.atomicity second.atomicity)

@@ -6,7 +6,7 @@ use Rattle.jvms_program.specs.declared.program.Class.{Class}
 use Rattle.jvms_machine.specs.Opening.{made}
 use Rattle.machine.specs.Started.{opened}
 use Rattle.schedule.specs.Choosers.{generator_of}
-use Rattle.program_runs.specs.Shown.{shown_by}
+use Rattle.program_runs.specs.Shown.{view_of_choices}
 use Rattle.campaign_jobs.specs.declared.plan.Plan.{Plan}
 use Rattle.campaign_jobs.specs.Choices.{job_choices}
 use Rattle.campaign_jobs.specs.Plans.{part_of, stream_of}
@@ -21,5 +21,5 @@ pub same_job : (program : List Class) (plan : Plan) (begin jobs number : ℕ) �
 unfolding job_shown
 same_job program plan begin jobs number =
     ap (λ stream. made program plan.limits plan.entry >>= λ start. Ok (
-    let m = opened program plan.limits start in shown_by m (job_choices plan.most (generator_of plan.seed stream) m)
+    let m = opened program plan.limits start in view_of_choices m (job_choices plan.most (generator_of plan.seed stream) m)
     )) (same_stream plan begin jobs number)

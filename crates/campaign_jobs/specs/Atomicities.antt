@@ -1,4 +1,4 @@
--- Says whether a run is atomic (Velodrome, PLDI 2008, sections 3 and 4).
+-- Defines the atomicity of a run (Velodrome, PLDI 2008, sections 3 and 4).
 use Rattle.std.specs.Prelude.{Bool, true, false, List}
 use Rattle.velodrome.specs.declared.verdict.Verdict.{Verdict}
 use Rattle.velodrome.specs.declared.verdict.Verdict.TheVariants as verdict
@@ -17,7 +17,7 @@ abbrev pub has_cycle : Atomicity → Bool
 has_cycle atomicity.Atomic = false
 has_cycle (atomicity.Cycle first_at) = true
 
--- Returns whether a verdict has a cycle, with the number of events at which the first appears.
+-- Returns the atomicity that a verdict shows, with the number of events at which the first cycle appears.
 abbrev pub atomicity_of : Verdict → Atomicity
 atomicity_of (verdict.Atomic order) = atomicity.Atomic
 atomicity_of (verdict.Cycle first_at transactions pairs) = atomicity.Cycle first_at

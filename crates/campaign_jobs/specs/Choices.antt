@@ -1,4 +1,4 @@
--- Says which choices a job makes.
+-- Defines the choices that a job makes.
 use Rattle.std.specs.Prelude.{ℕ, zero, suc, ◌%◌, List, [], ◌∷◌, length, slice_index_or}
 use Rattle.rand_pcg.specs.Lcg.{Lcg}
 use Rattle.rand_pcg.specs.Pcg.{pcg32}
@@ -6,7 +6,7 @@ use Rattle.machine.specs.Machine.{Machine}
 use Rattle.schedule.specs.Enabled.{enabled_threads}
 use Rattle.runs.specs.Choices.{after_turn}
 
--- Returns the thread of a list at the generator's next word, modulo the length of the list.
+-- Returns the thread of a list at the index of the generator's next word, modulo the length of the list.
 abbrev pub thread_at : List ℕ → Lcg → ℕ
 thread_at threads generator = slice_index_or threads ((pcg32 generator).0 % length threads) 0
 
@@ -16,8 +16,8 @@ abbrev pub chosen_then : List ℕ → Lcg → (ℕ → List ℕ) → List ℕ
 chosen_then [] generator rest = []
 chosen_then (t ∷ ts) generator rest = thread_at (t ∷ ts) generator ∷ rest (thread_at (t ∷ ts) generator)
 
--- Returns the choices of a run from a machine on, at most this number of them. Each is the enabled thread, in
--- rising order, at the next word modulo their number.
+-- Returns the choices of a run from a machine on, up to a maximum number. Each is an enabled thread, in ascending
+-- order, at the index of the next word modulo their number.
 unfoldable pub job_choices : ℕ → Lcg → Machine → List ℕ
 job_choices zero generator m = []
 job_choices (suc most) generator m =

@@ -1,4 +1,4 @@
--- Says what a report names.
+-- Defines what a report names.
 use Rattle.std.specs.Prelude.{◌≡◌, ℕ, List}
 use Rattle.jvms_program.specs.declared.program.Class.{Class}
 use Rattle.campaign_jobs.specs.declared.plan.Plan.{Plan}

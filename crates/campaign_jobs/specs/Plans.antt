@@ -1,4 +1,4 @@
--- Says which plans fit a program, and which random words their jobs have.
+-- Defines which plans fit a program, and which random words their jobs have.
 use Rattle.std.specs.Prelude.{ℕ, ◌+◌, ◌%◌, ◌^◌, Bool, List, is_ok}
 use Rattle.jvms_program.specs.declared.program.Class.{Class}
 use Rattle.jvms_machine.specs.Opening.{made}
@@ -12,6 +12,7 @@ fits program plan = is_ok (made program plan.limits plan.entry)
 abbrev pub stream_of : Plan → ℕ → ℕ
 stream_of plan number = (plan.first + number) % 2 ^ 64
 
--- Returns the plan of a part of a campaign: this number of jobs, the first of which has the number `begin` in the campaign.
+-- Returns the plan of a part of a campaign, which has `jobs` jobs. Its first job has the number `begin` in the
+-- campaign.
 abbrev pub part_of : Plan → ℕ → ℕ → Plan
 part_of plan begin jobs = record plan { first = plan.first + begin; jobs = jobs }

@@ -1,8 +1,8 @@
--- Says what the result of a job is, and when its events have a serial order (Velodrome, sections 3 and 4).
+-- Defines what the result of a job is, and when its events have a serial order (Velodrome, sections 3 and 4).
 use Rattle.std.specs.Prelude.{◌≡◌, ℕ, List, length, Result, Ok, Err}
 use Rattle.jvms_file.specs.Results.{◌>>=◌}
 use Rattle.jvms_program.specs.declared.program.Class.{Class}
-use Rattle.jvms_machine.specs.Opening.{NotMade, made}
+use Rattle.jvms_machine.specs.Opening.{StartFault, made}
 use Rattle.jvms_machine.specs.Start.{Start}
 use Rattle.machine.specs.Started.{opened}
 use Rattle.schedule.specs.Choosers.{generator_of}
@@ -10,7 +10,7 @@ use Rattle.velodrome.specs.Cycles.{AreAtomic, IsCycle}
 use Rattle.velodrome.specs.Rearrangements.{IsRearrangement, IsSerial}
 use Rattle.velodrome.specs.Specification.{Specification}
 use Rattle.velodrome.specs.Transactions.{walk}
-use Rattle.program_runs.specs.Shown.{Shown, shown_by}
+use Rattle.program_runs.specs.Shown.{Shown, view_of_choices}
 use Rattle.campaign_jobs.specs.declared.plan.Plan.{Plan}
 use Rattle.campaign_jobs.specs.declared.result.JobResult.{JobResult}
 use Rattle.campaign_jobs.specs.Atomicities.{IsAtomicityOf}
@@ -21,10 +21,10 @@ use Rattle.campaign_jobs.specs.Plans.{stream_of}
 -- plan's seed as its state. Its stream is the job's number, counted from the plan's first stream.
 abbrev pub job_from : List Class → Plan → ℕ → Start → Shown
 job_from program plan number start =
-    let m = opened program plan.limits start in shown_by m (job_choices plan.most (generator_of plan.seed (stream_of plan number)) m)
+    let m = opened program plan.limits start in view_of_choices m (job_choices plan.most (generator_of plan.seed (stream_of plan number)) m)
 
 -- Returns what the run of a job shows, or why no machine is made for it.
-unfoldable pub job_shown : List Class → Plan → ℕ → Result Shown NotMade
+unfoldable pub job_shown : List Class → Plan → ℕ → Result Shown StartFault
 job_shown program plan number = do
   start ← made program plan.limits plan.entry
   Ok (job_from program plan number start)
@@ -37,22 +37,22 @@ pub record IsResultOn (lines : Specification) (shown : Shown) (r : JobResult) : 
   pub events : r.events ≡ length (walk lines shown.items).events
 
 -- There is a run, and the result is its result under a specification.
-abbrev pub IsResultIn : Specification → Result Shown NotMade → JobResult → Type 0
+abbrev pub IsResultIn : Specification → Result Shown StartFault → JobResult → Type 0
 IsResultIn lines (Ok shown) r = IsResultOn lines shown r
 IsResultIn lines (Err why) r = ⊥
 
--- The result is that of the job of this number. Which cycle shows that doesn't matter.
+-- The result is that of the job of this number. It doesn't matter which cycle shows it.
 abbrev pub IsResultOf : List Class → Plan → ℕ → JobResult → Type 0
 IsResultOf program plan number r = ∥ IsResultIn plan.spec (job_shown program plan number) r ∥₁
 
 -- There is a run, its events have no cycle, and these are their numbers in a serial order.
-abbrev pub IsSerialIn : Specification → Result Shown NotMade → List ℕ → Type 0
+abbrev pub IsSerialIn : Specification → Result Shown StartFault → List ℕ → Type 0
 IsSerialIn lines (Ok shown) numbers =
     let events = (walk lines shown.items).events in AreAtomic events × IsSerial events numbers
 IsSerialIn lines (Err why) numbers = ⊥
 
 -- There is a run, its events have a cycle, and no rearrangement of them is serial.
-abbrev pub HasNoneIn : Specification → Result Shown NotMade → Type 0
+abbrev pub HasNoneIn : Specification → Result Shown StartFault → Type 0
 HasNoneIn lines (Ok shown) =
     let events = (walk lines shown.items).events in
     ((transactions : List ℕ) × IsCycle events transactions) × ((numbers : List ℕ) → IsRearrangement events numbers → ⊥)

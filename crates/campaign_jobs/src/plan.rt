@@ -1,4 +1,4 @@
-//! What a campaign runs.
+//! The plan of a campaign.
 
 ghost use Rattle.std.specs.Prelude.{◌≡◌};
 ghost use Rattle.campaign_jobs.specs.Plans.{fits, stream_of};
@@ -9,24 +9,24 @@ use machine::admits;
 use program::Program;
 use turn_limit::TurnLimit;
 
-/// Says what a campaign runs: jobs numbered from 0, all from one entry and under one specification.
+/// The plan of a campaign: its jobs are numbered from 0, and all have one entry and one specification.
 #[derive(Drop)]
 pub struct Plan {
-    /// Where each job begins.
+    /// The entry at which each job begins.
     pub entry: Entry,
     /// The limits of each job's machine.
     pub limits: Limits,
     /// The number of jobs.
     pub jobs: u64,
-    /// The stream of the first job's random words. The plan of a part of a campaign has the number of the part's first job.
+    /// The stream of the first job's random words. For a part of a campaign it is the number of the part's first job.
     pub first: u64,
     /// The state of the generator of random words.
     pub seed: u64,
     /// The limit on the turns of each job.
     pub most: TurnLimit,
-    /// Which methods are to be atomic.
+    /// The specification of which methods are to be atomic.
     pub spec: Spec,
-    /// Whether the campaign stops at the first job with a cycle.
+    /// `true` if the campaign stops at the first job with a cycle.
     pub stop: bool,
 }
 

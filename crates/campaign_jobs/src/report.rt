@@ -6,7 +6,7 @@ use crate::plan::Plan;
 use crate::result::JobResult;
 use program::Program;
 
-/// Reports the result of a job. Its type keeps that the result is that of the job of this number, by the program
+/// A report: the result of a job. Its type ensures that the result is that of the job of this number, by the program
 /// and the plan that the report names.
 #[derive(Drop)]
 pub struct Report<'a> {

@@ -5,7 +5,7 @@ ghost use Rattle.campaign_jobs.specs.Atomicities.{has_cycle};
 
 use machine::Status;
 
-/// Says whether a run is atomic.
+/// The atomicity of a run.
 #[derive(Clone, Copy, Debug, PartialEq, Eq)]
 pub enum Atomicity {
     /// No cycle of transactions exists.
@@ -23,10 +23,10 @@ impl Atomicity {
     }
 }
 
-/// Says how the run of a job ended, and whether it is atomic.
+/// The result of a job: how its run ended, and its atomicity.
 #[derive(Clone, Copy, Debug, PartialEq, Eq)]
 pub struct JobResult {
-    /// Whether the run is atomic.
+    /// The atomicity of the run.
     pub atomicity: Atomicity,
     /// The status of the machine after the last turn.
     pub status: Status,

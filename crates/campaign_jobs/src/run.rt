@@ -6,7 +6,7 @@ ghost use Rattle.campaign_jobs.specs.Atomicities.{atomicity_of};
 ghost use Rattle.campaign_jobs.specs.Named.{IsJobOf};
 ghost use Rattle.campaign_jobs.specs.Reports.{HasNoSerialOrder, IsSerialOf, job_shown};
 ghost use Rattle.program_runs.specs.Judgements.{IsFedWith};
-ghost use Rattle.program_runs.specs.Shown.{EndsAs};
+ghost use Rattle.program_runs.specs.Shown.{HasEnding};
 
 use crate::plan::Plan;
 use crate::report::Report;
@@ -30,7 +30,7 @@ fn feed_job(
     requires fits { IsTrue (fits program.now plan.now) }
     requires fresh { checker.old.items ≡ [] }
     ensures ending { IfOk result (λ ending.
-        EndsAs (job_shown program.now plan.now number) ending) }
+        HasEnding (job_shown program.now plan.now number) ending) }
     ensures fed { IfOk result (λ _. IsFedWith
         (job_shown program.now plan.now number) checker.old.lines checker.new) }
 {
@@ -47,12 +47,12 @@ fn feed_job(
         checker,
     ) {
         Ok(ending) => Ok(ending),
-        // A plan that fits is refused for no other reason.
+        // A plan that fits is refused only for lack of memory.
         Err(_) => Err(AllocError),
     }
 }
 
-/// Returns whether the trace of a verdict is atomic.
+/// Returns the atomicity that a verdict shows.
 fn atomicity_of(verdict: Verdict) -> Atomicity
     ensures { result ≡ atomicity_of verdict }
 {
@@ -62,7 +62,7 @@ fn atomicity_of(verdict: Verdict) -> Atomicity
     }
 }
 
-/// Runs a job and returns its report. Waits for nobody.
+/// Runs a job and returns its report. Waits for no other thread.
 ///
 /// # Errors
 ///
@@ -74,7 +74,7 @@ pub fn run_job<'a>(
     number: u64,
 ) -> Result<Report<'a>, AllocError>
     requires fits { IsTrue (fits program.now plan.now) }
-    // The report is of this program, plan and number. Its type keeps that the result is that job's.
+    // The report is of this program, plan and number. Its type ensures that the result is that job's.
     ensures named { IfOk result (λ report. IsJobOf report program.now plan.now number) }
 {
     let mut checker = Checker::new(alloc, plan.spec.copy()?)?;

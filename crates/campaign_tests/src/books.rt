@@ -1,4 +1,4 @@
-//! What a book stores and refuses.
+//! Tests what a book stores and refuses.
 
 use crate::plans::{FORKS, campaign_of};
 use campaign::{Book, BookEntry, Plan, StoreFault, Totals, run_job};

@@ -1,10 +1,10 @@
-//! Gates that hold jobs.
+//! Gates that delay jobs.
 
 use campaign::Gate;
 use std::sync::atomic::{AtomicU64, Ordering};
 use std::thread::yield_now;
 
-/// For how many rounds a gate waits at most.
+/// The maximum number of rounds for which a gate waits.
 const MOST_ROUNDS: u64 = 1_000_000_000;
 
 /// Waits until a count is reached, for `MOST_ROUNDS` at most. Returns whether it was reached.
@@ -18,7 +18,7 @@ fn is_reached(count: &AtomicU64, wanted: u64) -> bool {
     false
 }
 
-/// Holds job 0 until the job of number 1 is done.
+/// A gate that holds job 0 until job 1 is done.
 #[derive(Drop)]
 pub struct HoldsFirst {
     pub done: AtomicU64,
@@ -39,7 +39,7 @@ impl Gate for HoldsFirst {
     }
 }
 
-/// Holds each job until the wanted number of them have come.
+/// A gate that holds each job until the wanted number of them have arrived.
 #[derive(Drop)]
 pub struct Meets {
     pub came: AtomicU64,

@@ -2,7 +2,7 @@
 
 use atom_spec::Spec;
 use campaign::Plan;
-use held::items::Items;
+use shared_data::items::Items;
 use inputs::Input;
 use judge::program_of;
 use machine::{Entry, Limits};
@@ -11,7 +11,7 @@ use std::alloc::Global;
 use std::test::Fail;
 use turn_limit::TurnLimit;
 
-/// Prints a line, in seven turns of thread 0.
+/// A program that prints a line, in seven turns of thread 0.
 pub const HELLO: &str = "
 .class public Main
 .super java/lang/Object
@@ -24,7 +24,8 @@ pub const HELLO: &str = "
 .end method
 ";
 
-/// Starts a thread that writes a static field, and joins it: a cycle of transactions if `main` is atomic.
+/// A program that starts a thread, which writes a static field, and joins it. It has a cycle of transactions if `main`
+/// is atomic.
 pub const FORKS: &str = "
 .class public Main
 .super java/lang/Thread
@@ -55,7 +56,7 @@ pub const FORKS: &str = "
 .end method
 ";
 
-/// What each job may use.
+/// The limits of each job.
 const LIMITS: Limits = Limits {
     objects: 100,
     elements: 100,
@@ -63,13 +64,13 @@ const LIMITS: Limits = Limits {
     frames: 16,
 };
 
-/// Links the program of a source. A fault of it is that of the test.
+/// Links the program of a source. If the source has a fault, the test fails.
 fn program(alloc: Global, source: &str) -> Result<Program, Fail> {
     let inputs = [Input::Source(String::from_str(alloc, source)?)];
     Ok(program_of(alloc, &inputs)?)
 }
 
-/// Returns a plan of this number of jobs, each from `Main.main` on.
+/// Returns a plan of this number of jobs, each starting at `Main.main`.
 fn plan(alloc: Global, spec: &str, jobs: u64, stop: bool) -> Result<Plan, Fail> {
     let class = [77, 97, 105, 110];
     let Some(most) = TurnLimit::new(1_000) else {

@@ -26,8 +26,8 @@ const GREETED: JobResult = JobResult {
     events: 0,
 };
 
-/// Runs a campaign whose plan fits, and returns its table. The test fails if there is none, or if an audit finds a result
-/// that differs.
+/// Runs a campaign whose plan fits, and returns its table. The test fails if there is none, or if an audit finds a
+/// result that differs.
 fn table_of<G: Gate + Sync, R: Threads + Wait + Sync>(
     rt: &R,
     alloc: Global,
@@ -50,7 +50,7 @@ fn table_of<G: Gate + Sync, R: Threads + Wait + Sync>(
     Ok(table)
 }
 
-/// Returns none for an empty table.
+/// Returns `None` for an empty table.
 fn none_if_empty(table: &Table) -> Result<Option<DeskFault>, Fail> {
     if table.results.is_empty() {
         Ok(None)
@@ -59,7 +59,7 @@ fn none_if_empty(table: &Table) -> Result<Option<DeskFault>, Fail> {
     }
 }
 
-/// Returns why a campaign halts, or none if it has an empty table.
+/// Returns why a campaign halts, or `None` if it has an empty table.
 fn halt_of<R: Threads + Wait + Sync>(
     rt: &R,
     alloc: Global,
@@ -117,7 +117,7 @@ fn runs_met<R: Threads + Wait + Sync + Abort>(
     Ok(())
 }
 
-/// Runs jobs with a cycle on one worker and on more. The tables are equal, and have this many results.
+/// Runs jobs with a cycle on one worker and on more. The tables must be equal and have `jobs` results.
 fn runs_alike<R: Threads + Wait + Sync + Abort>(
     rt: &R,
     alloc: Global,
@@ -137,7 +137,7 @@ fn runs_alike<R: Threads + Wait + Sync + Abort>(
     Ok(())
 }
 
-/// Changes one result of a table of eight jobs. An audit finds its number alone.
+/// Changes one result of a table of eight jobs. An audit must find only its number.
 fn finds_changed<R: Threads + Wait + Sync + Abort>(
     rt: &R,
     alloc: Global,

@@ -8,7 +8,7 @@ use Rattle.campaign_jobs.specs.declared.result.JobResult.{JobResult}
 use Rattle.campaign_text.specs.declared.part.Part.{Part}
 use Rattle.campaign_text.specs.Joined.{AreChained, AreConsecutive, count_of, results_of}
 
--- What is at a place of a list is in it.
+-- The element at a place of a list is in the list.
 pub get_in : (parts : List Part) (i : ℕ) (d : Part) → i < length parts → IsIn (get_or parts i d) parts
 get_in [] i d within = let no : ⊥ = omega arith in absurd no
 get_in (p ∷ parts) zero d within = inl refl

@@ -11,7 +11,8 @@ use Rattle.campaign_jobs.specs.declared.result.JobResult.{JobResult}
 use Rattle.campaign_jobs.specs.Plans.{part_of}
 use Rattle.campaign_jobs.specs.Reports.{IsResultIn, IsResultOf, job_shown}
 
--- What is at a place of joined lists is in the first, or in the second at a place that much less.
+-- The element at a place of two joined lists is in the first one, or in the second at a place that is smaller by the
+-- length of the first.
 get_joined : (xs ys : List JobResult) (k : ℕ) (r : JobResult) → slice_get (xs ++ ys) k ≡ Some r
     → (slice_get xs k ≡ Some r) ⊎ ((j : ℕ) × (k ≡ length xs + j) × (slice_get ys j ≡ Some r))
 get_joined [] ys k r is = inr (k, omega arith, is)
@@ -25,7 +26,7 @@ get_joined (x ∷ xs) ys (suc k) r is = more (get_joined xs ys k r is)
         let place : k ≡ length xs + second.0 = second.1 in
         inr (second.0, omega (arith, place), second.2)
 
--- The result of a job is that of each job that shows the same.
+-- The result of a job is also that of any other job that shows the same.
 same_result : (program : List Class) (plan other : Plan) (k j : ℕ) (r : JobResult) → plan.spec ≡ other.spec → job_shown program plan k ≡ job_shown program other j → IsResultOf program plan k r → IsResultOf program other j r
 same_result program plan other k j r spec shown is =
     subst (λ s. ∥ IsResultIn s (job_shown program other j) r ∥₁) spec (subst (λ s. ∥ IsResultIn plan.spec s r ∥₁) shown is)

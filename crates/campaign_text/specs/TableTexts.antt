@@ -1,4 +1,4 @@
--- The text of a campaign's table (own): a line for each job, and a last one that counts those shown.
+-- Defines the text of a campaign's table (own): a line for each job, and a last one that counts the jobs shown.
 use Rattle.std.specs.Prelude.{ℕ, suc, ◌-◌, Bool, List, [], ◌∷◌, ◌++◌, codes, count_by, length}
 use Rattle.std.specs.Fmt.{decimal}
 use Rattle.machine_text.specs.Outcomes.{status_text}
@@ -11,13 +11,13 @@ abbrev pub atomicity_text : Atomicity → List ℕ
 atomicity_text atomicity.Atomic = codes "atomic"
 atomicity_text (atomicity.Cycle first_at) = codes "cycle at " ++ decimal first_at
 
--- `job K atomic status S turns N events M`, or `job K cycle at E status S turns N events M`.
+-- Returns the line `job K atomic status S turns N events M`, or `job K cycle at E status S turns N events M`.
 abbrev pub job_line : ℕ → JobResult → List ℕ
 job_line number r =
     codes "job " ++ decimal number ++ codes " " ++ atomicity_text r.atomicity ++ codes " status " ++ status_text r.status
     ++ codes " turns " ++ decimal r.turns ++ codes " events " ++ decimal r.events ++ codes "\n"
 
--- The lines of jobs, the first of which has this number.
+-- Returns the lines of jobs, the first of which has this number.
 abbrev pub job_lines : ℕ → List JobResult → List ℕ
 job_lines number [] = []
 job_lines number (r ∷ rs) = job_line number r ++ job_lines (suc number) rs
@@ -25,12 +25,12 @@ job_lines number (r ∷ rs) = job_line number r ++ job_lines (suc number) rs
 abbrev pub is_cycle : JobResult → Bool
 is_cycle r = has_cycle r.atomicity
 
--- `jobs N atomic A cycle C`.
+-- Returns the line `jobs N atomic A cycle C`.
 abbrev pub totals_line : ℕ → ℕ → ℕ → List ℕ
 totals_line jobs atomic cycle =
     codes "jobs " ++ decimal jobs ++ codes " atomic " ++ decimal atomic ++ codes " cycle " ++ decimal cycle ++ codes "\n"
 
--- The text of a table whose first job has this number.
+-- Returns the text of a table whose first job has this number.
 abbrev pub table_text : ℕ → List JobResult → List ℕ
 table_text first results =
     let cycles = count_by is_cycle results in

@@ -1,4 +1,4 @@
-//! The tables of parts, joined.
+//! Joins the tables of parts.
 
 ghost use Rattle.std.specs.Prelude.{◌≡◌, ◌++◌, IfOk, IfSome, OnOk};
 ghost use Rattle.velodrome.specs.Cycles.{IsIn};
@@ -9,7 +9,7 @@ use crate::part::Part;
 use campaign::{JobResult, Table};
 use std::alloc::{AllocError, Global};
 
-/// Returns a part that begins with a job.
+/// Returns a part that begins with this job and has a result.
 #[tactic(auto, using(crate::proofs::Chains::get_in))]
 fn part_from(parts: &[Part], job: u64) -> Option<&Part>
     ensures among { IfSome result (λ part. IsIn part.now parts.now) }
@@ -28,7 +28,7 @@ fn append(results: &mut Vec<JobResult>, part: &Part) -> Result<(), AllocError>
     results.extend_from_slice(part.table.results.as_slice())
 }
 
-/// Returns the results of consecutive parts from job 0 on, up to a job with which no part begins.
+/// Returns the results of consecutive parts from job 0 on. They end at the first job with which no part begins.
 #[tactic(auto, using(crate::proofs::Chains::none_chained, crate::proofs::Chains::one_more))]
 fn chained(alloc: Global, parts: &[Part]) -> Result<Vec<JobResult>, AllocError>
     ensures { IfOk result (λ results. AreChained parts.now results.items) }
@@ -43,7 +43,7 @@ fn chained(alloc: Global, parts: &[Part]) -> Result<Vec<JobResult>, AllocError>
     Ok(results)
 }
 
-/// Counts the results of parts, or returns `None` if their number is past 2^64.
+/// Returns the number of results of parts, or `None` if it exceeds 2^64 - 1.
 #[tactic(auto, using(crate::proofs::Chains::count_more))]
 fn count_of(parts: &[Part]) -> Option<usize>
     ensures { IfSome result (λ count. count ≡ count_of parts.now) }
@@ -55,7 +55,7 @@ fn count_of(parts: &[Part]) -> Option<usize>
     Some(count)
 }
 
-/// Returns whether another part than the one at a place has a job.
+/// Returns whether a part other than the one at a place has a job.
 fn is_repeated(parts: &[Part], place: usize, job: u64) -> bool {
     for (other, part) in parts.iter().enumerate() {
         if other != place && part.has(job) {
@@ -81,13 +81,14 @@ fn repeated_job(parts: &[Part]) -> Option<u64> {
     first
 }
 
-/// Joins the tables of the parts of a campaign, in any order, to the table of the whole. Parts without a job are skipped.
+/// Joins the tables of the parts of a campaign, in any order, to the table of the whole. Parts without a job are
+/// ignored.
 ///
 /// # Errors
 ///
-/// T03 where two parts have the same job; else T02 where no part has a job before the last.
+/// T03 if two parts have the same job. Else T02 if no part has a job before the last.
 pub fn join(alloc: Global, parts: &[Part]) -> Result<Table, JoinFault>
-    // The results are those of consecutive parts, from job 0 on, and none is left out.
+    // The results are those of consecutive parts from job 0 on, and no result is omitted.
     ensures { IfOk result (λ table. AreJoined parts.now table.results.items) }
 {
     let results = chained(alloc, parts)?;

@@ -1,4 +1,4 @@
-//! The text of a campaign's table: it is written and read, and the tables of a campaign's parts are joined.
+//! The text of a campaign's table: writes and reads it, and joins the tables of a campaign's parts.
 #![tactic(auto)]
 
 mod fault;

@@ -1,4 +1,4 @@
-//! The lines of a table.
+//! Makes the lines of a table.
 
 ghost use Rattle.std.specs.Prelude.{◌≡◌, IfOk};
 ghost use Rattle.std.specs.String.{string_bytes};
@@ -8,7 +8,7 @@ use campaign::{Atomicity, JobResult};
 use machine_text::status_name;
 use std::alloc::{AllocError, Global};
 
-/// Returns whether a job is atomic, as its line says it.
+/// Returns the text of a job's atomicity.
 fn atomicity_text(alloc: Global, atomicity: Atomicity) -> Result<String, AllocError>
     ensures { IfOk result (λ text. string_bytes text ≡ atomicity_text atomicity) }
 {

@@ -1,4 +1,4 @@
-//! The text of a table, read.
+//! Reads the text of a table.
 
 ghost use Rattle.std.specs.Prelude.{◌≡◌, IfOk};
 ghost use Rattle.campaign_text.specs.TableTexts.{table_text as text_of};
@@ -17,12 +17,12 @@ struct Job {
     result: JobResult,
 }
 
-/// Returns the number that a word of a line is.
+/// Returns the number that a word of a line spells.
 fn number_at(words: &[&str], place: usize) -> Option<u64> {
     words.get(place)?.parse::<u64>().ok()
 }
 
-/// Returns the status that a word of a line is.
+/// Returns the status that a word of a line names.
 fn status_at(words: &[&str], place: usize) -> Option<Status> {
     match *words.get(place)? {
         "Finished" => Some(Status::Finished),
@@ -33,7 +33,8 @@ fn status_at(words: &[&str], place: usize) -> Option<Status> {
     }
 }
 
-/// Returns the job of a line's words, or `None` if one is missing. Words that are the same in each line aren't compared.
+/// Returns the job of a line's words, or `None` if one is missing. Doesn't compare the words that are the same in each
+/// line.
 fn job_of(words: &[&str]) -> Option<Job> {
     let is_atomic = *words.get(2)? == "atomic";
     let status = if is_atomic { 4 } else { 6 };
@@ -63,7 +64,7 @@ fn words_of(alloc: Global, line: &str) -> Result<Vec<&str>, AllocError> {
     Ok(words)
 }
 
-/// Returns the jobs of the lines up to the first that is no job's. Lines may be misspelled.
+/// Returns the jobs of the lines before the first line that is no job's. Lines may be misspelled.
 fn part_of(alloc: Global, text: &str) -> Result<Part, AllocError> {
     let mut first = 0;
     let mut results = Vec::new(alloc);
@@ -99,7 +100,8 @@ fn first_difference(one: &[u8], other: &[u8]) -> usize {
 ///
 /// # Errors
 ///
-/// T01 with the first line that isn't as `campaign` writes it: the jobs' numbers rise by one, and the last line counts them.
+/// T01 with the first line that isn't as `campaign` writes it. The jobs' numbers must increase by one, and the last
+/// line must count them.
 pub fn read_table(alloc: Global, text: &str) -> Result<Part, TableFault>
     // The text is the table's, byte for byte.
     ensures { IfOk result (λ part. text.now ≡ text_of part.first part.table.results.items) }

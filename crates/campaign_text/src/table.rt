@@ -8,7 +8,7 @@ use crate::line::{job_line, totals_line};
 use campaign::{JobResult, Table};
 use std::alloc::{AllocError, Global};
 
-/// Counts the results with a cycle.
+/// Returns the number of results with a cycle.
 fn count_cycles(results: &[JobResult]) -> u64
     ensures count { result ≡ count_by is_cycle results.now }
     ensures most { result ≤ length results.now }
@@ -22,8 +22,8 @@ fn count_cycles(results: &[JobResult]) -> u64
     cycles
 }
 
-/// Returns the text of a table: a line for each job, in rising order, and a last one that counts them. The first job has
-/// this number.
+/// Returns the text of a table: a line for each job, in ascending order, and a last line that counts them. `first` is
+/// the number of the first job.
 #[tactic(auto, using(crate::proofs::TextLaws::one_more))]
 pub fn table_text(alloc: Global, first: u64, table: &Table) -> Result<String, AllocError>
     ensures { IfOk result (λ text. string_bytes text ≡ table_text first table.now.results.items) }

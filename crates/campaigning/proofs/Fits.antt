@@ -1,9 +1,9 @@
--- Why no machine is made for a plan is why there is no campaign.
+-- The reason why no machine is made for a plan is why there is no campaign.
 use Rattle.std.proofs.Common.{List, Result, Ok, Err, refl, ap}
 use Rattle.std.specs.Prelude.{IsTrue, is_ok}
 use Rattle.jvms_file.specs.Results.{◌>>=◌}
 use Rattle.jvms_program.specs.declared.program.Class.{Class}
-use Rattle.jvms_machine.specs.Opening.{NotMade, made}
+use Rattle.jvms_machine.specs.Opening.{StartFault, made}
 use Rattle.jvms_machine.specs.Start.{Start}
 use Rattle.machine.specs.declared.fault.MachineFault.TheVariants as machine_fault
 use Rattle.program_runs.specs.declared.fault.ProgramFault.{ProgramFault}
@@ -14,8 +14,8 @@ use Rattle.judge.specs.Faults.{IsFault, judge_fault_of}
 use Rattle.judge.specs.Programs.{not_made, refused}
 use Rattle.campaigning.specs.Campaigns.{fitted}
 
--- Where there is a start, there is a campaign.
-is_fitted_too : (program : List Class) (start : Result Start NotMade) → IsTrue (is_ok start)
+-- If there is a start, there is a campaign.
+is_fitted_too : (program : List Class) (start : Result Start StartFault) → IsTrue (is_ok start)
     → IsTrue (is_ok (refused not_made start >>= λ s. Ok program))
 is_fitted_too program (Ok start) is = refl
 is_fitted_too program (Err why) is = absurd (cc)

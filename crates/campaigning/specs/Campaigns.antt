@@ -1,4 +1,4 @@
--- The campaign of the program that class files and sources make (own).
+-- Defines the campaign of the program of class files and sources (own).
 use Rattle.std.specs.Prelude.{ℕ, List, Option, Result, Ok, Err}
 use Rattle.jvms_file.specs.Results.{◌>>=◌}
 use Rattle.jvms_program.specs.declared.program.Class.{Class}
@@ -11,13 +11,13 @@ use Rattle.campaign_text.specs.TableTexts.{table_text}
 use Rattle.inputs.specs.declared.input.Input.{Input}
 use Rattle.judge.specs.Programs.{NotRun, not_made, program_in, refused}
 
--- The program, if a machine of it can be made for a plan, or why none is.
+-- Returns the program if a machine of it can be made for a plan, or why not.
 abbrev pub fitted : Plan → List Class → Result (List Class) NotRun
 fitted plan program = do
   start ← refused not_made (made program plan.limits plan.entry)
   Ok program
 
--- The program that inputs make, if a machine of it can be made for a plan, or why there is no campaign.
+-- Returns the program of inputs if a machine of it can be made for a plan, or why there is no campaign.
 unfoldable pub program_for : Plan → List Input → Result (List Class) NotRun
 program_for plan inputs = do
   program ← program_in inputs
@@ -28,7 +28,7 @@ abbrev pub IsTableOf : Plan → Result (List Class) NotRun → List JobResult �
 IsTableOf plan (Ok program) results = IsTable program plan results
 IsTableOf plan (Err why) results = ⊥
 
--- A beginning of the table's text was written.
+-- A prefix of the table's text was written.
 abbrev pub WroteBeginning : Plan → Result (List Class) NotRun → Option (List ℕ) → Option (List ℕ) → Type 0
 WroteBeginning plan said old new =
     (results : List JobResult) × IsTableOf plan said results × AppendsBeginning old new (table_text plan.first results)

@@ -1,4 +1,4 @@
--- Why there is no table, or it wasn't written.
+-- Defines why a campaign has no table, or why it wasn't written.
 use Rattle.std.specs.Prelude.{◌≡◌, ℕ, ◌<◌, ◌≤◌, ◌⊎◌, List, Result, Ok}
 use Rattle.jvms_program.specs.declared.program.Class.{Class}
 use Rattle.campaign_desk.specs.declared.fault.DeskFault.TheVariants as desk_fault
@@ -8,7 +8,7 @@ use Rattle.judge.specs.Programs.{NotRun}
 use Rattle.campaigning.specs.declared.fault.CampaignFault.{CampaignFault}
 use Rattle.campaigning.specs.declared.fault.CampaignFault.TheVariants as fault
 
--- A campaign that began, or would have, halts for this reason.
+-- A campaign that began, or would have begun, halts for this reason.
 abbrev pub IsHalt : ℕ → ℕ → CampaignFault → Type 0
 IsHalt jobs workers (fault.Judge why) = ⊥
 IsHalt jobs workers (fault.Desk desk_fault.TooManyJobs) = most_jobs < jobs
@@ -17,18 +17,18 @@ IsHalt jobs workers (fault.Desk desk_fault.Memory) = Unit {0}
 IsHalt jobs workers fault.WorkerFailed = Unit {0}
 IsHalt jobs workers fault.Output = ⊥
 
--- There is a program that a plan fits.
+-- There is a program that the plan fits.
 abbrev pub IsFitted : Result (List Class) NotRun → Type 0
 IsFitted said = (program : List Class) × (said ≡ Ok program)
 
--- A fault of the program is what was said, unless memory ran out. The campaign's limits are looked at behind it.
+-- The fault of a program is the first one, unless memory ran out. The campaign's limits are tested after it.
 abbrev pub IsFault : ℕ → ℕ → CampaignFault → Result (List Class) NotRun → Type 0
 IsFault jobs workers (fault.Judge why) said = judge.IsFault why said
 IsFault jobs workers (fault.Desk why) said = IsFitted said × IsHalt jobs workers (fault.Desk why)
 IsFault jobs workers fault.WorkerFailed said = IsFitted said
 IsFault jobs workers fault.Output said = IsFitted said
 
--- It names one of this number of files.
+-- A fault of an input names one of this number of files.
 abbrev pub NamesFile : ℕ → CampaignFault → Type 0
 NamesFile files (fault.Judge why) = judge.NamesFile files why
 NamesFile files other = Unit {0}

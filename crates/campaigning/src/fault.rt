@@ -1,4 +1,4 @@
-//! Why there is no table, or it wasn't written.
+//! The reasons why a campaign has no table, or why it wasn't written.
 
 ghost use Rattle.std.specs.Prelude.{◌≡◌};
 ghost use Rattle.judge.specs.declared.fault.JudgeFault.TheVariants.{Memory};
@@ -10,16 +10,16 @@ use std::alloc::AllocError;
 use thiserror::Error;
 use trace::DeviceFailure;
 
-/// Says why there is no table, or why it wasn't written.
+/// A reason why a campaign has no table, or why it wasn't written.
 #[derive(Clone, Copy, Debug, PartialEq, Eq, Error)]
 pub enum CampaignFault {
-    /// The inputs make no program, there is no machine for the entry, or there was no memory for these or for the text.
+    /// The inputs make no program, the entry has no machine, or memory ran out for these or for the text.
     #[error("{0}")]
     Judge(JudgeFault),
-    /// G01, G02, G04: there are too many jobs or workers, or there was no memory before any worker began.
+    /// G01, G02, G04: there are too many jobs or workers, or memory ran out before any worker began.
     #[error("{0}")]
     Desk(DeskFault),
-    /// G05: there was no memory for a worker.
+    /// G05: memory ran out for a worker.
     #[error("G05 WorkerFailed")]
     WorkerFailed,
     /// P05: the writer failed.
@@ -28,7 +28,7 @@ pub enum CampaignFault {
 }
 
 impl CampaignFault {
-    /// Returns whether there was no memory for the campaign itself: G04, G05.
+    /// Returns whether memory ran out for the campaign itself: G04, G05.
     pub fn is_memory(&self) -> bool {
         matches!(
             self,

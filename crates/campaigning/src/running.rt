@@ -20,7 +20,7 @@ use std::alloc::Global;
 use std::sync::Wait;
 use std::thread::Threads;
 
-/// Refuses a plan for which no machine of the program can be made.
+/// Refuses a plan if no machine of the program can be made for it.
 fn fit(alloc: Global, program: &Program, plan: &Plan) -> Result<(), ProgramFault>
     ensures fits { OnOk result (IsTrue (fits program.now plan.now)) }
     ensures fault { IfErr result (λ fault.
@@ -82,7 +82,7 @@ fn run_plan<G: Gate + Sync, R: Threads + Wait + Sync>(
     run_fitting(rt, alloc, program, plan, workers, gate)
 }
 
-/// Runs the campaign of a plan on the program that class files and sources make.
+/// Runs the campaign of a plan on the program of class files and sources.
 #[tactic(auto, unfolding(crate::specs::Campaigns::program_for))]
 pub(crate) fn run_inputs<G: Gate + Sync, R: Threads + Wait + Sync>(
     rt: &R,

@@ -1,4 +1,4 @@
-//! The text of a campaign's table, written.
+//! Writes the text of a campaign's table.
 
 ghost use Rattle.std.specs.Prelude.{◌≡◌, ◌≢◌, ◌+◌, length, IfErr, IfOk, IsErrOf, OnOk};
 ghost use Rattle.std.specs.Io.KnownBytes.{Appends};
@@ -42,13 +42,13 @@ fn put_table<W: ByteOut>(
     Ok(())
 }
 
-/// Runs the jobs of a plan, on the program that class files and sources make, on this number of workers, and writes the text
-/// of the table. It waits for the workers.
+/// Runs the jobs of a plan, on the program of class files and sources and on this number of workers, and writes the
+/// text of the table. It waits for the workers.
 ///
 /// # Errors
 ///
-/// Those of `judge` come first. Then G01 for more than 1,000,000 jobs, G02 for no worker or more than 64, and G04 or G05
-/// where there was no memory for the campaign.
+/// Those of `judge` come first. Then G01 for more than 1,000,000 jobs, G02 for no worker or more than 64. Then G04 or
+/// G05 if memory ran out for the campaign.
 pub fn write_table<G: Gate + Sync, R: Threads + Wait + Sync, W: ByteOut>(
     rt: &R,
     alloc: Global,
@@ -58,7 +58,7 @@ pub fn write_table<G: Gate + Sync, R: Threads + Wait + Sync, W: ByteOut>(
     gate: &G,
     output: &mut W,
 ) -> Result<Table, CampaignFault>
-    // The table has, for each job that it shows, whether the run of that job's choices is atomic, and how it ended. It is
+    // For each job that it shows, the table has the atomicity of the run of that job's choices, and how it ended. It is
     // the same for every number of workers, every gate and every order of their steps.
     ensures table { IfOk result (λ table.
         IsTableOf plan.now (program_for plan.now inputs.now) table.results.items) }
@@ -67,12 +67,12 @@ pub fn write_table<G: Gate + Sync, R: Threads + Wait + Sync, W: ByteOut>(
     ensures written { IfOk result (λ table. Appends (W.written output.old) (W.written output.new)
         (table_text plan.now.first table.results.items)) }
     ensures count { OnOk result (W.failures output.new ≡ W.failures output.old) }
-    // A fault is returned only if its condition holds. If it is of an input, it names one of these.
+    // A fault is returned only if its condition holds. A fault of an input names one of these.
     ensures fault { IfErr result (λ fault.
         IsFault plan.now.jobs workers fault (program_for plan.now inputs.now)) }
     ensures named { IfErr result (λ fault. NamesFile (length inputs.now) fault) }
     ensures untouched { IfErr result (λ fault. fault ≢ CampaignFault.Output → output.new ≡ output.old) }
-    // Output comes only where the writer failed. Then a beginning of the text was written.
+    // The fault is `Output` only if the writer failed. Then a prefix of the text was written.
     ensures failed { IsErrOf result CampaignFault.Output
         → W.failures output.new ≡ W.failures output.old + 1 }
     ensures beginning { IsErrOf result CampaignFault.Output → WroteBeginning plan.now

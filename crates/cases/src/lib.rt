@@ -1,12 +1,12 @@
-//! Files of cases: tests that are data, for programs that walk them.
+//! Reads files of cases: tests as data, for programs that run them.
 //!
-//! A file of cases is text. What stands before its first case is a remark.
+//! A file of cases is text. The text before its first case is a remark.
 //!
-//! - A case begins with a line `== NAME` and goes up to the next such line. The first line of a file is none.
-//! - A section of a case begins with a line `-- KIND` or `-- KIND WORDS` and goes up to the next line that begins a
-//!   section or a case. Its lines are those behind its first, without what is blank at their end. What stands between
-//!   the line of a case and its first section is a remark.
-//! - The name, the kind and the words are taken without what is blank around them. Lines end at a line feed.
+//! - A case begins with a line `== NAME` and ends before the next such line. The first line of a file begins no case.
+//! - A section of a case begins with a line `-- KIND` or `-- KIND WORDS` and ends before the next line that begins a
+//!   section or a case. Its lines are those after its first one, without blanks at the end. The text between the line
+//!   of a case and its first section is a remark.
+//! - The name, the kind and the words are trimmed. Lines end with a line feed.
 //!
 //! So this is a case with two sections, `source` with the words `A.j` and two lines, and `choices` with none:
 //!
@@ -21,20 +21,20 @@
 
 use std::alloc::{AllocError, Global};
 
-/// What stands before the name of a case.
+/// The text before the name of a case.
 const CASE: &str = "\n== ";
 
-/// What stands before the kind of a section.
+/// The text before the kind of a section.
 const SECTION: &str = "\n-- ";
 
 /// A part of a case.
 #[derive(Clone, Copy)]
 pub struct Section<'a> {
-    /// What the section says: the first word of its line.
+    /// The kind of the section: the first word of its line.
     pub kind: &'a str,
     /// The other words of its line.
     pub words: &'a str,
-    /// The lines behind it.
+    /// The lines after it.
     pub lines: &'a str,
 }
 
@@ -42,11 +42,11 @@ pub struct Section<'a> {
 #[derive(Drop)]
 pub struct Case<'a> {
     pub name: &'a str,
-    /// What the case consists of, in order.
+    /// The sections of the case, in order.
     pub sections: Vec<Section<'a>>,
 }
 
-/// The first line of a text, and the lines behind it.
+/// Returns the first line of a text, and the lines after it.
 fn first_line(text: &str) -> (&str, &str) {
     match text.split_once('\n') {
         Some((first, others)) => (first, others),
@@ -54,7 +54,7 @@ fn first_line(text: &str) -> (&str, &str) {
     }
 }
 
-/// The section whose text begins with its kind.
+/// Returns the section whose text begins with its kind.
 fn section_of(text: &str) -> Section<'_> {
     let (head, lines) = first_line(text);
     let head = head.trim();
@@ -69,7 +69,7 @@ fn section_of(text: &str) -> Section<'_> {
     }
 }
 
-/// The case whose text begins with its name.
+/// Returns the case whose text begins with its name.
 fn case_of(alloc: Global, text: &str) -> Result<Case<'_>, AllocError> {
     let mut sections = Vec::new(alloc);
     for part in text.split(SECTION).skip(1) {
@@ -82,7 +82,7 @@ fn case_of(alloc: Global, text: &str) -> Result<Case<'_>, AllocError> {
     })
 }
 
-/// The cases of a file, in order.
+/// Returns the cases of a file, in order.
 pub fn cases_of(alloc: Global, file: &str) -> Result<Vec<Case<'_>>, AllocError> {
     let mut cases = Vec::new(alloc);
     for text in file.split(CASE).skip(1) {
@@ -92,7 +92,7 @@ pub fn cases_of(alloc: Global, file: &str) -> Result<Vec<Case<'_>>, AllocError> 
 }
 
 impl<'a> Case<'a> {
-    /// The first section of this kind.
+    /// Returns the first section of this kind.
     pub fn section(&self, kind: &str) -> Option<Section<'a>> {
         self.sections
             .iter()
@@ -100,12 +100,12 @@ impl<'a> Case<'a> {
             .copied()
     }
 
-    /// The words of the first section of this kind.
+    /// Returns the words of the first section of this kind.
     pub fn words(&self, kind: &str) -> Option<&'a str> {
         self.section(kind).map(|section| section.words)
     }
 
-    /// The lines of the first section of this kind.
+    /// Returns the lines of the first section of this kind.
     pub fn lines(&self, kind: &str) -> Option<&'a str> {
         self.section(kind).map(|section| section.lines)
     }

@@ -1,4 +1,4 @@
--- What the forms of a text say of a method's descriptor.
+-- The forms of a text decide whether it is a method's descriptor.
 use Rattle.std.proofs.Common.{◌≡◌, ℕ, ◌+◌, Bool, true, false, List, Option, None, Some, if◌then◌else◌, refl, arith, nat_le}
 use Rattle.std.proofs.lemmas.Bool.Decides.{nat_tests}
 use Rattle.jvms_file.specs.declared.descriptor.MethodType.{MethodType}

@@ -41,7 +41,7 @@ and-false false = refl
 or-alike : (a b c : Bool) → a ≡ false → b ≡ c → b ≡ (a || c)
 or-alike a b c none is = rw none is
 
--- A pair more.
+-- One more pair.
 pub pair_put : (old new : Seen) (x y : Option ℕ) (k : ℕ × ℕ) → Some k ≡ both x y → ((q : ℕ × ℕ) → sorted.contains pair_cmp new.pairs q ≡ cond (is_eq (pair_cmp k q)) true (sorted.contains pair_cmp old.pairs q)) → (a b : Option ℕ) → has_pair new (both a b) ≡ ((is_one_number x a && is_one_number y b) || has_pair old (both a b))
 pair_put old new None y k is u a b = absurd (none-some k (sym is))
 pair_put old new (Some x) None k is u a b = absurd (none-some k (sym is))
@@ -53,7 +53,7 @@ pair_put old new (Some x) (Some y) k is u (Some a) (Some b) =
 
 -- ---- Names and descriptors
 
--- By their numbers two names and descriptors are those of their texts.
+-- Names and descriptors are equal by their numbers exactly if their texts are.
 pub by_texts : (pool : List Constant) (old new : Seen) (name descriptor m n : ℕ) → is_seen pool new m n ≡ ((is_one_number (canonical pool name) (canonical pool m) && is_one_number (canonical pool descriptor) (canonical pool n)) || is_seen pool old m n) → is_seen pool new m n ≡ ((same_entry_text pool name m && same_entry_text pool descriptor n) || is_seen pool old m n)
 by_texts pool old new name descriptor m n h = rw (one_canonical pool name m, one_canonical pool descriptor n) at h
 

@@ -1,4 +1,4 @@
--- Class files as they are written (JVMS 4.1): what is written of a class that has a spelling is one of it.
+-- Class files as they are written (JVMS 4.1). The bytes of a class that has a spelling spell it.
 use Rattle.std.proofs.Common.{◌≡◌, ℕ, List, length, refl, sym, ap, ◌∙◌}
 use Rattle.std.specs.Prelude.{Ok}
 use Rattle.jvms_file.specs.declared.class_file.Constant.{Constant}
@@ -7,7 +7,7 @@ use Rattle.jvms_file.specs.declared.class_file.MethodInfo.{MethodInfo}
 use Rattle.jvms_file.specs.declared.class_file.ClassFile.{ClassFile}
 use Rattle.jvms_file.specs.ClassFile.{read}
 use Rattle.jvms_file.specs.Spelling.{u2, SpellsKept, SpellsFieldAttribute, SpellsMethodAttribute, SpellsMember, SpellsField, SpellsMethod, SpellsInterface, Spells}
-use Rattle.spelling.proofs.Classes.{spelled_is_read}
+use Rattle.classfile_laws.proofs.Classes.{spelled_is_read}
 use Rattle.const_pool.specs.Writing.{pool_bytes}
 use Rattle.class_file.specs.Writing.{counted_bytes, kept_bytes, field_attribute_bytes, method_attribute_bytes, member_bytes, field_bytes, method_bytes, header_bytes, names_bytes, class_bytes}
 use Rattle.class_file.proofs.WrittenLists.{InPlace, one_spelling, joined_size, counted_written}
@@ -42,7 +42,7 @@ method_written pool major class_access bytes m s =
 interface_written : (pool : List Constant) (bytes : List ℕ) (n : ℕ) → SpellsInterface pool bytes n → InPlace (λ w. SpellsInterface pool w n) bytes (u2 n)
 interface_written pool bytes n s = one_spelling (λ w. SpellsInterface pool w n) bytes (u2 n) s.2 s
 
--- What is written of a class that has a spelling is a spelling of it.
+-- The bytes that are written of a class that has a spelling spell it.
 pub written_spells : (bytes : List ℕ) (c : ClassFile) → Spells bytes c → Spells (class_bytes c) c
 unfolding class_bytes
 written_spells bytes c s =
@@ -73,6 +73,6 @@ written_spells bytes c s =
       of_attributes = attributes.spells;
     }
 
--- What is written of a class that has a spelling is read as that class.
+-- A class that has a spelling is read from the bytes that are written of it.
 pub written_is_read : (bytes : List ℕ) (c : ClassFile) → Spells bytes c → read (class_bytes c) ≡ Ok c
 written_is_read bytes c s = spelled_is_read (class_bytes c) c (written_spells bytes c s)

@@ -1,4 +1,4 @@
--- Attributes as they are written (JVMS 4.7): all but a method's code have one spelling.
+-- Attributes as they are written (JVMS 4.7). All but a method's code have one spelling.
 use Rattle.std.proofs.Common.{◌≡◌, ℕ, List, [], ◌∷◌, ◌++◌, length, Some, refl, sym, ap, subst, ◌∙◌}
 use Rattle.std.specs.Prelude.{zero, suc, slice_get, unwrap_or, codes, IsTrue}
 use Rattle.jvms_file.specs.declared.class_file.Constant.{Constant}
@@ -13,19 +13,19 @@ use Rattle.jvms_file.specs.declared.class_file.Code.{Code}
 use Rattle.jvms_file.specs.Code.{with_zero_pads, layout_of}
 use Rattle.jvms_file.specs.Members.{is_code_length}
 use Rattle.jvms_file.specs.Spelling.{u2, u4, IsU4, Counted, SpellsInsns, SpellsKept, SpellsFramed, SpellsFieldAttribute, SpellsHandler, SpellsCode, SpellsClassNumber, SpellsMethodAttribute}
-use Rattle.spelling.proofs.Numbers.{length-u4}
-use Rattle.spelling.proofs.InsnPads.{zero_pads_spell, zero_pads_length, zero_pads_again}
+use Rattle.classfile_laws.proofs.Numbers.{length-u4}
+use Rattle.classfile_laws.proofs.InsnPads.{zero_pads_spell, zero_pads_length, zero_pads_again}
 use Rattle.class_file.specs.Writing.{counted_bytes, framed_bytes, kept_bytes, field_attribute_bytes, pc_of, handler_bytes, code_bytes, method_attribute_bytes}
 use Rattle.class_file.proofs.WrittenLists.{InPlace, one_spelling, joined_size, counted_written}
 
 -- ---- Attributes with names
 
--- An attribute that is kept.
+-- A kept attribute.
 pub kept_written : (pool : List Constant) (bytes : List ℕ) (a : KeptAttribute) → SpellsKept pool bytes a → InPlace (λ w. SpellsKept pool w a) bytes (kept_bytes a)
 unfolding kept_bytes
 kept_written pool bytes a s = one_spelling (λ w. SpellsKept pool w a) bytes (kept_bytes a) s.3 s
 
--- An attribute whose content is written in place of what was read.
+-- An attribute whose content is written in place of the one that was read.
 framed_written : (pool : List Constant) (name_text : List ℕ) (name : ℕ) (bytes : List ℕ) (Content : List ℕ → Type 0) (now : List ℕ) → ((content : List ℕ) → Content content → InPlace Content content now) → SpellsFramed pool name_text name bytes Content → InPlace (λ w. SpellsFramed pool name_text name w Content) bytes (framed_bytes name now)
 framed_written pool name_text name bytes Content now writes s =
     let content = s.2 in
@@ -70,7 +70,7 @@ handler_written pool layout bytes h s =
     let target = pc_is layout h.target s.2 s.10 in
     one_spelling (λ w. SpellsHandler pool layout.starts (length layout.bytes) w h) bytes (handler_bytes layout h) (rw (start, end, target) s.12) s
 
--- The content of a Code: its bytes are those that were read, with 0 for pads.
+-- The content of a Code attribute: its bytes are those that were read, with pads set to 0.
 code_written : (pool : List Constant) (major : ℕ) (bytes : List ℕ) (c : Code) → SpellsCode pool major bytes c → InPlace (λ w. SpellsCode pool major w c) bytes (code_bytes c)
 unfolding code_bytes
 code_written pool major bytes c s =

@@ -1,20 +1,20 @@
--- Bytes that are written in place of those that were read: they spell the same, and are as many.
+-- Bytes that are written in place of those that were read spell the same, and are equally many.
 use Rattle.std.proofs.Common.{◌≡◌, ℕ, ◌+◌, List, [], ◌∷◌, ◌++◌, length, refl, sym, ap, subst, ◌∙◌}
 use Rattle.std.specs.List.{flat_map}
 use Rattle.std.proofs.lemmas.List.{length-append}
 use Rattle.jvms_file.specs.Spelling.{u2, InOrder, Counted}
 use Rattle.class_file.specs.Writing.{counted_bytes}
 
--- The bytes `now` in place of `bytes`, of which P holds.
+-- The bytes `now` have the property P, and replace `bytes` of the same length.
 pub record InPlace (P : List ℕ → Type 0) (bytes now : List ℕ) : Type 0 where
   pub spells : P now
   pub size : length now ≡ length bytes
 
--- What has one spelling is written as that.
+-- An item with one spelling is written with it.
 pub one_spelling : (P : List ℕ → Type 0) (bytes now : List ℕ) → bytes ≡ now → P bytes → InPlace P bytes now
 one_spelling P bytes now same s = record { spells = subst P same s; size = ap length (sym same) }
 
--- Two parts that are as many as two others are so together.
+-- Two parts are together as long as two others, if each is.
 pub joined_size : (first rest others more : List ℕ) → length first ≡ length others → length rest ≡ length more → length (first ++ rest) ≡ length (others ++ more)
 joined_size first rest others more front behind =
     length-append first rest
@@ -22,11 +22,11 @@ joined_size first rest others more front behind =
     ∙ ap (λ (n : ℕ). length others + n) behind
     ∙ sym (length-append others more)
 
--- Each thing that is spelled is so by the bytes that are written of it.
+-- The bytes that are written of a spelled item spell it.
 abbrev pub WritesEach : {A : Type 0} → (List ℕ → A → Type 0) → (A → List ℕ) → Type 0
 WritesEach {A = A} P bytes_of = (bytes : List ℕ) (x : A) → P bytes x → InPlace (λ w. P w x) bytes (bytes_of x)
 
--- Things one behind the other.
+-- Items, one after another.
 pub in_order_written : {A : Type 0} (P : List ℕ → A → Type 0) (bytes_of : A → List ℕ) → WritesEach P bytes_of → (xs : List A) (bytes : List ℕ) → InOrder P bytes xs → InPlace (λ w. InOrder P w xs) bytes (flat_map bytes_of xs)
 in_order_written P bytes_of each [] bytes s = record { spells = refl; size = ap length (sym s) }
 in_order_written P bytes_of each (x ∷ xs) bytes s =
@@ -37,7 +37,7 @@ in_order_written P bytes_of each (x ∷ xs) bytes s =
       size = joined_size (bytes_of x) (flat_map bytes_of xs) s.0 s.1 one.size others.size ∙ ap length (sym s.2);
     }
 
--- Things behind their count.
+-- Items, after their count.
 pub counted_written : {A : Type 0} (P : List ℕ → A → Type 0) (bytes_of : A → List ℕ) → WritesEach P bytes_of → (xs : List A) (bytes : List ℕ) → Counted P bytes xs → InPlace (λ w. Counted P w xs) bytes (counted_bytes bytes_of xs)
 counted_written P bytes_of each xs bytes s =
     let two = s.1 in

@@ -1,4 +1,4 @@
--- The constant pool as it is written (JVMS 4.4): each entry has one spelling.
+-- The constant pool as it is written (JVMS 4.4). Each entry has one spelling.
 use Rattle.std.proofs.Common.{◌≡◌, ℕ, ◌+◌, ◌^◌, ◌<◌, List, ◌∷◌, length, refl, sym, ap, ◌∙◌}
 use Rattle.std.specs.Prelude.{ℤ}
 use Rattle.std.specs.List.{flat_map}

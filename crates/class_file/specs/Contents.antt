@@ -1,7 +1,7 @@
--- An attribute's content, as the code has it.
-use Rattle.jvms_file.specs.Members.{Framed}
+-- An attribute's content as the code represents it (own).
+use Rattle.jvms_file.specs.Members.{AttributeFrame}
 use Rattle.class_file.specs.declared.content.Content.{Content}
 
--- Without where its bytes lie in memory.
-abbrev pub framed_by : Content → Framed
+-- The content with its bytes as values.
+abbrev pub framed_by : Content → AttributeFrame
 framed_by c = record { whole = c.whole; cut = c.cut; content = c.bytes.now; behind = c.behind.now }

@@ -12,7 +12,7 @@ use Rattle.jvms_file.specs.Members.{is_same_field, is_same_method}
 use Rattle.const_pool.specs.Texts.{canonical}
 use Rattle.class_file.specs.declared.seen.Seen.{Seen}
 
--- By the first number, and then by the second.
+-- The order of pairs: by the first number, then by the second.
 abbrev pub pair_cmp : ℕ × ℕ → ℕ × ℕ → Ordering
 pair_cmp a b = ordering_then (nat_cmp a.0 b.0) (nat_cmp a.1 b.1)
 
@@ -20,16 +20,16 @@ abbrev pub has_pair : Seen → Option (ℕ × ℕ) → Bool
 has_pair seen None = false
 has_pair seen (Some pair) = sorted.contains pair_cmp seen.pairs pair
 
--- Whether a name and a descriptor are among those of the members.
+-- A name and a descriptor are among those of the members.
 abbrev pub is_seen : List Constant → Seen → ℕ → ℕ → Bool
 is_seen pool seen name descriptor = has_pair seen (both (canonical pool name) (canonical pool descriptor))
 
--- What was seen is the fields.
+-- The set has the names and descriptors of these fields.
 abbrev pub AreFields : List Constant → Seen → List FieldInfo → Type 0
 AreFields pool seen fields =
     (name descriptor : ℕ) → is_seen pool seen name descriptor ≡ list_any (is_same_field pool name descriptor) fields
 
--- What was seen is the methods.
+-- The set has the names and descriptors of these methods.
 abbrev pub AreMethods : List Constant → Seen → List MethodInfo → Type 0
 AreMethods pool seen methods =
     (name descriptor : ℕ) → is_seen pool seen name descriptor ≡ list_any (is_same_method pool name descriptor) methods

@@ -1,5 +1,5 @@
--- The bytes that spell a class file (JVMS 4), as it is written: the parts stand as in the grammar, and a
--- method's code as its layout says.
+-- The bytes that are written of a class file (JVMS 4). Its parts are in the order of the grammar, and a method's code
+-- is that of its layout.
 use Rattle.std.specs.Prelude.{ℕ, List, ◌++◌, length, slice_get, unwrap_or}
 use Rattle.std.specs.List.{flat_map}
 use Rattle.jvms_file.specs.declared.class_file.KeptAttribute.{KeptAttribute}
@@ -16,7 +16,7 @@ use Rattle.jvms_file.specs.declared.class_file.ClassFile.{ClassFile}
 use Rattle.jvms_file.specs.Spelling.{u2, u4}
 use Rattle.const_pool.specs.Writing.{pool_bytes}
 
--- A count of two bytes, and so many things, one behind the other.
+-- A count of two bytes, followed by the bytes of the items.
 abbrev pub counted_bytes : {A : Type 0} → (A → List ℕ) → List A → List ℕ
 counted_bytes thing_bytes xs = u2 (length xs) ++ flat_map thing_bytes xs
 
@@ -30,12 +30,12 @@ framed_bytes name content = u2 name ++ (u4 (length content) ++ content)
 unfoldable pub kept_bytes : KeptAttribute → List ℕ
 kept_bytes a = framed_bytes a.name a.bytes
 
--- JVMS 4.7.2
+-- The bytes of an attribute of a field (JVMS 4.7.2).
 unfoldable pub field_attribute_bytes : FieldAttribute → List ℕ
 field_attribute_bytes (field_attribute.ConstantValue name value) = framed_bytes name (u2 value)
 field_attribute_bytes (field_attribute.Kept a) = kept_bytes a
 
--- The byte at which the instruction at a place starts; behind the last instruction, the code's length.
+-- The byte at which the instruction at a place starts, or the code's length for the place after the last.
 abbrev pub pc_of : Layout → ℕ → ℕ
 pc_of layout place = unwrap_or (slice_get layout.starts place) (length layout.bytes)
 
@@ -44,7 +44,7 @@ unfoldable pub handler_bytes : Layout → Handler → List ℕ
 handler_bytes layout h =
     u2 (pc_of layout h.start) ++ (u2 (pc_of layout h.end) ++ (u2 (pc_of layout h.target) ++ u2 h.catch_type))
 
--- A Code's content (JVMS 4.7.3).
+-- The content of a Code attribute (JVMS 4.7.3).
 unfoldable pub code_bytes : Code → List ℕ
 code_bytes c =
     u2 c.max_stack ++ (u2 c.max_locals ++ (u4 (length c.layout.bytes) ++ (c.layout.bytes
@@ -77,7 +77,7 @@ header_bytes c = u4 0xcafebabe ++ (u2 c.minor ++ u2 c.major)
 abbrev pub names_bytes : ClassFile → List ℕ
 names_bytes c = u2 c.access ++ (u2 c.this_class ++ u2 c.super_class)
 
--- What stands behind the superclass.
+-- The parts after the superclass.
 abbrev pub members_bytes : ClassFile → List ℕ
 members_bytes c =
     counted_bytes u2 c.interfaces ++ (counted_bytes field_bytes c.fields

@@ -1,4 +1,4 @@
-//! Attributes that are kept as bytes (JVMS 4.7), and the names of those that are read.
+//! Attributes that are kept as bytes (JVMS 4.7), and the names of those that are parsed.
 
 ghost use Rattle.std.specs.Prelude.{◌≡◌};
 ghost use Rattle.jvms_file.specs.Reading.{Gives};
@@ -6,12 +6,12 @@ ghost use Rattle.jvms_file.specs.Members.{kept_content_at, kept_at as kept_read,
 
 use const_pool::Pool;
 use file_bytes::{Part, bytes_at, parts_of, u2_at, u4_at, want};
-use held::items::Items;
+use shared_data::items::Items;
 use jvms_file::class_file::KeptAttribute;
 use jvms_file::fault::{ClassFault, ReadError};
 use std::alloc::Global;
 
-/// Whether an entry is this text.
+/// Decides whether an entry is this text.
 pub(crate) fn is_named(pool: &Pool, number: u16, name: &[u16]) -> bool
     ensures { result ≡ names_text pool.now number name.now }
 {
@@ -21,7 +21,7 @@ pub(crate) fn is_named(pool: &Pool, number: u16, name: &[u16]) -> bool
     }
 }
 
-/// Behind its name: an attribute that is kept.
+/// Reads a kept attribute after its name, and returns it with the bytes after it.
 pub(crate) fn kept_content(
     alloc: Global,
     cut: ClassFault,
@@ -36,7 +36,7 @@ pub(crate) fn kept_content(
     Ok((KeptAttribute { name, bytes }, behind))
 }
 
-/// Attributes that are kept, of a class with this pool; `cut` is the fault of bytes that aren't there.
+/// The reader of kept attributes of a class with this pool. `cut` is the fault of missing bytes.
 #[derive(Clone, Copy)]
 struct KeptAttributes<'p> {
     pool: &'p Pool,
@@ -58,7 +58,7 @@ impl Part<KeptAttribute> for KeptAttributes<'_> {
     }
 }
 
-/// attributes_count and the attributes, all kept.
+/// Reads attributes_count and the attributes, all kept, and returns them with the bytes after them.
 pub(crate) fn kept_attributes_at<'a>(
     alloc: Global,
     pool: &Pool,

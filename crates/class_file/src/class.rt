@@ -3,7 +3,7 @@
 ghost use Rattle.std.specs.Prelude.{◌≡◌};
 ghost use Rattle.jvms_file.specs.ClassFile.{is_version, is_proper_class as is_proper_number, interface_at as interface_read, interfaces_at as interfaces_read, class_at as class_read, read as file_read};
 ghost use Rattle.jvms_file.specs.Reading.{Gives};
-ghost use Rattle.class_file.specs.Opening.{members_behind as members_read, class_behind, pool_behind as pool_read};
+ghost use Rattle.class_file.specs.Opening.{members_after_superclass as members_read, class_after_pool, class_after_versions as pool_read};
 
 use crate::attribute::kept_attributes_at;
 use crate::field::fields_at;
@@ -11,7 +11,7 @@ use crate::method::methods_at;
 use const_pool::{Pool, ScannedPool};
 use descriptor::is_array_name;
 use file_bytes::{Part, parts_of, u2_at, u4_at, want};
-use held::items::Items;
+use shared_data::items::Items;
 use jvms_file::class_file::ClassFile;
 use jvms_file::fault::{ClassFault, ReadError};
 use std::alloc::Global;
@@ -19,7 +19,7 @@ use std::alloc::Global;
 /// The first four bytes of a class file.
 pub(crate) const MAGIC: u32 = 0xcafebabe;
 
-/// What stands before the interfaces of a class, but for the constant pool.
+/// The parts of a class before its interfaces, except the constant pool.
 #[derive(Clone, Copy)]
 pub(crate) struct Head {
     pub(crate) minor: u16,
@@ -29,7 +29,7 @@ pub(crate) struct Head {
     pub(crate) super_class: u16,
 }
 
-/// Whether a number is that of a class that is no array's.
+/// Decides whether a number is that of a class that is no array's.
 fn is_proper_class(pool: &Pool, number: u16) -> bool
     ensures { result ≡ is_proper_number pool.now number }
 {
@@ -39,7 +39,7 @@ fn is_proper_class(pool: &Pool, number: u16) -> bool
     }
 }
 
-/// The numbers of interfaces' entries, in a class with this pool; `cut` is the fault of bytes that aren't there.
+/// The reader of the numbers of interfaces in a class with this pool. `cut` is the fault of missing bytes.
 #[derive(Clone, Copy)]
 struct Interfaces<'p> {
     pool: &'p Pool,
@@ -61,7 +61,7 @@ impl Part<u16> for Interfaces<'_> {
     }
 }
 
-/// interfaces_count and the interfaces.
+/// Reads interfaces_count and the interfaces, and returns them with the bytes after them.
 fn interfaces_at<'a>(
     alloc: Global,
     pool: &Pool,
@@ -74,8 +74,8 @@ fn interfaces_at<'a>(
     parts_of(alloc, &Interfaces { pool, cut }, usize::from(count), rest)
 }
 
-/// What stands behind the superclass; the head of a class is what stands before that.
-fn members_behind(
+/// Reads the bytes after the superclass, and returns the class with the parts in `head`.
+fn members_after_superclass(
     alloc: Global,
     cut: ClassFault,
     pool: ScannedPool,
@@ -103,8 +103,8 @@ fn members_behind(
     })
 }
 
-/// What stands behind the constant pool.
-fn class_behind(
+/// Reads the bytes after the constant pool, and returns the class.
+fn class_after_pool(
     alloc: Global,
     cut: ClassFault,
     minor: u16,
@@ -112,7 +112,7 @@ fn class_behind(
     pool: ScannedPool,
     bytes: &[u8],
 ) -> Result<ClassFile, ReadError>
-    ensures { Gives (λ c. c) result (class_behind cut minor major pool bytes.now) }
+    ensures { Gives (λ c. c) result (class_after_pool cut minor major pool bytes.now) }
 {
     let (access, rest) = u2_at(cut, bytes)?;
     let (this_class, rest) = u2_at(cut, rest)?;
@@ -129,11 +129,11 @@ fn class_behind(
         this_class,
         super_class,
     };
-    members_behind(alloc, cut, pool, head, rest)
+    members_after_superclass(alloc, cut, pool, head, rest)
 }
 
-/// What stands behind the versions.
-fn pool_behind(
+/// Reads the bytes after the versions, and returns the class.
+fn class_after_versions(
     alloc: Global,
     cut: ClassFault,
     minor: u16,
@@ -143,17 +143,17 @@ fn pool_behind(
     ensures { Gives (λ c. c) result (pool_read cut minor major bytes.now) }
 {
     let (pool, rest) = ScannedPool::read(alloc, cut, bytes)?;
-    class_behind(alloc, cut, minor, major, pool, rest)
+    class_after_pool(alloc, cut, minor, major, pool, rest)
 }
 
-/// Whether a major version is one that is read, 45 to 50.
+/// Decides whether a major version is one that is read, 45 to 50.
 fn is_version(major: u16) -> bool
     ensures { result ≡ is_version major }
 {
     45 <= major && major <= 50
 }
 
-/// The class that bytes spell; `cut` is the fault of bytes that aren't there.
+/// Reads a class from bytes, or returns their first fault. `cut` is the fault of missing bytes.
 #[tactic(auto, unfolding(jvms_file::specs::ClassFile::class_at))]
 fn class_at(alloc: Global, cut: ClassFault, bytes: &[u8]) -> Result<ClassFile, ReadError>
     ensures { Gives (λ c. c) result (class_read cut bytes.now) }
@@ -163,11 +163,10 @@ fn class_at(alloc: Global, cut: ClassFault, bytes: &[u8]) -> Result<ClassFile, R
     let (minor, rest) = u2_at(cut, rest)?;
     let (major, rest) = u2_at(cut, rest)?;
     want(is_version(major), ClassFault::Version)?;
-    pool_behind(alloc, cut, minor, major, rest)
+    class_after_versions(alloc, cut, minor, major, rest)
 }
 
-/// The class that bytes spell, or their first fault. The place of bytes that aren't there is the length of
-/// those that are.
+/// Reads a class from bytes, or returns their first fault. Truncated bytes have their length as the place of the fault.
 pub(crate) fn read_class(alloc: Global, bytes: &[u8]) -> Result<ClassFile, ReadError>
     ensures exact { Gives (λ c. c) result (file_read bytes.now) }
 {

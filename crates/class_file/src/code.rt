@@ -1,4 +1,4 @@
-//! The code of a method (JVMS 4.7.3), and the classes that it may throw (JVMS 4.7.5).
+//! The code of a method (JVMS 4.7.3), and the classes of the exceptions that it declares (JVMS 4.7.5).
 
 ghost use Rattle.std.specs.Prelude.{◌≡◌, ◌≤◌, length, IfOk};
 ghost use Rattle.jvms_file.specs.Code.{handlers_of};
@@ -12,17 +12,17 @@ use crate::attribute::kept_attributes_at;
 use crate::content::{Content, want_all};
 use const_pool::{Pool, ScannedPool};
 use file_bytes::{Part, bytes_at, parts_of, u2_at, u4_at, want};
-use held::items::Items;
+use shared_data::items::Items;
 use insn::{Starts, decode, handler, layout};
 use jvms_file::class_file::{Code, Handler};
 use jvms_file::fault::{ClassFault, ReadError};
 use std::alloc::Global;
 
-/// The most bytes that code has (JVMS 4.7.3).
+/// The greatest number of bytes of code (JVMS 4.7.3).
 const MOST_CODE: u32 = 65535;
 
-/// Entries of the exception table, whose places are bytes, in a class with this pool; `cut` is the fault of
-/// bytes that aren't there.
+/// The reader of entries of the exception table in a class with this pool. Their bounds and targets are bytes. `cut` is
+/// the fault of missing bytes.
 #[derive(Clone, Copy)]
 struct Handlers<'p> {
     pool: &'p Pool,
@@ -56,7 +56,7 @@ impl Part<Handler> for Handlers<'_> {
     }
 }
 
-/// exception_table_length and the entries of the table.
+/// Reads exception_table_length and the entries of the table, and returns them with the bytes after them.
 fn table_at<'a>(
     alloc: Global,
     pool: &Pool,
@@ -69,7 +69,7 @@ fn table_at<'a>(
     parts_of(alloc, &Handlers { pool, cut }, usize::from(count), rest)
 }
 
-/// The bytes of the instructions, behind their length.
+/// Splits off the bytes of the instructions, after their length, and returns them with the bytes after them.
 fn code_bytes<'a>(
     cut: ClassFault,
     code_length: u32,
@@ -88,7 +88,7 @@ fn code_bytes<'a>(
     Ok(bytes.split_at(count))
 }
 
-/// An entry of the exception table with places for bytes.
+/// Returns an entry of the exception table with places for bytes.
 fn with_places(starts: &Starts, code_length: usize, entry: Handler) -> Result<Handler, ClassFault>
     ensures { Finds (λ x. x) result (handler_placed starts.now code_length entry) }
 {
@@ -98,7 +98,7 @@ fn with_places(starts: &Starts, code_length: usize, entry: Handler) -> Result<Ha
     }
 }
 
-/// The entries of the exception table with places for bytes.
+/// Returns the entries of the exception table with places for bytes.
 fn placed(
     alloc: Global,
     starts: &Starts,
@@ -117,7 +117,7 @@ fn placed(
     Ok(placed)
 }
 
-/// A Code's content (JVMS 4.7.3).
+/// Reads the content of a Code attribute (JVMS 4.7.3), and returns it with the bytes after the attribute.
 #[tactic(auto, unfolding(jvms_file::specs::Members::code_at))]
 pub(crate) fn code_at<'a>(
     alloc: Global,
@@ -153,7 +153,7 @@ pub(crate) fn code_at<'a>(
     Ok((code, content.behind))
 }
 
-/// The numbers of Class entries, in a class with this pool; `cut` is the fault of bytes that aren't there.
+/// The reader of numbers of Class entries in a class with this pool. `cut` is the fault of missing bytes.
 #[derive(Clone, Copy)]
 struct ClassNumbers<'p> {
     pool: &'p Pool,
@@ -175,7 +175,7 @@ impl Part<u16> for ClassNumbers<'_> {
     }
 }
 
-/// number_of_exceptions and the numbers of their classes.
+/// Reads number_of_exceptions and the numbers of their classes, and returns them with the bytes after them.
 fn classes_at<'a>(
     alloc: Global,
     pool: &Pool,
@@ -188,7 +188,7 @@ fn classes_at<'a>(
     parts_of(alloc, &ClassNumbers { pool, cut }, usize::from(count), rest)
 }
 
-/// The content of Exceptions (JVMS 4.7.5).
+/// Reads the content of an Exceptions attribute (JVMS 4.7.5), and returns it with the bytes after the attribute.
 pub(crate) fn exceptions_at<'a>(
     alloc: Global,
     pool: &Pool,

@@ -8,19 +8,19 @@ ghost use Rattle.class_file.specs.Contents.{framed_by};
 use file_bytes::{u4_at, want};
 use jvms_file::fault::ClassFault;
 
-/// An attribute's content. What would pass its end is missing from the input where the end is behind the
-/// input's, else from the attribute.
+/// An attribute's content and the bytes after it. A read past the content's end has the fault `cut`: that of the
+/// attribute's length if the content is complete, else that of missing input.
 #[derive(Clone, Copy)]
 pub(crate) struct Content<'a> {
-    /// Whether all bytes of the content are there.
+    /// True if all bytes of the content are there.
     pub(crate) whole: bool,
-    /// The fault of bytes that aren't there.
+    /// The fault of missing bytes.
     pub(crate) cut: ClassFault,
     pub(crate) bytes: &'a [u8],
     pub(crate) behind: &'a [u8],
 }
 
-/// The content of so many bytes.
+/// Returns the content of `count` bytes.
 fn content_of(cut: ClassFault, count: usize, bytes: &[u8]) -> Content<'_>
     ensures { framed_by result ≡ framed cut count bytes.now }
 {
@@ -42,7 +42,7 @@ fn content_of(cut: ClassFault, count: usize, bytes: &[u8]) -> Content<'_>
     }
 }
 
-/// The length of an attribute's content, and the content.
+/// Reads the length of an attribute's content, and returns the content.
 pub(crate) fn content_at(cut: ClassFault, bytes: &[u8]) -> Result<Content<'_>, ClassFault>
     ensures { Finds framed_by result (frame_read cut bytes.now) }
 {
@@ -50,7 +50,7 @@ pub(crate) fn content_at(cut: ClassFault, bytes: &[u8]) -> Result<Content<'_>, C
     Ok(content_of(cut, count as usize, rest))
 }
 
-/// What was read of an attribute's content, up to these bytes, is all of it.
+/// Tests that an attribute's content was read to its end. `rest` is what is left of it.
 pub(crate) fn want_all(content: Content<'_>, rest: &[u8]) -> Result<(), ClassFault>
     ensures { Finds (λ x. x) result (all_wanted (framed_by content.entry) rest.now) }
 {

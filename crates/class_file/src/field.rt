@@ -5,7 +5,7 @@ ghost use Rattle.std.specs.List.{list_any};
 ghost use Rattle.std.specs.Option.{option_copied};
 ghost use Rattle.jvms_file.specs.Reading.{Gives};
 ghost use Rattle.file_bytes.specs.Reading.{Finds};
-ghost use Rattle.jvms_file.specs.Results.{counted_onto};
+ghost use Rattle.jvms_file.specs.Results.{part_list_onto};
 ghost use Rattle.jvms_file.specs.Descriptors.{field_type_of};
 ghost use Rattle.jvms_file.specs.Members.{takes_constant, is_constant_of, constant_value_at, is_constant_value, field_attribute_at, is_text_with, is_same_field, field_at as field_read, fields_at as fields_read};
 ghost use Rattle.jvms_file.specs.ConstantPool.{utf8_at, entry};
@@ -20,12 +20,12 @@ use crate::names::{BOOLEAN, BYTE, CHAR, CONSTANT_VALUE, DOUBLE, FLOAT, INT, LONG
 use crate::seen::Seen;
 use const_pool::{Pool, ScannedPool};
 use file_bytes::{Part, parts_of, u2_at, want};
-use held::items::Items;
+use shared_data::items::Items;
 use jvms_file::class_file::{Constant, FieldAttribute, FieldInfo};
 use jvms_file::fault::{ClassFault, ReadError};
 use std::alloc::{AllocError, Global};
 
-/// Whether a field of this descriptor may have this constant (JVMS table 4.7.2-A).
+/// Decides whether a field of this descriptor may have this constant (JVMS table 4.7.2-A).
 fn takes(descriptor: &[u16], constant: &Constant) -> bool
     ensures { result ≡ takes_constant descriptor.now constant.now }
 {
@@ -39,7 +39,7 @@ fn takes(descriptor: &[u16], constant: &Constant) -> bool
     }
 }
 
-/// Whether a field's descriptor takes the constant of an entry.
+/// Decides whether a field's descriptor accepts the constant of an entry.
 fn is_its_constant(pool: &Pool, descriptor: u16, value: u16) -> bool
     ensures { result ≡ is_constant_of (utf8_at pool.now descriptor) (entry pool.now value) }
 {
@@ -49,7 +49,7 @@ fn is_its_constant(pool: &Pool, descriptor: u16, value: u16) -> bool
     }
 }
 
-/// A ConstantValue's content (JVMS 4.7.2).
+/// Reads the content of a ConstantValue attribute (JVMS 4.7.2), and returns it with the bytes after the attribute.
 fn constant_value<'a>(
     pool: &Pool,
     descriptor: u16,
@@ -67,15 +67,15 @@ fn constant_value<'a>(
     ))
 }
 
-/// Whether a ConstantValue is among attributes.
+/// Decides whether a ConstantValue is among attributes.
 fn has_constant_value(attributes: &[FieldAttribute]) -> bool
     ensures { result ≡ list_any is_constant_value attributes.now }
 {
     attributes.iter().any(|a| matches!(a, FieldAttribute::ConstantValue { name: _, value: _ }))
 }
 
-/// The attributes of a field of this descriptor, in a class with this pool; `cut` is the fault of bytes that
-/// aren't there.
+/// The reader of attributes of a field with this descriptor in a class with this pool. `cut` is the fault of missing
+/// bytes.
 #[derive(Clone, Copy)]
 struct Attributes<'p> {
     pool: &'p Pool,
@@ -105,7 +105,7 @@ impl Part<FieldAttribute> for Attributes<'_> {
     }
 }
 
-/// The number of a field's name.
+/// Tests that a number is that of a field's name.
 fn want_name(pool: &ScannedPool, number: u16) -> Result<(), ClassFault>
     ensures { Finds (λ x. x) result (text_wanted is_name_text pool.now number) }
 {
@@ -115,7 +115,7 @@ fn want_name(pool: &ScannedPool, number: u16) -> Result<(), ClassFault>
     }
 }
 
-/// The number of a field's descriptor.
+/// Tests that a number is that of a field's descriptor.
 fn want_descriptor(pool: &ScannedPool, number: u16) -> Result<(), ClassFault>
     ensures { Finds (λ x. x) result (text_wanted (λ text. is_some (field_type_of text)) pool.now number) }
 {
@@ -125,7 +125,7 @@ fn want_descriptor(pool: &ScannedPool, number: u16) -> Result<(), ClassFault>
     }
 }
 
-/// attributes_count and the attributes of a field.
+/// Reads attributes_count and the attributes of a field, and returns them with the bytes after them.
 fn attributes_at<'a>(
     alloc: Global,
     pool: &Pool,
@@ -152,7 +152,7 @@ struct Fields {
 }
 
 impl Fields {
-    /// No fields.
+    /// Creates a list without fields.
     fn new(alloc: Global, pool: &ScannedPool) -> Self
         ensures items { result.items ≡ [] }
         ensures seen { AreFields pool.now result.seen result.items }
@@ -163,7 +163,7 @@ impl Fields {
         }
     }
 
-    /// Whether one of the fields has this name and this descriptor.
+    /// Decides whether one of the fields has this name and this descriptor.
     fn has(&self, pool: &ScannedPool, name: u16, descriptor: u16) -> bool
         requires { AreFields pool.now self.now.seen self.now.items }
         ensures { result ≡ list_any (is_same_field pool.now name descriptor) self.now.items }
@@ -171,7 +171,7 @@ impl Fields {
         self.seen.has(pool, name, descriptor)
     }
 
-    /// Puts a field behind the others.
+    /// Appends a field.
     #[tactic(auto, using(crate::proofs::SeenMembers::field_more))]
     fn push(&mut self, pool: &ScannedPool, field: FieldInfo) -> Result<(), AllocError>
         requires { AreFields pool.now self.old.seen self.old.items }
@@ -184,7 +184,7 @@ impl Fields {
     }
 }
 
-/// The next field; `before` are those before it.
+/// Reads the next field, after those in `before`, and returns it with the bytes after it.
 #[tactic(auto, unfolding(jvms_file::specs::Members::field_at))]
 fn field_at<'a>(
     alloc: Global,
@@ -215,7 +215,7 @@ fn field_at<'a>(
     Ok((field, behind))
 }
 
-/// So many fields.
+/// Reads `count` fields, and returns them with the bytes after them.
 fn fields_of<'a>(
     alloc: Global,
     pool: &ScannedPool,
@@ -223,7 +223,7 @@ fn fields_of<'a>(
     count: usize,
     bytes: &'a [u8],
 ) -> Result<(Items<FieldInfo>, &'a [u8]), ReadError>
-    ensures { Gives (λ x. (x.0, x.1.now)) result (counted_onto (field_read pool.now cut) [] count bytes.now) }
+    ensures { Gives (λ x. (x.0, x.1.now)) result (part_list_onto (field_read pool.now cut) [] count bytes.now) }
 {
     let mut fields = Fields::new(alloc, pool);
     let mut rest = bytes;
@@ -240,7 +240,7 @@ fn fields_of<'a>(
     Ok((fields.items, rest))
 }
 
-/// fields_count and the fields.
+/// Reads fields_count and the fields, and returns them with the bytes after them.
 pub(crate) fn fields_at<'a>(
     alloc: Global,
     pool: &ScannedPool,

@@ -1,4 +1,4 @@
-//! Class files (JVMS 4): what bytes spell, or their first fault, and the bytes of a class.
+//! Class files (JVMS 4): reads a class or the first fault from bytes, and writes the bytes of a class.
 #![tactic(auto)]
 
 mod attribute;

@@ -3,12 +3,12 @@
 ghost use Rattle.std.specs.Prelude.{◌≡◌, [], ◌∷◌, ◌++◌, List, ◌||◌, not, OnOk};
 ghost use Rattle.std.specs.List.{list_any};
 ghost use Rattle.jvms_file.specs.Names.{is_method_name as is_method_name_text};
-ghost use Rattle.jvms_file.specs.Members.{asks_code, is_code, is_exceptions, is_initializer, is_method_descriptor_for, is_same_method, method_attribute_at, method_at as method_read, methods_at as methods_read};
+ghost use Rattle.jvms_file.specs.Members.{needs_code, is_code, is_exceptions, is_initializer, is_method_descriptor_for, is_same_method, method_attribute_at, method_at as method_read, methods_at as methods_read};
 ghost use Rattle.jvms_file.specs.Reading.{Gives};
 ghost use Rattle.file_bytes.specs.Reading.{Finds};
-ghost use Rattle.jvms_file.specs.Results.{counted_onto};
+ghost use Rattle.jvms_file.specs.Results.{part_list_onto};
 ghost use Rattle.class_file.specs.Seen.{AreMethods};
-ghost use Rattle.class_file.specs.Wanted.{is_formed_descriptor, text_wanted, code_attribute_at, exceptions_attribute_at, method_behind, named_method_at, is_placed_method};
+ghost use Rattle.class_file.specs.Wanted.{is_formed_descriptor, text_wanted, code_attribute_at, exceptions_attribute_at, method_after, named_method_at, is_placed_method};
 
 use crate::attribute::{is_named, kept_content};
 use crate::code::{code_at, exceptions_at};
@@ -18,12 +18,12 @@ use crate::seen::Seen;
 use const_pool::{Forms, Pool, ScannedPool};
 use descriptor::{Flags, is_initializer_name};
 use file_bytes::{Part, parts_of, u2_at, want};
-use held::items::Items;
+use shared_data::items::Items;
 use jvms_file::class_file::{MethodAttribute, MethodInfo};
 use jvms_file::fault::{ClassFault, ReadError};
 use std::alloc::{AllocError, Global};
 
-/// What stands before a method's attributes.
+/// The parts of a method before its attributes.
 #[derive(Clone, Copy)]
 pub(crate) struct Head {
     pub(crate) access: u16,
@@ -31,14 +31,14 @@ pub(crate) struct Head {
     pub(crate) descriptor: u16,
 }
 
-/// Whether a Code is among attributes.
+/// Decides whether a Code is among attributes.
 fn has_code(attributes: &[MethodAttribute]) -> bool
     ensures { result ≡ list_any is_code attributes.now }
 {
     attributes.iter().any(|a| matches!(a, MethodAttribute::Code { name: _, code: _ }))
 }
 
-/// Whether an Exceptions is among attributes.
+/// Decides whether an Exceptions is among attributes.
 fn has_exceptions(attributes: &[MethodAttribute]) -> bool
     ensures { result ≡ list_any is_exceptions attributes.now }
 {
@@ -51,8 +51,8 @@ fn has_exceptions(attributes: &[MethodAttribute]) -> bool
     ))
 }
 
-/// Behind its name: a Code.
-fn code_behind<'a>(
+/// Reads a Code attribute after its name, and returns it with the bytes after it.
+fn code_after_name<'a>(
     alloc: Global,
     pool: &ScannedPool,
     major: u16,
@@ -67,8 +67,8 @@ fn code_behind<'a>(
     Ok((MethodAttribute::Code { name, code }, behind))
 }
 
-/// Behind its name: an Exceptions.
-fn exceptions_behind<'a>(
+/// Reads an Exceptions attribute after its name, and returns it with the bytes after it.
+fn exceptions_after_name<'a>(
     alloc: Global,
     pool: &Pool,
     cut: ClassFault,
@@ -82,8 +82,8 @@ fn exceptions_behind<'a>(
     Ok((MethodAttribute::Exceptions { name, classes }, behind))
 }
 
-/// The attributes of a method that may have Code or not, in a class with this pool and version; `cut` is the
-/// fault of bytes that aren't there.
+/// The reader of attributes of a method in a class with this pool and version. `code` says whether the method may have
+/// Code. `cut` is the fault of missing bytes.
 #[derive(Clone, Copy)]
 struct Attributes<'p> {
     pool: &'p ScannedPool,
@@ -107,10 +107,10 @@ impl Part<MethodAttribute> for Attributes<'_> {
         if is_named(pool, name, &CODE) {
             want(!has_code(seen), ClassFault::RepeatedAttribute)?;
             want(self.code, ClassFault::CodePresence)?;
-            code_behind(alloc, self.pool, self.major, self.cut, name, rest)
+            code_after_name(alloc, self.pool, self.major, self.cut, name, rest)
         } else if is_named(pool, name, &EXCEPTIONS) {
             want(!has_exceptions(seen), ClassFault::RepeatedAttribute)?;
-            exceptions_behind(alloc, pool, self.cut, name, rest)
+            exceptions_after_name(alloc, pool, self.cut, name, rest)
         } else {
             let (kept, behind) = kept_content(alloc, self.cut, name, rest)?;
             Ok((MethodAttribute::Kept(kept), behind))
@@ -118,9 +118,9 @@ impl Part<MethodAttribute> for Attributes<'_> {
     }
 }
 
-/// The attributes of a method whose access flags, name and descriptor are read, with Code where and only
-/// where it is asked.
-fn method_behind<'a>(
+/// Reads the attributes of a method, and returns it with the bytes after it. It has to have Code if `code` is true, and
+/// else may not have it.
+fn method_after<'a>(
     alloc: Global,
     pool: &ScannedPool,
     major: u16,
@@ -129,7 +129,7 @@ fn method_behind<'a>(
     code: bool,
     bytes: &'a [u8],
 ) -> Result<(MethodInfo, &'a [u8]), ReadError>
-    ensures { Gives (λ x. (x.0, x.1.now)) result (method_behind pool.now major cut head code bytes.now) }
+    ensures { Gives (λ x. (x.0, x.1.now)) result (method_after pool.now major cut head code bytes.now) }
 {
     let (count, rest) = u2_at(cut, bytes)?;
     let parts = Attributes {
@@ -152,15 +152,15 @@ fn method_behind<'a>(
     Ok((method, behind))
 }
 
-/// Whether a method has Code: all but native and abstract ones, and each `<clinit>` (JVMS 4.7.3).
-fn has_to_have_code(initializer: bool, access: u16) -> bool
-    ensures { result ≡ asks_code initializer access }
+/// Decides whether a method has to have Code: all but native and abstract ones, and each `<clinit>` (JVMS 4.7.3).
+fn needs_code(initializer: bool, access: u16) -> bool
+    ensures { result ≡ needs_code initializer access }
 {
     let flags = Flags::of_access(access);
     initializer || !(flags.is_native() || flags.is_abstract())
 }
 
-/// Whether a number is that of the text `<clinit>`.
+/// Decides whether a number is that of the text `<clinit>`.
 fn names_initializer(pool: &Pool, name: u16) -> bool
     ensures { result ≡ is_initializer pool.now name }
 {
@@ -170,8 +170,8 @@ fn names_initializer(pool: &Pool, name: u16) -> bool
     }
 }
 
-/// Whether a class of these access flags may have a method of these: an interface's are abstract, but for
-/// its initializer.
+/// Decides whether a class with these access flags may have a method with those. The methods of an interface are
+/// abstract, except its initializer.
 fn may_have(class_access: u16, initializer: bool, access: u16) -> bool
     ensures { result ≡ is_placed_method class_access initializer access }
 {
@@ -180,7 +180,7 @@ fn may_have(class_access: u16, initializer: bool, access: u16) -> bool
         || Flags::of_access(access).is_abstract()
 }
 
-/// The number of a method's name.
+/// Tests that a number is that of a method's name.
 fn want_name(pool: &ScannedPool, number: u16) -> Result<(), ClassFault>
     ensures { Finds (λ x. x) result (text_wanted is_method_name_text pool.now number) }
 {
@@ -190,8 +190,8 @@ fn want_name(pool: &ScannedPool, number: u16) -> Result<(), ClassFault>
     }
 }
 
-/// Whether a text of these forms is a method's descriptor, of at most 255 units with the object that it is
-/// called on, if any (JVMS 4.3.3).
+/// Decides whether a text of these forms is a method's descriptor with at most 255 units (JVMS 4.3.3). These include
+/// the object that the method is called on, if any.
 fn is_descriptor(on_none: bool, forms: Forms) -> bool
     ensures { result ≡ is_formed_descriptor on_none forms }
 {
@@ -202,7 +202,7 @@ fn is_descriptor(on_none: bool, forms: Forms) -> bool
     }
 }
 
-/// The number of a method's descriptor.
+/// Tests that a number is that of a method's descriptor.
 #[tactic(auto, using(crate::proofs::FormedDescriptors::formed_descriptor))]
 fn want_descriptor(pool: &ScannedPool, on_none: bool, number: u16) -> Result<(), ClassFault>
     ensures { Finds (λ x. x) result (text_wanted (is_method_descriptor_for on_none) pool.now number) }
@@ -221,7 +221,7 @@ struct Methods {
 }
 
 impl Methods {
-    /// No methods.
+    /// Creates a list without methods.
     fn new(alloc: Global, pool: &ScannedPool) -> Self
         ensures items { result.items ≡ [] }
         ensures seen { AreMethods pool.now result.seen result.items }
@@ -232,7 +232,7 @@ impl Methods {
         }
     }
 
-    /// Whether one of the methods has this name and this descriptor.
+    /// Decides whether one of the methods has this name and this descriptor.
     fn has(&self, pool: &ScannedPool, name: u16, descriptor: u16) -> bool
         requires { AreMethods pool.now self.now.seen self.now.items }
         ensures { result ≡ list_any (is_same_method pool.now name descriptor) self.now.items }
@@ -240,7 +240,7 @@ impl Methods {
         self.seen.has(pool, name, descriptor)
     }
 
-    /// Puts a method behind the others.
+    /// Appends a method.
     #[tactic(auto, using(crate::proofs::SeenMembers::method_more))]
     fn push(&mut self, pool: &ScannedPool, method: MethodInfo) -> Result<(), AllocError>
         requires { AreMethods pool.now self.old.seen self.old.items }
@@ -253,7 +253,8 @@ impl Methods {
     }
 }
 
-/// A method whose access flags and name are read; `before` are those before it.
+/// Reads a method after its access flags and name, and returns it with the bytes after it. `before` are the methods
+/// before it.
 fn named_at<'a>(
     alloc: Global,
     pool: &ScannedPool,
@@ -280,11 +281,12 @@ fn named_at<'a>(
         name,
         descriptor,
     };
-    let code = has_to_have_code(initializer, access);
-    method_behind(alloc, pool, major, cut, head, code, rest)
+    let code = needs_code(initializer, access);
+    method_after(alloc, pool, major, cut, head, code, rest)
 }
 
-/// The next method of a class with these access flags; `before` are those before it.
+/// Reads the next method of a class with these access flags, after those in `before`, and returns it with the bytes
+/// after it.
 #[tactic(auto, unfolding(jvms_file::specs::Members::method_at))]
 fn method_at<'a>(
     alloc: Global,
@@ -308,7 +310,7 @@ fn method_at<'a>(
     named_at(alloc, pool, major, cut, access, name, before, rest)
 }
 
-/// So many methods.
+/// Reads `count` methods, and returns them with the bytes after them.
 fn methods_of<'a>(
     alloc: Global,
     pool: &ScannedPool,
@@ -318,7 +320,7 @@ fn methods_of<'a>(
     count: usize,
     bytes: &'a [u8],
 ) -> Result<(Items<MethodInfo>, &'a [u8]), ReadError>
-    ensures { Gives (λ x. (x.0, x.1.now)) result (counted_onto (method_read pool.now major cut class_access) [] count bytes.now) }
+    ensures { Gives (λ x. (x.0, x.1.now)) result (part_list_onto (method_read pool.now major cut class_access) [] count bytes.now) }
 {
     let mut methods = Methods::new(alloc, pool);
     let mut rest = bytes;
@@ -343,7 +345,7 @@ fn methods_of<'a>(
     Ok((methods.items, rest))
 }
 
-/// methods_count and the methods of a class with these access flags.
+/// Reads methods_count and the methods of a class with these access flags, and returns them with the bytes after them.
 pub(crate) fn methods_at<'a>(
     alloc: Global,
     pool: &ScannedPool,

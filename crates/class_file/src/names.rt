@@ -1,4 +1,4 @@
-//! The names of attributes that are read (JVMS 4.7), and the descriptors of fields that have a constant (JVMS
+//! The names of attributes that are parsed (JVMS 4.7), and the descriptors of fields that may have a constant (JVMS
 //! 4.3.2).
 
 /// The name `ConstantValue`.

@@ -1,5 +1,4 @@
-//! The members of a class that were read, by what two of them may not share: a name and a descriptor (JVMS
-//! 4.5, 4.6).
+//! The names and descriptors of the members of a class that were read. No two members may share both (JVMS 4.5, 4.6).
 
 ghost use Rattle.std.specs.Prelude.{◌≡◌, ℕ, List, false, ◌&&◌, ◌||◌, OnOk};
 ghost use Rattle.jvms_file.specs.declared.class_file.Constant.{Constant};
@@ -19,7 +18,7 @@ pub(crate) struct Seen {
 }
 
 impl Seen {
-    /// Those of no members.
+    /// Creates an empty set.
     pub(crate) fn new(alloc: Global) -> Self
         ensures { (pool : List Constant) (name descriptor : ℕ) → is_seen pool result name descriptor ≡ false }
     {
@@ -28,7 +27,7 @@ impl Seen {
         }
     }
 
-    /// The canonical numbers of a name and a descriptor, if both are texts.
+    /// Returns the canonical numbers of a name and a descriptor, if both are texts.
     fn pair(pool: &ScannedPool, name: u16, descriptor: u16) -> Option<(usize, usize)>
         ensures { result ≡ both (canonical pool.now name) (canonical pool.now descriptor) }
     {
@@ -38,7 +37,7 @@ impl Seen {
         }
     }
 
-    /// Whether a member has this name and this descriptor.
+    /// Decides whether a member has this name and this descriptor.
     pub(crate) fn has(&self, pool: &ScannedPool, name: u16, descriptor: u16) -> bool
         ensures { result ≡ is_seen pool.now self.now name descriptor }
     {
@@ -48,7 +47,7 @@ impl Seen {
         }
     }
 
-    /// Puts a member's name and descriptor with the others.
+    /// Adds a member's name and descriptor.
     pub(crate) fn put(
         &mut self,
         pool: &ScannedPool,

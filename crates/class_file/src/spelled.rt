@@ -14,7 +14,7 @@ use jvms_file::fault::ReadError;
 use std::alloc::{AllocError, Global};
 use std::marker::Model;
 
-/// A class file that bytes spell (JVMS 4.1). Contracts see it as the class.
+/// A class file that bytes spell (JVMS 4.1). Contracts see the class.
 #[derive(Drop)]
 pub struct ClassFile {
     class: jvms_file::class_file::ClassFile,
@@ -35,7 +35,7 @@ impl Model for ClassFile {
 }
 
 impl ClassFile {
-    /// A class that bytes spell.
+    /// Wraps a class that bytes spell.
     pub fn new(class: jvms_file::class_file::ClassFile) -> ClassFile
         requires spelled { HasSpelling class }
         ensures same { result ≡ class }
@@ -43,7 +43,7 @@ impl ClassFile {
         ClassFile { class }
     }
 
-    /// The class.
+    /// Returns the class.
     pub fn class(&self) -> &jvms_file::class_file::ClassFile
         ensures same { result.now ≡ self.now }
         ensures spelled { HasSpelling self.now }
@@ -51,7 +51,7 @@ impl ClassFile {
         &self.class
     }
 
-    /// The class itself.
+    /// Returns the class by value.
     pub fn into_class(self) -> jvms_file::class_file::ClassFile
         ensures same { result ≡ self }
         ensures spelled { HasSpelling self }
@@ -60,22 +60,22 @@ impl ClassFile {
     }
 }
 
-/// The class that bytes spell, or their first fault (JVMS 4.1). The place of bytes that aren't there is the
-/// length of those that are.
+/// Reads a class from bytes, or returns their first fault (JVMS 4.1). Truncated bytes have their length as the place of
+/// the fault.
 pub fn read(alloc: Global, bytes: &[u8]) -> Result<ClassFile, ReadError>
-    // The class of the one reading, or its first fault.
+    // The class that the definition reads, or its first fault.
     ensures exact { Gives (λ c. c) result (file_read bytes.now) }
-    // What is read is spelled so.
+    // A class that is returned is spelled by the bytes.
     ensures found { IfOk result (λ c. Spells bytes.now c) }
-    // What is spelled so is read, unless memory runs out.
+    // A class that the bytes spell is returned, unless memory runs out.
     ensures only { (c : Class) → Spells bytes.now c → Gives (λ d. d) result (Ok c) }
 {
     let class = read_class(alloc, bytes)?;
     Ok(ClassFile { class })
 }
 
-/// Bytes that spell a class (JVMS 4.1): its code as it was read, but that pads are 0. Only memory can be
-/// wanting.
+/// Writes the bytes of a class (JVMS 4.1). Its code has the bytes that were read, with pads set to 0. Fails only
+/// without memory.
 pub fn write(alloc: Global, class: &ClassFile) -> Result<Vec<u8>, AllocError>
     ensures exact { IfOk result (λ bytes. bytes.items ≡ class_bytes class.now) }
     ensures spells { IfOk result (λ bytes. Spells bytes.items class.now) }

@@ -1,4 +1,4 @@
-//! Writing class files (JVMS 4): a function for each part, which puts its bytes behind others.
+//! Writes class files (JVMS 4). Each part has a function that appends its bytes.
 
 mod attribute;
 mod class;

@@ -1,4 +1,4 @@
--- The items of code, one instruction after the other.
+-- Proves that a loop makes the items of code one instruction at a time.
 use Rattle.std.proofs.Common.{◌≡◌, ℕ, ◌+◌, ◌-◌, ◌<◌, ◌≤◌, ◌⊎◌, false, List, [], ◌∷◌, ◌++◌, length, drop, get_or, Ok, Err, refl, sym, subst, arith, inl, inr, ⊎_elim, min, add-one, drop-cons}
 use Rattle.std.proofs.lemmas.Bool.{cases_lt}
 use Rattle.std.proofs.lemmas.List.{append-nil, length-drop}
@@ -8,12 +8,12 @@ use Rattle.jvms_file.specs.declared.insn.Insn.{Insn}
 use Rattle.jasmin.specs.declared.source.Operation.{Operation}
 use Rattle.jasmin.specs.declared.source.CodeItem.{CodeItem}
 use Rattle.jasmin.specs.declared.source.CodeItem.TheVariants as item
-use Rattle.listings.specs.declared.fault.ListFault.{ListFault}
-use Rattle.listings.specs.declared.fault.ListFault.TheVariants as fault
-use Rattle.listings.specs.Faults.{Fails}
-use Rattle.listings.specs.TreeOf.{is_referred, label_items, operation_of, items_onto}
+use Rattle.listing_spec.specs.declared.fault.ListFault.{ListFault}
+use Rattle.listing_spec.specs.declared.fault.ListFault.TheVariants as fault
+use Rattle.listing_spec.specs.Faults.{Fails}
+use Rattle.listing_spec.specs.TreeOf.{is_referred, label_items, operation_of, items_onto}
 
--- Where nothing refers to a place no label is put.
+-- At a place that nothing refers to, no label is added.
 pub unlabelled : (items : List CodeItem) (c : Code) (place : ℕ) → is_referred c place ≡ false → items ≡ items ++ label_items c place
 unlabelled items c place none = rw none (sym (append-nil items))
 
@@ -30,7 +30,7 @@ onward pool c seen place pcs is i o starts stands first spelled =
     let here : operation_of pool c.layout.bytes (get_or pcs place 0) (get_or is place i) ≡ Ok o = rw (← first) spelled in
     rw (drop_next pcs place 0 starts, drop_next is place i stands, here, add-one) refl
 
--- An instruction that is spelled so adds the label of its place, and itself.
+-- An instruction that can be spelled adds the label of its place, and itself.
 pub items_go_on : (pool : List Constant) (c marks : Code) (bytes : List ℕ) (seen labelled all : List CodeItem) (place : ℕ) (pcs : List ℕ) (is : List Insn) (i : Insn) (o : Operation) → marks ≡ c → bytes ≡ c.layout.bytes
     → place < length pcs → place < length is → i ≡ get_or is place i → operation_of pool bytes (get_or pcs place 0) i ≡ Ok o
     → labelled ≡ seen ++ label_items marks place → all ≡ labelled ++ item.Operation o ∷ []
@@ -53,7 +53,7 @@ stops fault.Memory pool c seen place pcs is i starts stands first fails = tt
 stops fault.Name pool c seen place pcs is i starts stands first fails = fails_so fault.Name pool c seen place pcs is i starts stands first fails
 stops fault.Float pool c seen place pcs is i starts stands first fails = fails_so fault.Float pool c seen place pcs is i starts stands first fails
 
--- An instruction that isn't spelled has the fault.
+-- The fault of an instruction that can't be spelled is that of the code.
 pub items_stop : (e : ListFault) (pool : List Constant) (c : Code) (bytes : List ℕ) (seen : List CodeItem) (place : ℕ) (pcs : List ℕ) (is : List Insn) (i : Insn) → bytes ≡ c.layout.bytes
     → place < length pcs → place < length is → i ≡ get_or is place i → Fails e (operation_of pool bytes (get_or pcs place 0) i) → Fails e (items_onto pool c seen place (drop place pcs) (drop place is))
 items_stop e pool c bytes seen place pcs is i spelling starts stands first fails =
@@ -71,7 +71,7 @@ pub past_either : (m n place : ℕ) → min m n ≤ place → (m ≤ place) ⊎ 
 past_either m n place past =
     ⊎_elim (λ (before : place < m). inr (omega arith)) (λ (first : m ≤ place). inl first) (cases_lt place m)
 
--- At the end of either list the label of the place is added.
+-- At the end of either list, the label of the place is added.
 pub items_end : (pool : List Constant) (c marks : Code) (seen all : List CodeItem) (place : ℕ) (pcs : List ℕ) (is : List Insn) → marks ≡ c → all ≡ seen ++ label_items marks place
     → (length pcs ≤ place) ⊎ (length is ≤ place) → items_onto pool c seen place (drop place pcs) (drop place is) ≡ Ok all
 items_end pool c marks seen all place pcs is marked whole over =

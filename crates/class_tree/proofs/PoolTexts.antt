@@ -1,4 +1,4 @@
--- The texts of a constant pool by number.
+-- Proves which texts of a constant pool have which index.
 use Rattle.std.proofs.Common.{◌≡◌, ℕ, zero, suc, ◌-◌, ◌<◌, List, Option, None, Some, refl, ap, ◌∙◌, arith, map}
 use Rattle.std.proofs.lemmas.Option.{slice_get-map}
 use Rattle.std.specs.Option.{option_and_then, option_map}
@@ -10,7 +10,7 @@ flat : (e : Option Constant) → option_and_then (λ s. s) (option_map utf8_of e
 flat None = refl
 flat (Some c) = refl
 
--- What stands at a number's place among the texts of all entries.
+-- The text at an index among the texts of all entries is that of the index's entry.
 pub text_at : (pool : List Constant) (number : ℕ) → 0 < number → option_and_then (λ s. s) (slice_get (map utf8_of pool) (number - 1)) ≡ utf8_at pool number
 text_at pool zero some = absurd (omega arith)
 text_at pool (suc i) some =

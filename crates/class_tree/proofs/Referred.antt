@@ -1,4 +1,4 @@
--- A mark says whether something refers to its place.
+-- Proves that a mark is set exactly if something refers to its place.
 use Rattle.std.proofs.Common.{◌≡◌, ℕ, suc, ◌<◌, ◌≤◌, Bool, true, false, cond, ◌||◌, ◌==◌, nat_lt, List, [], ◌∷◌, length, get_or, replicate, refl, sym, ap, ◌∙◌, arith, ⊎_elim}
 use Rattle.std.specs.Prelude.{slice_get, slice_set}
 use Rattle.std.specs.Option.{unwrap_or}
@@ -10,8 +10,8 @@ use Rattle.std.proofs.lemmas.Option.{unwrap_or-slice_get}
 use Rattle.jvms_file.specs.declared.class_file.Handler.{Handler}
 use Rattle.jvms_file.specs.declared.class_file.Code.{Code}
 use Rattle.jvms_file.specs.declared.insn.Insn.{Insn}
-use Rattle.listings.specs.TreeOf.{targets_of, is_bound, is_referred}
-use Rattle.class_tree.specs.Marks.{marked, marked_all, marked_insns, marked_bounds, marked_handlers, marks_of}
+use Rattle.listing_spec.specs.TreeOf.{targets_of, is_bound, is_referred}
+use Rattle.class_tree.specs.Marks.{marked, with_marks, with_insn_marks, with_bound_marks, with_handler_marks, marks_of}
 
 or-true : (b : Bool) → (b || true) ≡ true
 or-true true = refl
@@ -42,7 +42,7 @@ set_other : (test : Bool) (place p : ℕ) (marks : List Bool) → (p ≡ place �
 set_other true place p marks other = get_or-set_other marks place p true false other
 set_other false place p marks other = refl
 
--- A mark is what it was, or set.
+-- A mark is set if it was or its place is marked.
 marked_at : (place p : ℕ) (marks : List Bool) → p < length marks → get_or (marked place marks) p false ≡ (get_or marks p false || (place == p))
 marked_at place p marks within =
     ⊎_elim
@@ -56,11 +56,11 @@ marked_at place p marks within =
 
 -- ---- Places
 
-all_length : (places : List ℕ) (marks : List Bool) → length (marked_all places marks) ≡ length marks
+all_length : (places : List ℕ) (marks : List Bool) → length (with_marks places marks) ≡ length marks
 all_length [] marks = refl
 all_length (place ∷ places) marks = all_length places (marked place marks) ∙ marked_length place marks
 
-all_at : (places : List ℕ) (p : ℕ) (marks : List Bool) → p < length marks → get_or (marked_all places marks) p false ≡ (get_or marks p false || list_any (λ t. t == p) places)
+all_at : (places : List ℕ) (p : ℕ) (marks : List Bool) → p < length marks → get_or (with_marks places marks) p false ≡ (get_or marks p false || list_any (λ t. t == p) places)
 all_at [] p marks within = sym (or-false (get_or marks p false))
 all_at (place ∷ places) p marks within =
     let there : p < length (marked place marks) = rw (marked_length place marks) within in
@@ -73,40 +73,40 @@ all_at (place ∷ places) p marks within =
 abbrev leads_to : ℕ → Insn → Bool
 leads_to p i = list_any (λ t. t == p) (targets_of i)
 
-insns_length : (is : List Insn) (marks : List Bool) → length (marked_insns is marks) ≡ length marks
+insns_length : (is : List Insn) (marks : List Bool) → length (with_insn_marks is marks) ≡ length marks
 insns_length [] marks = refl
-insns_length (i ∷ is) marks = insns_length is (marked_all (targets_of i) marks) ∙ all_length (targets_of i) marks
+insns_length (i ∷ is) marks = insns_length is (with_marks (targets_of i) marks) ∙ all_length (targets_of i) marks
 
-insns_at : (is : List Insn) (p : ℕ) (marks : List Bool) → p < length marks → get_or (marked_insns is marks) p false ≡ (get_or marks p false || list_any (leads_to p) is)
+insns_at : (is : List Insn) (p : ℕ) (marks : List Bool) → p < length marks → get_or (with_insn_marks is marks) p false ≡ (get_or marks p false || list_any (leads_to p) is)
 insns_at [] p marks within = sym (or-false (get_or marks p false))
 insns_at (i ∷ is) p marks within =
-    let there : p < length (marked_all (targets_of i) marks) = rw (all_length (targets_of i) marks) within in
-    insns_at is p (marked_all (targets_of i) marks) there
+    let there : p < length (with_marks (targets_of i) marks) = rw (all_length (targets_of i) marks) within in
+    insns_at is p (with_marks (targets_of i) marks) there
     ∙ ap (λ b. b || list_any (leads_to p) is) (all_at (targets_of i) p marks within)
     ∙ or_assoc (get_or marks p false) (leads_to p i) (list_any (leads_to p) is)
 
 -- ---- Handlers
 
 -- The bounds of a handler are three places.
-bounds_length : (h : Handler) (marks : List Bool) → length (marked_bounds h marks) ≡ length marks
+bounds_length : (h : Handler) (marks : List Bool) → length (with_bound_marks h marks) ≡ length marks
 bounds_length h marks = all_length (h.start ∷ h.end ∷ h.target ∷ []) marks
 
-bounds_at : (h : Handler) (p : ℕ) (marks : List Bool) → p < length marks → get_or (marked_bounds h marks) p false ≡ (get_or marks p false || is_bound p h)
+bounds_at : (h : Handler) (p : ℕ) (marks : List Bool) → p < length marks → get_or (with_bound_marks h marks) p false ≡ (get_or marks p false || is_bound p h)
 bounds_at h p marks within =
     all_at (h.start ∷ h.end ∷ h.target ∷ []) p marks within
     ∙ ap (λ b. get_or marks p false || (h.start == p || (h.end == p || b))) (or-false (h.target == p))
 
-handlers_at : (hs : List Handler) (p : ℕ) (marks : List Bool) → p < length marks → get_or (marked_handlers hs marks) p false ≡ (get_or marks p false || list_any (is_bound p) hs)
+handlers_at : (hs : List Handler) (p : ℕ) (marks : List Bool) → p < length marks → get_or (with_handler_marks hs marks) p false ≡ (get_or marks p false || list_any (is_bound p) hs)
 handlers_at [] p marks within = sym (or-false (get_or marks p false))
 handlers_at (h ∷ hs) p marks within =
-    let there : p < length (marked_bounds h marks) = rw (bounds_length h marks) within in
-    handlers_at hs p (marked_bounds h marks) there
+    let there : p < length (with_bound_marks h marks) = rw (bounds_length h marks) within in
+    handlers_at hs p (with_bound_marks h marks) there
     ∙ ap (λ b. b || list_any (is_bound p) hs) (bounds_at h p marks within)
     ∙ or_assoc (get_or marks p false) (is_bound p h) (list_any (is_bound p) hs)
 
 -- ---- Code
 
--- The mark of a place within code, or behind its last instruction.
+-- The mark of a place within code, or after its last instruction, is set exactly if something refers to the place.
 pub mark_at : (c : Code) (place : ℕ) → place ≤ length c.insns → unwrap_or (slice_get (marks_of c) place) false ≡ is_referred c place
 unfolding marks_of
 mark_at c place within =
@@ -114,9 +114,9 @@ mark_at c place within =
     let first : place < suc (length c.insns) = omega arith in
     let sized : length none ≡ suc (length c.insns) = length-replicate (suc (length c.insns)) false in
     let there : place < length none = rw sized first in
-    let led = marked_insns c.insns none in
+    let led = with_insn_marks c.insns none in
     let behind : place < length led = rw (insns_length c.insns none) there in
-    unwrap_or-slice_get (marked_handlers c.handlers led) place false
+    unwrap_or-slice_get (with_handler_marks c.handlers led) place false
     ∙ handlers_at c.handlers place led behind
     ∙ ap (λ b. b || list_any (is_bound place) c.handlers) (insns_at c.insns place none there)
     ∙ ap (λ b. (b || list_any (leads_to place) c.insns) || list_any (is_bound place) c.handlers) (get_or-replicate (suc (length c.insns)) place false false first)

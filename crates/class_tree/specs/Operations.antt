@@ -1,4 +1,4 @@
--- What instructions come to that name members or lead to several places.
+-- Defines the operations of instructions that name members or have several targets.
 use Rattle.std.specs.Prelude.{ℕ, List, map}
 use Rattle.jvms_file.specs.declared.class_file.Constant.{Constant}
 use Rattle.jvms_file.specs.declared.insn.FieldUse.{FieldUse}
@@ -13,9 +13,9 @@ use Rattle.jasmin.specs.declared.source.FieldName.{FieldName}
 use Rattle.jasmin.specs.declared.source.MethodName.{MethodName}
 use Rattle.jasmin.specs.declared.source.Operation.{Operation}
 use Rattle.jasmin.specs.declared.source.Operation.TheVariants as operation
-use Rattle.listings.specs.TreeOf.{label_of, match_of}
+use Rattle.listing_spec.specs.TreeOf.{label_of, match_of}
 
--- The texts of a field that is named, and of a method.
+-- Returns the texts of a field's reference. Below, those of a method's.
 abbrev pub named_field : FieldReference → FieldName
 named_field f = record { class = f.class; name = f.name; descriptor = f.descriptor }
 

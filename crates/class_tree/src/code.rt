@@ -1,20 +1,20 @@
-//! The code of a method: its instructions as they are spelled, with a label where something refers to a place.
+//! Converts the code of a method: its instructions as they are spelled, with labels at the places that are referred to.
 
 ghost use Rattle.std.specs.Prelude.{◌≡◌, ◌≤◌, ◌++◌, [], length, OnOk};
-ghost use Rattle.listings.specs.Faults.{Lists};
-ghost use Rattle.listings.specs.TreeOf.{label_items, items_onto};
+ghost use Rattle.listing_spec.specs.Faults.{Lists};
+ghost use Rattle.listing_spec.specs.TreeOf.{label_items, items_onto};
 
 use crate::labels::label_of;
 use crate::marks::Marks;
 use crate::operations::operation_of;
 use crate::texts::Texts;
-use held::items::Items;
+use shared_data::items::Items;
 use jasmin::source::CodeItem;
 use jvms_file::class_file::Code;
-use listings::fault::ListFault;
+use listing_spec::fault::ListFault;
 use std::alloc::{AllocError, Global};
 
-/// Puts the label of a place behind items, where something refers to the place.
+/// Appends the label of a place, if something refers to the place.
 #[tactic(auto, using(crate::proofs::Items::unlabelled))]
 fn push_label(
     alloc: Global,
@@ -31,7 +31,7 @@ fn push_label(
     Ok(())
 }
 
-/// The items of code, which has these marks.
+/// Returns the items of code.
 pub(crate) fn items_of(
     alloc: Global,
     texts: &Texts<'_>,

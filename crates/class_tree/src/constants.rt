@@ -1,18 +1,18 @@
-//! Constants that instructions load (JVMS 6.5 ldc, ldc_w, ldc2_w) and that fields have (JVMS 4.7.2).
+//! Converts the constants that instructions load (JVMS 6.5 `ldc`, `ldc_w`, `ldc2_w`) and that fields have (JVMS 4.7.2).
 
 ghost use Rattle.std.specs.Prelude.{◌≡◌};
 ghost use Rattle.jvms_file.specs.ConstantPool.{entry};
-ghost use Rattle.listings.specs.Faults.{Lists};
-ghost use Rattle.listings.specs.TreeOf.{loaded_of, long_of, constant_operation, value_of};
+ghost use Rattle.listing_spec.specs.Faults.{Lists};
+ghost use Rattle.listing_spec.specs.TreeOf.{loaded_of, long_of, constant_operation, value_of};
 
 use crate::texts::Texts;
-use held::boxed::Boxed;
+use shared_data::boxed::Boxed;
 use jasmin::source::{ConstantWidth, FieldConstant, LoadedConstant, Operation};
 use jvms_file::class_file::Constant;
-use listings::fault::ListFault;
+use listing_spec::fault::ListFault;
 use std::alloc::Global;
 
-/// What an `ldc` of an entry loads; a float has no text.
+/// Returns the constant that an `ldc` loads, or the fault `Float` for a float.
 fn loaded_of(texts: &Texts<'_>, number: u16) -> Result<LoadedConstant, ListFault>
     ensures { Lists result (loaded_of texts.now (entry texts.now number)) }
 {
@@ -24,7 +24,7 @@ fn loaded_of(texts: &Texts<'_>, number: u16) -> Result<LoadedConstant, ListFault
     }
 }
 
-/// An `ldc` or an `ldc_w` of an entry.
+/// Returns an `ldc` or an `ldc_w` of an entry.
 pub(crate) fn constant_operation(
     alloc: Global,
     texts: &Texts<'_>,
@@ -37,7 +37,7 @@ pub(crate) fn constant_operation(
     Ok(Operation::Constant(width, Boxed::new(alloc, loaded)?))
 }
 
-/// An `ldc2_w` of an entry; a double has no text.
+/// Returns an `ldc2_w` of an entry, or the fault `Float` for a double.
 pub(crate) fn long_of(texts: &Texts<'_>, number: u16) -> Result<Operation, ListFault>
     ensures { Lists result (long_of (entry texts.now number)) }
 {
@@ -47,7 +47,7 @@ pub(crate) fn long_of(texts: &Texts<'_>, number: u16) -> Result<Operation, ListF
     }
 }
 
-/// The value of a field by its entry; a float or a double has no text.
+/// Returns the constant of a field by its entry, or the fault `Float` for a float or a double.
 pub(crate) fn value_of(texts: &Texts<'_>, number: u16) -> Result<FieldConstant, ListFault>
     ensures { Lists result (value_of texts.now (entry texts.now number)) }
 {

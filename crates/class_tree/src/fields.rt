@@ -1,23 +1,23 @@
-//! Fields (JVMS 4.5).
+//! Converts fields (JVMS 4.5).
 
 ghost use Rattle.std.specs.Prelude.{◌≡◌};
 ghost use Rattle.jvms_file.specs.Results.{collected};
-ghost use Rattle.listings.specs.Faults.{Lists};
-ghost use Rattle.listings.specs.TreeOf.{field_flags, field_value, field_line};
+ghost use Rattle.listing_spec.specs.Faults.{Lists};
+ghost use Rattle.listing_spec.specs.TreeOf.{field_flags, field_value, field_line};
 
 use crate::constants::value_of;
 use crate::texts::Texts;
-use held::items::Items;
+use shared_data::items::Items;
 use jasmin::source::{FieldConstant, FieldLine};
 use jvms_file::class_file::{FieldAttribute, FieldInfo};
-use listings::fault::ListFault;
+use listing_spec::fault::ListFault;
 use std::alloc::Global;
 
-/// The flags that fields' access words have (JVMS table 4.5-A).
+/// The flags that have access words of fields (JVMS table 4.5-A).
 const FLAGS: u16 = 223;
 
-/// What the first ConstantValue among attributes names (JVMS 4.7.2), if there is one.
-#[tactic(auto, unfolding(listings::specs::TreeOf::field_value))]
+/// Returns the constant that the first ConstantValue attribute names (JVMS 4.7.2), if there is one.
+#[tactic(auto, unfolding(listing_spec::specs::TreeOf::field_value))]
 fn field_value(
     texts: &Texts<'_>,
     attributes: &[FieldAttribute],
@@ -34,8 +34,8 @@ fn field_value(
     Ok(None)
 }
 
-/// The line of a field.
-#[tactic(auto, unfolding(listings::specs::TreeOf::field_line))]
+/// Returns the line of a field.
+#[tactic(auto, unfolding(listing_spec::specs::TreeOf::field_line))]
 fn field_line(texts: &Texts<'_>, info: &FieldInfo) -> Result<FieldLine, ListFault>
     ensures { Lists result (field_line texts.now info.now) }
 {
@@ -48,7 +48,7 @@ fn field_line(texts: &Texts<'_>, info: &FieldInfo) -> Result<FieldLine, ListFaul
     })
 }
 
-/// The lines of fields, in order.
+/// Returns the lines of fields, in order.
 pub(crate) fn field_lines(
     alloc: Global,
     texts: &Texts<'_>,

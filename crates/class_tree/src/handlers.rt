@@ -1,16 +1,16 @@
-//! The exception table of a method (JVMS 4.7.3).
+//! Converts the exception table of a method (JVMS 4.7.3).
 
 ghost use Rattle.std.specs.Prelude.{◌≡◌, map, IfOk};
-ghost use Rattle.listings.specs.TreeOf.{caught_of, catch_of};
+ghost use Rattle.listing_spec.specs.TreeOf.{caught_of, catch_of};
 
 use crate::labels::label_of;
 use crate::texts::Texts;
-use held::items::Items;
+use shared_data::items::Items;
 use jasmin::source::{CatchLine, Caught};
 use jvms_file::class_file::Handler;
 use std::alloc::{AllocError, Global};
 
-/// What a handler of this catch_type catches: all for 0.
+/// Returns what a handler of this `catch_type` catches: all exceptions for 0.
 fn caught_of(texts: &Texts<'_>, catch_type: u16) -> Result<Caught, AllocError>
     ensures { IfOk result (λ c. c ≡ caught_of texts.now catch_type) }
 {
@@ -21,7 +21,7 @@ fn caught_of(texts: &Texts<'_>, catch_type: u16) -> Result<Caught, AllocError>
     }
 }
 
-/// The line of a handler.
+/// Returns the line of a handler.
 fn catch_of(alloc: Global, texts: &Texts<'_>, handler: &Handler) -> Result<CatchLine, AllocError>
     ensures { IfOk result (λ c. c ≡ catch_of texts.now handler.now) }
 {
@@ -33,7 +33,7 @@ fn catch_of(alloc: Global, texts: &Texts<'_>, handler: &Handler) -> Result<Catch
     })
 }
 
-/// The lines of handlers, in the order of the table.
+/// Returns the lines of handlers, in the order of the table.
 pub(crate) fn catches_of(
     alloc: Global,
     texts: &Texts<'_>,

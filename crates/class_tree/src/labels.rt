@@ -1,13 +1,13 @@
-//! Labels of places.
+//! Makes the labels of places.
 
 ghost use Rattle.std.specs.Prelude.{◌≡◌, IfOk, map};
-ghost use Rattle.listings.specs.TreeOf.{label_of};
+ghost use Rattle.listing_spec.specs.TreeOf.{label_of};
 
-use held::items::Items;
-use held::shared::{Shared, Text};
+use shared_data::items::Items;
+use shared_data::shared::{Shared, Text};
 use std::alloc::{AllocError, Global};
 
-/// The text of ASCII bytes.
+/// Returns the text of ASCII bytes.
 fn text_of_bytes(alloc: Global, bytes: &[u8]) -> Result<Text, AllocError>
     ensures { IfOk result (λ text. text ≡ bytes.now) }
 {
@@ -18,8 +18,8 @@ fn text_of_bytes(alloc: Global, bytes: &[u8]) -> Result<Text, AllocError>
     Shared::new(alloc, Items::from_vec(units))
 }
 
-/// The label of a place: `L` and its number.
-#[tactic(auto, unfolding(listings::specs::TreeOf::label_of))]
+/// Returns the label of a place: `L` and its number.
+#[tactic(auto, unfolding(listing_spec::specs::TreeOf::label_of))]
 pub(crate) fn label_of(alloc: Global, place: usize) -> Result<Text, AllocError>
     ensures { IfOk result (λ label. label ≡ label_of place) }
 {
@@ -27,7 +27,7 @@ pub(crate) fn label_of(alloc: Global, place: usize) -> Result<Text, AllocError>
     text_of_bytes(alloc, label.as_bytes())
 }
 
-/// The labels of targets, in order.
+/// Returns the labels of targets, in order.
 pub(crate) fn labels_of(alloc: Global, targets: &[u32]) -> Result<Items<Text>, AllocError>
     ensures { IfOk result (λ labels. labels ≡ map label_of targets.now) }
 {

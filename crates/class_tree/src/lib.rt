@@ -1,4 +1,4 @@
-//! From a class file's parts to the tree of a source that means the same.
+//! Converts a class file to the tree of a source with the same meaning.
 #![tactic(auto)]
 
 mod code;
@@ -17,5 +17,5 @@ mod tree;
 
 pub use jasmin::source::Source;
 pub use jvms_file::class_file::ClassFile;
-pub use listings::fault::ListFault;
+pub use listing_spec::fault::ListFault;
 pub use tree::tree_of;

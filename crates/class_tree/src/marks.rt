@@ -1,17 +1,17 @@
-//! Which places of a method's code instructions and handlers refer to.
+//! Marks the places of a method's code that instructions and handlers refer to.
 
 ghost use Rattle.std.specs.Prelude.{◌≡◌, ◌≤◌, length, map, IfOk, replicate, suc, false, slice_get};
 ghost use Rattle.std.specs.Option.{unwrap_or};
-ghost use Rattle.listings.specs.TreeOf.{targets_of, is_referred};
-ghost use Rattle.class_tree.specs.Marks.{marked, marked_all, marked_insns, marked_bounds, marked_handlers, marks_of};
+ghost use Rattle.listing_spec.specs.TreeOf.{targets_of, is_referred};
+ghost use Rattle.class_tree.specs.Marks.{marked, with_marks, with_insn_marks, with_bound_marks, with_handler_marks, marks_of};
 
 use jvms_file::class_file::{Code, Handler};
 use jvms_file::insn::{Insn, SwitchCase};
 use std::alloc::{AllocError, Global};
 use std::marker::Model;
 
-/// Code, and a mark for each place of an instruction, and for the place behind the last, that is set where something
-/// refers to it. Contracts see the code itself.
+/// Code with a mark for each place, the one after the last instruction included. A mark is set if something refers to
+/// its place. In contracts it is the code.
 #[derive(Drop)]
 pub(crate) struct Marks<'c> {
     code: &'c Code,
@@ -30,7 +30,7 @@ impl<'c> Model for Marks<'c> {
     ghost invariant = { λ m. m.marks.items ≡ marks_of m.code.now };
 }
 
-/// Marks a place. One that has no mark is left out.
+/// Marks a place. Does nothing for a place without a mark.
 fn mark(marks: &mut [bool], place: u32)
     ensures { marks.new ≡ marked place marks.old }
 {
@@ -42,7 +42,7 @@ fn mark(marks: &mut [bool], place: u32)
 
 /// Marks places.
 fn mark_all(marks: &mut [bool], places: &[u32])
-    ensures { marks.new ≡ marked_all places.now marks.old }
+    ensures { marks.new ≡ with_marks places.now marks.old }
 {
     let mut rest = places;
     while let [place, others @ ..] = rest {
@@ -53,7 +53,7 @@ fn mark_all(marks: &mut [bool], places: &[u32])
 
 /// Marks the targets of a lookupswitch's cases.
 fn mark_cases(marks: &mut [bool], cases: &[SwitchCase])
-    ensures { marks.new ≡ marked_all (map (λ c. c.target) cases.now) marks.old }
+    ensures { marks.new ≡ with_marks (map (λ c. c.target) cases.now) marks.old }
 {
     let mut rest = cases;
     while let [case, others @ ..] = rest {
@@ -62,9 +62,9 @@ fn mark_cases(marks: &mut [bool], cases: &[SwitchCase])
     }
 }
 
-/// Marks the places that an instruction leads to.
+/// Marks the places that an instruction may jump to.
 fn mark_targets(marks: &mut [bool], insn: &Insn)
-    ensures { marks.new ≡ marked_all (targets_of insn.now) marks.old }
+    ensures { marks.new ≡ with_marks (targets_of insn.now) marks.old }
 {
     match insn {
         Insn::Branch(_, target) => mark(marks, *target),
@@ -82,9 +82,9 @@ fn mark_targets(marks: &mut [bool], insn: &Insn)
     }
 }
 
-/// Marks the places that instructions lead to.
+/// Marks the places that instructions may jump to.
 fn mark_insns(marks: &mut [bool], insns: &[Insn])
-    ensures { marks.new ≡ marked_insns insns.now marks.old }
+    ensures { marks.new ≡ with_insn_marks insns.now marks.old }
 {
     let mut rest = insns;
     while let [insn, others @ ..] = rest {
@@ -93,18 +93,18 @@ fn mark_insns(marks: &mut [bool], insns: &[Insn])
     }
 }
 
-/// Marks the bounds of a handler's range, and where it leads.
+/// Marks the bounds of a handler's range, and its target.
 fn mark_bounds(marks: &mut [bool], handler: &Handler)
-    ensures { marks.new ≡ marked_bounds handler.now marks.old }
+    ensures { marks.new ≡ with_bound_marks handler.now marks.old }
 {
     mark(marks, handler.start);
     mark(marks, handler.end);
     mark(marks, handler.target);
 }
 
-/// Marks the places of handlers.
+/// Marks the places that handlers refer to.
 fn mark_handlers(marks: &mut [bool], handlers: &[Handler])
-    ensures { marks.new ≡ marked_handlers handlers.now marks.old }
+    ensures { marks.new ≡ with_handler_marks handlers.now marks.old }
 {
     let mut rest = handlers;
     while let [handler, others @ ..] = rest {
@@ -113,7 +113,7 @@ fn mark_handlers(marks: &mut [bool], handlers: &[Handler])
     }
 }
 
-/// So many marks, none of which is set.
+/// Returns the marks of these instructions and of the place after the last, none of which is set.
 fn no_marks(alloc: Global, insns: &[Insn]) -> Result<Vec<bool>, AllocError>
     ensures { IfOk result (λ marks. marks.items ≡ replicate (suc (length insns.now)) false) }
 {
@@ -122,7 +122,7 @@ fn no_marks(alloc: Global, insns: &[Insn]) -> Result<Vec<bool>, AllocError>
     Ok(marks)
 }
 
-/// The mark of a place; behind the last it isn't set.
+/// Returns the mark of a place, or `false` for a place without a mark.
 fn mark_of(marks: &[bool], place: usize) -> bool
     ensures { result ≡ unwrap_or (slice_get marks.now place) false }
 {
@@ -130,7 +130,7 @@ fn mark_of(marks: &[bool], place: usize) -> bool
 }
 
 impl<'c> Marks<'c> {
-    /// The marks of code, made in one pass.
+    /// Returns the marks of code, set in one pass.
     #[tactic(auto, unfolding(crate::specs::Marks::marks_of))]
     pub(crate) fn of(alloc: Global, code: &'c Code) -> Result<Self, AllocError>
         ensures { IfOk result (λ marks. marks ≡ code.now) }
@@ -141,7 +141,7 @@ impl<'c> Marks<'c> {
         Ok(Marks { code, marks })
     }
 
-    /// Whether an instruction or a handler refers to a place.
+    /// Decides whether an instruction or a handler refers to a place.
     #[tactic(auto, using(crate::proofs::Referred::mark_at))]
     pub(crate) fn is_referred(&self, place: usize) -> bool
         requires { place ≤ length self.now.insns }

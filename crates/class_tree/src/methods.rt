@@ -1,26 +1,26 @@
-//! Methods (JVMS 4.6).
+//! Converts methods (JVMS 4.6).
 
 ghost use Rattle.std.specs.Prelude.{◌≡◌, IfOk, map};
 ghost use Rattle.std.specs.Option.{option_map};
 ghost use Rattle.jvms_file.specs.Results.{collected};
 ghost use Rattle.jvms_program.specs.Meaning.{code_of, throws_of};
-ghost use Rattle.listings.specs.Faults.{Lists};
-ghost use Rattle.listings.specs.TreeOf.{method_flags, method_with, method_lines};
+ghost use Rattle.listing_spec.specs.Faults.{Lists};
+ghost use Rattle.listing_spec.specs.TreeOf.{method_flags, method_with, method_lines};
 
 use crate::code::items_of;
 use crate::handlers::catches_of;
 use crate::texts::Texts;
-use held::items::Items;
-use held::shared::Text;
+use shared_data::items::Items;
+use shared_data::shared::Text;
 use jasmin::source::{CatchLine, CodeItem, MethodLines};
 use jvms_file::class_file::{Code, MethodAttribute, MethodInfo};
-use listings::fault::ListFault;
+use listing_spec::fault::ListFault;
 use std::alloc::{AllocError, Global};
 
-/// The flags that methods' access words have (JVMS table 4.6-A).
+/// The flags that have access words of methods (JVMS table 4.6-A).
 const FLAGS: u16 = 1343;
 
-/// The classes that the first Exceptions among attributes lists (JVMS 4.7.5).
+/// Returns the classes of the first Exceptions attribute (JVMS 4.7.5).
 fn throws_of(
     alloc: Global,
     texts: &Texts<'_>,
@@ -38,7 +38,7 @@ fn throws_of(
     Ok(Items::new(alloc))
 }
 
-/// The first Code among attributes.
+/// Returns the code of the first Code attribute.
 fn code_of(attributes: &[MethodAttribute]) -> Option<&Code>
     ensures { option_map (λ c. c.now) result ≡ code_of attributes.now }
 {
@@ -52,7 +52,7 @@ fn code_of(attributes: &[MethodAttribute]) -> Option<&Code>
     None
 }
 
-/// A method's lines, with its limits and what its code comes to.
+/// Returns a method's lines, with these limits, catches and items.
 fn method_with(
     alloc: Global,
     texts: &Texts<'_>,
@@ -76,8 +76,8 @@ fn method_with(
     })
 }
 
-/// The lines of a method; one without code has limits of 1, as where none is written.
-#[tactic(auto, unfolding(listings::specs::TreeOf::method_lines))]
+/// Returns the lines of a method. A method without code has limits of 1, as if none is written.
+#[tactic(auto, unfolding(listing_spec::specs::TreeOf::method_lines))]
 fn method_lines(
     alloc: Global,
     texts: &Texts<'_>,
@@ -111,7 +111,7 @@ fn method_lines(
     }
 }
 
-/// The lines of methods, in order.
+/// Returns the lines of methods, in order.
 pub(crate) fn all_method_lines(
     alloc: Global,
     texts: &Texts<'_>,

@@ -1,20 +1,21 @@
-//! The opcodes that spell instructions.
+//! Finds the opcodes of instructions in their bytes.
 
 ghost use Rattle.std.specs.Prelude.{◌≡◌, slice_get};
 ghost use Rattle.std.specs.Option.{unwrap_or};
 ghost use Rattle.jvms_file.specs.declared.insn.TheConstants.{OPCODES as table};
-ghost use Rattle.listings.specs.TreeOf.{opcode_at};
+ghost use Rattle.listing_spec.specs.TreeOf.{opcode_at};
 
 use jvms_file::insn::{OPCODES, Opcode};
 
-/// The byte at a place; behind the last, 0.
+/// Returns the byte at a place, or 0 after the last.
 fn byte_at(bytes: &[u8], place: usize) -> u8
     ensures { result ≡ unwrap_or (slice_get bytes.now place) 0 }
 {
     bytes.get(place).copied().unwrap_or(0)
 }
 
-/// The opcode of the instruction that starts at a byte; behind `wide`, that of the instruction that it widens.
+/// Returns the opcode of the instruction that starts at a byte. After `wide`, it is that of the instruction that `wide`
+/// modifies.
 pub(crate) fn opcode_at(bytes: &[u8], pc: u32) -> u8
     ensures { result ≡ opcode_at bytes.now pc }
 {
@@ -26,7 +27,7 @@ pub(crate) fn opcode_at(bytes: &[u8], pc: u32) -> u8
     }
 }
 
-/// The entry of a code, if there is one.
+/// Returns the entry of an opcode, or `Reserved` if there is none.
 fn entry_of(entries: &[Opcode], code: u8) -> Opcode
     ensures { result ≡ unwrap_or (slice_get entries.now code) Opcode.Reserved }
 {
@@ -36,7 +37,7 @@ fn entry_of(entries: &[Opcode], code: u8) -> Opcode
         .unwrap_or(Opcode::Reserved)
 }
 
-/// What the operands of an opcode are.
+/// Returns the form of an opcode's operands.
 pub(crate) fn form_of(code: u8) -> Opcode
     ensures { result ≡ unwrap_or (slice_get table code) Opcode.Reserved }
 {

@@ -1,8 +1,8 @@
-//! Instructions as they are spelled (JVMS 6.5).
+//! Converts instructions to operations as they are spelled (JVMS 6.5).
 
 ghost use Rattle.std.specs.Prelude.{◌≡◌, IfOk};
-ghost use Rattle.listings.specs.Faults.{Lists};
-ghost use Rattle.listings.specs.TreeOf.{simple_operation, operation_with, operation_of};
+ghost use Rattle.listing_spec.specs.Faults.{Lists};
+ghost use Rattle.listing_spec.specs.TreeOf.{simple_operation, operation_with, operation_of};
 ghost use Rattle.class_tree.specs.Operations.{field_operation, invoke_operation, table_operation, lookup_operation};
 
 use crate::constants::{constant_operation, long_of};
@@ -11,15 +11,15 @@ use crate::opcodes::{form_of, opcode_at};
 use crate::references::{field_name, method_name};
 use crate::switches::{lookup_lines, table_lines};
 use crate::texts::Texts;
-use held::boxed::Boxed;
+use shared_data::boxed::Boxed;
 use jasmin::source::{BranchWidth, ConstantWidth, Operation};
 use jvms_file::insn::{
     ArrayInsn, Branch, FieldUse, Insn, Invoke, LookupSwitch, Opcode, Push, Simple, TableSwitch,
 };
-use listings::fault::ListFault;
+use listing_spec::fault::ListFault;
 use std::alloc::{AllocError, Global};
 
-/// A `bipush`, where the number is a byte's.
+/// Returns a `bipush`, or the opcode by itself if the number doesn't fit a byte.
 fn push_byte(code: u8, n: i16) -> Operation
     ensures { result ≡ simple_operation code Opcode.PushByte (Simple.Push (Push.Int n)) }
 {
@@ -30,7 +30,7 @@ fn push_byte(code: u8, n: i16) -> Operation
     }
 }
 
-/// An instruction that names neither an entry nor a place, by the form of its opcode.
+/// Returns the operation of an instruction that names neither a pool entry nor a place, by the form of its opcode.
 fn simple_operation(code: u8, form: Opcode, simple: Simple) -> Operation
     ensures { result ≡ simple_operation code form simple }
 {
@@ -46,8 +46,8 @@ fn simple_operation(code: u8, form: Opcode, simple: Simple) -> Operation
     }
 }
 
-/// A load of a constant.
-#[tactic(auto, unfolding(listings::specs::TreeOf::operation_with))]
+/// Returns a load of a constant.
+#[tactic(auto, unfolding(listing_spec::specs::TreeOf::operation_with))]
 fn load_operation(
     alloc: Global,
     texts: &Texts<'_>,
@@ -64,8 +64,8 @@ fn load_operation(
     }
 }
 
-/// A branch with one target.
-#[tactic(auto, unfolding(listings::specs::TreeOf::operation_with))]
+/// Returns a branch with one target.
+#[tactic(auto, unfolding(listing_spec::specs::TreeOf::operation_with))]
 fn branch_operation(
     alloc: Global,
     texts: &Texts<'_>,
@@ -83,7 +83,7 @@ fn branch_operation(
     }
 }
 
-/// A tableswitch.
+/// Returns a tableswitch.
 fn table_operation(alloc: Global, switch: &TableSwitch) -> Result<Operation, AllocError>
     ensures { IfOk result (λ o. o ≡ table_operation switch.now) }
 {
@@ -91,7 +91,7 @@ fn table_operation(alloc: Global, switch: &TableSwitch) -> Result<Operation, All
     Ok(Operation::Table(Boxed::new(alloc, lines)?))
 }
 
-/// A lookupswitch.
+/// Returns a lookupswitch.
 fn lookup_operation(alloc: Global, switch: &LookupSwitch) -> Result<Operation, AllocError>
     ensures { IfOk result (λ o. o ≡ lookup_operation switch.now) }
 {
@@ -99,7 +99,7 @@ fn lookup_operation(alloc: Global, switch: &LookupSwitch) -> Result<Operation, A
     Ok(Operation::Lookup(Boxed::new(alloc, lines)?))
 }
 
-/// An instruction that names a field.
+/// Returns an instruction that names a field.
 fn field_operation(
     alloc: Global,
     texts: &Texts<'_>,
@@ -112,7 +112,7 @@ fn field_operation(
     Ok(Operation::Field(how, Boxed::new(alloc, field)?))
 }
 
-/// An instruction that names a method.
+/// Returns an instruction that names a method.
 fn invoke_operation(
     alloc: Global,
     texts: &Texts<'_>,
@@ -125,8 +125,8 @@ fn invoke_operation(
     Ok(Operation::Invoke(how, Boxed::new(alloc, method)?))
 }
 
-/// An instruction as it is spelled, by its opcode and the form of that.
-#[tactic(auto, unfolding(listings::specs::TreeOf::operation_with))]
+/// Returns an instruction as it is spelled, by its opcode and the opcode's form.
+#[tactic(auto, unfolding(listing_spec::specs::TreeOf::operation_with))]
 fn operation_with(
     alloc: Global,
     texts: &Texts<'_>,
@@ -151,7 +151,7 @@ fn operation_with(
     }
 }
 
-/// An instruction as it is spelled by the bytes from its start on.
+/// Returns an instruction as its bytes spell it, which start at `pc`.
 pub(crate) fn operation_of(
     alloc: Global,
     texts: &Texts<'_>,

@@ -1,4 +1,4 @@
-//! Fields and methods that instructions name (JVMS 5.1).
+//! Finds the fields and methods that instructions name (JVMS 5.1).
 
 ghost use Rattle.std.specs.Prelude.{◌≡◌, IfOk};
 ghost use Rattle.jvms_file.specs.ConstantPool.{entry};
@@ -10,7 +10,7 @@ use jasmin::source::{FieldName, MethodName};
 use jvms_file::class_file::Constant;
 use std::alloc::AllocError;
 
-/// The field of a class, by a NameAndType entry.
+/// Returns the field of a class and a NameAndType entry.
 fn field_of(texts: &Texts<'_>, class: u16, member: u16) -> Result<FieldName, AllocError>
     ensures { IfOk result (λ f. f ≡ record { class = class_text texts.now class; name = (name_and_type texts.now member).0; descriptor = (name_and_type texts.now member).1 }) }
 {
@@ -22,7 +22,7 @@ fn field_of(texts: &Texts<'_>, class: u16, member: u16) -> Result<FieldName, All
     })
 }
 
-/// The field that a Fieldref entry names (JVMS 4.4.2).
+/// Returns the field that a Fieldref entry names (JVMS 4.4.2).
 pub(crate) fn field_name(texts: &Texts<'_>, number: u16) -> Result<FieldName, AllocError>
     ensures { IfOk result (λ f. f ≡ named_field (field_reference_of texts.now (entry texts.now number))) }
 {
@@ -37,7 +37,7 @@ pub(crate) fn field_name(texts: &Texts<'_>, number: u16) -> Result<FieldName, Al
     }
 }
 
-/// The method of a class or an interface, by a NameAndType entry.
+/// Returns the method of a class or an interface and a NameAndType entry.
 fn method_of(texts: &Texts<'_>, class: u16, member: u16) -> Result<MethodName, AllocError>
     ensures { IfOk result (λ m. m ≡ record { class = class_text texts.now class; name = (name_and_type texts.now member).0; descriptor = (name_and_type texts.now member).1 }) }
 {
@@ -49,7 +49,7 @@ fn method_of(texts: &Texts<'_>, class: u16, member: u16) -> Result<MethodName, A
     })
 }
 
-/// The method that a Methodref or an InterfaceMethodref entry names (JVMS 4.4.2).
+/// Returns the method that a Methodref or an InterfaceMethodref entry names (JVMS 4.4.2).
 pub(crate) fn method_name(texts: &Texts<'_>, number: u16) -> Result<MethodName, AllocError>
     ensures { IfOk result (λ m. m ≡ named_method (method_reference_of texts.now (entry texts.now number))) }
 {

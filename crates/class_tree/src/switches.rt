@@ -1,15 +1,15 @@
-//! Switches with labels in place of places (JVMS 6.5 tableswitch, lookupswitch).
+//! Converts switches, with labels instead of places (JVMS 6.5 `tableswitch`, `lookupswitch`).
 
 ghost use Rattle.std.specs.Prelude.{◌≡◌, map, IfOk};
-ghost use Rattle.listings.specs.TreeOf.{label_of, match_of};
+ghost use Rattle.listing_spec.specs.TreeOf.{label_of, match_of};
 
 use crate::labels::{label_of, labels_of};
-use held::items::Items;
+use shared_data::items::Items;
 use jasmin::source::{LookupLines, MatchLine, TableLines};
 use jvms_file::insn::{LookupSwitch, SwitchCase, TableSwitch};
 use std::alloc::{AllocError, Global};
 
-/// The lines of a tableswitch.
+/// Returns the lines of a tableswitch.
 pub(crate) fn table_lines(alloc: Global, switch: &TableSwitch) -> Result<TableLines, AllocError>
     ensures { IfOk result (λ lines. lines ≡ record { low = switch.now.low; labels = map label_of switch.now.targets; default = label_of switch.now.default }) }
 {
@@ -20,7 +20,7 @@ pub(crate) fn table_lines(alloc: Global, switch: &TableSwitch) -> Result<TableLi
     })
 }
 
-/// The line of a case.
+/// Returns the line of a case.
 fn match_of(alloc: Global, case: SwitchCase) -> Result<MatchLine, AllocError>
     ensures { IfOk result (λ line. line ≡ match_of case) }
 {
@@ -30,7 +30,7 @@ fn match_of(alloc: Global, case: SwitchCase) -> Result<MatchLine, AllocError>
     })
 }
 
-/// The lines of cases, in order.
+/// Returns the lines of cases, in order.
 fn matches_of(alloc: Global, cases: &[SwitchCase]) -> Result<Items<MatchLine>, AllocError>
     ensures { IfOk result (λ lines. lines ≡ map match_of cases.now) }
 {
@@ -41,7 +41,7 @@ fn matches_of(alloc: Global, cases: &[SwitchCase]) -> Result<Items<MatchLine>, A
     Ok(Items::from_vec(lines))
 }
 
-/// The lines of a lookupswitch.
+/// Returns the lines of a lookupswitch.
 pub(crate) fn lookup_lines(alloc: Global, switch: &LookupSwitch) -> Result<LookupLines, AllocError>
     ensures { IfOk result (λ lines. lines ≡ record { matches = map match_of switch.now.cases; default = label_of switch.now.default }) }
 {

@@ -1,23 +1,23 @@
-//! Texts that numbers of pool entries name: each is made once, and shared by all that name it.
+//! Texts of a constant pool by index. Each is made once, and shared by all that name it.
 
 ghost use Rattle.std.specs.Prelude.{◌≡◌, [], IfOk, map, slice_get};
 ghost use Rattle.std.specs.Option.{option_and_then, option_copied, unwrap_or};
 ghost use Rattle.jvms_file.specs.ConstantPool.{entry, utf8_of, utf8_at, both};
 ghost use Rattle.jvms_program.specs.Meaning.{text_of, class_text, name_and_type};
 
-use held::items::Items;
-use held::shared::{Shared, Text};
+use shared_data::items::Items;
+use shared_data::shared::{Shared, Text};
 use jvms_file::class_file::Constant;
 use std::alloc::{AllocError, Global};
 use std::marker::Model;
 
-/// A class's constant pool, each of whose texts is held once for all that name it. Contracts see the list of
-/// its entries.
+/// A class's constant pool with its texts, each of which is made once and shared. In contracts it is the list of its
+/// entries.
 #[derive(Drop)]
 pub(crate) struct Texts<'p> {
     pool: &'p [Constant],
     texts: Vec<Option<Text>>,
-    /// What stands for a text that isn't there.
+    /// The empty text, which is returned for a missing one.
     nothing: Text,
 }
 
@@ -33,14 +33,14 @@ impl<'p> Model for Texts<'p> {
     ghost invariant = { λ t. (t.texts.items ≡ map utf8_of t.pool.now) × (t.nothing ≡ []) };
 }
 
-/// A text of these units.
+/// Returns a new text of these units.
 fn copied(alloc: Global, units: &[u16]) -> Result<Text, AllocError>
     ensures { IfOk result (λ text. text ≡ units.now) }
 {
     Shared::new(alloc, Items::from_vec(Vec::from_slice(alloc, units)?))
 }
 
-/// The text of an entry, if it is a Utf8 (JVMS 4.4.7).
+/// Returns the text of an entry, if it is a Utf8 entry (JVMS 4.4.7).
 fn entry_text(alloc: Global, constant: &Constant) -> Result<Option<Text>, AllocError>
     ensures { IfOk result (λ text. text ≡ utf8_of constant.now) }
 {
@@ -50,7 +50,7 @@ fn entry_text(alloc: Global, constant: &Constant) -> Result<Option<Text>, AllocE
     }
 }
 
-/// The texts of entries, in order.
+/// Returns the texts of entries, in order.
 fn entry_texts(alloc: Global, pool: &[Constant]) -> Result<Vec<Option<Text>>, AllocError>
     ensures { IfOk result (λ texts. texts.items ≡ map utf8_of pool.now) }
 {
@@ -61,7 +61,7 @@ fn entry_texts(alloc: Global, pool: &[Constant]) -> Result<Vec<Option<Text>>, Al
     Ok(texts)
 }
 
-/// The text at a place, if there is one.
+/// Returns the text at a place, if there is one.
 fn at_place(texts: &[Option<Text>], place: usize) -> Option<&Text>
     ensures { option_copied result ≡ option_and_then (λ text. text) (slice_get texts.now place) }
 {
@@ -72,7 +72,7 @@ fn at_place(texts: &[Option<Text>], place: usize) -> Option<&Text>
 }
 
 impl<'p> Texts<'p> {
-    /// The texts of a pool.
+    /// Returns the texts of a pool.
     pub(crate) fn of(alloc: Global, pool: &'p [Constant]) -> Result<Self, AllocError>
         ensures { IfOk result (λ texts. texts ≡ pool.now) }
     {
@@ -85,7 +85,7 @@ impl<'p> Texts<'p> {
         })
     }
 
-    /// The entry of a number, if there is one.
+    /// Returns the entry of an index, if there is one.
     pub(crate) fn entry(&self, number: u16) -> Option<&Constant>
         ensures { option_copied result ≡ entry self.now number }
     {
@@ -95,7 +95,7 @@ impl<'p> Texts<'p> {
         self.pool.get(usize::from(number) - 1)
     }
 
-    /// The text of a Utf8 entry (JVMS 4.4.7), if a number is one's.
+    /// Returns the text of a Utf8 entry (JVMS 4.4.7), if the index is that of one.
     #[tactic(auto, using(crate::proofs::PoolTexts::text_at))]
     fn found(&self, number: u16) -> Option<&Text>
         ensures { option_copied result ≡ utf8_at self.now number }
@@ -106,7 +106,7 @@ impl<'p> Texts<'p> {
         at_place(&self.texts, usize::from(number) - 1)
     }
 
-    /// The text of a Utf8 entry; where a number names none, the empty text.
+    /// Returns the text of a Utf8 entry, or the empty text if the index isn't that of one.
     pub(crate) fn text(&self, number: u16) -> Result<Text, AllocError>
         ensures { IfOk result (λ text. text ≡ text_of self.now number) }
     {
@@ -116,7 +116,7 @@ impl<'p> Texts<'p> {
         }
     }
 
-    /// The name of a Class entry (JVMS 4.4.1); where a number names none, the empty text.
+    /// Returns the name of a Class entry (JVMS 4.4.1), or the empty text if the index isn't that of one.
     pub(crate) fn class_name(&self, number: u16) -> Result<Text, AllocError>
         ensures { IfOk result (λ name. name ≡ class_text self.now number) }
     {
@@ -126,7 +126,7 @@ impl<'p> Texts<'p> {
         }
     }
 
-    /// The names of Class entries, in order.
+    /// Returns the names of Class entries, in order.
     pub(crate) fn class_names(
         &self,
         alloc: Global,
@@ -141,7 +141,7 @@ impl<'p> Texts<'p> {
         Ok(Items::from_vec(names))
     }
 
-    /// Two texts; where a number names none, two empty texts.
+    /// Returns two texts, or two empty texts if one is missing.
     fn two_texts(&self, name: u16, descriptor: u16) -> (&Text, &Text)
         ensures name { result.0.now ≡ (unwrap_or (both (utf8_at self.now name) (utf8_at self.now descriptor)) ([], [])).0 }
         ensures descriptor { result.1.now ≡ (unwrap_or (both (utf8_at self.now name) (utf8_at self.now descriptor)) ([], [])).1 }
@@ -152,7 +152,7 @@ impl<'p> Texts<'p> {
         }
     }
 
-    /// The name and the descriptor of a NameAndType entry (JVMS 4.4.6); where a number names none, empty texts.
+    /// Returns the name and the descriptor of a NameAndType entry (JVMS 4.4.6), or two empty texts if one is missing.
     pub(crate) fn name_and_type(&self, number: u16) -> (&Text, &Text)
         ensures name { result.0.now ≡ (name_and_type self.now number).0 }
         ensures descriptor { result.1.now ≡ (name_and_type self.now number).1 }

@@ -1,33 +1,33 @@
-//! The tree of a class file (JVMS 4.1).
+//! Converts a class file to its tree (JVMS 4.1).
 
 ghost use Rattle.std.specs.Prelude.{◌≡◌};
-ghost use Rattle.listings.specs.Faults.{Lists};
-ghost use Rattle.listings.specs.TreeOf.{class_flags, tree_of as tree_of_class};
+ghost use Rattle.listing_spec.specs.Faults.{Lists};
+ghost use Rattle.listing_spec.specs.TreeOf.{class_flags, tree_of as tree_of_class};
 
 use crate::fields::field_lines;
 use crate::methods::all_method_lines;
 use crate::texts::Texts;
 use jasmin::source::Source;
 use jvms_file::class_file::ClassFile;
-use listings::fault::ListFault;
+use listing_spec::fault::ListFault;
 use std::alloc::Global;
 
-/// The flags that a `.class` writes (JVMS table 4.1-A).
+/// The flags that access words of `.class` spell (JVMS table 4.1-A).
 const CLASS_FLAGS: u16 = 1041;
 
-/// The flag that it adds.
+/// The flag that `.class` adds.
 const CLASS_ADDS: u16 = 32;
 
 /// The flag of an interface.
 const INTERFACE: u16 = 0x0200;
 
-/// The flags that an `.interface` writes.
+/// The flags that access words of `.interface` spell.
 const INTERFACE_FLAGS: u16 = 49;
 
-/// The flags that it adds.
+/// The flags that `.interface` adds.
 const INTERFACE_ADDS: u16 = 1536;
 
-/// A class's flags as `.class` or `.interface` says them.
+/// Returns a class's flags as `.class` or `.interface` spells them.
 fn class_flags(access: u16) -> u16
     ensures { result ≡ class_flags access }
 {
@@ -38,13 +38,14 @@ fn class_flags(access: u16) -> u16
     }
 }
 
-/// The tree of a source that means what a class file means: each instruction as it is spelled, and a label `Ln` before
-/// instruction n, or behind the last, where something refers to it.
+/// Returns the tree of a source with the meaning of a class file. Each instruction is as it is spelled. A label `Ln`
+/// precedes instruction n, or follows the last, if something refers to it.
 ///
 /// # Errors
 ///
-/// Name where there is no superclass, Float where an instruction or a field uses a float or a double, Memory.
-#[tactic(auto, unfolding(listings::specs::TreeOf::tree_of))]
+/// Returns `Name` if there is no superclass, `Float` if an instruction or a field uses a float or a double, and
+/// `Memory` if memory ran out.
+#[tactic(auto, unfolding(listing_spec::specs::TreeOf::tree_of))]
 pub fn tree_of(alloc: Global, class: &ClassFile) -> Result<Source, ListFault>
     ensures exact { Lists result (tree_of_class class.now) }
 {

@@ -15,7 +15,7 @@ use Rattle.classes.proofs.NamesLaws.{along_missing, of_interfaces, of_superclass
 use Rattle.classes.proofs.PlaceLaws.{named_at}
 use Rattle.classes.proofs.WalkLaws.{first_in-flat_map}
 
--- What is found first in the ancestries of a class's superinterfaces.
+-- The first match in the ancestries of a class's superinterfaces.
 abbrev pub in_interfaces : List Class → (Class → Option (ℕ × ℕ)) → Class → Option (ℕ × ℕ)
 in_interfaces program look c = first_in look (flat_map (ancestry program) c.interfaces)
 
@@ -35,7 +35,7 @@ module _ (program : List Class) (reached : List ℕ) (closed : IsClosed program 
   pub superclass_reached : (super : List ℕ) → Some super ≡ c.superclass → list_all (is_marked reached) (to_list (class_number program super)) ≡ true
   superclass_reached super e = of_superclass program (is_marked reached) c super above (sym e)
 
--- Where the class of a name isn't there, nothing is found from it on.
+-- If the class of a name isn't there, there is no match from it on.
 pub none_from : (program : List Class) (look : Class → Option (ℕ × ℕ)) (start : Start) → class_named program (name_of start) ≡ None → None ≡ first_in look (classes_from program start)
 none_from program look (start.Class name) h = sym (ap (first_in look) (missing program (length program) name.now h))
 none_from program look (start.Interfaces name) h = rw h refl

@@ -36,7 +36,7 @@ all_both p q (n ∷ ns) a b =
 second : (a b : Bool) → (a && b) ≡ true → b ≡ true
 second a b both = (and_parts a b both).1
 
--- What holds of the numbers of names holds of the first and of the others.
+-- A property of the numbers of names holds for the first and for the others.
 pub first_numbers : (program : List Class) (p : ℕ → Bool) (name : List ℕ) (names : List (List ℕ)) → list_all p (numbers_of program (name ∷ names)) ≡ true
     → (list_all p (to_list (class_number program name)) ≡ true) × (list_all p (numbers_of program names) ≡ true)
 first_numbers program p name names all =
@@ -72,7 +72,7 @@ module _ (program : List Class) where
       (ap (λ (cs : List Class). flat_map (ancestry_within most program) interfaces ++ cs) (sym (append-nil (ancestry_within most program super)))
       ∙ sym (flat_map-append (ancestry_within most program) interfaces (super ∷ []))))
 
-  -- A class, and then the ancestries of its superinterfaces and of its superclass.
+  -- An ancestry is the class, followed by the ancestries of its superinterfaces and of its superclass.
   pub step : (most : ℕ) (name : List ℕ) (c : Class) → class_named program name ≡ Some c
       → ancestry_within (suc most) program name ≡ c ∷ flat_map (ancestry_within most program) (supers_of c)
   step most name c h = step_by most name c.name c.kind c.superclass c.interfaces c.fields c.methods h
@@ -122,7 +122,7 @@ module _ (program : List Class) (rows : List (List ℕ)) (ranks order : List ℕ
   pub few : length order ≤ length program
   few = omega (arith, count, h.found.few)
 
-  -- ---- How deep a search goes doesn't matter, if it goes as deep as the rank says
+  -- ---- Two depths above the rank give the same search
 
   abbrev come_before : ℕ → ℕ → Bool
   come_before r n = ltb (rank ranks n) r
@@ -165,7 +165,7 @@ module _ (program : List Class) (rows : List (List ℕ)) (ranks order : List ℕ
       ∙ ap (λ (cs : List Class). c ∷ cs)
       (deep_names k (length program) (rank ranks m) (deep k (length program)) (supers_of c) (lower m c (named_at program name m number ∙ is)) (omega arith) (omega arith))
 
-  -- The ancestry of a class: itself, and then the ancestries of its superinterfaces and of its superclass.
+  -- The ancestry of a class is itself, followed by the ancestries of its superinterfaces and of its superclass.
   pub unfolds : (name : List ℕ) (m : ℕ) (c : Class) → class_number program name ≡ Some m → class_named program name ≡ Some c
       → ancestry program name ≡ c ∷ flat_map (ancestry program) (supers_of c)
   unfolds name m c number is =

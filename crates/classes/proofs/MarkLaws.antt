@@ -11,7 +11,7 @@ use Rattle.std.proofs.lemmas.Nat.Bits.{bit_at-zero, bit_at_set_same, bit_at_set_
 use Rattle.std.proofs.lemmas.Option.{unwrap_or-slice_get}
 use Rattle.classes.specs.Marks.{is_in, is_marked}
 
--- A mark is read where it stands.
+-- A mark is the bit of a number.
 read : (marks : List ℕ) (n : ℕ) → is_marked marks n ≡ eqb (bit_at (get_or marks (n / 64) 0) (n % 64)) 1
 read marks n = ap (λ w. eqb (bit_at w (n % 64)) 1) (unwrap_or-slice_get marks (n / 64) 0)
 
@@ -20,7 +20,7 @@ zeros zero k = refl
 zeros (suc m) zero = refl
 zeros (suc m) (suc k) = zeros m k
 
--- Without ones nothing is marked.
+-- Words of 0 mark nothing.
 pub none_marked : (m n : ℕ) → is_marked (replicate m 0) n ≡ false
 none_marked m n =
     read (replicate m 0) n ∙ ap (λ w. eqb (bit_at w (n % 64)) 1) (zeros m (n / 64)) ∙ ap (λ b. eqb b 1) (bit_at-zero (n % 64))
@@ -34,7 +34,7 @@ another n class b other = let e : eqb n class ≡ false = grind (arith, nat_test
 same_number : (n class : ℕ) → n / 64 ≡ class / 64 → n % 64 ≡ class % 64 → n ≡ class
 same_number n class words bits = omega arith
 
--- Which numbers are marked, once one more is.
+-- The marks after one more mark.
 pub one_mark : (marks : List ℕ) (class n : ℕ) → class / 64 < length marks
     → is_marked (set marks (class / 64) (bit_or (get_or marks (class / 64) 0) (1 * 2 ^ (class % 64) % 18446744073709551616))) n ≡ (eqb n class || is_marked marks n)
 one_mark marks class n within =
@@ -64,7 +64,7 @@ or_last true false c = refl
 or_last false true c = refl
 or_last false false c = refl
 
--- Which numbers are marked, once one more of a list is.
+-- The marks after one more mark of a list.
 pub mark_more : (classes : List ℕ) (i class n : ℕ) (before now first : Bool) → i < length classes → get_or classes i 0 ≡ class
     → now ≡ (eqb n class || before) → before ≡ (is_in (take i classes) n || first) → now ≡ (is_in (take (i + 1) classes) n || first)
 mark_more classes i class n before now first within is marked are =

@@ -1,5 +1,5 @@
--- Classes above one are marked, from the last in the order to the first; then those of them in whose ancestry something is
--- found, from the first to the last.
+-- Classes above one are marked, from the last in the order to the first. Then those of them in whose ancestry there is
+-- a match are marked, from the first to the last.
 use Rattle.std.proofs.Common.{◌≡◌, ℕ, ◌+◌, ◌-◌, ◌<◌, ◌≤◌, Bool, true, false, ◌||◌, ◌&&◌, eqb, ltb, List, [], ◌∷◌, length, get_or, Option, Some, None, refl, sym, ap, subst, ◌∙◌, ◌⊎◌, inl, inr, ⊎_elim, arith}
 use Rattle.std.specs.Prelude.{is_some, slice_get}
 use Rattle.std.specs.List.{flat_map, list_all, list_any}
@@ -45,7 +45,7 @@ module _ (program : List Class) (rows : List (List ℕ)) (ranks order : List ℕ
   there_by at within (inl found) = (found.0, found.2)
   there_by at within (inr past) = absurd (omega arith)
 
-  -- A class that stands at a place of the order up to that of another.
+  -- A class is at a place of the order up to that of another.
   pub record StandsAt (place at : ℕ) : Type 0 where
     pub class : Class
     pub there : slice_get program at ≡ Some class
@@ -146,17 +146,17 @@ module _ (program : List Class) (rows : List (List ℕ)) (ranks order : List ℕ
           let lt : rank ranks m < rank ranks at = ltb-true (rank ranks m) (rank ranks at) (in_passes (λ n. ltb (rank ranks n) (rank ranks at)) (super_numbers program c) m (lower program rows ranks order h at c there) fresh) in
           omega arith
 
-  pub marked_all : (class : ℕ) (marks : List ℕ) → AreMarkedFrom class 0 marks → AreAbove program ranks class marks
-  marked_all class marks are = record {
+  pub with_marks : (class : ℕ) (marks : List ℕ) → AreMarkedFrom class 0 marks → AreAbove program ranks class marks
+  with_marks class marks are = record {
     itself = are.itself;
     above = record { closed = λ m c at there. are.closed m c at there (omega arith) };
     below = are.below;
   }
 
-  -- ---- Classes in whose ancestry something is found
+  -- ---- Classes in whose ancestry there is a match
 
   module _ (look : Class → Option (ℕ × ℕ)) (reached : List ℕ) where
-    -- Those with a rank below this one are marked as they should be, and no other is marked.
+    -- The classes with a rank below this one are marked exactly if they are useful, and no other is marked.
     pub record AreUsefulBelow (place : ℕ) (useful : List ℕ) : Type 0 where
       pub exact : (name : List ℕ) (n : ℕ) → class_number program name ≡ Some n → is_marked reached n ≡ true → rank ranks n < place → is_marked useful n ≡ is_some (first_in look (ancestry program name))
       pub fresh : (n : ℕ) → is_marked useful n ≡ true → rank ranks n < place
@@ -170,7 +170,7 @@ module _ (program : List Class) (rows : List (List ℕ)) (ranks order : List ℕ
     or_same : (a b c : Bool) → a ≡ c → (a || b) ≡ (c || b)
     or_same a b c e = ap (λ d. d || b) e
 
-    -- Whether something is found in the ancestry of the class at a place.
+    -- There is a match in the ancestry of the class at a place exactly if the code says so.
     found_at : (closed : IsClosed program reached) (place at : ℕ) (c : Class) (useful : List ℕ) → rank ranks at ≡ place → slice_get program at ≡ Some c → is_marked reached at ≡ true → AreUsefulBelow place useful
         → (name : List ℕ) → class_number program name ≡ Some at
         → is_some (first_in look (ancestry program name)) ≡ (is_some (look c) || list_any (is_marked useful) (super_numbers program c))
@@ -191,7 +191,7 @@ module _ (program : List Class) (rows : List (List ℕ)) (ranks order : List ℕ
         alone c None e = rw e refl
         alone c (Some x) e = rw e refl
 
-    -- The class at a place has the number that has its rank.
+    -- The class at a place is the one with that rank.
     the_one : (place at n : ℕ) → get_or order place 0 ≡ at → n < length program → rank ranks n ≡ place → n ≡ at
     the_one place at n here within same = sym (at_its_place program rows ranks order h n within) ∙ ap (λ k. get_or order k 0) same ∙ here
 

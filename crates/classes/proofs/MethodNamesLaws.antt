@@ -1,16 +1,16 @@
--- Resolution doesn't ask what a descriptor spells.
+-- Resolution doesn't depend on the type that a descriptor spells.
 use Rattle.std.proofs.Common.{◌≡◌, ℕ, Bool, List, ap, ◌∙◌}
 use Rattle.jvms_program.specs.declared.program.Class.{Class}
 use Rattle.jvms_program.specs.declared.program.MethodReference.{MethodReference}
 use Rattle.jvms_program.specs.declared.thrown.Thrown.{Thrown}
 use Rattle.std.specs.Prelude.{Result}
 use Rattle.jvms_file.specs.Descriptors.{method_type}
-use Rattle.jvms_program.specs.Resolution.{MethodFound, resolved_method}
+use Rattle.jvms_program.specs.Resolution.{ResolvedMethod, resolved_method}
 use Rattle.classes.specs.declared.methods.MethodNames.{MethodNames}
 use Rattle.classes.specs.MethodNames.{reference}
 
--- What a reference of these names resolves to.
-resolved : List Class → Bool → Bool → List ℕ → List ℕ → List ℕ → Result MethodFound Thrown
+-- The method to which a reference of these names resolves.
+resolved : List Class → Bool → Bool → List ℕ → List ℕ → List ℕ → Result ResolvedMethod Thrown
 resolved program static interface class name descriptor =
     resolved_method program static (record { is_interface = interface; class = class; name = name; descriptor = descriptor; method_type = method_type descriptor })
 

@@ -15,7 +15,7 @@ use Rattle.std.proofs.lemmas.List.{append-nil}
 use Rattle.classes.proofs.PlaceLaws.{unnamed}
 use Rattle.classes.proofs.WalkLaws.{names_past, names_found}
 
--- What holds of the numbers of names holds of the number of each.
+-- A property of the numbers of names holds for the number of each.
 pub nth_passes : (program : List Class) (p : ℕ → Bool) (names : List (List ℕ)) (i : ℕ) (name : List ℕ) (n : ℕ) → list_all p (numbers_of program names) ≡ true → i < length names
     → name ≡ get_or names i name → class_number program name ≡ Some n → p n ≡ true
 nth_passes program p [] i name n all within is number = absurd (omega arith)
@@ -33,7 +33,7 @@ module _ (program : List Class) (look : Class → Option (ℕ × ℕ)) where
   some_of None e = absurd (false≢true e)
   some_of (Some x) e = (x, refl)
 
-  -- Nothing is found above the class of the next name.
+  -- There is no match above the class of the next name.
   pub goes_past : (names : List (List ℕ)) (i : ℕ) (name : List ℕ) (whole : Option (ℕ × ℕ)) → i < length names → name ≡ get_or names i name → is_some (first_in look (ancestry program name)) ≡ false
       → whole ≡ first_in look (flat_map (ancestry program) (drop i names)) → whole ≡ first_in look (flat_map (ancestry program) (drop (i + 1) names))
   goes_past names i name whole within is not prior =
@@ -43,7 +43,7 @@ module _ (program : List Class) (look : Class → Option (ℕ × ℕ)) where
   pub not_there : (name : List ℕ) → class_number program name ≡ None → is_some (first_in look (ancestry program name)) ≡ false
   not_there name number = ap (λ (cs : List Class). is_some (first_in look cs)) (missing program (length program) name (unnamed program name number))
 
-  -- It is found above the class of the next name.
+  -- The match is above the class of the next name.
   pub stops_here : (names : List (List ℕ)) (i : ℕ) (name : List ℕ) (whole : Option (ℕ × ℕ)) → i < length names → name ≡ get_or names i name → is_some (first_in look (ancestry program name)) ≡ true
       → whole ≡ first_in look (flat_map (ancestry program) (drop i names)) → first_in look (ancestry program name) ≡ whole
   stops_here names i name whole within is there prior =
@@ -99,7 +99,7 @@ supers_by program p c (Some super) e all =
     let first = first_numbers program p super [] parts.1 in
     (parts.0, λ other is. let same : super ≡ other = cc in subst (λ (name : List ℕ). list_all p (to_list (class_number program name)) ≡ true) same first.0)
 
--- What holds of all above a class in one step holds of its superinterfaces, and of its superclass.
+-- A property of the supers of a class holds for its superinterfaces, and for its superclass.
 pub of_interfaces : (program : List Class) (p : ℕ → Bool) (c : Class) → list_all p (super_numbers program c) ≡ true → list_all p (numbers_of program c.interfaces) ≡ true
 of_interfaces program p c all = (supers_by program p c c.superclass refl all).0
 

@@ -1,4 +1,4 @@
--- Searches by marks: of the classes of some names, the first that is marked as useful leads to what is found first.
+-- Searches by marks. Of the classes of some names, the first that is marked as useful leads to the first match.
 use Rattle.std.proofs.Common.{◌≡◌, ℕ, Bool, true, false, cond, ◌||◌, ◌&&◌, eqb, List, [], ◌∷◌, ◌++◌, length, Option, Some, None, refl, sym, ap, subst, ◌∙◌, ⊎_elim, arith}
 use Rattle.std.specs.Prelude.{is_some}
 use Rattle.std.specs.List.{find, flat_map, list_all, list_any}
@@ -83,7 +83,7 @@ module _ (program : List Class) (look : Class → Option (ℕ × ℕ)) where
         or_false true = refl
         or_false false = refl
 
-    -- Something is found above classes of these names where one of them is useful.
+    -- There is a match above classes of these names exactly if one of them is useful.
     pub any_found : (names : List (List ℕ)) → list_all p (numbers_of program names) ≡ true
         → list_any useful (numbers_of program names) ≡ is_some (first_in look (flat_map (ancestry program) names))
     any_found [] all = refl
@@ -95,7 +95,7 @@ module _ (program : List Class) (look : Class → Option (ℕ × ℕ)) where
         ∙ (λ i. one i || more i)
         ∙ sym (first_of_two (ancestry program name) (flat_map (ancestry program) names) (first_in look (ancestry program name)) refl)
 
-    -- What is found first above classes of these names is what is found first above the first that is useful.
+    -- The first match above classes of these names is the first above the first useful one.
     pub record LeadsOn (names : List (List ℕ)) (n : ℕ) : Type 0 where
       pub name : List ℕ
       pub number : class_number program name ≡ Some n
@@ -148,7 +148,7 @@ module _ (program : List Class) (look : Class → Option (ℕ × ℕ)) where
     find_none [] h = refl
     find_none (m ∷ ns) h = none_by m ns (useful m) refl (find_none ns) h
 
-    -- Nothing is found above classes of these names where none is useful.
+    -- There is no match above classes of these names if none is useful.
     pub none_found : (names : List (List ℕ)) → list_all p (numbers_of program names) ≡ true → find useful (numbers_of program names) ≡ None
         → first_in look (flat_map (ancestry program) names) ≡ None
     none_found names all none =

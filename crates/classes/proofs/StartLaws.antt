@@ -1,4 +1,4 @@
--- Where the slots of a class's fields start.
+-- The first slots of a class's fields.
 use Rattle.std.proofs.Common.{◌≡◌, ℕ, zero, suc, ◌+◌, ◌-◌, ◌<◌, ◌≤◌, ◌^◌, ◌⊎◌, inl, inr, min, Bool, true, false, cond, ltb, List, [], ◌∷◌, ◌++◌, length, get_or, set, take, drop, Option, Some, None, refl, sym, ap, subst, ◌∙◌, ⊎_elim, arith}
 use Rattle.std.specs.Prelude.{IfSome, slice_get, unwrap_or}
 use Rattle.std.specs.Option.{option_or}
@@ -45,7 +45,7 @@ module _ (program : List Class) where
   unfolding chain_within
   none_yet P name = tt
 
-  -- What is above a class.
+  -- The chain above a class.
   abbrev pub chain_up : Option (List ℕ) → List Class
   chain_up None = []
   chain_up (Some name) = chain program name
@@ -102,7 +102,7 @@ module _ (program : List Class) (rows : List (List ℕ)) (ranks order : List ℕ
       ∙ ap (λ (cs : List Class). c ∷ cs) (deep_super k j (rank ranks m) same super (class_number program super) refl (λ n there. super_low m c super n at some there) a b)
       ∙ sym (up_next program j name super c is some)
 
-  -- How deep a chain goes doesn't matter, if it goes as deep as the rank says.
+  -- Two depths above the rank give the same chain.
   pub deep_chain : (k j : ℕ) (name : List ℕ) (m : ℕ) → class_number program name ≡ Some m → rank ranks m < k → rank ranks m < j
       → chain_within k program name ≡ chain_within j program name
   deep_chain zero j name m number a b = absurd (omega arith)
@@ -123,7 +123,7 @@ module _ (program : List Class) (rows : List (List ℕ)) (ranks order : List ℕ
   pub named_so : (m : ℕ) (c : Class) → slice_get program m ≡ Some c → class_number program c.name ≡ Some m → class_named program c.name ≡ Some c
   named_so m c at number = sym (named_at program c.name m number) ∙ at
 
-  -- The chain of a class is the class and then the chain of its superclass.
+  -- The chain of a class is the class, followed by the chain of its superclass.
   pub chain_is : (m : ℕ) (c : Class) → slice_get program m ≡ Some c → class_number program c.name ≡ Some m → chain program c.name ≡ c ∷ chain_up program c.superclass
   chain_is m c at number =
       let low : rank ranks m < length order = rank_within program rows ranks order h m (slice_get_within program m c at) in
@@ -207,7 +207,7 @@ module _ (program : List Class) (rows : List (List ℕ)) (ranks order : List ℕ
       ∙ fold_past key place up (none_in_others false key c.name up (own_name false c key place there) (others m c up number (above_low program rows ranks order h m c at)))
       ∙ ap (λ (n : ℕ). Some n) same
 
-  -- A class's total is that of its superclass and its own.
+  -- A class's total is that of its superclass and the number of its own fields.
   pub total_is : (m : ℕ) (c : Class) → slice_get program m ≡ Some c → class_number program c.name ≡ Some m
       → count_of_all false (chain program c.name) ≡ count_of false c + count_of_all false (chain_up program c.superclass)
   total_is m c at number = ap (count_of_all false) (chain_is program rows ranks order h m c at number)
@@ -282,7 +282,7 @@ module _ (program : List Class) (rows : List (List ℕ)) (ranks order : List ℕ
       slice_get-get_or (set old at total) n 0 (omega (arith, length-set old at total, within))
       ∙ ap (λ (k : ℕ). Some k) (get_or-set_other old at n total 0 other ∙ get_or_from_slice_get old n x 0 was)
 
-  -- One class more.
+  -- One more class.
   pub one_total : AreCountable program → (place at total : ℕ) (c : Class) (old new : List ℕ) → get_or order place 0 ≡ at → rank ranks at ≡ place → slice_get program at ≡ Some c
       → total ≡ min (total_above program old c.superclass + count_of false c) (2 ^ 64 - 1) → new ≡ set old at total → AreTotalsBelow place old → AreTotalsBelow (place + 1) new
   one_total countable place at total c old new here placed there sum put below =
@@ -380,7 +380,7 @@ module _ (program : List Class) (n : ℕ) (c : Class) (at : slice_get program n 
 pub no_starts : (program : List Class) → AreStartsOf program []
 no_starts program = record { each = λ n c s at there. absurd (none-some (Some s) there) }
 
--- An item of a list with one more is an item of the list, or the one more.
+-- An item of a list with one more is an item of the list, or the new one.
 at_push : {B : Type 0} (bs : List B) (b : B) (k : ℕ) (x : B) → slice_get (bs ++ b ∷ []) k ≡ Some x → (slice_get bs k ≡ Some x) ⊎ ((k ≡ length bs) × (b ≡ x))
 at_push [] b zero x h = inr (refl, same_Some b x h)
 at_push [] b (suc k) x h = absurd (none-some x h)

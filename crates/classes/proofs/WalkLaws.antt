@@ -8,7 +8,7 @@ use Rattle.jvms_program.specs.Program.{class_named}
 use Rattle.jvms_program.specs.Resolution.{ancestry_within, first_in}
 
 module _ {A : Type 0} (look : Class → Option A) where
-  -- ---- One list behind another
+  -- ---- One list after another
 
   append_some_by : (o : Option A) (xs ys : List Class) (c : Class) (x : A) → o ≡ look c → (first_in look xs ≡ Some x → first_in look (xs ++ ys) ≡ Some x)
       → first_in look (c ∷ xs) ≡ Some x → first_in look (c ∷ xs ++ ys) ≡ Some x
@@ -61,7 +61,7 @@ pub first_in-flat_map : {A : Type 0} (look : Class → Option A) (classes_of : C
 first_in-flat_map look classes_of [] = refl
 first_in-flat_map look classes_of (c ∷ cs) = flat_step look classes_of c cs (first_in look (classes_of c)) refl (first_in-flat_map look classes_of cs)
 
--- Whether a class of a name is among some.
+-- A class of a name is among some.
 named_by : (name : List ℕ) (c : Class) (cs : List Class) (p : Bool) → same_text c.name name ≡ p
     → is_some {T = ℕ × ℕ} (first_in (λ (d : Class). cond (same_text d.name name) (Some (0, 0)) None) cs) ≡ list_any (λ (d : Class). same_text d.name name) cs
     → is_some {T = ℕ × ℕ} (first_in (λ (d : Class). cond (same_text d.name name) (Some (0, 0)) None) (c ∷ cs)) ≡ list_any (λ (d : Class). same_text d.name name) (c ∷ cs)

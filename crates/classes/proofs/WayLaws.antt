@@ -1,4 +1,4 @@
--- The way up to what is found first, by marked classes alone.
+-- The way up to the first match passes only marked classes.
 use Rattle.std.proofs.Common.{◌≡◌, ℕ, ◌<◌, true, ◌&&◌, ltb, List, ◌∷◌, length, Option, Some, None, refl, sym, ap, ◌∙◌}
 use Rattle.std.specs.Prelude.{slice_get}
 use Rattle.std.specs.List.{find, flat_map}
@@ -14,7 +14,7 @@ use Rattle.classes.proofs.HierarchyLaws.{all_both, lower, number_within, unfolds
 use Rattle.classes.proofs.PlaceLaws.{named_at, place_is}
 use Rattle.classes.proofs.SearchLaws.{LeadsOn, found_passes, leads_on, none_found}
 
--- What is found first above a class is what is found first above another.
+-- The first match above a class is the first above another.
 pub record IsOnTheWay (program : List Class) (look : Class → Option (ℕ × ℕ)) (class at : ℕ) : Type 0 where
   pub goes : (name : List ℕ) → class_number program name ≡ Some class
       → (other : List ℕ) × (class_number program other ≡ Some at) × (first_in look (ancestry program name) ≡ first_in look (ancestry program other))
@@ -26,7 +26,7 @@ module _ (program : List Class) (rows : List (List ℕ)) (ranks order : List ℕ
   abbrev look : Class → Option (ℕ × ℕ)
   look = placed program gives
 
-  -- What the class of a number gives, that is there by a name.
+  -- The match in the class of a number that is there by a name.
   given : (name : List ℕ) (at : ℕ) (c : Class) → class_number program name ≡ Some at → slice_get program at ≡ Some c → look c ≡ gives at c
   given name at c number there =
       let place : at ≡ class_place program c = place_is program name at c number (sym (named_at program name at number) ∙ there) in
@@ -41,7 +41,7 @@ module _ (program : List Class) (rows : List (List ℕ)) (ranks order : List ℕ
   named_so : (name : List ℕ) (at : ℕ) (c : Class) → slice_get program at ≡ Some c → class_number program name ≡ Some at → class_named program name ≡ Some c
   named_so name at c there number = sym (named_at program name at number) ∙ there
 
-  -- It is found in the class itself.
+  -- The match is in the class itself.
   pub found_here : (class at : ℕ) (c : Class) (x : ℕ × ℕ) → IsOnTheWay program look class at → slice_get program at ≡ Some c → gives at c ≡ Some x
       → (name : List ℕ) → class_number program name ≡ Some class → Some x ≡ first_in look (ancestry program name)
   found_here class at c x way there is name number =
@@ -49,7 +49,7 @@ module _ (program : List Class) (rows : List (List ℕ)) (ranks order : List ℕ
       sym (o.2 ∙ ap (first_in look) (unfolds program rows ranks order h o.0 at c o.1 (named_so o.0 at c there o.1)) ∙ first_here c (flat_map (ancestry program) (supers_of c)) x (given o.0 at c o.1 there ∙ is))
 
   module _ (reached useful : List ℕ) (closed : IsClosed program reached) (are : AreUseful program look reached useful) where
-    -- It is found nowhere.
+    -- There is no match.
     pub found_nowhere : (class at : ℕ) (c : Class) → IsOnTheWay program look class at → slice_get program at ≡ Some c → is_marked reached at ≡ true → gives at c ≡ None
         → find (is_marked useful) (super_numbers program c) ≡ None → (name : List ℕ) → class_number program name ≡ Some class → None ≡ first_in look (ancestry program name)
     found_nowhere class at c way there marked not none name number =

@@ -1,4 +1,4 @@
--- What is left of a class's chain of superclasses (own).
+-- The classes that are left of a class's chain of superclasses (own).
 use Rattle.std.specs.Prelude.{List}
 use Rattle.jvms_program.specs.declared.program.Class.{Class}
 use Rattle.jvms_program.specs.Resolution.{chain_within}

@@ -20,7 +20,7 @@ numbers_of program names = flat_map (λ name. to_list (class_number program name
 abbrev pub super_numbers : List Class → Class → List ℕ
 super_numbers program c = numbers_of program (supers_of c)
 
--- The same of each class of the program.
+-- The numbers of the superinterfaces and the superclass of each class of the program.
 abbrev pub super_rows : List Class → List (List ℕ)
 super_rows program = map (super_numbers program) program
 
@@ -30,16 +30,16 @@ super_rows program = map (super_numbers program) program
 abbrev pub rank : List ℕ → ℕ → ℕ
 rank ranks number = unwrap_or (slice_get ranks number) 0
 
--- Classes of these numbers are there, and come before a class.
+-- The superinterfaces and the superclass of a class are there, and come before it.
 abbrev pub come_before : List (List ℕ) → List ℕ → ℕ → Bool
 come_before rows ranks m = list_all (λ n. nat_lt n (length rows) && nat_lt (rank ranks n) (rank ranks m)) (slice_index_or rows m [])
 
--- Each class stands at its place in the order, after its superclass and its superinterfaces.
+-- Each class has its place in the order, after its superclass and its superinterfaces.
 pub record ArePlaced (rows : List (List ℕ)) (ranks order : List ℕ) : Type 0 where
   pub placed : (m : ℕ) → m < length rows → (rank ranks m < length order) × (slice_index_or order (rank ranks m) 0 ≡ m)
   pub rises : (m : ℕ) → m < length rows → come_before rows ranks m ≡ true
 
--- Each number of the order is that of a class, whose place it has.
+-- Each item of the order is the number of a class, and that class has its place.
 pub record AreFound (count : ℕ) (ranks order : List ℕ) : Type 0 where
   pub few : length order ≤ count
   pub found : (place : ℕ) → place < length order → (slice_index_or order place 0 < count) × (rank ranks (slice_index_or order place 0) ≡ place)

@@ -1,4 +1,4 @@
--- Where a search begins, and which classes it passes (JVMS 5.4.3).
+-- The start of a search, and the classes that it passes (JVMS 5.4.3).
 use Rattle.std.specs.Prelude.{ℕ, List, [], Option, Some, None}
 use Rattle.std.specs.List.{flat_map}
 use Rattle.jvms_program.specs.declared.program.Class.{Class}

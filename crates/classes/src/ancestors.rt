@@ -1,8 +1,8 @@
-//! What is found first in the ancestries of classes (JVMS 5.4.3), by marks that take no memory.
+//! Searches the ancestries of classes (JVMS 5.4.3) for the first match, with marks that allocate no memory.
 //!
-//! First all classes above one are marked, from the last in the order to the first, so that each is met after those below
-//! it. Then, from the first to the last, those in whose ancestry something is found. So the way up to what is found first
-//! goes by marked classes alone, and never back.
+//! A first pass marks all classes above one. It goes from the last in the order to the first, so that each class comes
+//! after those below it. A second pass goes from the first to the last, and marks those in whose ancestry there is a
+//! match. So the way up to the first match passes only marked classes, and never goes back.
 
 ghost use Rattle.std.specs.Prelude.{◌≡◌, ◌*◌, ◌<◌, ◌≤◌, ◌||◌, ℕ, List, Option, Some, false, is_some, length, slice_get, true};
 ghost use Rattle.std.specs.List.{flat_map, list_any, list_all};
@@ -22,13 +22,13 @@ use crate::lookup::numbered;
 use crate::marks::{first_marked, is_any_marked, is_marked, mark, mark_all, mark_if};
 use crate::ranked::Ranked;
 use crate::walk::Look;
-use held::shared::Text;
+use shared_data::shared::Text;
 use jvms_program::program::Class;
 
-/// How many words mark the classes of most programs, 4,096 at most.
+/// The number of words that mark the classes of most programs, 4,096 at most.
 const FEW_WORDS: usize = 64;
 
-/// How many words mark the classes of any program.
+/// The number of words that mark the classes of any program.
 const ALL_WORDS: usize = 16_384;
 
 /// Marks a class and all classes above it.
@@ -49,7 +49,8 @@ fn mark_above(ranked: &Ranked, class: usize, reached: &mut [u64])
     }
 }
 
-/// Returns whether something is found in the ancestry of a class, where those above it are marked in whose ancestry it is.
+/// Returns whether there is a match in the ancestry of a class. `useful` marks those above it in whose ancestry there
+/// is one.
 fn is_useful<L: Look>(ranked: &Ranked, class: usize, look: &L, useful: &[u64]) -> bool
     requires { class < length ranked.now.classes.now }
     ensures { (c : SeenClass) → slice_get ranked.now.classes.now class ≡ Some c → result ≡ (is_some (L.gives look.now class c) || list_any (is_marked useful.now) (super_numbers ranked.now.classes.now c)) }
@@ -58,7 +59,7 @@ fn is_useful<L: Look>(ranked: &Ranked, class: usize, look: &L, useful: &[u64]) -
         || is_any_marked(useful, ranked.supers[class].as_slice())
 }
 
-/// Marks those of the reached classes in whose ancestry something is found.
+/// Marks those of the reached classes in whose ancestry there is a match.
 fn mark_useful<L: Look>(
     ranked: &Ranked,
     class: usize,
@@ -81,7 +82,7 @@ fn mark_useful<L: Look>(
     }
 }
 
-/// Returns what is found first in the ancestry of a class that was reached, by the marks.
+/// Returns the first match in the ancestry of a class that was reached, by the marks.
 fn first_above<L: Look>(
     ranked: &Ranked,
     class: usize,
@@ -107,7 +108,7 @@ fn first_above<L: Look>(
     }
 }
 
-/// Returns what is found first in the ancestries of classes of these names, which were reached, by the marks.
+/// Returns the first match in the ancestries of classes of these names, which were reached, by the marks.
 fn first_of_names<L: Look>(
     program: &Classes,
     names: &[Text],
@@ -130,7 +131,7 @@ fn first_of_names<L: Look>(
     None
 }
 
-/// Marks a class with all classes above it, and those of them in whose ancestry something is found.
+/// Marks a class with all classes above it, and those of them in whose ancestry there is a match.
 fn mark_for<L: Look>(
     program: &Classes,
     class: usize,
@@ -152,8 +153,8 @@ fn mark_for<L: Look>(
     mark_useful(&ranked, class, look, reached, useful);
 }
 
-/// Returns what is found first in the ancestries of the superinterfaces of a class, then of its superclass, and so on, by the
-/// marks.
+/// Returns the first match in the ancestries of the superinterfaces of a class, then of its superclass, and so on, by
+/// the marks.
 fn first_along<L: Look>(
     program: &Classes,
     name: &[u16],
@@ -185,15 +186,15 @@ fn first_along<L: Look>(
     None
 }
 
-/// Where a search begins, and how it continues.
+/// The class where a search begins, and the way in which it continues.
 #[derive(Clone, Copy)]
 pub(crate) enum Start<'a> {
-    /// In the class of a name, and then in all classes above it.
+    /// The class of a name, followed by all classes above it.
     Class(&'a [u16]),
-    /// In the superinterfaces of the class of a name, and then in all classes above them.
+    /// The superinterfaces of the class of a name, each followed by all classes above it.
     Interfaces(&'a [u16]),
-    /// In the superinterfaces of the class of a name, then in those of its superclass, and so on, each time in all classes
-    /// above them too.
+    /// The superinterfaces of the class of a name, followed by those of its superclass, and so on. Each is followed by
+    /// all classes above it.
     InterfacesUp(&'a [u16]),
 }
 
@@ -206,7 +207,7 @@ fn name_of(start: Start<'_>) -> &[u16]
     }
 }
 
-/// Returns what is found first from a start on, by marks for which there is room.
+/// Returns the first match from a start on, by marks that are large enough for the program.
 fn first_from_with<L: Look>(
     program: &Classes,
     start: Start<'_>,
@@ -233,7 +234,7 @@ fn first_from_with<L: Look>(
     }
 }
 
-/// Returns what is found first from a start on, in a program whose classes few words mark.
+/// Returns the first match from a start on, in a program of at most 4,096 classes.
 fn first_from_few<L: Look>(program: &Classes, start: Start<'_>, look: &L) -> Option<(usize, usize)>
     requires { length program.now ≤ 64 * FEW_WORDS }
     ensures { result ≡ first_in (placed program.now (L.gives look.now)) (classes_from program.now start.entry) }
@@ -243,7 +244,7 @@ fn first_from_few<L: Look>(program: &Classes, start: Start<'_>, look: &L) -> Opt
     first_from_with(program, start, look, &mut reached, &mut useful)
 }
 
-/// Returns what is found first from a start on, in any program.
+/// Returns the first match from a start on, in any program.
 #[inline(never)]
 fn first_from_all<L: Look>(program: &Classes, start: Start<'_>, look: &L) -> Option<(usize, usize)>
     requires { length program.now ≤ 64 * ALL_WORDS }
@@ -254,7 +255,7 @@ fn first_from_all<L: Look>(program: &Classes, start: Start<'_>, look: &L) -> Opt
     first_from_with(program, start, look, &mut reached, &mut useful)
 }
 
-/// Returns what is found first from a start on.
+/// Returns the first match from a start on.
 pub(crate) fn first_from<L: Look>(
     program: &Classes,
     start: Start<'_>,
@@ -262,7 +263,7 @@ pub(crate) fn first_from<L: Look>(
 ) -> Option<(usize, usize)>
     ensures { result ≡ first_in (placed program.now (L.gives look.now)) (classes_from program.now start.entry) }
 {
-    program.are_few();
+    program.few_classes_invariant();
     if program.classes().len() <= 64 * FEW_WORDS {
         first_from_few(program, start, look)
     } else {
@@ -270,7 +271,7 @@ pub(crate) fn first_from<L: Look>(
     }
 }
 
-/// Returns what is found first in the ancestry of a class.
+/// Returns the first match in the ancestry of a class.
 pub(crate) fn first_in_ancestry<L: Look>(
     program: &Classes,
     name: &[u16],

@@ -1,4 +1,4 @@
-//! The way up the superclasses of a class.
+//! Walks up the superclasses of a class.
 
 ghost use Rattle.std.specs.Prelude.{◌≡◌, ◌∷◌, [], IfSome, MatchOption, length, option_copied};
 ghost use Rattle.jvms_program.specs.Resolution.{chain};
@@ -9,7 +9,7 @@ use crate::list::Classes;
 use crate::lookup::numbered;
 use jvms_program::program::Class;
 
-/// What is left of a chain: the class of a name, its superclass, and so on, at most so many.
+/// The rest of a chain: the class of a name, its superclass, and so on, at most `most` classes.
 #[derive(Drop)]
 pub(crate) struct Chain<'a> {
     program: &'a Classes,
@@ -17,7 +17,7 @@ pub(crate) struct Chain<'a> {
     name: &'a [u16],
 }
 
-/// The name of a class's superclass.
+/// Returns the name of a class's superclass.
 pub fn superclass_name(class: &Class) -> Option<&[u16]>
     ensures { option_copied result ≡ class.now.superclass }
 {
@@ -28,7 +28,7 @@ pub fn superclass_name(class: &Class) -> Option<&[u16]>
 }
 
 impl<'a> Chain<'a> {
-    /// The chain of a class.
+    /// Creates the chain of a class.
     pub(crate) fn of(program: &'a Classes, name: &'a [u16]) -> Self
         ensures classes { classes_left result ≡ chain program.now name.now }
         ensures program { result.program.now ≡ program.now }
@@ -40,7 +40,7 @@ impl<'a> Chain<'a> {
         }
     }
 
-    /// The class that comes next, with its number.
+    /// Returns the next class with its number, and moves to its superclass.
     #[tactic(auto, using(crate::proofs::ChainLaws::ways))]
     pub(crate) fn next_class(&mut self) -> Option<(usize, &'a Class)>
         ensures classes { MatchOption result (classes_left self.old ≡ []) (λ next. classes_left self.old ≡ next.1.now ∷ classes_left self.new) }
@@ -62,7 +62,7 @@ impl<'a> Chain<'a> {
     }
 }
 
-/// How many classes a chain has, if they are fewer than so many.
+/// Returns the number of classes of a chain, if it is less than `most`.
 pub fn height_of(program: &Classes, name: &[u16], most: usize) -> Option<usize>
     ensures { IfSome result (λ height. height ≡ length (chain program.now name.now)) }
 {

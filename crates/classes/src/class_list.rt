@@ -15,15 +15,15 @@ use std::alloc::{AllocError, Global};
 use std::collections::BTreeMap;
 use std::marker::Model;
 
-/// How many classes a program may have.
+/// The greatest number of classes of a program.
 const MOST_CLASSES: usize = 1_048_576;
 
-/// The classes of a program: the built-in ones, then others. They may be on circles: one may be its own superclass or
-/// superinterface. Contracts see the list of them.
+/// The classes of a program: the built-in ones, followed by others. They may be circular: one may be its own superclass
+/// or superinterface. Contracts see the list of them.
 #[derive(Drop)]
 pub struct ClassList {
     classes: Vec<Class>,
-    /// Whether each class is built in.
+    /// For each class, true if it is built in.
     built_in: Vec<bool>,
     /// The number of each class by its name.
     by_name: BTreeMap<Vec<u16>, usize>,
@@ -44,7 +44,7 @@ impl Model for ClassList {
     ghost invariant = { λ p. (p.built_in.items ≡ map (λ c. is_built_in c.name) p.classes.items) × AreNumbersOf p.classes.items p.by_name × IsProgram p.classes.items × AreCountable p.classes.items × (length p.classes.items ≤ 1048576) };
 }
 
-/// Whether each of these classes is built in.
+/// Returns for each of these classes whether it is built in.
 fn built_in_marks(alloc: Global, classes: &[Class]) -> Result<Vec<bool>, AllocError>
     ensures { IfOk result (λ marks. marks.items ≡ map (λ c. is_built_in c.name) classes.now) }
 {
@@ -55,7 +55,7 @@ fn built_in_marks(alloc: Global, classes: &[Class]) -> Result<Vec<bool>, AllocEr
     Ok(marks)
 }
 
-/// The most fields that a class has.
+/// Returns the greatest number of fields of a class.
 fn most_fields(classes: &[Class]) -> usize
     ensures { AllByRecursion (λ c. length c.fields ≤ result) classes.now }
 {
@@ -66,8 +66,8 @@ fn most_fields(classes: &[Class]) -> usize
     most
 }
 
-/// Fails where the fields might be too many to be numbered, if each class had as many as any has. A class file has at most
-/// 65,535, so that this takes more than 2^48 classes, which no memory holds.
+/// Fails if the number of classes times the greatest number of fields of any overflows. A class file has at most 65,535
+/// fields, so that needs more than 2^48 classes, which no memory holds.
 fn count_fields(classes: &[Class]) -> Result<(), AllocError>
     ensures { OnOk result (AreCountable classes.now) }
 {
@@ -77,8 +77,8 @@ fn count_fields(classes: &[Class]) -> Result<(), AllocError>
     }
 }
 
-/// Fails where there are more classes than a search can mark in room that takes no memory (`MOST_CLASSES`): class files of 64
-/// MiB hold fewer.
+/// Fails if there are more than `MOST_CLASSES`, because a search marks classes on the stack. Class files of 64 MiB have
+/// fewer.
 fn count_classes(count: usize) -> Result<(), AllocError>
     ensures { OnOk result (count ≤ 1048576) }
 {
@@ -89,9 +89,9 @@ fn count_classes(count: usize) -> Result<(), AllocError>
 }
 
 impl ClassList {
-    /// Lists these classes behind the built-in ones.
+    /// Creates the list of the built-in classes, followed by these.
     pub fn new(alloc: Global, own: Vec<Class>) -> Result<ClassList, AllocError>
-        // Types are those that descriptors spell, as in classes that class files mean.
+        // Types are those that descriptors spell, as in the classes that class files mean.
         requires { IsProgram (built_in_classes ++ own.items) }
         ensures { IfOk result (λ p. p ≡ built_in_classes ++ own.items) }
     {
@@ -109,43 +109,44 @@ impl ClassList {
         })
     }
 
-    /// The classes are a program: the built-in classes stand first, and types are those that descriptors spell. Nothing
-    /// is done.
-    pub fn is_program(&self)
+    /// States that the classes are a program: the built-in classes come first, and types are those that descriptors
+    /// spell. It does nothing at run time.
+    pub fn program_invariant(&self)
         ensures { IsProgram self.now }
     {
         let _ = &self.classes;
     }
 
-    /// As many fields as any class has, for each of the classes, can be counted. Nothing is done.
-    pub(crate) fn is_countable(&self)
+    /// States that the number of classes times the greatest number of fields of any doesn't overflow. It does nothing
+    /// at run time.
+    pub(crate) fn countable_invariant(&self)
         ensures { AreCountable self.now }
     {
         let _ = &self.classes;
     }
 
-    /// The classes in order.
+    /// Returns the classes in order.
     pub fn classes(&self) -> &[Class]
         ensures { result.now ≡ self.now }
     {
         self.classes.as_slice()
     }
 
-    /// The class of a number.
+    /// Returns the class of a number.
     pub fn class(&self, number: usize) -> Option<&Class>
         ensures { option_copied result ≡ slice_get self.now number }
     {
         self.classes().get(number)
     }
 
-    /// Whether the class of a number is built in; false where there is no such class.
+    /// Returns whether the class of a number is built in, or false if there is no such class.
     pub fn is_built_in(&self, number: usize) -> bool
         ensures { result ≡ unwrap_or (option_map (λ c. is_built_in c.name) (slice_get self.now number)) false }
     {
         self.built_in.get(number).copied().unwrap_or(false)
     }
 
-    /// The class of a name.
+    /// Returns the class of a name.
     #[tactic(auto, using(crate::proofs::PlaceLaws::found_by_number))]
     pub fn class_named(&self, name: &[u16]) -> Option<&Class>
         ensures { option_copied result ≡ class_named self.now name.now }
@@ -153,7 +154,7 @@ impl ClassList {
         self.class(self.class_number(name)?)
     }
 
-    /// The number of the class of a name: its place in the list.
+    /// Returns the number of the class of a name: its place in the list.
     pub fn class_number(&self, name: &[u16]) -> Option<usize>
         ensures { result ≡ class_number self.now name.now }
     {
@@ -170,8 +171,8 @@ impl ClassList {
         }
     }
 
-    /// There are no more classes than can be marked. Nothing is done.
-    pub(crate) fn are_few(&self)
+    /// States that there are at most 1,048,576 classes, so that each can be marked. It does nothing at run time.
+    pub(crate) fn few_classes_invariant(&self)
         ensures { length self.now ≤ 1048576 }
     {
         let _ = &self.classes;

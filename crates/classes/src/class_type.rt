@@ -5,18 +5,18 @@ ghost use Rattle.std.specs.Option.{option_map};
 ghost use Rattle.jvms_program.specs.Resolution.{class_type};
 ghost use Rattle.descriptor.specs.Scanning.{type_of};
 
-use descriptor::{Innermost, Spelled, field_in, is_array_name};
+use descriptor::{ParsedElement, ParsedType, field_in, is_array_name};
 
-/// The type of a class as it stands in its name.
-pub(crate) fn class_type(name: &[u16]) -> Option<Spelled<'_>>
+/// Parses a class's name as a type.
+pub(crate) fn class_type(name: &[u16]) -> Option<ParsedType<'_>>
     ensures { option_map (λ x. type_of x) result ≡ class_type name.now }
 {
     if is_array_name(name) {
         field_in(name)
     } else {
-        Some(Spelled {
+        Some(ParsedType {
             dimensions: 0,
-            innermost: Innermost::Object(name),
+            innermost: ParsedElement::Object(name),
         })
     }
 }

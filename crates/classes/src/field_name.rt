@@ -1,15 +1,15 @@
-//! How a field is asked for.
+//! The names by which a field is looked up.
 
 use std::marker::Model;
 
-/// A field by its names, which are borrowed, so that asking for it takes no memory. Contracts see the field's key.
+/// A field by its names. These are borrowed, so that a look-up allocates no memory. Contracts see the field's key.
 #[derive(Drop)]
 pub struct FieldName<'a> {
     /// The name of the class that declares the field.
     pub class: &'a [u16],
-    /// Its own name.
+    /// The field's own name.
     pub name: &'a [u16],
-    /// The descriptor as it is written.
+    /// The field's descriptor.
     pub descriptor: &'a [u16],
 }
 

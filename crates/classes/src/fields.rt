@@ -1,8 +1,8 @@
 //! Resolution of fields (JVMS 5.4.3.2).
 
 ghost use Rattle.std.specs.Prelude.{◌≡◌};
-ghost use Rattle.jvms_program.specs.Resolution.{found_field, resolved_field};
-ghost use Rattle.classes.specs.Places.{IsFieldAt, Locates, Resolves};
+ghost use Rattle.jvms_program.specs.Resolution.{reference_field, resolved_field};
+ghost use Rattle.classes.specs.Places.{IsFieldAt, LocatesItem, Resolves};
 
 use crate::ancestors::first_in_ancestry;
 use crate::exists::class_exists;
@@ -13,9 +13,9 @@ use crate::names::members_class;
 use jvms_program::program::FieldReference;
 use jvms_program::thrown::Thrown;
 
-/// The field that a reference finds.
-fn found_field(program: &Classes, r: &FieldReference) -> Option<(usize, usize)>
-    ensures { Locates (IsFieldAt program.now) (found_field program.now r.now) result }
+/// Finds the field that a reference names.
+fn reference_field(program: &Classes, r: &FieldReference) -> Option<(usize, usize)>
+    ensures { LocatesItem (IsFieldAt program.now) (reference_field program.now r.now) result }
 {
     let look = DeclaredField {
         name: r.name.as_slice(),
@@ -25,7 +25,8 @@ fn found_field(program: &Classes, r: &FieldReference) -> Option<(usize, usize)>
 }
 
 impl Classes {
-    /// The field that a reference names (JVMS 5.4.3.2): the numbers of its class and of it there.
+    /// Resolves a field reference (JVMS 5.4.3.2) to the numbers of its class and of the field in that class. Returns
+    /// the exception that resolution throws if there is no such field.
     pub fn resolve_field(
         &self,
         is_static: bool,
@@ -36,7 +37,7 @@ impl Classes {
         if !class_exists(self, r.class.as_slice()) {
             return Err(Thrown::NoClassDefFoundError);
         }
-        let Some(place) = found_field(self, r) else {
+        let Some(place) = reference_field(self, r) else {
             return Err(Thrown::NoSuchFieldError);
         };
         match field_at(self, place) {

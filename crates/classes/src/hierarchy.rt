@@ -7,16 +7,16 @@ ghost use Rattle.classes.specs.Hierarchy.{AreFound, ArePlaced, IsHierarchyOf, ra
 use crate::class_list::ClassList;
 use crate::ranks::{put, ranks_of};
 use crate::supers::super_rows;
-use held::items::Items;
+use shared_data::items::Items;
 use std::alloc::{AllocError, Global};
 
-/// For each class the numbers of its superinterfaces and of its superclass, and an order in which it comes after these.
+/// The numbers of each class's superinterfaces and superclass, and an order in which each class comes after its own.
 #[derive(Drop)]
 pub(crate) struct Hierarchy {
     pub(crate) supers: Vec<Items<usize>>,
     /// The place of each class in the order.
     pub(crate) ranks: Vec<usize>,
-    /// The numbers of the classes, in the order.
+    /// The number of the class at each place of the order.
     pub(crate) order: Vec<usize>,
 }
 
@@ -27,7 +27,7 @@ pub(crate) fn rank(ranks: &[usize], class: usize) -> usize
     ranks.get(class).copied().unwrap_or(0)
 }
 
-/// Returns whether each of these classes is one of `count`, and its rank is below a limit.
+/// Returns whether each of these classes is one of `count`, and its place is below a limit.
 fn come_before(ranks: &[usize], count: usize, limit: usize, classes: &[usize]) -> bool
     ensures { result ≡ list_all (λ n. nat_lt n count && nat_lt (rank ranks.now n) limit) classes.now }
 {
@@ -36,7 +36,7 @@ fn come_before(ranks: &[usize], count: usize, limit: usize, classes: &[usize]) -
         .all(|class| *class < count && rank(ranks, *class) < limit)
 }
 
-/// Returns whether each class stands at its place in the order, after its superclass and its superinterfaces.
+/// Returns whether each class has its place in the order, after its superclass and its superinterfaces.
 fn are_placed(supers: &[Items<usize>], ranks: &[usize], order: &[usize]) -> bool
     ensures { result ≡ true → ArePlaced supers.now ranks.now order.now }
 {
@@ -52,7 +52,7 @@ fn are_placed(supers: &[Items<usize>], ranks: &[usize], order: &[usize]) -> bool
     true
 }
 
-/// Returns whether each number of the order is that of one of `count` classes, whose place it has.
+/// Returns whether each item of the order is the number of one of `count` classes, and that class has its place.
 fn are_found(count: usize, ranks: &[usize], order: &[usize]) -> bool
     ensures { result ≡ true → AreFound count ranks.now order.now }
 {
@@ -67,7 +67,7 @@ fn are_found(count: usize, ranks: &[usize], order: &[usize]) -> bool
     true
 }
 
-/// Makes ranks begin at 0, and puts the classes in their order.
+/// Makes ranks begin at 0, and returns the classes in their order.
 fn order_by(alloc: Global, ranks: &mut [usize]) -> Result<Vec<usize>, AllocError> {
     let mut order = vec![in alloc; 0; ranks.len()]?;
     for (class, rank) in ranks.iter_mut().enumerate() {
@@ -77,7 +77,7 @@ fn order_by(alloc: Global, ranks: &mut [usize]) -> Result<Vec<usize>, AllocError
     Ok(order)
 }
 
-/// Orders the classes of a list, if an order is found.
+/// Orders the classes of a list, if there is an order.
 pub(crate) fn hierarchy_of(alloc: Global, list: &ClassList) -> Result<Option<Hierarchy>, AllocError>
     ensures { IfOk result (λ found. IfSome found (λ h. IsHierarchyOf list.now h.supers.items h.ranks.items h.order.items)) }
 {

@@ -1,5 +1,5 @@
-//! The classes of a program (JVMS 5.3): the built-in ones and those of class files, with what is looked up among them by
-//! name (JVMS 5.4.3).
+//! The classes of a program (JVMS 5.3): the built-in ones and those of class files, with look-ups among them by name
+//! (JVMS 5.4.3).
 #![tactic(auto)]
 
 mod ancestors;

@@ -1,4 +1,4 @@
-//! The classes of a program whose hierarchy has no circle.
+//! The classes of a program whose hierarchy isn't circular.
 
 ghost use Rattle.std.specs.Prelude.{◌≡◌, ◌≤◌, IfOk, IsOk, None, false, length, option_copied, slice_get};
 ghost use Rattle.std.specs.Option.{option_map, unwrap_or};
@@ -18,8 +18,8 @@ use jvms_program::program::{Class, Method};
 use std::alloc::{AllocError, Global};
 use std::marker::Model;
 
-/// The classes of a program, of which none is its own superclass or superinterface, over one or more steps. Contracts see the
-/// list of them.
+/// The classes of a program, none of which is its own superclass or superinterface, over one or more steps. Contracts
+/// see the list of them.
 #[derive(Drop)]
 pub struct Classes {
     list: ClassList,
@@ -38,7 +38,7 @@ impl Model for Classes {
     ghost invariant = { λ p. IsHierarchyOf p.list p.hierarchy.supers.items p.hierarchy.ranks.items p.hierarchy.order.items };
 }
 
-/// What a list of classes is found to be.
+/// The result of ordering a list of classes.
 #[derive(Drop)]
 pub enum Ordered {
     /// None of them is its own superclass or superinterface.
@@ -48,7 +48,7 @@ pub enum Ordered {
 }
 
 impl Classes {
-    /// Orders the classes of a list, each after its superclass and superinterfaces.
+    /// Orders the classes of a list, each after its superclass and its superinterfaces.
     pub fn ordered(alloc: Global, list: ClassList) -> Result<Ordered, AllocError>
         ensures { IfOk result (λ ordered. IsOrderedOf list ordered) }
     {
@@ -58,26 +58,27 @@ impl Classes {
         }
     }
 
-    /// The classes are a program: the built-in classes stand first, and types are those that descriptors spell. Nothing
-    /// is done.
-    pub fn is_program(&self)
+    /// States that the classes are a program: the built-in classes come first, and types are those that descriptors
+    /// spell. It does nothing at run time.
+    pub fn program_invariant(&self)
         ensures { IsProgram self.now }
     {
-        self.list.is_program();
+        self.list.program_invariant();
     }
 
-    /// As many fields as any class has, for each of the classes, can be counted. Nothing is done.
-    pub(crate) fn is_countable(&self)
+    /// States that the number of classes times the greatest number of fields of any doesn't overflow. It does nothing
+    /// at run time.
+    pub(crate) fn countable_invariant(&self)
         ensures { AreCountable self.now }
     {
-        self.list.is_countable();
+        self.list.countable_invariant();
     }
 
-    /// There are no more classes than can be marked. Nothing is done.
-    pub(crate) fn are_few(&self)
+    /// States that there are at most 1,048,576 classes, so that each can be marked. It does nothing at run time.
+    pub(crate) fn few_classes_invariant(&self)
         ensures { length self.now ≤ 1048576 }
     {
-        self.list.are_few();
+        self.list.few_classes_invariant();
     }
 
     /// Returns the classes with their order.
@@ -92,35 +93,35 @@ impl Classes {
         }
     }
 
-    /// The classes in order.
+    /// Returns the classes in order.
     pub fn classes(&self) -> &[Class]
         ensures { result.now ≡ self.now }
     {
         self.list.classes()
     }
 
-    /// The class of a number.
+    /// Returns the class of a number.
     pub fn class(&self, number: usize) -> Option<&Class>
         ensures { option_copied result ≡ slice_get self.now number }
     {
         self.list.class(number)
     }
 
-    /// Whether the class of a number is built in; false where there is no such class.
+    /// Returns whether the class of a number is built in, or false if there is no such class.
     pub fn is_built_in(&self, number: usize) -> bool
         ensures { result ≡ unwrap_or (option_map (λ c. is_built_in c.name) (slice_get self.now number)) false }
     {
         self.list.is_built_in(number)
     }
 
-    /// The class of a name.
+    /// Returns the class of a name.
     pub fn class_named(&self, name: &[u16]) -> Option<&Class>
         ensures { option_copied result ≡ class_named self.now name.now }
     {
         self.list.class_named(name)
     }
 
-    /// The number of the class of a name: its place in the list.
+    /// Returns the number of the class of a name: its place in the list.
     pub fn class_number(&self, name: &[u16]) -> Option<usize>
         ensures { result ≡ class_number self.now name.now }
     {
@@ -134,17 +135,17 @@ impl Classes {
         self.list.names_interface(name)
     }
 
-    /// The method of a number.
+    /// Returns the method of a number.
     pub fn method(&self, n: MethodNumber) -> Option<&Method>
         ensures { option_copied result ≡ method_at self.now n }
     {
         method_of(self.classes(), n)
     }
 
-    /// The key of a method in a trace, if there is a method of the number.
+    /// Returns the key of a method in a trace, if there is a method of the number.
     pub fn key(&self, n: MethodNumber) -> Result<Option<MethodKey>, AllocError>
         ensures key { IfOk result (λ key. key ≡ key_of self.now n) }
-        // A key that isn't there takes no memory.
+        // If there is no such method, it doesn't fail.
         ensures none { key_of self.now n ≡ None → IsOk result }
     {
         let Some(class) = self.class(n.class) else {

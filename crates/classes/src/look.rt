@@ -1,4 +1,4 @@
-//! What a search looks for in one class.
+//! The matches that a search looks for in one class.
 
 ghost use Rattle.std.specs.Prelude.{◌≡◌, ℕ, List, Option, Some, None, if◌then◌else◌};
 ghost use Rattle.jvms_program.specs.declared.program.Class.{Class};
@@ -62,7 +62,7 @@ impl Look for DeclaredField<'_> {
     }
 }
 
-/// A class of this name. It has no member, so its place says nothing.
+/// A class of this name. The match is no member, so its numbers mean nothing.
 #[derive(Clone, Copy)]
 pub(crate) struct ClassNamed<'a> {
     pub(crate) name: &'a [u16],

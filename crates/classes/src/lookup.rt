@@ -11,7 +11,7 @@ use descriptor::same_text;
 use jvms_program::number::MethodNumber;
 use jvms_program::program::{Class, Field, Method};
 
-/// The number of a class's method of this name and descriptor: its place in the class's list.
+/// Returns the number of a class's method of this name and descriptor: its place in the class's list.
 pub fn declared_number(class: &Class, name: &[u16], descriptor: &[u16]) -> Option<usize>
     ensures { result ≡ declared_number class.now name.now descriptor.now }
 {
@@ -21,14 +21,14 @@ pub fn declared_number(class: &Class, name: &[u16], descriptor: &[u16]) -> Optio
     })
 }
 
-/// Whether a field has this name and descriptor.
+/// Decides whether a field has this name and descriptor.
 pub(crate) fn is_field(field: &Field, name: &[u16], descriptor: &[u16]) -> bool
     ensures { result ≡ (same_text field.now.name name.now && same_text field.now.descriptor descriptor.now) }
 {
     same_text(field.name.as_slice(), name) && same_text(field.descriptor.as_slice(), descriptor)
 }
 
-/// The number of a class's field of this name and descriptor: its place in the class's list.
+/// Returns the number of a class's field of this name and descriptor: its place in the class's list.
 pub fn declared_field_number(class: &Class, name: &[u16], descriptor: &[u16]) -> Option<usize>
     ensures { result ≡ declared_field_number class.now name.now descriptor.now }
 {
@@ -39,7 +39,7 @@ pub fn declared_field_number(class: &Class, name: &[u16], descriptor: &[u16]) ->
         .position(|field| is_field(field, name, descriptor))
 }
 
-/// The class of a name, with its number.
+/// Returns the class of a name, with its number.
 #[tactic(auto, using(crate::proofs::PlaceLaws::found_by_number))]
 pub fn numbered<'a>(program: &'a Classes, name: &[u16]) -> Option<(usize, &'a Class)>
     ensures class { option_map (λ found. found.1.now) result ≡ class_named program.now name.now }
@@ -51,7 +51,7 @@ pub fn numbered<'a>(program: &'a Classes, name: &[u16]) -> Option<(usize, &'a Cl
     Some((number, class))
 }
 
-/// The method of a number.
+/// Returns the method of a number.
 pub(crate) fn method_of(classes: &[Class], n: MethodNumber) -> Option<&Method>
     ensures { option_copied result ≡ method_at classes.now n }
 {
@@ -59,7 +59,7 @@ pub(crate) fn method_of(classes: &[Class], n: MethodNumber) -> Option<&Method>
     class.methods.as_slice().get(n.method)
 }
 
-/// The field of these numbers, of a class and of it there.
+/// Returns the field of these numbers: that of its class, and its own in that class.
 pub(crate) fn field_at(program: &Classes, place: (usize, usize)) -> Option<&Field>
     ensures { option_copied result ≡ field_at program.now place }
 {

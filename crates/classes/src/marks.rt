@@ -4,7 +4,7 @@ ghost use Rattle.std.specs.Prelude.{◌≡◌, ◌*◌, ◌<◌, ◌&&◌, ◌||
 ghost use Rattle.std.specs.List.{find, list_all, list_any};
 ghost use Rattle.classes.specs.Marks.{is_in, is_marked};
 
-/// Returns the word at a place, or one without marks where there is none.
+/// Returns the word at a place, or a word without marks if there is none.
 fn word_at(words: &[u64], place: usize) -> u64
     ensures { result ≡ unwrap_or (slice_get words.now place) 0 }
 {
@@ -26,7 +26,7 @@ pub(crate) fn mark(words: &mut [u64], class: usize)
     words[class / 64] |= 1 << (class % 64);
 }
 
-/// Marks a class, or changes nothing.
+/// Marks a class if `is` is true.
 pub(crate) fn mark_if(words: &mut [u64], class: usize, is: bool)
     requires { class < 64 * length words.old }
     ensures { (n : ℕ) → is_marked words.new n ≡ ((is && nat_eq n class) || is_marked words.old n) }

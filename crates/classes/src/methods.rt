@@ -2,9 +2,9 @@
 
 ghost use Rattle.std.specs.Prelude.{◌≡◌};
 ghost use Rattle.jvms_file.specs.Names.{is_constructor_name};
-ghost use Rattle.jvms_program.specs.Resolution.{members_class, found_in_order, found_method};
+ghost use Rattle.jvms_program.specs.Resolution.{members_class, method_in_order, reference_method};
 ghost use Rattle.classes.specs.MethodNames.{reference};
-ghost use Rattle.classes.specs.Places.{IsMethodAt, Locates};
+ghost use Rattle.classes.specs.Places.{IsMethodAt, LocatesItem};
 
 use crate::list::Classes;
 use crate::look::DeclaredMethod;
@@ -14,19 +14,19 @@ use crate::order::{first_for_class, first_for_interface};
 use crate::walk::Look;
 use descriptor::is_constructor_name;
 
-/// A method by its names: what resolution asks of a reference.
+/// A method by its names: the parts of a reference that resolution needs.
 #[derive(Clone, Copy)]
 pub struct MethodNames<'a> {
-    /// Whether the pool entry is an InterfaceMethodref.
+    /// True if the pool entry is an InterfaceMethodref.
     pub is_interface: bool,
     pub class: &'a [u16],
     pub name: &'a [u16],
     pub descriptor: &'a [u16],
 }
 
-/// The method that a reference finds in the order of the classes above.
-fn found_in_order(program: &Classes, r: MethodNames) -> Option<(usize, usize)>
-    ensures { Locates (IsMethodAt program.now) (found_in_order program.now (reference r.entry)) result }
+/// Finds the method that a reference names, in the order of resolution.
+fn method_in_order(program: &Classes, r: MethodNames) -> Option<(usize, usize)>
+    ensures { LocatesItem (IsMethodAt program.now) (method_in_order program.now (reference r.entry)) result }
 {
     let look = DeclaredMethod {
         name: r.name,
@@ -39,12 +39,12 @@ fn found_in_order(program: &Classes, r: MethodNames) -> Option<(usize, usize)>
     }
 }
 
-/// The method that a reference finds. A constructor is looked for in the named class alone.
-pub(crate) fn found_method(program: &Classes, r: MethodNames) -> Option<(usize, usize)>
-    ensures { Locates (IsMethodAt program.now) (found_method program.now (reference r.entry)) result }
+/// Finds the method that a reference names. A constructor is searched in the named class alone.
+pub(crate) fn reference_method(program: &Classes, r: MethodNames) -> Option<(usize, usize)>
+    ensures { LocatesItem (IsMethodAt program.now) (reference_method program.now (reference r.entry)) result }
 {
     if !is_constructor_name(r.name) {
-        return found_in_order(program, r);
+        return method_in_order(program, r);
     }
     let (number, class) = numbered(program, r.class)?;
     let look = DeclaredMethod {

@@ -10,7 +10,7 @@ pub const OBJECT: [u16; 16] = [
     106, 97, 118, 97, 47, 108, 97, 110, 103, 47, 79, 98, 106, 101, 99, 116,
 ];
 
-/// The name of the class whose members a class has: an array's are those of `java/lang/Object`.
+/// Returns the name of the class whose members a class has. An array has those of `java/lang/Object`.
 pub(crate) fn members_class(name: &[u16]) -> &[u16]
     ensures { result.now ≡ members_class name.now }
 {

@@ -7,8 +7,8 @@ use jvms_program::program::Class;
 use std::alloc::{AllocError, Global};
 use std::collections::BTreeMap;
 
-/// The number of each class by its name: its place in the list, and of classes of one name that of the first. The names
-/// stand in a tree, so that none can be chosen that are found slowly.
+/// Returns the number of each class by its name: its place in the list. If several classes have one name, it is that of
+/// the first. The names are in a tree, so that no choice of names makes look-ups slow.
 pub(crate) fn numbers_by_name(
     alloc: Global,
     classes: &[Class],

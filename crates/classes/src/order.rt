@@ -1,4 +1,4 @@
-//! The classes that method resolution passes, in order (JVMS 5.4.3.3, 5.4.3.4).
+//! The order of classes in method resolution (JVMS 5.4.3.3, 5.4.3.4).
 
 ghost use Rattle.std.specs.Prelude.{◌≡◌};
 ghost use Rattle.jvms_program.specs.Resolution.{class_method_order, interface_method_order, first_in};
@@ -10,7 +10,7 @@ use crate::lookup::numbered;
 use crate::names::OBJECT;
 use crate::walk::{Look, first_up};
 
-/// What is found first where a method of a class is looked for (JVMS 5.4.3.3).
+/// Returns the first match in the order of resolution of a class's method (JVMS 5.4.3.3).
 #[tactic(auto, using(crate::proofs::WalkLaws::appended))]
 pub(crate) fn first_for_class<L: Look>(
     program: &Classes,
@@ -25,7 +25,7 @@ pub(crate) fn first_for_class<L: Look>(
     first_from(program, Start::InterfacesUp(name), look)
 }
 
-/// What is found first where a method of an interface is looked for (JVMS 5.4.3.4).
+/// Returns the first match in the order of resolution of an interface's method (JVMS 5.4.3.4).
 pub(crate) fn first_for_interface<L: Look>(
     program: &Classes,
     name: &[u16],

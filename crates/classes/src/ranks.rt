@@ -1,9 +1,10 @@
-//! Ranks of classes, by which most tests for a circle need no search (Tarjan's algorithm for strong components).
+//! Ranks of classes, which make most tests for a circular class need no search (Tarjan's algorithm for strongly
+//! connected components).
 
-use held::items::Items;
+use shared_data::items::Items;
 use std::alloc::{AllocError, Global};
 
-/// The number at a place, or 0.
+/// Returns the number at a place, or 0 if there is none.
 fn at(numbers: &[usize], place: usize) -> usize {
     numbers.get(place).copied().unwrap_or(0)
 }
@@ -15,32 +16,32 @@ pub(crate) fn put(numbers: &mut [usize], place: usize, number: usize) {
     }
 }
 
-/// The number at a place of a row.
+/// Returns the number at a place of a row.
 fn number_in(rows: &[Items<usize>], row: usize, place: usize) -> Option<usize> {
     rows.get(row)?.as_slice().get(place).copied()
 }
 
-/// A search from class to superclass and superinterface. Each class that is met is counted, from 1.
+/// A depth-first search from class to superclass and superinterface. Each visited class is numbered, from 1.
 #[derive(Drop)]
 struct Search {
-    /// How many classes were met.
+    /// The count of visited classes.
     met: usize,
-    /// When each class was met; 0 where it wasn't yet.
+    /// The number of each class in the order of visits, or 0 if it wasn't visited yet.
     order: Vec<usize>,
-    /// The least of these times that is known to be reached from each class.
+    /// The least of these numbers that is known to be reached from each class.
     least: Vec<usize>,
-    /// How many circles are whole. A class on no circle counts as one.
+    /// The count of complete components. A class that isn't circular is a component of its own.
     whole: usize,
-    /// When the circle of each class was whole; 0 where it isn't yet.
+    /// The number of each class's component in the order of completion, or 0 if it isn't complete yet.
     ranks: Vec<usize>,
-    /// The classes that were met and have no rank yet.
+    /// The visited classes that have no rank yet.
     open: Vec<usize>,
-    /// The classes that the search stands in, each with how many of its supers it has gone through.
+    /// The classes on the current path, each with the count of its supers that were followed.
     path: Vec<(usize, usize)>,
 }
 
 impl Search {
-    /// The search that hasn't begun.
+    /// Creates a search that hasn't begun.
     fn new(alloc: Global, classes: usize) -> Result<Self, AllocError> {
         Ok(Search {
             met: 0,
@@ -53,7 +54,7 @@ impl Search {
         })
     }
 
-    /// Goes into a class.
+    /// Visits a class.
     fn enter(&mut self, class: usize) -> Result<(), AllocError> {
         self.met = self.met.saturating_add(1);
         put(&mut self.order, class, self.met);
@@ -63,14 +64,14 @@ impl Search {
         Ok(())
     }
 
-    /// Notes a time that is reached from a class.
+    /// Records that a visited class is reached from a class.
     fn reach(&mut self, class: usize, time: usize) {
         if time < at(&self.least, class) {
             put(&mut self.least, class, time);
         }
     }
 
-    /// Gives the classes of a circle that is whole their rank, down to the one that was met first.
+    /// Completes the component of a class: gives a rank to the open classes, down to this one.
     fn close(&mut self, class: usize) {
         self.whole = self.whole.saturating_add(1);
         for _ in 0..self.open.len() {
@@ -84,7 +85,7 @@ impl Search {
         }
     }
 
-    /// Leaves a class for the one that it was entered from.
+    /// Returns from a class to the one from which it was visited.
     fn leave(&mut self, class: usize) {
         let least = at(&self.least, class);
         if least == at(&self.order, class) {
@@ -95,7 +96,7 @@ impl Search {
         }
     }
 
-    /// Makes one step, if the search is in a class.
+    /// Takes one step, and returns whether the search was in a class.
     fn step(&mut self, rows: &[Items<usize>]) -> Result<bool, AllocError> {
         let Some((class, gone)) = self.path.pop() else {
             return Ok(false);
@@ -114,7 +115,7 @@ impl Search {
         Ok(true)
     }
 
-    /// Searches from a class on, unless it was met.
+    /// Searches from a class on, unless it was visited.
     fn search_from(&mut self, rows: &[Items<usize>], class: usize) -> Result<(), AllocError> {
         if at(&self.order, class) != 0 {
             return Ok(());
@@ -129,8 +130,9 @@ impl Search {
     }
 }
 
-/// Ranks of classes, given the numbers of each one's superclass and superinterfaces: of these none has a higher rank than
-/// the class, and one of the same rank is on a circle with it. Nothing of this is proved: who takes ranks tests them.
+/// Returns ranks of classes, given the numbers of each one's superclass and superinterfaces. None of these has a higher
+/// rank than the class, and one with the same rank is in a circular hierarchy with it. None of this is proved, so
+/// callers test the ranks.
 pub fn ranks_of(alloc: Global, rows: &[Items<usize>]) -> Result<Vec<usize>, AllocError> {
     let mut search = Search::new(alloc, rows.len())?;
     for class in 0..rows.len() {

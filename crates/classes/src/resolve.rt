@@ -1,4 +1,4 @@
-//! Resolution of what instructions name (JVMS 5.4.3).
+//! Resolves the members that instructions name (JVMS 5.4.3).
 
 ghost use Rattle.jvms_program.specs.Resolution.{resolved_method};
 ghost use Rattle.classes.specs.MethodNames.{reference};
@@ -6,14 +6,14 @@ ghost use Rattle.classes.specs.Places.{IsMethodAt, Resolves};
 
 use crate::exists::class_exists;
 use crate::list::Classes;
-use crate::methods::{MethodNames, found_method};
+use crate::methods::{MethodNames, reference_method};
 use jvms_program::number::MethodNumber;
 use jvms_program::program::MethodReference;
 use jvms_program::thrown::Thrown;
 
 impl Classes {
-    /// The method of these names (JVMS 5.4.3.3, 5.4.3.4): the numbers of its class and of it there. It takes
-    /// no memory.
+    /// Resolves a method's names (JVMS 5.4.3.3, 5.4.3.4) to the numbers of its class and of the method in that class.
+    /// Returns the exception that resolution throws if there is no such method. Allocates no memory.
     pub fn resolve_named(&self, is_static: bool, r: MethodNames) -> Result<(usize, usize), Thrown>
         ensures { Resolves (IsMethodAt self.now) (resolved_method self.now is_static (reference r.entry)) result }
     {
@@ -23,7 +23,7 @@ impl Classes {
         if r.is_interface != self.names_interface(r.class) {
             return Err(Thrown::IncompatibleClassChangeError);
         }
-        let Some(place) = found_method(self, r) else {
+        let Some(place) = reference_method(self, r) else {
             return Err(Thrown::NoSuchMethodError);
         };
         let number = MethodNumber {
@@ -36,7 +36,8 @@ impl Classes {
         }
     }
 
-    /// The method that a reference names (JVMS 5.4.3.3, 5.4.3.4): the numbers of its class and of it there.
+    /// Resolves a method reference (JVMS 5.4.3.3, 5.4.3.4) to the numbers of its class and of the method in that class.
+    /// Returns the exception that resolution throws if there is no such method.
     pub fn resolve_method(
         &self,
         is_static: bool,

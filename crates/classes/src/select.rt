@@ -1,8 +1,8 @@
 //! Selection of methods (JVMS 6.5 invokevirtual, invokeinterface, invokespecial).
 
 ghost use Rattle.std.specs.Prelude.{◌≡◌};
-ghost use Rattle.jvms_program.specs.Resolution.{MethodFound, chain, first_in, is_superclass, members_class as class_of_members, names_class, selectable_in, selected_from, selected_special};
-ghost use Rattle.classes.specs.Places.{IsMethodAt, Locates};
+ghost use Rattle.jvms_program.specs.Resolution.{ResolvedMethod, chain, first_in, is_superclass, members_class as class_of_members, names_class, selectable_in, selected_from, selected_special};
+ghost use Rattle.classes.specs.Places.{IsMethodAt, LocatesItem};
 
 use crate::chain::superclass_name;
 use crate::list::Classes;
@@ -13,14 +13,14 @@ use descriptor::{is_constructor_name, same_text};
 use jvms_program::number::MethodNumber;
 use jvms_program::program::MethodReference;
 
-/// Whether a class is a proper superclass of another.
+/// Decides whether a class is a proper superclass of another.
 fn is_superclass(program: &Classes, above: &[u16], class: &[u16]) -> bool
     ensures { result ≡ is_superclass program.now above.now class.now }
 {
     !same_text(above, class) && is_up(program, above, class)
 }
 
-/// Whether a class or one up its superclasses has a name.
+/// Decides whether a class or one of its superclasses has a name.
 fn is_up(program: &Classes, name: &[u16], class: &[u16]) -> bool
     ensures { result ≡ names_class name.now (chain program.now class.now) }
 {
@@ -28,17 +28,17 @@ fn is_up(program: &Classes, name: &[u16], class: &[u16]) -> bool
 }
 
 impl Classes {
-    /// Whether a class or one up its superclasses has a name.
+    /// Decides whether a class or one of its superclasses has a name.
     pub fn is_or_extends(&self, class: &[u16], name: &[u16]) -> bool
         ensures { result ≡ names_class name.now (chain self.now class.now) }
     {
         is_up(self, name, class)
     }
 
-    /// The method that a call of the method at a place selects, from the class of a name up: itself where
-    /// it is private.
+    /// Selects the method for a call of the method at a place, from the class of a name up its superclasses. A private
+    /// method is itself selected.
     pub fn select_from(&self, class: &[u16], place: (usize, usize)) -> Option<(usize, usize)>
-        ensures { (found : MethodFound) → IsMethodAt self.now found place → Locates (IsMethodAt self.now) (selected_from self.now class.now found) result }
+        ensures { (found : ResolvedMethod) → IsMethodAt self.now found place → LocatesItem (IsMethodAt self.now) (selected_from self.now class.now found) result }
     {
         let number = MethodNumber {
             class: place.0,
@@ -51,8 +51,8 @@ impl Classes {
         self.select_named(class, method.name.as_slice(), method.descriptor.as_slice())
     }
 
-    /// The first method of a name and a descriptor that is neither static nor private, from the class of a name up its
-    /// superclasses.
+    /// Returns the first method of a name and a descriptor that is neither static nor private, from the class of a name
+    /// up its superclasses.
     #[tactic(auto, using(crate::proofs::PlaceLaws::named_up))]
     pub fn select_named(
         &self,
@@ -60,13 +60,13 @@ impl Classes {
         name: &[u16],
         descriptor: &[u16],
     ) -> Option<(usize, usize)>
-        ensures { Locates (IsMethodAt self.now) (first_in (selectable_in name.now descriptor.now) (chain self.now (class_of_members class.now))) result }
+        ensures { LocatesItem (IsMethodAt self.now) (first_in (selectable_in name.now descriptor.now) (chain self.now (class_of_members class.now))) result }
     {
         first_up(self, members_class(class), &Selectable { name, descriptor })
     }
 
-    /// The method that an invokespecial in the class `current` selects: the one at the place, but where it
-    /// is no constructor and its named class is a superclass of `current`, the selection from the
+    /// Selects the method for an invokespecial in the class `current` (JVMS 6.5 invokespecial). That is the one at the
+    /// place if it is a constructor, or if its named class is no superclass of `current`. Else it is selected from the
     /// superclass of `current` on.
     pub fn select_special(
         &self,
@@ -74,7 +74,7 @@ impl Classes {
         r: &MethodReference,
         place: (usize, usize),
     ) -> Option<(usize, usize)>
-        ensures { (found : MethodFound) → IsMethodAt self.now found place → Locates (IsMethodAt self.now) (selected_special self.now current.now r.now found) result }
+        ensures { (found : ResolvedMethod) → IsMethodAt self.now found place → LocatesItem (IsMethodAt self.now) (selected_special self.now current.now r.now found) result }
     {
         if is_constructor_name(r.name.as_slice())
             || !is_superclass(self, r.class.as_slice(), current)

@@ -1,5 +1,5 @@
-//! Where the slots of each class's fields start. All classes are counted at once, each after its superclass, so that chains
-//! of superclasses aren't gone through again and again.
+//! The first slots of each class's fields. They are computed for all classes in one pass, each after its superclass, so
+//! that no chain of superclasses is walked again and again.
 
 ghost use Rattle.std.specs.Prelude.{◌≡◌, IfOk, IfSome, Some, slice_get, take, true};
 ghost use Rattle.classes.specs.Slots.{AreStarts, AreStartsOf, AreTotals, count_of_all, total_above};
@@ -10,7 +10,7 @@ use crate::slots::{Slot, count_of};
 use jvms_program::program::Class;
 use std::alloc::{AllocError, Global};
 
-/// Where the slots of a class's fields start.
+/// The first slots of a class's fields.
 #[derive(Clone, Copy, Debug)]
 pub struct FieldStarts {
     /// The slot of its first static field.
@@ -36,7 +36,7 @@ fn total_above(program: &Classes, totals: &[usize], class: &Class) -> usize
 fn totals_of(alloc: Global, program: &Classes) -> Result<Vec<usize>, AllocError>
     ensures { IfOk result (λ totals. AreTotals program.now totals.items) }
 {
-    program.is_countable();
+    program.countable_invariant();
     let ranked = program.ranked();
     let mut totals = vec![in alloc; 0; ranked.classes.len()]?;
     for place in 0..ranked.order.len() {
@@ -55,7 +55,7 @@ fn total_at(totals: &[usize], number: usize) -> Option<usize>
     totals.get(number).copied()
 }
 
-/// Returns where the slots of the fields of a class start, if its name finds it.
+/// Returns the first slots of the fields of a class, if it is the one that its name finds.
 fn starts_of(
     program: &Classes,
     totals: &[usize],
@@ -68,7 +68,7 @@ fn starts_of(
     requires statics { statics ≡ count_of_all true (take number program.now) }
     ensures { IfSome result (λ starts. AreStarts program.now class.now starts) }
 {
-    program.is_countable();
+    program.countable_invariant();
     let own = program.class_number(class.name.as_slice())?;
     let total = total_at(totals, number)?;
     if own == number {
@@ -81,14 +81,14 @@ fn starts_of(
     }
 }
 
-/// Returns where the slots of each class's fields start. Of a class with the name of an earlier one nothing is returned.
+/// Returns the first slots of each class's fields. A class with the name of an earlier one has none.
 pub fn field_starts(
     alloc: Global,
     program: &Classes,
 ) -> Result<Vec<Option<FieldStarts>>, AllocError>
     ensures { IfOk result (λ starts. AreStartsOf program.now starts.items) }
 {
-    program.is_countable();
+    program.countable_invariant();
     let totals = totals_of(alloc, program)?;
     let mut starts = Vec::with_capacity(alloc, program.classes().len())?;
     let mut statics = 0;

@@ -5,12 +5,12 @@ ghost use Rattle.classes.specs.Hierarchy.{numbers_of, super_numbers, super_rows,
 ghost use Rattle.jvms_program.specs.Program.{class_number};
 
 use crate::class_list::ClassList;
-use held::items::Items;
-use held::shared::Text;
+use shared_data::items::Items;
+use shared_data::shared::Text;
 use jvms_program::program::Class;
 use std::alloc::{AllocError, Global};
 
-/// Puts the number of the class of a name behind others, if the class is there.
+/// Appends the number of the class of a name, if the class is there.
 fn push_number(list: &ClassList, numbers: &mut Items<usize>, name: &Text) -> Result<(), AllocError>
     ensures { OnOk result (numbers.new ≡ numbers.old ++ to_list (class_number list.now name.now)) }
 {

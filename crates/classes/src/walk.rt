@@ -9,16 +9,16 @@ use crate::chain::Chain;
 use crate::list::Classes;
 use jvms_program::program::Class;
 
-/// What is looked for in one class after another: the number of a class, and of a member there.
+/// A test for a match in one class. A match is the number of a class and of a member of it.
 pub(crate) trait Look {
     ghost gives: { Self → ℕ → Class → Option (ℕ × ℕ) };
 
-    /// What the class of a number gives.
+    /// Returns the match in the class of a number, if there is one.
     fn look(&self, number: usize, class: &Class) -> Option<(usize, usize)>
         ensures { result ≡ gives self.now number class.now };
 }
 
-/// What is found first in a class, its superclass, and so on.
+/// Returns the first match in a class, its superclass, and so on.
 pub(crate) fn first_up<L: Look>(program: &Classes, name: &[u16], look: &L) -> Option<(usize, usize)>
     ensures { result ≡ first_in (placed program.now (L.gives look.now)) (chain program.now name.now) }
 {

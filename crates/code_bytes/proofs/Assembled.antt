@@ -1,4 +1,4 @@
--- The code of a method, made of starts and bytes.
+-- Proves that the code of a method consists of its starts and its bytes.
 use Rattle.std.proofs.Common.{◌≡◌, ℕ, Bool, true, false, not, List, [], Result, Ok, refl, sym, ap, subst, ◌∙◌}
 use Rattle.jvms_file.specs.declared.class_file.Code.{Code}
 use Rattle.jvms_file.specs.declared.class_file.Handler.{Handler}
@@ -18,7 +18,7 @@ use Rattle.assembly.specs.CodeOf.{insns_from, handlers_from, code_within}
 use Rattle.code_bytes.specs.Starting.{starts_within}
 use Rattle.code_bytes.specs.Writing.{bytes_within}
 
--- The code with this layout.
+-- Returns the code with this layout.
 abbrev pub with_layout : List ℕ → List ℕ → MethodLines → List ℕ → List ℕ → Code
 with_layout operands caught m bytes starts =
     record {
@@ -36,7 +36,7 @@ in_steps true true starts bytes code within e = rw e refl
 in_steps true false starts bytes code within e = rw e refl
 in_steps false far starts bytes code within e = refl
 
--- First the starts, then the bytes.
+-- The starts are computed before the bytes.
 in_parts : (operands caught : List ℕ) (m : MethodLines) → code_within operands caught m ≡ (starts_within operands m.code >>= λ s. (bytes_within s m.code operands >>= λ b. Ok (with_layout operands caught m b s)))
 unfolding code_within
 in_parts operands caught m =
@@ -50,7 +50,7 @@ passes e given f h = rw h refl
 behind : {A B : Type 0} (given : Result A AsmFault) (a : A) (f : A → Result B AsmFault) → given ≡ Ok a → (given >>= f) ≡ f a
 behind given a f e = rw e refl
 
--- A fault of the starts is that of the code.
+-- The fault of the starts is that of the code.
 pub starts_fail : (e : AsmFault) (operands caught : List ℕ) (m : MethodLines) (items : List CodeItem) → items ≡ m.code → Fails e (starts_within operands items) → Fails e (code_within operands caught m)
 starts_fail e operands caught m items same h =
     let of_code = subst (λ (xs : List CodeItem). Fails e (starts_within operands xs)) same h in
@@ -63,7 +63,7 @@ behind_starts operands caught m items starts lent same begun lends =
     ∙ behind (starts_within operands m.code) starts (λ s. (bytes_within s m.code operands >>= λ b. Ok (with_layout operands caught m b s))) (ap (λ (xs : List CodeItem). starts_within operands xs) (sym same) ∙ begun)
     ∙ (λ i. bytes_within (sym lends i) (sym same i) operands >>= λ b. Ok (with_layout operands caught m b starts))
 
--- A fault of the bytes is that of the code.
+-- The fault of the bytes is that of the code.
 pub bytes_fail : (e : AsmFault) (operands caught : List ℕ) (m : MethodLines) (items : List CodeItem) (starts lent : List ℕ) → items ≡ m.code → starts_within operands items ≡ Ok starts → lent ≡ starts → Fails e (bytes_within lent items operands) → Fails e (code_within operands caught m)
 bytes_fail e operands caught m items starts lent same begun lends h =
     subst (λ (given : Result Code AsmFault). Fails e given) (sym (behind_starts operands caught m items starts lent same begun lends))

@@ -1,4 +1,4 @@
--- The starts that are collected one after the other are those of the definition.
+-- Proves that the starts that are collected one at a time are those of the definition.
 use Rattle.std.proofs.Common.{◌≡◌, ℕ, ◌+◌, ◌<◌, ◌≤◌, Bool, true, false, cond, ◌&&◌, nat_lt, nat_le, List, [], ◌∷◌, ◌++◌, length, Some, None, Result, Ok, Err, refl, sym, ap, subst, ◌∙◌, append_assoc, arith}
 use Rattle.std.proofs.lemmas.Bool.{le-leb, lt-leb, leb-true, leb-false}
 use Rattle.std.proofs.lemmas.List.{append-nil}
@@ -16,7 +16,7 @@ use Rattle.code_bytes.specs.Few.{AreFew}
 use Rattle.code_bytes.specs.Starting.{end_within, some_starts, starts_onto, starts_within}
 use Rattle.code_bytes.proofs.Lengths.{end_not_below, count_within, few_within}
 
--- Starts, if code may end so.
+-- Returns the starts, if code may end here.
 abbrev if_long : ℕ → List ℕ → Result (List ℕ) AsmFault
 if_long end starts = want (is_code_length end) fault.CodeLength >>= λ _. Ok starts
 
@@ -36,7 +36,7 @@ refused_by false few starts over = refl
 refused : (end : ℕ) (starts : List ℕ) → 65535 < end → if_long end starts ≡ Err fault.CodeLength
 refused end starts lt = refused_by (nat_lt 0 end) (nat_le end 65535) starts (lt-leb end 65535 lt)
 
--- One instruction's end, by the test that code may be so long.
+-- The end of one instruction passes the test that code may be this long, or the whole fails.
 stepped : (few : Bool) (seen : List ℕ) (pc end : ℕ) (numbers : List ℕ) (os : List Operation) → nat_le end 65535 ≡ few
     → (end ≤ 65535 → starts_onto (seen ++ pc ∷ []) end numbers os ≡ if_long (end_from end numbers os) ((seen ++ pc ∷ []) ++ starts_from end numbers os))
     → (present (cond few (Some end) None) fault.CodeLength >>= λ e. starts_onto (seen ++ pc ∷ []) e numbers os) ≡ if_long (end_from end numbers os) (seen ++ pc ∷ starts_from end numbers os)
@@ -82,7 +82,7 @@ one_more seen pc numbers n others os o behind end total some one within so_far =
     let goes : starts_onto seen pc numbers os ≡ starts_onto (seen ++ pc ∷ []) end others behind = rw (some, one, ← within) refl in
     sym goes ∙ so_far
 
--- An answer is that of what gives the same.
+-- A result is that of an equal definition.
 pub answers_itself : {A : Type 0} (given total : Result A AsmFault) → total ≡ given → Answers given total
 answers_itself (Ok a) total e = e
 answers_itself (Err fault.Memory) total e = tt
@@ -90,11 +90,11 @@ answers_itself (Err f) total e = e
 
 -- ---- The whole
 
--- All that were collected are those of the code.
+-- The starts that are collected are those of the code.
 pub all_within : (operands : List ℕ) (items : List CodeItem) → starts_onto [] 0 operands (operations items) ≡ starts_within operands items
 all_within operands items = onto_is [] 0 operands (operations items) (omega arith)
 
--- ---- What starts say of the code
+-- ---- What starts imply about the code
 
 length_by : (some few : Bool) (starts given : List ℕ) → (want (some && few) fault.CodeLength >>= λ _. Ok starts) ≡ Ok given → few ≡ true
 length_by true true starts given e = refl
@@ -128,13 +128,13 @@ given_by : (long : Bool) (starts given : List ℕ) → (want long fault.CodeLeng
 given_by true starts given e = cc
 given_by false starts given e = cc
 
--- Each instruction has its start.
+-- There is one start for each instruction.
 pub as_many_starts : (operands : List ℕ) (items : List CodeItem) (given : List ℕ) → length operands ≡ length (operations items) → starts_within operands items ≡ Ok given → length given ≡ length (operations items)
 as_many_starts operands items given same e =
     ap length (sym (given_by (is_code_length (code_length operands items)) (starts_of operands items) given e))
     ∙ length_of_starts 0 operands (operations items) same
 
--- ---- The answer
+-- ---- The result
 
 pub starts_answered : (result : Result (List ℕ) AsmFault) (operands : List ℕ) (items : List CodeItem) → Answers result (starts_onto [] 0 operands (operations items)) → Answers result (starts_within operands items)
 starts_answered result operands items a = subst (λ (given : Result (List ℕ) AsmFault). Answers result given) (all_within operands items) a

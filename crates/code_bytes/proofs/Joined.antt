@@ -1,4 +1,4 @@
--- The parts of a switch's bytes, one behind the other.
+-- Joins the parts of a switch's bytes.
 use Rattle.std.proofs.Common.{◌≡◌, ℕ, List, ◌++◌, ap, ◌∙◌, append_assoc}
 
 pub lookup_joined : (old head default count last one two three : List ℕ) → one ≡ old ++ head → two ≡ one ++ default → three ≡ two ++ count → three ++ last ≡ old ++ (head ++ (default ++ (count ++ last)))

@@ -1,4 +1,4 @@
--- A label stands behind no more instructions than there are.
+-- Proves that the place of a label is at most the number of instructions.
 use Rattle.std.proofs.Common.{ℕ, suc, ◌≤◌, Bool, true, false, cond, List, [], ◌∷◌, length, Option, None, Some, arith}
 use Rattle.std.specs.Option.{option_map, unwrap_or}
 use Rattle.jvms_file.specs.Names.{same_text}

@@ -1,4 +1,4 @@
--- Each instruction has a byte at least, so code of few bytes has few instructions and few labels.
+-- Proves that each instruction has at least one byte, so code has at most as many instructions and labels as bytes.
 use Rattle.std.proofs.Common.{◌≡◌, ℕ, ◌+◌, ◌<◌, ◌≤◌, Bool, true, false, cond, nat_le, List, [], ◌∷◌, length, arith}
 use Rattle.jvms_file.specs.declared.insn.Invoke.{Invoke}
 use Rattle.jvms_file.specs.declared.insn.Invoke.TheVariants as invoke
@@ -46,7 +46,7 @@ unfolding size
 few_from_size n pc (operation.Table lines) h = omega arith
 few_from_size n pc _ h = tt
 
--- ---- Instructions one behind the other
+-- ---- Consecutive instructions
 
 pub end_not_below : (pc : ℕ) (numbers : List ℕ) (os : List Operation) → pc ≤ end_from pc numbers os
 unfolding end_from

@@ -1,4 +1,5 @@
--- The bytes that are put one behind the other are those of the definition, and stop at the first branch that is too far.
+-- Proves that the bytes that are appended one instruction at a time are those of the definition, up to the first branch
+-- that is too far.
 use Rattle.std.proofs.Common.{◌≡◌, ℕ, Bool, true, false, not, ◌||◌, List, [], ◌∷◌, ◌++◌, length, Result, Ok, Err, refl, sym, ap, subst, ◌∙◌, append_assoc, arith}
 use Rattle.std.proofs.lemmas.List.{append-nil}
 use Rattle.jvms_file.specs.Results.{◌>>=◌, want}
@@ -13,7 +14,7 @@ use Rattle.assembly.specs.Bytes.{operation_bytes, bytes_from}
 use Rattle.code_bytes.specs.Few.{AreFew}
 use Rattle.code_bytes.specs.Writing.{Writes, bytes_onto, bytes_within}
 
--- Bytes, if no branch is too far.
+-- Returns the bytes, if no branch is too far.
 abbrev if_near : Bool → List ℕ → Result (List ℕ) AsmFault
 if_near far bytes = want (not far) fault.BranchTooFar >>= λ _. Ok bytes
 
@@ -89,7 +90,7 @@ far_fails fault.PoolFull far bytes old new onto h = absurd h
 far_fails fault.TooMany far bytes old new onto h = absurd h
 far_fails fault.CatchRange far bytes old new onto h = absurd h
 
--- A fault of an instruction is that of all.
+-- The fault of one instruction is that of all.
 pub fails : (e : AsmFault) (starts : List ℕ) (items : List CodeItem) (seen new numbers : List ℕ) (n : ℕ) (others pcs : List ℕ) (pc : ℕ) (later : List ℕ) (os : List Operation) (o : Operation) (behind : List Operation) (total : Result (List ℕ) AsmFault) → numbers ≡ n ∷ others → pcs ≡ pc ∷ later → os ≡ o ∷ behind
     → Writes {A = Unit {0}} (is_too_far starts items pc o) (operation_bytes starts items n pc o) (Err e) seen new → bytes_onto starts items seen numbers pcs os ≡ total → Fails e total
 fails e starts items seen new numbers n others pcs pc later os o behind total some start one h so_far =
@@ -99,7 +100,7 @@ fails e starts items seen new numbers n others pcs pc later os o behind total so
 pub few_behind : (os : List Operation) (o : Operation) (behind : List Operation) → os ≡ o ∷ behind → AreFew os → AreFew behind
 few_behind os o behind one few = (subst (λ (xs : List Operation). AreFew xs) one few).1
 
--- ---- The answer
+-- ---- The result
 
 pub bytes_answered : (result : Result (List ℕ) AsmFault) (starts : List ℕ) (labels items : List CodeItem) (operands : List ℕ) → labels ≡ items → length operands ≡ length (operations items) → length starts ≡ length (operations items)
     → Answers result (bytes_onto starts labels [] operands starts (operations items)) → Answers result (bytes_within starts items operands)

@@ -1,4 +1,4 @@
-//! The bytes of a method's instructions.
+//! Writes the bytes of a method's instructions.
 
 ghost use Rattle.std.specs.Prelude.{◌≡◌, [], length};
 ghost use Rattle.jasmin.specs.Denote.{operations};
@@ -9,12 +9,12 @@ ghost use Rattle.code_bytes.specs.Writing.{bytes_onto, bytes_within};
 use crate::operation::write_operation;
 use crate::steps::next_operation;
 use assembly::fault::AsmFault;
-use held::items::Items;
+use shared_data::items::Items;
 use jasmin::source::CodeItem;
 use source_labels::Labels;
 use std::alloc::Global;
 
-/// The bytes of instructions, one after the other.
+/// Returns the bytes of instructions in order, or `BranchTooFar` if a branch can't reach its label.
 fn collected_bytes(
     alloc: Global,
     labels: &Labels<'_>,
@@ -44,8 +44,11 @@ fn collected_bytes(
     Ok(Items::from_vec(bytes))
 }
 
-/// The bytes of the instructions that start at these bytes and name the entries of these numbers, if each branch
-/// reaches its label.
+/// Returns the bytes of the instructions that start at the bytes `starts` and name the pool entries `operands`.
+///
+/// # Errors
+///
+/// Returns `BranchTooFar` if a branch can't reach its label, or `Memory` if memory ran out.
 pub(crate) fn bytes_of(
     alloc: Global,
     labels: &Labels<'_>,

@@ -1,4 +1,4 @@
-//! The code of a method (JVMS 4.7.3).
+//! Assembles the code of a method (JVMS 4.7.3).
 
 ghost use Rattle.std.specs.Prelude.{◌≡◌, length};
 ghost use Rattle.jasmin.specs.Denote.{operations};
@@ -10,15 +10,19 @@ use crate::handlers::handlers_of;
 use crate::insns::insns_of;
 use crate::starts::{starts_of, widened};
 use assembly::fault::AsmFault;
-use held::items::Items;
+use shared_data::items::Items;
 use jasmin::source::MethodLines;
 use jvms_file::class_file::{Code, Layout};
 use source_labels::Labels;
 use std::alloc::Global;
 
-/// The code of a method (JVMS 4.7.3); `operands` and `caught` are the numbers of the entries that its instructions and
-/// its catches name, 0 where they name none, and the labels are those of its code. Fails where the code has no byte or
-/// more than 65535, and where a branch of two bytes can't reach its label.
+/// Returns the code of a method (JVMS 4.7.3). `operands` and `caught` are the pool entries that its instructions and
+/// its catches name, or 0 where they name none. `labels` are those of its code.
+///
+/// # Errors
+///
+/// Returns `CodeLength` if the code is empty or has more than 65535 bytes. Returns `BranchTooFar` if a branch with an
+/// offset of two bytes can't reach its label, and `Memory` if memory ran out.
 pub fn code_within(
     alloc: Global,
     operands: &[u16],

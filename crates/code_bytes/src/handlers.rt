@@ -1,18 +1,18 @@
-//! The exception table of a method (JVMS 4.7.3), whose bounds and targets are places.
+//! Makes the exception table of a method (JVMS 4.7.3). Its bounds and targets are places of instructions.
 
 ghost use Rattle.std.specs.Prelude.{◌≡◌, ◌≤◌, length, IfOk};
 ghost use Rattle.jasmin.specs.Denote.{operations};
 ghost use Rattle.assembly.specs.CodeOf.{handler_of as handler_at, handlers_from};
 
-use crate::room::with_room;
+use crate::room::list_with_capacity;
 use crate::targets::target_of;
-use held::items::Items;
+use shared_data::items::Items;
 use jasmin::source::CatchLine;
 use jvms_file::class_file::Handler;
 use source_labels::Labels;
 use std::alloc::{AllocError, Global};
 
-/// A catch whose class has this number, 0 for all.
+/// Returns the handler of a catch whose class is this pool entry, or 0 for all.
 fn handler_of(labels: &Labels<'_>, number: u16, catch: &CatchLine) -> Handler
     requires { length (operations labels.now) ≤ 65535 }
     ensures { result ≡ handler_at labels.now number catch.now }
@@ -25,7 +25,7 @@ fn handler_of(labels: &Labels<'_>, number: u16, catch: &CatchLine) -> Handler
     }
 }
 
-/// The catches whose classes have these numbers.
+/// Returns the handlers of catches whose classes are these pool entries.
 #[tactic(auto, unfolding(assembly::specs::CodeOf::handlers_from))]
 pub(crate) fn handlers_of(
     alloc: Global,
@@ -36,7 +36,7 @@ pub(crate) fn handlers_of(
     requires { length (operations labels.now) ≤ 65535 }
     ensures { IfOk result (λ handlers. handlers ≡ handlers_from labels.now caught.now catches.now) }
 {
-    let mut handlers = with_room(alloc, caught.len())?;
+    let mut handlers = list_with_capacity(alloc, caught.len())?;
     let mut numbers = caught;
     let mut rest = catches;
     while let [number, others @ ..] = numbers {

@@ -1,4 +1,4 @@
-//! The instructions of a method, whose targets are places.
+//! Makes the instructions of a method. Their targets are places of instructions.
 
 ghost use Rattle.std.specs.Prelude.{◌≡◌, ◌≤◌, length, map, IfOk};
 ghost use Rattle.jvms_file.specs.declared.insn.Insn.TheVariants as insn;
@@ -7,12 +7,12 @@ ghost use Rattle.jvms_file.specs.declared.insn.Push.TheVariants as push;
 ghost use Rattle.jasmin.specs.Denote.{target, operations, simple_of as simple_at, switch_case};
 ghost use Rattle.assembly.specs.CodeOf.{insn_of as insn_at, insns_from};
 
-use crate::room::with_room;
+use crate::room::list_with_capacity;
 use crate::steps::next_operation;
 use crate::targets::target_of;
-use held::boxed::Boxed;
-use held::items::Items;
-use held::shared::Text;
+use shared_data::boxed::Boxed;
+use shared_data::items::Items;
+use shared_data::shared::Text;
 use insn::form_of;
 use jasmin::source::{CodeItem, LookupLines, MatchLine, Operation, TableLines};
 use jvms_file::insn::{
@@ -21,7 +21,7 @@ use jvms_file::insn::{
 use source_labels::Labels;
 use std::alloc::{AllocError, Global};
 
-/// The instruction that an opcode is alone.
+/// Returns the instruction of an opcode without operands.
 fn simple_of(code: u8) -> Simple
     ensures { result ≡ simple_at code }
 {
@@ -31,26 +31,26 @@ fn simple_of(code: u8) -> Simple
     }
 }
 
-/// The instruction that pushes an int.
+/// Returns the instruction that pushes an int.
 fn pushed(value: i16) -> Insn
     ensures { result ≡ insn.Simple (simple.Push (push.Int value)) }
 {
     Insn::Simple(Simple::Push(Push::Int(value)))
 }
 
-/// The places that labels lead to.
+/// Returns the places of labels.
 fn targets_of(alloc: Global, labels: &Labels<'_>, names: &[Text]) -> Result<Items<u32>, AllocError>
     requires { length (operations labels.now) ≤ 65535 }
     ensures { IfOk result (λ targets. targets ≡ map (target labels.now) names.now) }
 {
-    let mut targets = with_room(alloc, names.len())?;
+    let mut targets = list_with_capacity(alloc, names.len())?;
     for name in names {
         targets.push(target_of(labels, name))?;
     }
     Ok(targets)
 }
 
-/// A tableswitch.
+/// Returns a tableswitch.
 fn table_of(
     alloc: Global,
     labels: &Labels<'_>,
@@ -67,7 +67,7 @@ fn table_of(
     })
 }
 
-/// A case of a lookupswitch.
+/// Returns a case of a lookupswitch.
 fn case_of(labels: &Labels<'_>, pair: &MatchLine) -> SwitchCase
     requires { length (operations labels.now) ≤ 65535 }
     ensures { result ≡ switch_case labels.now pair.now }
@@ -78,7 +78,7 @@ fn case_of(labels: &Labels<'_>, pair: &MatchLine) -> SwitchCase
     }
 }
 
-/// The cases of a lookupswitch.
+/// Returns the cases of a lookupswitch.
 fn cases_of(
     alloc: Global,
     labels: &Labels<'_>,
@@ -87,14 +87,14 @@ fn cases_of(
     requires { length (operations labels.now) ≤ 65535 }
     ensures { IfOk result (λ cases. cases ≡ map (switch_case labels.now) pairs.now) }
 {
-    let mut cases = with_room(alloc, pairs.len())?;
+    let mut cases = list_with_capacity(alloc, pairs.len())?;
     for pair in pairs {
         cases.push(case_of(labels, pair))?;
     }
     Ok(cases)
 }
 
-/// A lookupswitch.
+/// Returns a lookupswitch.
 fn lookup_of(
     alloc: Global,
     labels: &Labels<'_>,
@@ -110,7 +110,7 @@ fn lookup_of(
     })
 }
 
-/// The instruction that names the entry of this number.
+/// Returns the instruction of an operation that names this pool entry.
 #[tactic(auto, unfolding(assembly::specs::CodeOf::insn_of))]
 fn insn_of(
     alloc: Global,
@@ -148,7 +148,7 @@ fn insn_of(
     }
 }
 
-/// The instructions that name the entries of these numbers.
+/// Returns the instructions of operations that name these pool entries.
 #[tactic(auto, unfolding(assembly::specs::CodeOf::insns_from))]
 pub(crate) fn insns_of(
     alloc: Global,
@@ -159,7 +159,7 @@ pub(crate) fn insns_of(
     requires { length (operations labels.now) ≤ 65535 }
     ensures { IfOk result (λ insns. insns ≡ insns_from labels.now operands.now (operations items.now)) }
 {
-    let mut insns = with_room(alloc, operands.len())?;
+    let mut insns = list_with_capacity(alloc, operands.len())?;
     let mut numbers = operands;
     let mut rest = items;
     while let [number, others @ ..] = numbers {

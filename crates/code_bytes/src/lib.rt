@@ -1,5 +1,5 @@
-//! The code of a method (JVMS 4.7.3), made of the method's lines in a source and of the numbers of the entries that
-//! they name: the bytes of each instruction, where each starts, and the instructions with their targets as places.
+//! Assembles the code of a method (JVMS 4.7.3) from the method's lines and the pool entries that they name. The code
+//! has the bytes of each instruction, where each starts, and the instructions with their targets as places.
 #![tactic(auto)]
 
 mod bytes;

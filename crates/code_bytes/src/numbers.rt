@@ -1,4 +1,4 @@
-//! Numbers put behind bytes (JVMS 4, u1), those of two's complement too.
+//! Appends numbers to bytes (JVMS 4, `u1`), unsigned or in two's complement.
 
 ghost use Rattle.std.specs.Prelude.{◌≡◌, ◌++◌, ◌∷◌, [], OnOk, ◌<ℤ◌, ◌≤ℤ◌, ◌^◌, pos, neg_ℤ};
 ghost use Rattle.std.specs.Int.{w32, cast_unsigned};
@@ -7,7 +7,7 @@ ghost use Rattle.assembly.specs.Bytes.{s1, s2, s4};
 use file_bytes::{write_u2, write_u4};
 use std::alloc::AllocError;
 
-/// Puts a byte behind the others.
+/// Appends a byte.
 pub(crate) fn write_u1(out: &mut Vec<u8>, number: u8) -> Result<(), AllocError>
     ensures { OnOk result (out.new.items ≡ out.old.items ++ number ∷ []) }
 {
@@ -15,31 +15,31 @@ pub(crate) fn write_u1(out: &mut Vec<u8>, number: u8) -> Result<(), AllocError>
     Ok(())
 }
 
-/// Puts the byte of a signed number behind the others.
+/// Appends the byte of a signed number.
 pub(crate) fn write_s1(out: &mut Vec<u8>, number: i8) -> Result<(), AllocError>
     ensures { OnOk result (out.new.items ≡ out.old.items ++ s1 number) }
 {
     write_u1(out, number.cast_unsigned())
 }
 
-/// Puts the two bytes of a signed number behind the others.
+/// Appends the two bytes of a signed number.
 pub(crate) fn write_s2(out: &mut Vec<u8>, number: i16) -> Result<(), AllocError>
     ensures { OnOk result (out.new.items ≡ out.old.items ++ s2 number) }
 {
     write_u2(out, number.cast_unsigned())
 }
 
-/// Puts the four bytes of a signed number behind the others.
+/// Appends the four bytes of a signed number.
 pub(crate) fn write_s4(out: &mut Vec<u8>, number: i32) -> Result<(), AllocError>
     ensures { OnOk result (out.new.items ≡ out.old.items ++ s4 number) }
 {
     write_u4(out, number.cast_unsigned())
 }
 
-/// How many numbers four bytes have.
+/// The number of values of four bytes.
 const WORDS: i64 = 4_294_967_296;
 
-/// The number that the four bytes of two's complement spell, those of a number above an int's too.
+/// Returns the four bytes of a number in two's complement, as a `u32`. The number may be above the greatest int.
 pub(crate) fn word_of(number: i64) -> u32
     requires least { neg_ℤ (pos (2 ^ 31)) ≤ℤ number }
     requires most { number <ℤ pos (2 ^ 32) }

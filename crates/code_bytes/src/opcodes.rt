@@ -1,11 +1,11 @@
-//! The opcodes of instructions with operands (JVMS 7).
+//! Maps instructions with operands to their opcodes (JVMS 7).
 
 ghost use Rattle.std.specs.Prelude.{◌≡◌, ◌≤◌};
 ghost use Rattle.assembly.specs.Opcodes.{kind_number as number_of_kind, local_opcode as local_code, comparison_number as number_of_comparison, branch_opcode as branch_code, wide_branch_opcode as wide_branch_code, field_opcode as field_code, invoke_opcode as invoke_code, class_opcode as class_code, array_type_number as number_of_type};
 
 use jvms_file::insn::{ArrayType, Branch, ClassUse, Comparison, FieldUse, Invoke, Kind, LocalUse};
 
-/// The place of a kind among the loads, and among the stores.
+/// Returns the position of a kind among the opcodes of loads, and among those of stores.
 fn kind_number(kind: Kind) -> u8
     ensures exact { result ≡ number_of_kind kind }
     ensures few { result ≤ 4 }
@@ -19,7 +19,7 @@ fn kind_number(kind: Kind) -> u8
     }
 }
 
-/// iload to aload, istore to astore, ret.
+/// Returns the opcode of iload to aload, of istore to astore, or of ret.
 pub(crate) fn local_opcode(how: LocalUse) -> u8
     ensures { result ≡ local_code how }
 {
@@ -30,7 +30,7 @@ pub(crate) fn local_opcode(how: LocalUse) -> u8
     }
 }
 
-/// The place of a comparison among the branches that compare.
+/// Returns the position of a comparison among the opcodes of branches that compare.
 fn comparison_number(comparison: Comparison) -> u8
     ensures exact { result ≡ number_of_comparison comparison }
     ensures few { result ≤ 5 }
@@ -45,7 +45,7 @@ fn comparison_number(comparison: Comparison) -> u8
     }
 }
 
-/// A branch with an offset of two bytes.
+/// Returns the opcode of a branch with an offset of two bytes.
 pub(crate) fn branch_opcode(how: Branch) -> u8
     ensures { result ≡ branch_code how }
 {
@@ -61,7 +61,8 @@ pub(crate) fn branch_opcode(how: Branch) -> u8
     }
 }
 
-/// A branch with an offset of four bytes: goto_w and jsr_w, and no other.
+/// Returns the opcode of a branch with an offset of four bytes: goto_w or jsr_w. The value for any other branch isn't
+/// used.
 pub(crate) fn wide_branch_opcode(how: Branch) -> u8
     ensures { result ≡ wide_branch_code how }
 {
@@ -77,7 +78,7 @@ pub(crate) fn wide_branch_opcode(how: Branch) -> u8
     }
 }
 
-/// getstatic to putfield.
+/// Returns the opcode of getstatic to putfield.
 pub(crate) fn field_opcode(how: FieldUse) -> u8
     ensures { result ≡ field_code how }
 {
@@ -89,7 +90,7 @@ pub(crate) fn field_opcode(how: FieldUse) -> u8
     }
 }
 
-/// invokevirtual to invokeinterface.
+/// Returns the opcode of invokevirtual to invokeinterface.
 pub(crate) fn invoke_opcode(how: Invoke) -> u8
     ensures { result ≡ invoke_code how }
 {
@@ -101,7 +102,7 @@ pub(crate) fn invoke_opcode(how: Invoke) -> u8
     }
 }
 
-/// new, anewarray, checkcast, instanceof.
+/// Returns the opcode of new, anewarray, checkcast or instanceof.
 pub(crate) fn class_opcode(how: ClassUse) -> u8
     ensures { result ≡ class_code how }
 {
@@ -113,7 +114,7 @@ pub(crate) fn class_opcode(how: ClassUse) -> u8
     }
 }
 
-/// JVMS table 6.5.newarray-A.
+/// Returns the number of a component type (JVMS table 6.5.newarray-A).
 pub(crate) fn array_type_number(component: ArrayType) -> u8
     ensures { result ≡ number_of_type component }
 {

@@ -1,4 +1,4 @@
-//! The bytes of an instruction (JVMS 6.5).
+//! Writes the bytes of an instruction (JVMS 6.5).
 
 ghost use Rattle.std.specs.Prelude.{◌≡◌, ◌++◌, ◌∷◌, [], ◌^◌, ◌-◌, ◌%◌, not, Some, None, OnOk, pos, neg_ℤ, nat_le, if◌then◌else◌};
 ghost use Rattle.std.specs.Option.{unwrap_or};
@@ -6,7 +6,7 @@ ghost use Rattle.jvms_file.specs.Instructions.{interface_count};
 ghost use Rattle.jvms_file.specs.Spelling.{u2};
 ghost use Rattle.assembly.specs.Sizes.{is_between, is_too_far};
 ghost use Rattle.assembly.specs.Opcodes.{branch_opcode as branch_code, wide_branch_opcode as wide_branch_code, invoke_opcode as invoke_code};
-ghost use Rattle.assembly.specs.Bytes.{s1, s2, s4, constant_bytes, local_bytes, increment_bytes, behind_invoke as bytes_behind, operation_bytes};
+ghost use Rattle.assembly.specs.Bytes.{s1, s2, s4, constant_bytes, local_bytes, increment_bytes, after_invoke as bytes_behind, operation_bytes};
 ghost use Rattle.code_bytes.specs.Few.{IsFew};
 ghost use Rattle.code_bytes.specs.Writing.{Writes};
 
@@ -32,7 +32,7 @@ const WIDE: u8 = 196;
 /// The opcode of iinc.
 const INCREMENT: u8 = 132;
 
-/// Puts an opcode and a byte behind the bytes.
+/// Appends an opcode and a byte.
 fn write_two(out: &mut Vec<u8>, code: u8, operand: u8) -> Result<(), AllocError>
     ensures { OnOk result (out.new.items ≡ out.old.items ++ code ∷ operand ∷ []) }
 {
@@ -40,7 +40,7 @@ fn write_two(out: &mut Vec<u8>, code: u8, operand: u8) -> Result<(), AllocError>
     write_u1(out, operand)
 }
 
-/// Puts an opcode and a number of two bytes behind the bytes.
+/// Appends an opcode and a number of two bytes.
 fn write_numbered(out: &mut Vec<u8>, code: u8, number: u16) -> Result<(), AllocError>
     ensures { OnOk result (out.new.items ≡ out.old.items ++ code ∷ u2 number) }
 {
@@ -48,7 +48,7 @@ fn write_numbered(out: &mut Vec<u8>, code: u8, number: u16) -> Result<(), AllocE
     write_u2(out, number)
 }
 
-/// Puts bipush behind the bytes.
+/// Appends bipush.
 fn write_push_byte(out: &mut Vec<u8>, number: i8) -> Result<(), AllocError>
     ensures { OnOk result (out.new.items ≡ out.old.items ++ 16 ∷ s1 number) }
 {
@@ -56,7 +56,7 @@ fn write_push_byte(out: &mut Vec<u8>, number: i8) -> Result<(), AllocError>
     write_s1(out, number)
 }
 
-/// Puts sipush behind the bytes.
+/// Appends sipush.
 fn write_push_short(out: &mut Vec<u8>, number: i16) -> Result<(), AllocError>
     ensures { OnOk result (out.new.items ≡ out.old.items ++ 17 ∷ s2 number) }
 {
@@ -64,7 +64,7 @@ fn write_push_short(out: &mut Vec<u8>, number: i16) -> Result<(), AllocError>
     write_s2(out, number)
 }
 
-/// Puts ldc behind the bytes, or ldc_w for a number above 255.
+/// Appends ldc, or ldc_w for an index above 255.
 fn write_short_load(out: &mut Vec<u8>, number: u16) -> Result<(), AllocError>
     ensures { OnOk result (out.new.items ≡ out.old.items ++ (if nat_le number 255 then 18 ∷ number ∷ [] else 19 ∷ u2 number)) }
 {
@@ -75,7 +75,7 @@ fn write_short_load(out: &mut Vec<u8>, number: u16) -> Result<(), AllocError>
     }
 }
 
-/// Puts ldc or ldc_w behind the bytes.
+/// Appends ldc or ldc_w.
 fn write_load(out: &mut Vec<u8>, width: ConstantWidth, number: u16) -> Result<(), AllocError>
     ensures { OnOk result (out.new.items ≡ out.old.items ++ constant_bytes width number) }
 {
@@ -85,7 +85,7 @@ fn write_load(out: &mut Vec<u8>, width: ConstantWidth, number: u16) -> Result<()
     }
 }
 
-/// Puts an instruction of a local behind the bytes, behind wide where the local's number is above 255.
+/// Appends a load, a store or ret. wide precedes it if the local variable's number is above 255.
 fn write_local(out: &mut Vec<u8>, code: u8, local: u16) -> Result<(), AllocError>
     ensures { OnOk result (out.new.items ≡ out.old.items ++ local_bytes code local) }
 {
@@ -96,7 +96,8 @@ fn write_local(out: &mut Vec<u8>, code: u8, local: u16) -> Result<(), AllocError
     write_numbered(out, code, local)
 }
 
-/// Puts iinc behind the bytes, behind wide where a byte isn't enough for the local's number or for the step.
+/// Appends iinc. wide precedes it if the local variable's number doesn't fit one unsigned byte, or the increment one
+/// signed byte.
 fn write_increment(out: &mut Vec<u8>, local: u16, by: i16) -> Result<(), AllocError>
     ensures { OnOk result (out.new.items ≡ out.old.items ++ increment_bytes local by) }
 {
@@ -109,7 +110,7 @@ fn write_increment(out: &mut Vec<u8>, local: u16, by: i16) -> Result<(), AllocEr
     write_s2(out, by)
 }
 
-/// The offset, if two bytes are enough for it.
+/// Returns the offset, if it fits two bytes.
 fn near(offset: i32) -> Option<i16>
     ensures { result ≡ (if is_between (neg_ℤ (pos (2 ^ 15))) (pos (2 ^ 15 - 1)) offset then Some offset else None) }
 {
@@ -120,7 +121,11 @@ fn near(offset: i32) -> Option<i16>
     }
 }
 
-/// Puts a branch with an offset of two bytes behind the bytes, if they are enough for it.
+/// Appends a branch with an offset of two bytes.
+///
+/// # Errors
+///
+/// Returns `BranchTooFar` if the offset doesn't fit, or `Memory` if memory ran out.
 fn write_near(out: &mut Vec<u8>, how: Branch, offset: i32) -> Result<(), AsmFault>
     ensures { Writes (not (is_between (neg_ℤ (pos (2 ^ 15))) (pos (2 ^ 15 - 1)) offset)) (branch_code how ∷ s2 offset) result out.old.items out.new.items }
 {
@@ -132,7 +137,7 @@ fn write_near(out: &mut Vec<u8>, how: Branch, offset: i32) -> Result<(), AsmFaul
     Ok(())
 }
 
-/// Puts a branch with an offset of four bytes behind the bytes.
+/// Appends a branch with an offset of four bytes.
 fn write_far(out: &mut Vec<u8>, how: Branch, offset: i32) -> Result<(), AllocError>
     ensures { OnOk result (out.new.items ≡ out.old.items ++ wide_branch_code how ∷ s4 offset) }
 {
@@ -140,7 +145,7 @@ fn write_far(out: &mut Vec<u8>, how: Branch, offset: i32) -> Result<(), AllocErr
     write_s4(out, offset)
 }
 
-/// The lowest byte of the number of units that the arguments of an interface's method have, with the object.
+/// Returns the number of units of the arguments of an interface's method with the object, modulo 256.
 fn interface_units(descriptor: &[u16]) -> u8
     ensures { result ≡ unwrap_or (interface_count (Some ([], descriptor.now))) 0 % 256 }
 {
@@ -150,8 +155,8 @@ fn interface_units(descriptor: &[u16]) -> u8
     }
 }
 
-/// Puts what stands behind the number of an invoke behind the bytes.
-fn write_behind_invoke(out: &mut Vec<u8>, how: Invoke, descriptor: &[u16]) -> Result<(), AllocError>
+/// Appends the bytes after the index of an invoke instruction.
+fn write_after_invoke(out: &mut Vec<u8>, how: Invoke, descriptor: &[u16]) -> Result<(), AllocError>
     ensures { OnOk result (out.new.items ≡ out.old.items ++ bytes_behind how descriptor.now) }
 {
     match how {
@@ -160,7 +165,7 @@ fn write_behind_invoke(out: &mut Vec<u8>, how: Invoke, descriptor: &[u16]) -> Re
     }
 }
 
-/// Puts an invoke behind the bytes.
+/// Appends an invoke instruction.
 fn write_invoke(
     out: &mut Vec<u8>,
     how: Invoke,
@@ -170,10 +175,10 @@ fn write_invoke(
     ensures { OnOk result (out.new.items ≡ out.old.items ++ (invoke_code how ∷ u2 number ++ bytes_behind how descriptor.now)) }
 {
     write_numbered(out, invoke_opcode(how), number)?;
-    write_behind_invoke(out, how, descriptor)
+    write_after_invoke(out, how, descriptor)
 }
 
-/// Puts multianewarray behind the bytes.
+/// Appends multianewarray.
 fn write_multi_new_array(out: &mut Vec<u8>, number: u16, count: u8) -> Result<(), AllocError>
     ensures { OnOk result (out.new.items ≡ out.old.items ++ (197 ∷ u2 number ++ count ∷ [])) }
 {
@@ -181,8 +186,12 @@ fn write_multi_new_array(out: &mut Vec<u8>, number: u16, count: u8) -> Result<()
     write_u1(out, count)
 }
 
-/// Puts an instruction behind the bytes that starts at byte `pc` and names the entry of this number, in code whose
-/// instructions start at these bytes, if its branch reaches its label.
+/// Appends an instruction that starts at byte `pc` and names the pool entry `number`. `starts` are the bytes at which
+/// the code's instructions start.
+///
+/// # Errors
+///
+/// Returns `BranchTooFar` if its branch can't reach its label, or `Memory` if memory ran out.
 #[tactic(auto, unfolding(assembly::specs::Bytes::operation_bytes, assembly::specs::Sizes::is_too_far))]
 pub(crate) fn write_operation(
     out: &mut Vec<u8>,

@@ -1,4 +1,4 @@
-//! How many bytes an instruction takes as it is spelled (JVMS 6.5).
+//! Computes the sizes of instructions in bytes (JVMS 6.5).
 
 ghost use Rattle.std.specs.Prelude.{◌≡◌, ◌+◌, ◌*◌, ◌≤◌, min, length, nat_le, if◌then◌else◌};
 ghost use Rattle.jvms_file.specs.Instructions.{pad_length as pads_at};
@@ -7,10 +7,10 @@ ghost use Rattle.assembly.specs.Sizes.{is_byte_step as steps_by_byte, invoke_siz
 use jasmin::source::{BranchWidth, ConstantWidth, LookupLines, Operation, TableLines};
 use jvms_file::insn::Invoke;
 
-/// No code has so many bytes (JVMS 4.7.3).
+/// One more than the most bytes of code (JVMS 4.7.3).
 const TOO_MANY: usize = 65536;
 
-/// How many bytes stand before the next multiple of 4.
+/// Returns the number of padding bytes between an opcode at byte `pc` and the next multiple of 4.
 pub(crate) fn pad_length(pc: usize) -> usize
     ensures exact { result ≡ pads_at pc }
     ensures few { result ≤ 3 }
@@ -18,21 +18,21 @@ pub(crate) fn pad_length(pc: usize) -> usize
     3 - pc % 4
 }
 
-/// Whether an `iinc` is written with a byte for the local and one for the step.
+/// Decides whether an `iinc` has one byte for the local variable and one for the increment.
 pub(crate) fn is_byte_step(local: u16, by: i16) -> bool
     ensures { result ≡ steps_by_byte local by }
 {
     local <= 255 && -128 <= by && by <= 127
 }
 
-/// A count, or `TOO_MANY` where it is more.
+/// Returns the count, or `TOO_MANY` if it is greater.
 fn capped(count: usize) -> usize
     ensures { result ≡ min count 65536 }
 {
     if count < TOO_MANY { count } else { TOO_MANY }
 }
 
-/// An `ldc` takes one byte for a number up to 255.
+/// Returns the size of an `ldc` or `ldc_w`. An index up to 255 has one byte.
 fn constant_size(number: u16) -> usize
     ensures exact { result ≡ (if nat_le number 255 then 2 else 3) }
     ensures few { result ≤ 3 }
@@ -40,7 +40,7 @@ fn constant_size(number: u16) -> usize
     if number <= 255 { 2 } else { 3 }
 }
 
-/// Above 255 a local's number takes two bytes, behind `wide`.
+/// Returns the size of a load, a store or `ret`. A local variable's number above 255 has two bytes, after `wide`.
 fn local_size(local: u16) -> usize
     ensures exact { result ≡ (if nat_le local 255 then 2 else 4) }
     ensures few { result ≤ 4 }
@@ -48,7 +48,7 @@ fn local_size(local: u16) -> usize
     if local <= 255 { 2 } else { 4 }
 }
 
-/// An `iinc` is written short or behind `wide`.
+/// Returns the size of an `iinc`, which may need `wide`.
 fn increment_size(local: u16, by: i16) -> usize
     ensures exact { result ≡ (if steps_by_byte local by then 3 else 6) }
     ensures few { result ≤ 6 }
@@ -56,7 +56,7 @@ fn increment_size(local: u16, by: i16) -> usize
     if is_byte_step(local, by) { 3 } else { 6 }
 }
 
-/// An `invokeinterface` has two bytes more than another invoke.
+/// Returns the size of an invoke instruction. An `invokeinterface` has two bytes more than any other.
 fn invoke_size(how: Invoke) -> usize
     ensures exact { result ≡ size_of_invoke how }
     ensures few { result ≤ 5 }
@@ -67,22 +67,24 @@ fn invoke_size(how: Invoke) -> usize
     }
 }
 
-/// Behind the pads of a tableswitch stand the default, low, high and the offsets.
+/// Returns the size of a tableswitch, or 65536 if it is greater. The default, low, high and the offsets follow its
+/// padding.
 fn table_size(pc: usize, lines: &TableLines) -> usize
     ensures { result ≡ min (1 + pads_at pc + 12 + 4 * length lines.now.labels) 65536 }
 {
     capped(1 + pad_length(pc) + 12 + 4 * capped(lines.labels.len()))
 }
 
-/// Behind the pads of a lookupswitch stand the default, the count and the pairs.
+/// Returns the size of a lookupswitch, or 65536 if it is greater. The default, the count and the pairs follow its
+/// padding.
 fn lookup_size(pc: usize, lines: &LookupLines) -> usize
     ensures { result ≡ min (1 + pads_at pc + 8 + 8 * length lines.now.matches) 65536 }
 {
     capped(1 + pad_length(pc) + 8 + 8 * capped(lines.matches.len()))
 }
 
-/// The bytes of an instruction that names the entry of this number and starts at byte `pc`, or 65536 where they are
-/// more.
+/// Returns the size of an instruction that names the pool entry `number` and starts at byte `pc`, or 65536 if it is
+/// greater.
 #[tactic(auto, unfolding(assembly::specs::Sizes::size))]
 pub(crate) fn capped_size(number: u16, pc: usize, operation: &Operation) -> usize
     ensures { result ≡ min (size_of number pc operation.now) 65536 }

@@ -1,4 +1,4 @@
-//! The bytes at which instructions start, in code of at least one byte and at most 65535 (JVMS 4.7.3).
+//! Computes the bytes at which instructions start, in code of 1 to 65535 bytes (JVMS 4.7.3).
 
 ghost use Rattle.std.specs.Prelude.{◌≡◌, ◌+◌, ◌≤◌, [], length, IfSome, IfOk, OnOk};
 ghost use Rattle.jasmin.specs.Denote.{operations};
@@ -7,18 +7,18 @@ ghost use Rattle.assembly.specs.Faults.{Answers};
 ghost use Rattle.code_bytes.specs.Starting.{end_within, some_starts, starts_onto, starts_within};
 ghost use Rattle.code_bytes.specs.Few.{AreFew};
 
-use crate::room::with_room;
+use crate::room::list_with_capacity;
 use crate::sizes::capped_size;
 use crate::steps::next_operation;
 use assembly::fault::AsmFault;
-use held::items::Items;
+use shared_data::items::Items;
 use jasmin::source::{CodeItem, Operation};
 use std::alloc::{AllocError, Global};
 
-/// The most bytes that code has.
+/// The most bytes of code.
 const MOST_BYTES: usize = 65535;
 
-/// The byte behind an instruction that starts at byte `pc`, if code may be so long.
+/// Returns the byte after an instruction that starts at byte `pc`, if code may be this long.
 fn end_of(number: u16, pc: usize, operation: &Operation) -> Option<usize>
     requires { pc ≤ 65535 }
     ensures exact { result ≡ end_within (pc + size_of number pc operation.now) }
@@ -28,7 +28,7 @@ fn end_of(number: u16, pc: usize, operation: &Operation) -> Option<usize>
     if end <= MOST_BYTES { Some(end) } else { None }
 }
 
-/// The starts of all instructions, if there are bytes.
+/// Returns the starts of all instructions, or `CodeLength` if there are no bytes.
 fn finished(starts: Items<u16>, pc: usize) -> Result<Items<u16>, AsmFault>
     ensures { result ≡ some_starts starts pc }
 {
@@ -39,7 +39,7 @@ fn finished(starts: Items<u16>, pc: usize) -> Result<Items<u16>, AsmFault>
     }
 }
 
-/// The starts of instructions, one after the other.
+/// Returns the starts of instructions in order, or `CodeLength` if there are no bytes or too many.
 fn collected_starts(
     alloc: Global,
     operands: &[u16],
@@ -47,7 +47,7 @@ fn collected_starts(
 ) -> Result<Items<u16>, AsmFault>
     ensures { Answers result (starts_onto [] 0 operands.now (operations items.now)) }
 {
-    let mut starts = with_room(alloc, operands.len())?;
+    let mut starts = list_with_capacity(alloc, operands.len())?;
     let mut pc = 0;
     let mut numbers = operands;
     let mut rest = items;
@@ -66,7 +66,11 @@ fn collected_starts(
     finished(starts, pc)
 }
 
-/// The bytes at which the instructions start that name the entries of these numbers. Two bytes are enough for each.
+/// Returns the bytes at which the instructions start that name these pool entries. Each start fits two bytes.
+///
+/// # Errors
+///
+/// Returns `CodeLength` if the code is empty or has more than 65535 bytes, or `Memory` if memory ran out.
 pub(crate) fn starts_of(
     alloc: Global,
     operands: &[u16],
@@ -81,11 +85,11 @@ pub(crate) fn starts_of(
     collected_starts(alloc, operands, items)
 }
 
-/// The same numbers with room for four bytes.
+/// Returns the same numbers as `u32`.
 pub(crate) fn widened(alloc: Global, starts: &[u16]) -> Result<Items<u32>, AllocError>
     ensures { IfOk result (λ w. w ≡ starts.now) }
 {
-    let mut wide = with_room(alloc, starts.len())?;
+    let mut wide = list_with_capacity(alloc, starts.len())?;
     for start in starts {
         wide.push(u32::from(*start))?;
     }

@@ -1,4 +1,4 @@
-//! The bytes of the instructions with many targets (JVMS 6.5 tableswitch, lookupswitch).
+//! Writes the bytes of switches (JVMS 6.5 `tableswitch`, `lookupswitch`).
 
 ghost use Rattle.std.specs.Prelude.{◌≡◌, ◌++◌, ◌∷◌, ◌≤◌, ◌-◌, ◌^◌, ◌+ℤ◌, ◌<ℤ◌, ◌≤ℤ◌, length, pos, neg_ℤ, OnOk};
 ghost use Rattle.std.specs.List.{flat_map};
@@ -10,7 +10,7 @@ use crate::numbers::{word_of, write_s4, write_u1};
 use crate::sizes::pad_length;
 use crate::targets::offset_of;
 use file_bytes::{write_length, write_u4};
-use held::shared::Text;
+use shared_data::shared::Text;
 use jasmin::source::{LookupLines, MatchLine, TableLines};
 use source_labels::Labels;
 use std::alloc::AllocError;
@@ -21,7 +21,7 @@ const TABLE: u8 = 170;
 /// The opcode of lookupswitch.
 const LOOKUP: u8 = 171;
 
-/// Puts zeros behind the bytes up to the next multiple of 4, from the byte behind an opcode at `pc` on.
+/// Appends zeros up to the next multiple of 4, from the byte after an opcode at byte `pc`.
 fn write_pads(out: &mut Vec<u8>, pc: u16) -> Result<(), AllocError>
     ensures { OnOk result (out.new.items ≡ out.old.items ++ pads_at pc) }
 {
@@ -31,7 +31,7 @@ fn write_pads(out: &mut Vec<u8>, pc: u16) -> Result<(), AllocError>
     Ok(())
 }
 
-/// Puts the opcode of a switch at `pc` and its pads behind the bytes.
+/// Appends the opcode of a switch at byte `pc`, and its padding.
 fn write_head(out: &mut Vec<u8>, code: u8, pc: u16) -> Result<(), AllocError>
     ensures { OnOk result (out.new.items ≡ out.old.items ++ code ∷ pads_at pc) }
 {
@@ -39,7 +39,7 @@ fn write_head(out: &mut Vec<u8>, code: u8, pc: u16) -> Result<(), AllocError>
     write_pads(out, pc)
 }
 
-/// Puts the offset of a label behind the bytes.
+/// Appends the offset of a label.
 fn write_offset(
     out: &mut Vec<u8>,
     labels: &Labels<'_>,
@@ -52,7 +52,7 @@ fn write_offset(
     write_s4(out, offset_of(labels, starts, pc, label))
 }
 
-/// Puts the offsets of labels behind the bytes.
+/// Appends the offsets of labels.
 fn write_offsets(
     out: &mut Vec<u8>,
     labels: &Labels<'_>,
@@ -68,7 +68,7 @@ fn write_offsets(
     Ok(())
 }
 
-/// The greatest value that a tableswitch has a label for.
+/// Returns the greatest value of a tableswitch.
 fn greatest(low: i32, count: usize) -> i64
     requires { count ≤ 65535 }
     ensures exact { result ≡ low +ℤ pos (count - 1) }
@@ -78,7 +78,7 @@ fn greatest(low: i32, count: usize) -> i64
     i64::from(low) + count.saturating_sub(1) as i64
 }
 
-/// Puts the least and the greatest value of a tableswitch behind the bytes.
+/// Appends the least and the greatest value of a tableswitch with `count` labels.
 fn write_bounds(out: &mut Vec<u8>, low: i32, count: usize) -> Result<(), AllocError>
     requires { count ≤ 65535 }
     ensures { OnOk result (out.new.items ≡ out.old.items ++ (s4 low ++ s4 (low +ℤ pos (count - 1)))) }
@@ -87,7 +87,7 @@ fn write_bounds(out: &mut Vec<u8>, low: i32, count: usize) -> Result<(), AllocEr
     write_u4(out, word_of(greatest(low, count)))
 }
 
-/// Puts the bounds of a tableswitch behind the bytes.
+/// Appends the least and the greatest value of a tableswitch.
 fn write_bounds_of(out: &mut Vec<u8>, lines: &TableLines) -> Result<(), AllocError>
     requires { length lines.now.labels ≤ 65535 }
     ensures { OnOk result (out.new.items ≡ out.old.items ++ (s4 lines.now.low ++ s4 (lines.now.low +ℤ pos (length lines.now.labels - 1)))) }
@@ -95,7 +95,7 @@ fn write_bounds_of(out: &mut Vec<u8>, lines: &TableLines) -> Result<(), AllocErr
     write_bounds(out, lines.low, lines.labels.len())
 }
 
-/// Puts a tableswitch behind the bytes.
+/// Appends a tableswitch.
 #[tactic(auto, unfolding(assembly::specs::Bytes::table_bytes))]
 pub(crate) fn write_table(
     out: &mut Vec<u8>,
@@ -113,7 +113,7 @@ pub(crate) fn write_table(
     write_offsets(out, labels, starts, pc, lines.labels.as_slice())
 }
 
-/// Puts the value and the offset of a pair behind the bytes.
+/// Appends the value and the offset of a pair.
 #[tactic(auto, unfolding(crate::specs::Writing::pair_bytes))]
 fn write_pair(
     out: &mut Vec<u8>,
@@ -128,7 +128,7 @@ fn write_pair(
     write_offset(out, labels, starts, pc, &pair.label)
 }
 
-/// Puts the values and offsets of pairs behind the bytes.
+/// Appends the values and offsets of pairs.
 fn write_pairs(
     out: &mut Vec<u8>,
     labels: &Labels<'_>,
@@ -144,7 +144,7 @@ fn write_pairs(
     Ok(())
 }
 
-/// Puts a lookupswitch behind the bytes.
+/// Appends a lookupswitch.
 #[tactic(auto, unfolding(assembly::specs::Bytes::lookup_bytes, crate::specs::Writing::pair_bytes))]
 pub(crate) fn write_lookup(
     out: &mut Vec<u8>,

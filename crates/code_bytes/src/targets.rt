@@ -1,14 +1,14 @@
-//! Where labels lead: to the place of an instruction, and so many bytes forward or back.
+//! Finds the place of a label's instruction, and the label's offset in bytes.
 
 ghost use Rattle.std.specs.Prelude.{◌≡◌, ◌≤◌, length, slice_get};
 ghost use Rattle.std.specs.Option.{unwrap_or};
 ghost use Rattle.jasmin.specs.Denote.{target, operations};
 ghost use Rattle.assembly.specs.Sizes.{offset};
 
-use held::shared::Text;
+use shared_data::shared::Text;
 use source_labels::Labels;
 
-/// The number of instructions before a label, 0 where it isn't defined.
+/// Returns the number of instructions before a label, or 0 if the label is undefined.
 #[tactic(auto, using(crate::proofs::Leading::target_within))]
 fn place_of(labels: &Labels<'_>, label: &Text) -> usize
     ensures exact { result ≡ target labels.now label.now }
@@ -17,7 +17,7 @@ fn place_of(labels: &Labels<'_>, label: &Text) -> usize
     labels.place(label.as_slice()).unwrap_or(0)
 }
 
-/// The place of the instruction that a label leads to. There are few: each has a byte at least.
+/// Returns the place of a label's instruction. It fits, as each of the instructions has at least one byte.
 pub(crate) fn target_of(labels: &Labels<'_>, label: &Text) -> u32
     requires { length (operations labels.now) ≤ 65535 }
     ensures { result ≡ target labels.now label.now }
@@ -25,14 +25,14 @@ pub(crate) fn target_of(labels: &Labels<'_>, label: &Text) -> u32
     place_of(labels, label) as u32
 }
 
-/// The byte at which the instruction at a place starts, 0 where there is none.
+/// Returns the byte at which the instruction of a place starts, or 0 if there is none.
 fn start_at(starts: &[u16], place: usize) -> u16
     ensures { result ≡ unwrap_or (slice_get starts.now place) 0 }
 {
     starts.get(place).copied().unwrap_or(0)
 }
 
-/// How far a label is from byte `pc`, in code whose instructions start at these bytes.
+/// Returns the offset of a label from byte `pc`. `starts` are the bytes at which the code's instructions start.
 pub(crate) fn offset_of(labels: &Labels<'_>, starts: &[u16], pc: u16, label: &Text) -> i32
     ensures { result ≡ offset starts.now labels.now pc label.now }
 {

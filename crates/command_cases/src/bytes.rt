@@ -1,9 +1,9 @@
-//! What sections say as bytes.
+//! Reads the contents of sections as bytes.
 
 use crate::fault::CaseFault;
 use std::alloc::Global;
 
-/// The number that a word spells.
+/// Returns the number that a word spells.
 pub(crate) fn number_of(word: &str) -> Result<usize, CaseFault> {
     match word.parse::<u32>() {
         Ok(number) => Ok(number as usize),
@@ -11,7 +11,7 @@ pub(crate) fn number_of(word: &str) -> Result<usize, CaseFault> {
     }
 }
 
-/// Puts a line behind the bytes; of a line `%N LINE`, N of them.
+/// Appends a line to bytes. For a line `%N LINE` it appends N copies of LINE.
 fn put_line(bytes: &mut Vec<u8>, line: &str) -> Result<(), CaseFault> {
     let (count, line) = match line.strip_prefix('%').and_then(|line| line.split_once(' ')) {
         Some((count, line)) => (number_of(count)?, line),
@@ -24,7 +24,7 @@ fn put_line(bytes: &mut Vec<u8>, line: &str) -> Result<(), CaseFault> {
     Ok(())
 }
 
-/// The bytes of lines, each with its line end.
+/// Returns the bytes of lines, each with its line end.
 pub(crate) fn lines_of(alloc: Global, lines: &str) -> Result<Vec<u8>, CaseFault> {
     let mut bytes = Vec::new(alloc);
     if !lines.is_empty() {
@@ -35,14 +35,14 @@ pub(crate) fn lines_of(alloc: Global, lines: &str) -> Result<Vec<u8>, CaseFault>
     Ok(bytes)
 }
 
-/// The bytes of lines, the last without its line end.
+/// Returns the bytes of lines, the last without its line end.
 pub(crate) fn open_lines_of(alloc: Global, lines: &str) -> Result<Vec<u8>, CaseFault> {
     let mut bytes = lines_of(alloc, lines)?;
     let _line_end = bytes.pop();
     Ok(bytes)
 }
 
-/// The value of a hexadecimal digit.
+/// Returns the value of a hexadecimal digit.
 fn digit_of(byte: u8) -> Result<u8, CaseFault> {
     match byte {
         b'0'..=b'9' => Ok(byte - b'0'),
@@ -51,7 +51,7 @@ fn digit_of(byte: u8) -> Result<u8, CaseFault> {
     }
 }
 
-/// The bytes that pairs of digits spell, with white space anywhere.
+/// Returns the bytes that pairs of digits spell. White space may be anywhere.
 pub(crate) fn hex_of(alloc: Global, text: &str) -> Result<Vec<u8>, CaseFault> {
     let mut bytes = Vec::new(alloc);
     let mut first = None;
@@ -73,7 +73,7 @@ pub(crate) fn hex_of(alloc: Global, text: &str) -> Result<Vec<u8>, CaseFault> {
     }
 }
 
-/// The bytes with others in place of so many at a place; what stands behind the end is none.
+/// Returns the bytes with `count` of them at a place replaced by others. Bytes after the end don't count.
 pub(crate) fn spliced(
     alloc: Global,
     bytes: &[u8],

@@ -1,4 +1,4 @@
-//! A command over a case's files, and over a reader and writers that can fail.
+//! Runs a command over a case's files, and over a reader and writers that can fail.
 
 ghost use Rattle.std.specs.Prelude.{◌≡◌, ◌<◌};
 
@@ -15,7 +15,8 @@ use std::sync::ledger::{Blank, Ledger};
 use std::thread::Threads;
 use trace::{Counted, Failures};
 
-/// How many bytes standard input gives, and how many standard output and standard error take, before they fail.
+/// The number of bytes that standard input returns, and that standard output and standard error accept, before they
+/// fail.
 #[derive(Clone, Copy)]
 pub(crate) struct Room {
     pub(crate) input: usize,
@@ -24,7 +25,7 @@ pub(crate) struct Room {
 }
 
 impl Room {
-    /// Room for whatever is read and written.
+    /// Room for everything that is read and written.
     pub(crate) const AMPLE: Room = Room {
         input: usize::MAX,
         output: usize::MAX,
@@ -40,7 +41,7 @@ pub(crate) struct Devices<'b> {
     pub(crate) room: Room,
 }
 
-/// A reader that gives `room` bytes, and then fails.
+/// A reader that returns `room` bytes, and then fails.
 #[derive(Drop)]
 struct Cut<'b> {
     bytes: &'b [u8],
@@ -59,7 +60,7 @@ impl Read for Cut<'_> {
     }
 }
 
-/// A writer that takes so many bytes, and then fails.
+/// A writer that accepts `room` bytes, and then fails.
 #[derive(Drop)]
 struct Short {
     bytes: Vec<u8>,
@@ -91,7 +92,7 @@ impl Write for Short {
     }
 }
 
-/// The words of a command, parted by spaces; `''` is the empty word.
+/// Returns the words of a command, which spaces separate. `''` is the empty word.
 fn words_of(alloc: Global, text: &str) -> Result<Vec<String>, AllocError> {
     let mut words = Vec::new(alloc);
     for word in text.split(' ') {
@@ -104,7 +105,7 @@ fn words_of(alloc: Global, text: &str) -> Result<Vec<String>, AllocError> {
     Ok(words)
 }
 
-/// What a command comes to, with the failures of its devices counted by these ledgers.
+/// Runs a command and returns its outcome. These ledgers count the failures of its devices.
 fn counted<
     R: AllocGlobal + Clock + Eprint + Threads + Wait + Sync,
     F: Files,

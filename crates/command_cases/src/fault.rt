@@ -1,11 +1,11 @@
-//! Why a case can't be walked.
+//! The reasons why a case can't be run.
 
 use commands::FileFault;
 use std::alloc::{AllocError, AllocFailed};
 use std::io;
 use thiserror::Error;
 
-/// Why a case can't be walked.
+/// A reason why a case can't be run.
 #[derive(Clone, Copy, Debug, PartialEq, Eq, Error)]
 pub(crate) enum CaseFault {
     #[error("the file has no cases")]

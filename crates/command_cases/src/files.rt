@@ -4,57 +4,58 @@ use crate::fault::CaseFault;
 use commands::{FileFault, Files};
 use std::alloc::Global;
 
-/// What a file of a case holds.
+/// The content of a file of a case.
 #[derive(Drop)]
 enum Content {
     Bytes(Vec<u8>),
-    /// It can neither be read nor be written, and why.
+    /// The fault with which every read and write of the file fails.
     Fault(FileFault),
 }
 
 /// A file of a case.
 #[derive(Drop)]
-struct HeldFile {
+struct CaseFile {
     name: String,
     content: Content,
 }
 
-/// The files of a case, the latest of each name. Others are read from the files beneath, where nothing is written.
+/// The files of a case, of which the latest with each name counts. Others are read from the files beneath, which are
+/// never written.
 #[derive(Drop)]
-pub(crate) struct HeldFiles<F> {
+pub(crate) struct CaseFiles<F> {
     alloc: Global,
-    files: Vec<HeldFile>,
+    files: Vec<CaseFile>,
     beneath: F,
 }
 
-impl<F: Files + Drop> HeldFiles<F> {
-    /// No files but those beneath.
+impl<F: Files + Drop> CaseFiles<F> {
+    /// Returns no files besides those beneath.
     pub(crate) fn new(alloc: Global, beneath: F) -> Self {
-        HeldFiles {
+        CaseFiles {
             alloc,
             files: Vec::new(alloc),
             beneath,
         }
     }
 
-    /// Puts a file in front of all others of its name.
+    /// Adds a file, which hides all others with its name.
     fn put_content(&mut self, name: &str, content: Content) -> Result<(), FileFault> {
         let name = String::from_str(self.alloc, name)?;
-        self.files.push(HeldFile { name, content })?;
+        self.files.push(CaseFile { name, content })?;
         Ok(())
     }
 
-    /// Puts a file of these bytes in front of all others of its name.
+    /// Adds a file of these bytes, which hides all others with its name.
     pub(crate) fn put(&mut self, name: &str, bytes: Vec<u8>) -> Result<(), FileFault> {
         self.put_content(name, Content::Bytes(bytes))
     }
 
-    /// Has every reading and writing of a file fail.
+    /// Makes every read and write of a file fail.
     pub(crate) fn put_fault(&mut self, name: &str, fault: FileFault) -> Result<(), FileFault> {
         self.put_content(name, Content::Fault(fault))
     }
 
-    /// What the latest file of a name holds.
+    /// Returns the content of the latest file with a name.
     fn content(&self, name: &str) -> Option<&Content> {
         let mut found = None;
         for file in self.files.as_slice() {
@@ -66,7 +67,7 @@ impl<F: Files + Drop> HeldFiles<F> {
     }
 }
 
-impl<F: Files + Drop> Files for HeldFiles<F> {
+impl<F: Files + Drop> Files for CaseFiles<F> {
     fn read(&mut self, name: &str) -> Result<Vec<u8>, FileFault> {
         match self.content(name) {
             Some(Content::Bytes(bytes)) => Ok(bytes.as_slice().to_vec(self.alloc)?),
@@ -84,7 +85,7 @@ impl<F: Files + Drop> Files for HeldFiles<F> {
     }
 }
 
-/// The text of a file.
+/// Returns the text of a file.
 pub(crate) fn read_text<F: Files>(files: &mut F, name: &str) -> Result<String, CaseFault> {
     match String::from_utf8(files.read(name)?) {
         Ok(text) => Ok(text),

@@ -1,44 +1,44 @@
-//! Tests of all commands, as data: each word names a file of cases, which says what files there are, which commands are
-//! given and what each has to come to. A line tells of each command that comes to something else, and the last line how
-//! many came to what is wanted.
+//! Tests of all commands, as data. Each argument names a file of cases. A case has files, commands and the wanted
+//! outcome of each command. A line reports each command with another outcome, and the last line has the number of
+//! commands with the wanted one.
 //!
-//! A case is a list of sections, and these are made in order:
+//! A case is a list of sections, which are processed in order:
 //!
-//! | Section | What it says |
+//! | Section | Meaning |
 //! |---|---|
-//! | `text F` | the file F holds these lines; of a line `%N LINE` there are N |
-//! | `open F` | the same, but the last line has no line end |
-//! | `hex F` | the file F holds these bytes, in hexadecimal digits |
-//! | `splice F B N M` | F holds the bytes of the file B, but these in place of M at place N |
+//! | `text F` | the file F has these lines, and N copies of LINE for a line `%N LINE` |
+//! | `open F` | as `text F`, but the last line has no line end |
+//! | `hex F` | the file F has these bytes, in hexadecimal digits |
+//! | `splice F B N M` | F has the bytes of the file B, but these in place of M at place N |
 //! | `fault F NAME` | F can't be read or written: File, TooLarge or Memory |
 //! | `input` | these lines are the standard input of the next command, which is empty otherwise |
-//! | `input open`, `input hex` | the same, but the last line has no line end, or the bytes are in hexadecimal digits |
-//! | `input-room N` | of the next command, standard input gives N bytes and then fails |
-//! | `room N`, `error-room N` | of the next command, standard output or standard error takes N bytes and then fails |
-//! | `command WORDS` | a command is given; `''` is the empty word |
-//! | `short WORDS` | the same; and also with room for each smaller number of bytes on either output device |
-//! | `cut WORDS` | as `short`; and also with standard input that fails after each number of bytes, all of them too |
+//! | `input open`, `input hex` | as `input`, but without the last line end, or in hexadecimal digits |
+//! | `input-room N` | standard input of the next command returns N bytes and then fails |
+//! | `room N`, `error-room N` | standard output or standard error of the next command accepts N bytes and then fails |
+//! | `command WORDS` | a command with these words, of which `''` is the empty one |
+//! | `short WORDS` | as `command`, and also with room for each smaller number of bytes on either output device |
+//! | `cut WORDS` | as `short`, and also with standard input that fails after each number of bytes, even all |
 //!
-//! What a command has to come to stands behind it. Without such a section it writes nothing, with the status 0.
+//! The wanted outcome of a command follows it. Without such a section it writes nothing, with the status 0.
 //!
-//! A script of the debugger is given by `line` sections. Where standard input fails, a `cut` command has to write the
-//! answers to the whole lines before, and to report S01. Where standard output fails, a command with an input has to
-//! report S02, and any other P05.
+//! `line` sections give a script of the debugger. If standard input fails, a `cut` command must write the answers to
+//! the whole lines before, and report S01. If standard output fails, a command with an input must report S02, and any
+//! other P05.
 //!
-//! | Section | What it says |
+//! | Section | Meaning |
 //! |---|---|
 //! | `status N` | its exit status |
 //! | `output`, `errors` | these lines are written to standard output, or to standard error |
-//! | `output open`, `errors open` | the same, but the last line has no line end |
+//! | `output open`, `errors open` | as `output` and `errors`, but the last line has no line end |
 //! | `output hex`, `errors hex` | these bytes are written, in hexadecimal digits |
 //! | `line LINE` | this is the next line of standard input, and the section's lines, maybe none, are the answer to it |
 //! | `prints LINE` | this line is written to standard output, and nothing else, with the status 0 |
 //! | `ends LINE` | this line is written to standard error, with the status 1 |
 //! | `refused LINE` | `jvmx: LINE` is written to standard error, and nothing else, with the status 2 |
-//! | `failed LINE` | the same, with the status 3 |
+//! | `failed LINE` | as `refused LINE`, with the status 3 |
 //! | `like WORDS` | the outcome of another command with the same standard input |
-//! | `written F` | then the file F holds these bytes, in hexadecimal digits |
-//! | `same F B` | then the file F holds what the file B holds |
+//! | `written F` | then the file F has these bytes, in hexadecimal digits |
+//! | `same F B` | then the file F has the bytes of the file B |
 //!
 //! A file that no section names is one of the system.
 #![tactic(auto)]
@@ -62,7 +62,7 @@ use std::sync::Wait;
 use std::thread::Threads;
 use std::{env, io};
 
-/// Walks a case, and tells of it where it can't be read.
+/// Runs a case.
 fn walk<R: AllocGlobal + Clock + Eprint + Threads + Wait + Sync>(
     host: &HostRuntime,
     rt: &R,
@@ -76,7 +76,7 @@ fn walk<R: AllocGlobal + Clock + Eprint + Threads + Wait + Sync>(
     stage.finish()
 }
 
-/// Walks all cases of a file.
+/// Runs all cases of a file.
 fn walk_file<R: AllocGlobal + Clock + Eprint + Threads + Wait + Sync>(
     host: &HostRuntime,
     rt: &R,
@@ -97,7 +97,7 @@ fn walk_file<R: AllocGlobal + Clock + Eprint + Threads + Wait + Sync>(
     Ok(())
 }
 
-/// Walks the files that the words name.
+/// Runs the cases of the files that the arguments name.
 fn walk_all<R: AllocGlobal + Clock + Eprint + Threads + Wait + Sync>(
     host: &HostRuntime,
     rt: &R,
@@ -112,7 +112,7 @@ fn walk_all<R: AllocGlobal + Clock + Eprint + Threads + Wait + Sync>(
     Ok(())
 }
 
-/// Prints what differs, and how many commands don't.
+/// Prints the differences, and the number of commands with the wanted outcome.
 fn told(rt: &HostRuntime, tally: &Tally) -> io::Result<()> {
     let Tally {
         alike,

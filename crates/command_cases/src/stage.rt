@@ -1,9 +1,9 @@
-//! Runs a case: it has files, the last command, its input, and what that command is to write.
+//! Runs a case: keeps its files, the last command, its input, and the outcome that is wanted.
 
 use crate::bytes::{hex_of, lines_of, number_of, open_lines_of, spliced};
 use crate::devices::{Devices, Room, outcome_of};
 use crate::fault::CaseFault;
-use crate::files::HeldFiles;
+use crate::files::CaseFiles;
 use crate::wanted::{Failure, Outcome, bytes_of};
 use cases::Section;
 use commands::{FileFault, Files};
@@ -13,7 +13,7 @@ use std::rt::Clock;
 use std::sync::Wait;
 use std::thread::Threads;
 
-/// How many commands came to what is wanted and how many didn't, with a line for each of these.
+/// The number of commands with the wanted outcome, the number of differences, and a line for each difference.
 #[derive(Drop)]
 pub(crate) struct Tally {
     pub(crate) alike: u64,
@@ -30,18 +30,18 @@ impl Tally {
         }
     }
 
-    /// Counts something that is as it is wanted.
+    /// Counts a wanted outcome.
     fn count(&mut self) {
         self.alike = self.alike.saturating_add(1);
     }
 
-    /// Counts a difference, and puts its line behind the others.
+    /// Counts a difference, and appends its line.
     fn differ(&mut self, line: &str) -> Result<(), AllocError> {
         self.differences = self.differences.saturating_add(1);
         self.lines.push_str(line)
     }
 
-    /// Tells that a case, or a file of cases, can't be walked.
+    /// Reports that a case, or a file of cases, can't be run.
     pub(crate) fn unreadable(
         &mut self,
         alloc: Global,
@@ -53,18 +53,18 @@ impl Tally {
     }
 }
 
-/// How a command is given.
+/// The ways of running a command.
 #[derive(Clone, Copy)]
 enum Manner {
-    /// Once.
+    /// A single run.
     Once,
-    /// Also with output devices that fail early.
+    /// A run, and runs with output devices that fail early.
     Short,
-    /// Also with devices that fail early, standard input among them.
+    /// A run, and runs with devices that fail early, including standard input.
     Cut,
 }
 
-/// A command that was given.
+/// A command to run.
 #[derive(Clone, Copy)]
 struct Given<'c> {
     words: &'c str,
@@ -72,23 +72,23 @@ struct Given<'c> {
     manner: Manner,
 }
 
-/// Where a line of the input ends, and where the answer to it ends in the output.
+/// The end of a line in the input, and the end of its answer in the output.
 #[derive(Clone, Copy)]
 struct Answered {
     input: usize,
     output: usize,
 }
 
-/// A case that is walked.
+/// A case that is being run.
 #[derive(Drop)]
 pub(crate) struct Stage<'c, 't, R, F> {
     rt: &'t R,
     alloc: Global,
     name: &'c str,
-    files: HeldFiles<F>,
-    /// The room that the next command has.
+    files: CaseFiles<F>,
+    /// The room of the next command's devices.
     room: Room,
-    /// The standard input of the next command, or of the one that was given last.
+    /// The standard input of the next command, or of the last one.
     input: Vec<u8>,
     given: Option<Given<'c>>,
     wanted: Outcome,
@@ -103,14 +103,14 @@ impl<'c, 't, R: AllocGlobal + Clock + Eprint + Threads + Wait + Sync, F: Files +
     R,
     F,
 > {
-    /// A case of which no section was read, over files that are there.
+    /// Returns a case before its first section, over existing files.
     pub(crate) fn new(rt: &'t R, name: &'c str, beneath: F, tally: &'t mut Tally) -> Self {
         let alloc = rt.alloc();
         Stage {
             rt,
             alloc,
             name,
-            files: HeldFiles::new(alloc, beneath),
+            files: CaseFiles::new(alloc, beneath),
             room: Room::AMPLE,
             input: Vec::new(alloc),
             given: None,
@@ -120,7 +120,7 @@ impl<'c, 't, R: AllocGlobal + Clock + Eprint + Threads + Wait + Sync, F: Files +
         }
     }
 
-    /// Takes the next section.
+    /// Processes the next section.
     pub(crate) fn take(&mut self, section: &Section<'c>) -> Result<(), CaseFault> {
         if self.take_wanted(section)? {
             return Ok(());
@@ -141,7 +141,7 @@ impl<'c, 't, R: AllocGlobal + Clock + Eprint + Threads + Wait + Sync, F: Files +
         Ok(())
     }
 
-    /// Takes what a section says of the command that was given last. Returns whether it says anything of it.
+    /// Processes a section about the last command. Returns whether the section is one.
     fn take_wanted(&mut self, section: &Section<'c>) -> Result<bool, CaseFault> {
         match section.kind {
             "like" => self.wanted = self.outcome(section.words, Room::AMPLE)?,
@@ -151,7 +151,7 @@ impl<'c, 't, R: AllocGlobal + Clock + Eprint + Threads + Wait + Sync, F: Files +
         Ok(true)
     }
 
-    /// Takes a line of the input, and the answer to it.
+    /// Adds a line of the input, and the answer to it.
     fn take_line(&mut self, section: &Section<'c>) -> Result<(), CaseFault> {
         let answer = lines_of(self.alloc, section.lines)?;
         self.input.extend_from_slice(section.words.as_bytes())?;
@@ -164,7 +164,7 @@ impl<'c, 't, R: AllocGlobal + Clock + Eprint + Threads + Wait + Sync, F: Files +
         Ok(())
     }
 
-    /// A command is given.
+    /// Keeps a command to run.
     fn give(&mut self, words: &'c str, manner: Manner) {
         self.given = Some(Given {
             words,
@@ -183,7 +183,7 @@ impl<'c, 't, R: AllocGlobal + Clock + Eprint + Threads + Wait + Sync, F: Files +
         outcome_of(self.rt, words, &mut self.files, devices)
     }
 
-    /// Takes the section of a file.
+    /// Processes the section of a file.
     fn take_file(&mut self, section: &Section<'c>) -> Result<(), CaseFault> {
         let Section { kind, words, lines } = *section;
         match kind {
@@ -197,7 +197,7 @@ impl<'c, 't, R: AllocGlobal + Clock + Eprint + Threads + Wait + Sync, F: Files +
         Ok(())
     }
 
-    /// Takes a file of the bytes of another, some of them replaced.
+    /// Adds a file with the bytes of another one, some of them replaced.
     fn splice(&mut self, words: &str, lines: &str) -> Result<(), CaseFault> {
         let mut words = words.split(' ');
         let (Some(name), Some(base), Some(place), Some(count)) = (
@@ -221,7 +221,7 @@ impl<'c, 't, R: AllocGlobal + Clock + Eprint + Threads + Wait + Sync, F: Files +
         Ok(())
     }
 
-    /// Takes a file that fails.
+    /// Adds a file that fails.
     fn fault(&mut self, words: &str) -> Result<(), CaseFault> {
         let Some((name, fault)) = words.split_once(' ') else {
             return Err(CaseFault::Words);
@@ -236,7 +236,7 @@ impl<'c, 't, R: AllocGlobal + Clock + Eprint + Threads + Wait + Sync, F: Files +
         Ok(())
     }
 
-    /// Compares what a file holds with these bytes.
+    /// Compares the content of a file with these bytes.
     fn compare_file(&mut self, name: &str, wanted: Vec<u8>) -> Result<(), CaseFault> {
         let held = self.files.read(name)?;
         if held.as_slice() != wanted.as_slice() {
@@ -247,7 +247,7 @@ impl<'c, 't, R: AllocGlobal + Clock + Eprint + Threads + Wait + Sync, F: Files +
         Ok(())
     }
 
-    /// Compares what two files hold.
+    /// Compares the contents of two files.
     fn compare_files(&mut self, words: &str) -> Result<(), CaseFault> {
         let Some((name, other)) = words.split_once(' ') else {
             return Err(CaseFault::Words);
@@ -256,7 +256,7 @@ impl<'c, 't, R: AllocGlobal + Clock + Eprint + Threads + Wait + Sync, F: Files +
         self.compare_file(name, wanted)
     }
 
-    /// Runs the command that was given last, if one was, and compares what it came to with what is wanted.
+    /// Runs the last command, if there is one, and compares its outcome with the wanted one.
     pub(crate) fn finish(&mut self) -> Result<(), CaseFault> {
         let Some(given) = self.given.take() else {
             return Ok(());
@@ -281,7 +281,7 @@ impl<'c, 't, R: AllocGlobal + Clock + Eprint + Threads + Wait + Sync, F: Files +
         }
     }
 
-    /// Compares the outcomes of a command where an output device fails early.
+    /// Compares the outcomes of a command when an output device fails early.
     fn shorten(&mut self, words: &str, wanted: &Outcome) -> Result<(), CaseFault> {
         for output in 0..wanted.output.len() {
             let wanted = wanted.failed(self.alloc, output, self.output_failure())?;
@@ -302,7 +302,7 @@ impl<'c, 't, R: AllocGlobal + Clock + Eprint + Threads + Wait + Sync, F: Files +
         Ok(())
     }
 
-    /// Returns the failure of a command whose standard output fails. Only a script has an input.
+    /// Returns the failure of a command when its standard output fails. Only a script has an input.
     fn output_failure(&self) -> Failure {
         if self.input.is_empty() {
             Failure::Output
@@ -311,7 +311,7 @@ impl<'c, 't, R: AllocGlobal + Clock + Eprint + Threads + Wait + Sync, F: Files +
         }
     }
 
-    /// Compares the outcomes of a command where standard input fails after each number of bytes.
+    /// Compares the outcomes of a command when standard input fails after each number of bytes.
     fn cut(&mut self, words: &str, wanted: &Outcome) -> Result<(), CaseFault> {
         for input in 0..=self.input.len() {
             let wanted = wanted.failed(
@@ -339,7 +339,7 @@ impl<'c, 't, R: AllocGlobal + Clock + Eprint + Threads + Wait + Sync, F: Files +
         output
     }
 
-    /// Compares what a command comes to with what is wanted.
+    /// Runs a command and compares its outcome with the wanted one.
     fn compare(&mut self, words: &str, room: Room, wanted: &Outcome) -> Result<(), CaseFault> {
         let given = self.outcome(words, room)?;
         if given.is(wanted) {

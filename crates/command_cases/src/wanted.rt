@@ -1,4 +1,4 @@
-//! What a command comes to, or has to.
+//! The outcome of a command, or the wanted one.
 
 use crate::bytes::{hex_of, lines_of, open_lines_of};
 use crate::fault::CaseFault;
@@ -6,29 +6,29 @@ use cases::Section;
 use std::alloc::{AllocError, Global};
 use std::fmt;
 
-/// What a command comes to.
+/// The outcome of a command.
 #[derive(Drop)]
 pub(crate) struct Outcome {
     pub(crate) status: u8,
-    /// What is written to standard output.
+    /// The bytes that are written to standard output.
     pub(crate) output: Vec<u8>,
-    /// What is written to standard error.
+    /// The bytes that are written to standard error.
     pub(crate) errors: Vec<u8>,
 }
 
 /// A standard device that fails.
 #[derive(Clone, Copy)]
 pub(crate) enum Failure {
-    /// Standard input, of a script.
+    /// Standard input, for a script.
     ScriptInput,
-    /// Standard output, of the answers to a script.
+    /// Standard output, for the answers to a script.
     ScriptOutput,
-    /// Standard output, of any other command.
+    /// Standard output, for any other command.
     Output,
 }
 
 impl Failure {
-    /// Returns the line that reports it.
+    /// Returns the line that reports the failure.
     fn line(self) -> &'static str {
         match self {
             Failure::ScriptInput => "jvmx: S01 Read\n",
@@ -38,7 +38,7 @@ impl Failure {
     }
 }
 
-/// Bytes as they are shown where they differ.
+/// Returns bytes as text, for the report of a difference.
 fn shown(bytes: &[u8]) -> &str {
     std::str::from_utf8(bytes).unwrap_or("no text")
 }
@@ -52,7 +52,7 @@ impl fmt::Display for Outcome {
     }
 }
 
-/// Returns the bytes that a section says: lines, lines without the last line end, or bytes.
+/// Returns the bytes of a section: lines, lines without the last line end, or bytes in hexadecimal digits.
 pub(crate) fn bytes_of(alloc: Global, section: &Section<'_>) -> Result<Vec<u8>, CaseFault> {
     match section.words {
         "" => lines_of(alloc, section.lines),
@@ -63,7 +63,7 @@ pub(crate) fn bytes_of(alloc: Global, section: &Section<'_>) -> Result<Vec<u8>, 
 }
 
 impl Outcome {
-    /// Nothing is written, and the status is 0.
+    /// Returns the outcome that nothing is written, with the status 0.
     pub(crate) fn nothing(alloc: Global) -> Self {
         Outcome {
             status: 0,
@@ -72,7 +72,7 @@ impl Outcome {
         }
     }
 
-    /// Returns the outcome where a device fails after `count` bytes of output.
+    /// Returns the outcome when a device fails after `count` bytes of output.
     pub(crate) fn failed(
         &self,
         alloc: Global,
@@ -86,7 +86,7 @@ impl Outcome {
         })
     }
 
-    /// Where standard error takes so many bytes and then fails.
+    /// Returns the outcome when standard error accepts `room` bytes and then fails.
     pub(crate) fn without_errors(&self, alloc: Global, room: usize) -> Result<Self, AllocError> {
         Ok(Outcome {
             status: 3,
@@ -95,21 +95,21 @@ impl Outcome {
         })
     }
 
-    /// Whether both are the same.
+    /// Decides whether two outcomes are equal.
     pub(crate) fn is(&self, other: &Outcome) -> bool {
         self.status == other.status
             && self.output.as_slice() == other.output.as_slice()
             && self.errors.as_slice() == other.errors.as_slice()
     }
 
-    /// Has the line of a refusal be written.
+    /// Sets the outcome to a refusal with this line.
     fn refuse(&mut self, alloc: Global, status: u8, line: &str) -> Result<(), CaseFault> {
         self.status = status;
         self.errors = format!(in alloc; "jvmx: {line}\n")?.into_bytes();
         Ok(())
     }
 
-    /// Takes what a section asks for; whether it asks for anything of this kind.
+    /// Sets what a section wants. Returns whether the section is of this kind.
     pub(crate) fn take(&mut self, alloc: Global, section: &Section<'_>) -> Result<bool, CaseFault> {
         let words = section.words;
         match section.kind {

@@ -1,4 +1,4 @@
-//! The words of `campaign`.
+//! Reads the words of `campaign`.
 
 use crate::entry::natural_of;
 use crate::fault::WordsFault;
@@ -8,37 +8,37 @@ use clap::ArgMatches;
 use std::alloc::Global;
 use turn_limit::TurnLimit;
 
-/// The state of the generator of random words where `--seed` doesn't say it.
+/// The state of the generator of random words without `--seed`.
 const DEFAULT_SEED: u64 = 0;
 
-/// The number of workers where `--workers` doesn't say it.
+/// The number of workers without `--workers`.
 const DEFAULT_WORKERS: u64 = 4;
 
 /// The words of `campaign`.
 #[derive(Debug, Drop)]
 pub struct CampaignWords<'a> {
     pub program: ProgramWords<'a>,
-    /// The file that says which methods are to be atomic.
+    /// The file with the specification of which methods are to be atomic.
     pub spec: &'a str,
-    /// The number of jobs. It may be more than a campaign has.
+    /// The number of jobs. It may exceed the limit of a campaign.
     pub jobs: u64,
-    /// The number of the first job. No job's number is past 18,446,744,073,709,551,615.
+    /// The number of the first job. No job's number exceeds 18,446,744,073,709,551,615.
     pub first: u64,
     /// The state of the generator of random words.
     pub seed: u64,
-    /// The number of workers. It may be more than a campaign has.
+    /// The number of workers. It may exceed the limit of a campaign.
     pub workers: u64,
-    /// How many turns each job takes at most.
+    /// The maximum number of turns of each job.
     pub most: TurnLimit,
-    /// The word that says how many turns, if one does.
+    /// The word for the maximum number of turns, if there is one.
     pub most_text: Option<&'a str>,
-    /// Whether the campaign stops at the first job with a cycle.
+    /// `true` if the campaign stops at the first job with a cycle.
     pub stop: bool,
-    /// Whether a summary is printed where nobody sits at a terminal.
+    /// `true` if a summary is printed even if standard error is no terminal.
     pub summary: bool,
 }
 
-/// The number of the first job, if the numbers of all jobs are in range.
+/// Returns the number of the first job. Refuses the words if a job's number is out of range.
 fn first_of(matches: &ArgMatches<'_>, jobs: u64) -> Result<u64, WordsFault> {
     let first = number_or(matches, FIRST, 0)?;
     match first.checked_add(jobs) {
@@ -47,7 +47,7 @@ fn first_of(matches: &ArgMatches<'_>, jobs: u64) -> Result<u64, WordsFault> {
     }
 }
 
-/// The words of `campaign`.
+/// Returns the words of `campaign`.
 pub(crate) fn campaign_words<'a>(
     alloc: Global,
     matches: &ArgMatches<'a>,

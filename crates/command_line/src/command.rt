@@ -1,4 +1,4 @@
-//! Which command the words ask for.
+//! Reads the command of a line of words.
 
 use crate::campaign::{CampaignWords, campaign_words};
 use crate::fault::WordsFault;
@@ -19,40 +19,40 @@ use jvms_machine::machine::Entry;
 use std::alloc::Global;
 use turn_limit::TurnLimit;
 
-/// Which thread takes each turn where `--sched` doesn't say it.
+/// The schedule without `--sched`.
 const DEFAULT_SCHEDULE: &str = "rr:1";
 
-/// What a line of words asks for.
+/// The command of a line of words.
 #[derive(Debug, Drop)]
 pub enum Command<'a> {
-    /// To run a static method and print what it gives.
+    /// `eval`: runs a static method and prints its result.
     Eval(ProgramWords<'a>),
-    /// To run a program and print what it writes.
+    /// `run`: runs a program and prints its output.
     Run(RunWords<'a>),
-    /// To run a program and print the trace of its threads, or its choices. Its words name no specification, and ask for no
-    /// explanation.
+    /// `trace`: runs a program and prints the trace of its threads, or its choices. Its words name no specification,
+    /// and ask for no explanation.
     Trace(RunWords<'a>),
-    /// To debug a run of a program. Its words are those of `trace`.
+    /// `debug`: debugs a run of a program. Its words are those of `trace`.
     Debug(RunWords<'a>),
-    /// To run a program under many schedules.
+    /// `campaign`: runs a program under many schedules.
     Campaign(CampaignWords<'a>),
-    /// To tell whether a trace is atomic.
+    /// `check`: decides whether a trace is atomic.
     Check(CheckWords<'a>),
-    /// To print a picture of a trace.
+    /// `picture`: prints a picture of a trace.
     Picture(PictureWords<'a>),
-    /// To write the class file of a source.
+    /// `asm`: writes the class file of a source.
     Asm(AsmWords<'a>),
-    /// To print the source that the class of a FILE is listed as.
+    /// `list`: prints the listing of the class of a FILE.
     List(&'a str),
-    /// To print the table that the tables of FILEs make together.
+    /// `tables`: prints the table that joins the tables of FILEs.
     Tables(TablesWords<'a>),
-    /// To print what class files use that isn't there.
+    /// `needs`: prints what class files use and lack.
     Needs(NeedsWords<'a>),
-    /// To print how the program, or one command, is used, or what a refusal's code means.
+    /// A help text: how the program or one command is used, or the meaning of a refusal's code.
     Help(&'static str),
-    /// To print why words are refused.
+    /// A text that explains why words are refused.
     Explain(String),
-    /// To print which program this is.
+    /// The version of the program.
     Version,
 }
 
@@ -60,39 +60,39 @@ pub enum Command<'a> {
 #[derive(Debug, Drop)]
 pub struct RunWords<'a> {
     pub program: ProgramWords<'a>,
-    /// Which thread takes each turn, as the words have it. It may be no schedule.
+    /// The schedule, as spelled in the words. It may be no schedule.
     pub schedule: &'a str,
-    /// How many turns are taken at most.
+    /// The maximum number of turns.
     pub most: TurnLimit,
-    /// The file that says which methods are to be atomic, if one does.
+    /// The file with the specification of which methods are to be atomic, if there is one.
     pub spec: Option<&'a str>,
-    /// Whether the run is explained.
+    /// `true` if the run is explained.
     pub explains: bool,
-    /// Whether the choices are printed, in place of the trace.
+    /// `true` if the choices are printed instead of the trace.
     pub choices: bool,
 }
 
 /// The words of `check`.
 #[derive(Debug, Drop)]
 pub struct CheckWords<'a> {
-    /// The file that says which methods are to be atomic.
+    /// The file with the specification of which methods are to be atomic.
     pub spec: &'a str,
     /// The file of the trace.
     pub trace: &'a str,
-    /// Whether the events of an atomic trace are printed in a serial order.
+    /// `true` if the events of an atomic trace are printed in a serial order.
     pub serial: bool,
-    /// Whether a cycle is explained.
+    /// `true` if a cycle is explained.
     pub explains: bool,
 }
 
 /// The words of `picture`.
 #[derive(Debug, Drop)]
 pub struct PictureWords<'a> {
-    /// The file that says which methods are to be atomic.
+    /// The file with the specification of which methods are to be atomic.
     pub spec: &'a str,
     /// The file of the trace.
     pub trace: &'a str,
-    /// Whether the picture is a graph of transactions in DOT. Else it is SVG.
+    /// `true` if the picture is a graph of transactions in DOT. Else it is SVG.
     pub is_dot: bool,
 }
 
@@ -108,20 +108,20 @@ pub struct AsmWords<'a> {
 /// The words of `tables`.
 #[derive(Debug, Drop)]
 pub struct TablesWords<'a> {
-    /// The texts of tables, at least one.
+    /// The files of tables, at least one.
     pub files: Vec<&'a str>,
 }
 
 /// The words of `needs`.
 #[derive(Debug, Drop)]
 pub struct NeedsWords<'a> {
-    /// The file that says which methods are to be atomic, if one does.
+    /// The file with the specification of which methods are to be atomic, if there is one.
     pub spec: Option<&'a str>,
     /// The class files and sources. No entry is named.
     pub names: ProgramNames<'a>,
 }
 
-/// Returns the command `eval`. Its entry is no main class.
+/// Returns the command `eval`. Refuses a main class as its entry.
 fn eval_command<'a>(alloc: Global, matches: &ArgMatches<'a>) -> Result<Command<'a>, WordsFault> {
     let words = program_words(alloc, matches)?;
     match words.entry {
@@ -130,7 +130,7 @@ fn eval_command<'a>(alloc: Global, matches: &ArgMatches<'a>) -> Result<Command<'
     }
 }
 
-/// Returns the words that the commands that run a program have in common.
+/// Returns the words that are common to the commands that run a program.
 fn run_words<'a>(alloc: Global, matches: &ArgMatches<'a>) -> Result<RunWords<'a>, WordsFault> {
     Ok(RunWords {
         program: program_words(alloc, matches)?,
@@ -176,7 +176,7 @@ fn picture_command<'a>(matches: &ArgMatches<'a>) -> Result<Command<'a>, WordsFau
     }))
 }
 
-/// Returns the command `asm`. Its files have different names, so that no source is replaced by its class.
+/// Returns the command `asm`. Refuses equal names of its files, so that the class doesn't replace the source.
 fn asm_command<'a>(matches: &ArgMatches<'a>) -> Result<Command<'a>, WordsFault> {
     let input = matches.get_str(INPUT).ok_or(WordsFault::Words)?;
     let output = matches.get_str(OUTPUT).ok_or(WordsFault::Words)?;
@@ -186,7 +186,7 @@ fn asm_command<'a>(matches: &ArgMatches<'a>) -> Result<Command<'a>, WordsFault> 
     Ok(Command::Asm(AsmWords { input, output }))
 }
 
-/// The FILE of `list`.
+/// Returns the FILE of `list`.
 fn list_word<'a>(matches: &ArgMatches<'a>) -> Result<&'a str, WordsFault> {
     matches.get_str(FILE).ok_or(WordsFault::Words)
 }
@@ -206,7 +206,7 @@ fn needs_command<'a>(alloc: Global, matches: &ArgMatches<'a>) -> Result<Command<
     }))
 }
 
-/// Whether a word asks for help.
+/// Decides whether a word asks for help.
 fn asks_help(word: &str) -> bool {
     word == "--help" || word == "-h"
 }
@@ -229,7 +229,7 @@ fn usage_of(command: &str) -> Option<Command<'static>> {
     }
 }
 
-/// Returns what `help` prints about a word: the help of a command, or what a refusal's code means.
+/// Returns what `help` prints about a word: the help of a command, or the meaning of a refusal's code.
 fn help_of(word: &str) -> Option<Command<'static>> {
     match usage_of(word) {
         Some(usage) => Some(usage),
@@ -240,7 +240,7 @@ fn help_of(word: &str) -> Option<Command<'static>> {
     }
 }
 
-/// What one word asks for, if that is a text.
+/// Returns the command of one word, if it asks for a text.
 fn text_of(word: &str) -> Option<Command<'static>> {
     if word == "help" || asks_help(word) {
         Some(Command::Help(HELP))
@@ -251,7 +251,7 @@ fn text_of(word: &str) -> Option<Command<'static>> {
     }
 }
 
-/// What words ask for, if that is a text.
+/// Returns the command of words, if they ask for a text.
 fn text_command(words: &[String]) -> Option<Command<'static>> {
     match words {
         [word] => text_of(word.as_str()),
@@ -261,7 +261,7 @@ fn text_command(words: &[String]) -> Option<Command<'static>> {
     }
 }
 
-/// What the matches of a command ask for.
+/// Returns the command of a name and its matches.
 fn matched<'a>(
     alloc: Global,
     name: &str,
@@ -299,7 +299,7 @@ pub(crate) fn is_text(words: &[String]) -> bool {
     text_command(words).is_some() || explained_words(words).is_some()
 }
 
-/// Returns the command of words that ask for no text.
+/// Returns the command of words that don't ask for a text.
 pub(crate) fn parsed<'a>(alloc: Global, words: &'a [String]) -> Result<Command<'a>, WordsFault> {
     let matches = syntax(alloc)?.try_get_matches_from(words)?;
     match matches.subcommand() {
@@ -308,13 +308,15 @@ pub(crate) fn parsed<'a>(alloc: Global, words: &'a [String]) -> Result<Command<'
     }
 }
 
-/// What the words behind the program's name ask for: one of the texts, or a command whose options and FILEs
-/// stand in any order behind it. `--x V` is `--x=V`, and behind `--` all words are FILEs.
+/// Returns the command of the words after the program's name. Options and FILEs may follow the command in any order.
+/// `--x V` is `--x=V`, and after `--` all words are FILEs.
 ///
-/// P04 where they are no such line: an option that is unknown, comes twice, or has no value; a value that
-/// begins with `-` and isn't joined by `=`; no FILE; an entry, an argument or a number out of its form; a main class
-/// in `eval`, or with arguments; an OUT of `asm` with the name of its IN; jobs of `campaign` past the last number. A
-/// schedule isn't read here.
+/// # Errors
+///
+/// P04 if the words are no command line. The causes are an option that is unknown, repeated or without a value, a value
+/// that begins with `-` and isn't joined by `=`, and a missing FILE. Others are a malformed entry, argument or number,
+/// and a main class in `eval` or with arguments. The last are an OUT of `asm` that is IN, and a job of `campaign` that
+/// is out of range. The schedule isn't read here.
 pub fn command_of<'a>(alloc: Global, words: &'a [String]) -> Result<Command<'a>, WordsFault> {
     if let Some(command) = text_command(words) {
         return Ok(command);

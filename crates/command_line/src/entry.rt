@@ -1,14 +1,14 @@
-//! The entry and its arguments, as words write them.
+//! Reads the entry and its arguments.
 
 use crate::fault::WordsFault;
 use descriptor::method_type;
 use escapes::{NameSort, cut_twice, name_units};
-use held::items::Items;
+use shared_data::items::Items;
 use jvms_file::descriptor::{Element, FieldType, Primitive};
 use jvms_machine::machine::{Argument, Entry};
 use std::alloc::Global;
 
-/// The name of this sort that a text writes.
+/// Reads a name of this sort.
 fn name_of(alloc: Global, sort: NameSort, text: &[u8]) -> Result<Items<u16>, WordsFault> {
     let name = name_units(alloc, sort, text)?;
     name.ok_or(WordsFault::Words)
@@ -32,7 +32,7 @@ pub(crate) fn static_entry(
     })
 }
 
-/// The entry of a main class, by the text of its name.
+/// Returns the entry of a main class, from the text of its name.
 pub(crate) fn main_entry(alloc: Global, text: &str) -> Result<Entry, WordsFault> {
     let class = name_of(alloc, NameSort::Class, text.as_bytes())?;
     Ok(Entry::Main { class })
@@ -50,7 +50,7 @@ fn argument_of(is_long: bool, text: &str) -> Option<Argument> {
     Some(Argument::Int(text.parse::<i32>().ok()?))
 }
 
-/// Returns whether the parameter at this index is a long: false if there is none.
+/// Returns whether the parameter at this index is a long. Returns `false` if there is no such parameter.
 fn is_long(parameters: &[FieldType], place: usize) -> bool {
     match parameters.get(place) {
         None => false,
@@ -76,7 +76,7 @@ fn arguments_of(
     Ok(arguments)
 }
 
-/// A number in decimal digits alone.
+/// Reads a number that consists of decimal digits only.
 pub(crate) fn natural_of(text: &str) -> Option<u64> {
     if text.starts_with('+') {
         return None;

@@ -1,17 +1,17 @@
-//! Why words ask for nothing.
+//! The reasons why words have no command.
 
 use clap::error::ErrorKind;
 use std::alloc::{AllocError, AllocFailed};
 use std::io;
 use thiserror::Error;
 
-/// Why words ask for nothing.
+/// A reason why words have no command.
 #[derive(Clone, Copy, Debug, PartialEq, Eq, Error)]
 pub enum WordsFault {
-    /// P04: they aren't a command line of this program.
+    /// P04: the words are no command line of this program.
     #[error("P04 Words")]
     Words,
-    /// There was no memory to read them.
+    /// Memory ran out while reading the words.
     #[error("Memory")]
     Memory,
 }

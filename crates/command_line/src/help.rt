@@ -1,6 +1,6 @@
 //! The texts of help and of the version. No line has more than 80 columns.
 
-/// `jvmx --help`
+/// The text of `jvmx --help`.
 pub const HELP: &str = "\
 jvmx: runs Java class files and sources in Jasmin, one turn of one thread at a
 time, and tells whether methods were atomic in a run
@@ -37,7 +37,7 @@ which of the words is wrong.
 Example: jvmx eval --entry 'G.gcd.(II)I' --args 48,36 examples/G.j
 ";
 
-/// `jvmx eval --help`
+/// The text of `jvmx eval --help`.
 pub const EVAL_HELP: &str = "\
 jvmx eval: runs a static method on numbers and prints what it gives
 
@@ -79,7 +79,7 @@ Example: jvmx eval --entry 'G.gcd.(II)I' --args 48,36 examples/G.j
 prints 12
 ";
 
-/// `jvmx run --help`
+/// The text of `jvmx run --help`.
 pub const RUN_HELP: &str = "\
 jvmx run: runs a program and prints what it writes
 
@@ -146,7 +146,7 @@ Example: jvmx run --entry LostUpdate --sched rr:1 examples/threads/LostUpdate.j
 prints 1, though each of two threads adds 1
 ";
 
-/// `jvmx trace --help`
+/// The text of `jvmx trace --help`.
 pub const TRACE_HELP: &str = "\
 jvmx trace: runs a program and prints what its threads did
 
@@ -184,7 +184,7 @@ Exit status: 0 where the status is Finished and no exception is uncaught, else
 Example: jvmx trace --entry LostUpdate examples/threads/LostUpdate.j
 ";
 
-/// `jvmx debug --help`
+/// The text of `jvmx debug --help`.
 pub const DEBUG_HELP: &str = "\
 jvmx debug: goes forward and back along the turns of a run
 
@@ -227,7 +227,7 @@ back 1
 threads' | jvmx debug --entry LostUpdate examples/threads/LostUpdate.j
 ";
 
-/// `jvmx campaign --help`
+/// The text of `jvmx campaign --help`.
 pub const CAMPAIGN_HELP: &str = "\
 jvmx campaign: runs a program under many schedules and tells in which runs
 methods were atomic
@@ -281,7 +281,7 @@ Example: jvmx campaign --entry LostUpdate --spec examples/threads/atomic.spec \\
   --jobs 100 examples/threads/LostUpdate.j
 ";
 
-/// `jvmx check --help`
+/// The text of `jvmx check --help`.
 pub const CHECK_HELP: &str = "\
 jvmx check: reads what threads did and tells whether methods were atomic
 
@@ -327,7 +327,7 @@ jvmx --help says. jvmx help CODE explains the code of a refusal.
 Example: jvmx check --spec examples/threads/atomic.spec --serial /tmp/trace
 ";
 
-/// `jvmx picture --help`
+/// The text of `jvmx picture --help`.
 pub const PICTURE_HELP: &str = "\
 jvmx picture: draws a trace: threads, transactions, and the cycle
 
@@ -355,7 +355,7 @@ jvmx help CODE explains the code of a refusal.
 Example: jvmx picture --spec examples/threads/atomic.spec /tmp/trace >/tmp/a.svg
 ";
 
-/// `jvmx asm --help`
+/// The text of `jvmx asm --help`.
 pub const ASM_HELP: &str = "\
 jvmx asm: writes the class file of a source in Jasmin
 
@@ -374,7 +374,7 @@ code of a refusal: J01 to J12 of a source's line, A01 to A08 of its class.
 Example: jvmx asm examples/G.j G.class
 ";
 
-/// `jvmx list --help`
+/// The text of `jvmx list --help`.
 pub const LIST_HELP: &str = "\
 jvmx list: prints a class file as a source in Jasmin
 
@@ -393,7 +393,7 @@ code of a refusal: L01 and L02 say why a class can't be written as a source.
 Example: jvmx list examples/G.class
 ";
 
-/// `jvmx tables --help`
+/// The text of `jvmx tables --help`.
 pub const TABLES_HELP: &str = "\
 jvmx tables: joins the tables of parts of a campaign
 
@@ -416,7 +416,7 @@ jvmx --help says. jvmx help CODE explains the code of a refusal.
 Example: jvmx tables /tmp/part0 /tmp/part1
 ";
 
-/// `jvmx needs --help`
+/// The text of `jvmx needs --help`.
 pub const NEEDS_HELP: &str = "\
 jvmx needs: prints what class files use that isn't there
 
@@ -464,5 +464,5 @@ Example: jvmx needs --spec examples/threads/atomic.spec \\
   examples/threads/LostUpdate.j
 ";
 
-/// `jvmx --version`
+/// The text of `jvmx --version`.
 pub const VERSION: &str = "jvmx 0.1.0\n";

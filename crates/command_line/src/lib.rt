@@ -1,4 +1,4 @@
-//! The command line: which command its words ask for, and the texts of help.
+//! The command line: reads the command of its words, and has the help texts.
 #![tactic(auto)]
 
 mod campaign;

@@ -1,4 +1,4 @@
-//! The words that name a program, and where it begins.
+//! Reads the words that name a program and its entry.
 
 use crate::entry::{main_entry, natural_of, static_entry};
 use crate::fault::WordsFault;
@@ -8,17 +8,18 @@ use jvms_machine::machine::Entry;
 use std::alloc::Global;
 use turn_limit::TurnLimit;
 
-/// How many turns are taken at most where `--max` doesn't say it.
+/// The maximum number of turns without `--max`.
 const DEFAULT_MOST: u64 = 1_000_000;
 
-/// The words of `eval`, and of `run`, `trace`, `debug` and `campaign` beside their options: a program and where it begins.
+/// The words that name a program and its entry. `eval` has no others, and `run`, `trace`, `debug` and `campaign` have
+/// options besides.
 #[derive(Debug, Drop)]
 pub struct ProgramWords<'a> {
     pub entry: Entry,
     pub names: ProgramNames<'a>,
 }
 
-/// What the words name of a program, as they have it.
+/// The names of a program, as spelled in the words.
 #[derive(Debug, Drop)]
 pub struct ProgramNames<'a> {
     /// The entry. It is empty in `needs`, which has none.
@@ -30,13 +31,13 @@ pub struct ProgramNames<'a> {
 }
 
 impl<'a> ProgramNames<'a> {
-    /// The file at a place of the words.
+    /// Returns the file at a place of the words.
     pub fn file(&self, place: usize) -> &'a str {
         self.files.get(place).copied().unwrap_or("")
     }
 }
 
-/// The FILEs of the words.
+/// Returns the FILEs of the words.
 pub(crate) fn files_of<'a>(
     alloc: Global,
     matches: &ArgMatches<'a>,
@@ -49,7 +50,7 @@ pub(crate) fn files_of<'a>(
     Ok(files)
 }
 
-/// The entry that a text names: without a dot a main class, which takes no arguments.
+/// Returns the entry of a text. Without a dot it is a main class, which takes no arguments.
 fn entry_of(alloc: Global, text: &str, matches: &ArgMatches<'_>) -> Result<Entry, WordsFault> {
     if text.contains('.') {
         static_entry(alloc, text, matches.get_str(ARGUMENTS))
@@ -60,7 +61,7 @@ fn entry_of(alloc: Global, text: &str, matches: &ArgMatches<'_>) -> Result<Entry
     }
 }
 
-/// The words that name a program.
+/// Returns the words that name a program.
 pub(crate) fn program_words<'a>(
     alloc: Global,
     matches: &ArgMatches<'a>,
@@ -76,7 +77,7 @@ pub(crate) fn program_words<'a>(
     })
 }
 
-/// Returns the names of a program of which no entry is asked.
+/// Returns the names of a program without an entry.
 pub(crate) fn names_without_entry<'a>(
     alloc: Global,
     matches: &ArgMatches<'a>,
@@ -88,7 +89,7 @@ pub(crate) fn names_without_entry<'a>(
     })
 }
 
-/// The number that the word of an option spells, or another where there is no such option.
+/// Returns the number that the value of an option spells, or the default if there is no such option.
 pub(crate) fn number_or(
     matches: &ArgMatches<'_>,
     option: &str,
@@ -100,7 +101,7 @@ pub(crate) fn number_or(
     }
 }
 
-/// How many turns the words allow.
+/// Returns the maximum number of turns.
 pub(crate) fn most_of(matches: &ArgMatches<'_>) -> Result<TurnLimit, WordsFault> {
     let most = number_or(matches, MOST, DEFAULT_MOST)?;
     TurnLimit::new(most).ok_or(WordsFault::Words)

@@ -1,4 +1,4 @@
-//! What the codes of refusals mean. The texts say what docs/REFUSALS.md says, and `bench/refusals.py` compares them.
+//! The meanings of the codes of refusals. The texts agree with docs/REFUSALS.md, and `bench/refusals.py` compares them.
 
 mod class_files;
 mod runs;
@@ -10,7 +10,7 @@ use runs::RUNS;
 use sources::SOURCES;
 use words::WORDS;
 
-/// Returns the text of a code in a table, or `None` if the table doesn't have it.
+/// Returns the text of a code in a table, or `None` if the table doesn't have the code.
 fn text_in(table: &[(&'static str, &'static str)], code: &str) -> Option<&'static str> {
     for (name, text) in table {
         if *name == code {

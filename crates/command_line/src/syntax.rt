@@ -1,4 +1,4 @@
-//! The options and FILEs of each command, as the parser of words has them.
+//! Defines the options and FILEs of each command for the argument parser.
 
 use clap::{Arg, ArgAction, Command};
 use std::alloc::{AllocError, Global};
@@ -48,22 +48,22 @@ pub(crate) const SUMMARY: &str = "summary";
 /// The flag `--dot`.
 pub(crate) const DOT: &str = "dot";
 
-/// TRACE
+/// The name of the argument TRACE.
 pub(crate) const TRACE: &str = "trace";
 
-/// FILE...
+/// The name of the argument FILE...
 pub(crate) const FILES: &str = "files";
 
-/// FILE
+/// The name of the argument FILE.
 pub(crate) const FILE: &str = "file";
 
-/// IN
+/// The name of the argument IN.
 pub(crate) const INPUT: &str = "input";
 
-/// OUT
+/// The name of the argument OUT.
 pub(crate) const OUTPUT: &str = "output";
 
-/// A command with neither help nor version of the parser's own.
+/// Returns a command without the parser's own help and version.
 fn bare<'a>(alloc: Global, name: &'a str) -> Command<'a> {
     Command::new(alloc, name)
         .no_binary_name(true)
@@ -72,17 +72,17 @@ fn bare<'a>(alloc: Global, name: &'a str) -> Command<'a> {
         .disable_version_flag(true)
 }
 
-/// An option with a value.
+/// Returns an option with a value.
 fn option<'a>(alloc: Global, name: &'a str) -> Arg<'a> {
     Arg::new(alloc, name).long(name).action(ArgAction::Set)
 }
 
-/// An option without a value.
+/// Returns an option without a value.
 fn flag<'a>(alloc: Global, name: &'a str) -> Arg<'a> {
     Arg::new(alloc, name).long(name).action(ArgAction::SetTrue)
 }
 
-/// At least one FILE.
+/// Returns the argument FILE..., at least one.
 fn files<'a>(alloc: Global) -> Arg<'a> {
     Arg::new(alloc, FILES)
         .required(true)
@@ -90,7 +90,7 @@ fn files<'a>(alloc: Global) -> Arg<'a> {
         .action(ArgAction::Append)
 }
 
-/// `NAME --entry E [--args N,N] FILE...`
+/// Returns the syntax `NAME --entry E [--args N,N] FILE...`.
 fn program_syntax<'a>(alloc: Global, name: &'a str) -> Result<Command<'a>, AllocError> {
     let entry = option(alloc, ENTRY).required(true);
     bare(alloc, name)
@@ -99,27 +99,27 @@ fn program_syntax<'a>(alloc: Global, name: &'a str) -> Result<Command<'a>, Alloc
         .arg(files(alloc))
 }
 
-/// `NAME --entry E [--args N,N] [--sched S] [--max N] FILE...`
+/// Returns the syntax `NAME --entry E [--args N,N] [--sched S] [--max N] FILE...`.
 fn scheduled_syntax<'a>(alloc: Global, name: &'a str) -> Result<Command<'a>, AllocError> {
     program_syntax(alloc, name)?
         .arg(option(alloc, SCHEDULE))?
         .arg(option(alloc, MOST))
 }
 
-/// `run --entry E [--args N,N] [--sched S] [--max N] [--spec F] [--explain] FILE...`
+/// Returns the syntax `run --entry E [--args N,N] [--sched S] [--max N] [--spec F] [--explain] FILE...`.
 fn run_syntax<'a>(alloc: Global) -> Result<Command<'a>, AllocError> {
     scheduled_syntax(alloc, "run")?
         .arg(option(alloc, SPECIFICATION))?
         .arg(flag(alloc, EXPLAIN))
 }
 
-/// `trace --entry E [--args N,N] [--sched S] [--max N] [--choices] FILE...`
+/// Returns the syntax `trace --entry E [--args N,N] [--sched S] [--max N] [--choices] FILE...`.
 fn trace_syntax<'a>(alloc: Global) -> Result<Command<'a>, AllocError> {
     scheduled_syntax(alloc, "trace")?.arg(flag(alloc, CHOICES))
 }
 
-/// `campaign --entry E [--args N,N] --spec F --jobs N [--first K] [--seed N] [--workers N] [--max N] [--stop] [--summary]
-/// FILE...`
+/// Returns the syntax `campaign --entry E [--args N,N] --spec F --jobs N [--first K] [--seed N] [--workers N] [--max N]
+/// [--stop] [--summary] FILE...`.
 fn campaign_syntax<'a>(alloc: Global) -> Result<Command<'a>, AllocError> {
     program_syntax(alloc, "campaign")?
         .arg(option(alloc, SPECIFICATION).required(true))?
@@ -132,7 +132,7 @@ fn campaign_syntax<'a>(alloc: Global) -> Result<Command<'a>, AllocError> {
         .arg(flag(alloc, SUMMARY))
 }
 
-/// `check --spec F [--serial] [--explain] TRACE`
+/// Returns the syntax `check --spec F [--serial] [--explain] TRACE`.
 fn check_syntax<'a>(alloc: Global) -> Result<Command<'a>, AllocError> {
     let specification = option(alloc, SPECIFICATION).required(true);
     bare(alloc, "check")
@@ -142,7 +142,7 @@ fn check_syntax<'a>(alloc: Global) -> Result<Command<'a>, AllocError> {
         .arg(file(alloc, TRACE))
 }
 
-/// `picture --spec F [--dot] TRACE`
+/// Returns the syntax `picture --spec F [--dot] TRACE`.
 fn picture_syntax<'a>(alloc: Global) -> Result<Command<'a>, AllocError> {
     let specification = option(alloc, SPECIFICATION).required(true);
     bare(alloc, "picture")
@@ -151,36 +151,36 @@ fn picture_syntax<'a>(alloc: Global) -> Result<Command<'a>, AllocError> {
         .arg(file(alloc, TRACE))
 }
 
-/// One FILE.
+/// Returns the argument of one file.
 fn file<'a>(alloc: Global, name: &'a str) -> Arg<'a> {
     Arg::new(alloc, name).required(true).action(ArgAction::Set)
 }
 
-/// `asm IN OUT`
+/// Returns the syntax `asm IN OUT`.
 fn asm_syntax<'a>(alloc: Global) -> Result<Command<'a>, AllocError> {
     bare(alloc, "asm")
         .arg(file(alloc, INPUT))?
         .arg(file(alloc, OUTPUT))
 }
 
-/// `list FILE`
+/// Returns the syntax `list FILE`.
 fn list_syntax<'a>(alloc: Global) -> Result<Command<'a>, AllocError> {
     bare(alloc, "list").arg(file(alloc, FILE))
 }
 
-/// `tables FILE...`
+/// Returns the syntax `tables FILE...`.
 fn tables_syntax<'a>(alloc: Global) -> Result<Command<'a>, AllocError> {
     bare(alloc, "tables").arg(files(alloc))
 }
 
-/// `needs [--spec F] FILE...`
+/// Returns the syntax `needs [--spec F] FILE...`.
 fn needs_syntax<'a>(alloc: Global) -> Result<Command<'a>, AllocError> {
     bare(alloc, "needs")
         .arg(option(alloc, SPECIFICATION))?
         .arg(files(alloc))
 }
 
-/// Adds a command to others, if there was memory for it.
+/// Adds a command to others, unless memory ran out for it.
 fn with<'a>(
     commands: Command<'a>,
     command: Result<Command<'a>, AllocError>,
@@ -213,7 +213,7 @@ fn with_texts<'a>(alloc: Global, commands: Command<'a>) -> Result<Command<'a>, A
     with(commands, needs_syntax(alloc))
 }
 
-/// All commands.
+/// Returns the syntax of all commands.
 pub(crate) fn syntax<'a>(alloc: Global) -> Result<Command<'a>, AllocError> {
     let commands = with_runs(alloc, bare(alloc, "jvmx"))?;
     with_texts(alloc, commands)

@@ -1,4 +1,4 @@
-//! What `help P04 -- WORDS` prints: why words are no command line.
+//! Writes what `help P04 -- WORDS` prints: why words are no command line.
 
 use crate::command::{is_text, parsed};
 use crate::entry::{main_entry, natural_of, static_entry};
@@ -37,7 +37,7 @@ fn has_entry(command: &str) -> bool {
     matches!(command, "eval" | "run" | "trace" | "debug" | "campaign")
 }
 
-/// Returns the line that says what the value of an option has to be.
+/// Returns the line of what the value of an option must be.
 fn wanted_line(
     alloc: Global,
     option: &str,
@@ -47,7 +47,7 @@ fn wanted_line(
     format!(in alloc; "--{option} {value}: {wanted}\n")
 }
 
-/// Returns what the value of an option has to be that is a number, if it isn't.
+/// Returns what the value of a numeric option must be, if it isn't that.
 fn number_wanted(option: &str, value: &str) -> Option<&'static str> {
     match natural_of(value) {
         None => Some("decimal digits, below 18446744073709551616"),
@@ -58,7 +58,7 @@ fn number_wanted(option: &str, value: &str) -> Option<&'static str> {
     }
 }
 
-/// Returns the line of the first number that isn't in its range.
+/// Returns the line of the first number that is out of range.
 fn number_line(
     alloc: Global,
     command: &str,
@@ -74,7 +74,7 @@ fn number_line(
     Ok(None)
 }
 
-/// Returns whether something could be read. Want of memory is handed on.
+/// Returns whether words could be read. Lack of memory remains an error.
 fn is_read<T: Drop>(read: Result<T, WordsFault>) -> Result<bool, WordsFault> {
     match read {
         Ok(value) => {
@@ -86,7 +86,7 @@ fn is_read<T: Drop>(read: Result<T, WordsFault>) -> Result<bool, WordsFault> {
     }
 }
 
-/// Returns what an entry has to be, if it isn't.
+/// Returns what an entry must be, if it isn't that.
 fn entry_wanted(
     alloc: Global,
     command: &str,
@@ -106,7 +106,7 @@ fn entry_wanted(
     Ok((!is_entry).then_some("a class, a name and a descriptor, as the class file has them"))
 }
 
-/// Returns what arguments have to be, if they aren't.
+/// Returns what arguments must be, if they aren't that.
 fn arguments_wanted(
     alloc: Global,
     entry: &str,
@@ -123,7 +123,7 @@ fn arguments_wanted(
     )
 }
 
-/// Returns the line of an entry, or of its arguments, if they aren't in their form.
+/// Returns the line of an entry, or of its arguments, if they are malformed.
 fn entry_line(
     alloc: Global,
     command: &str,
@@ -142,7 +142,7 @@ fn entry_line(
     }
 }
 
-/// Returns the line of what the parser of words takes and the command doesn't.
+/// Returns the line of what the argument parser accepts and the command doesn't.
 fn command_line(
     alloc: Global,
     command: &str,
@@ -164,7 +164,7 @@ fn command_line(
     Ok(String::from_str(alloc, line)?)
 }
 
-/// Returns what is said besides of a word that the parser of words doesn't expect: it may be a negative number.
+/// Returns a hint for an argument that the parser doesn't expect, if it looks like a negative number.
 fn number_hint(message: &str) -> &'static str {
     let Some(rest) = message.strip_prefix("unexpected argument '-") else {
         return "";
@@ -175,7 +175,7 @@ fn number_hint(message: &str) -> &'static str {
     }
 }
 
-/// Returns the first paragraph of what the parser of words says.
+/// Returns the first paragraph of the argument parser's message, with a hint.
 fn parser_line(alloc: Global, error: &clap::Error) -> Result<String, WordsFault> {
     let text = format!(in alloc; "{error}")?;
     let message = text
@@ -197,7 +197,7 @@ fn is_help(words: &[String]) -> bool {
     }
 }
 
-/// Returns why words are refused with P04, or that they aren't.
+/// Returns why words are refused with P04, or that they are a command line.
 pub fn words_text(alloc: Global, words: &[String]) -> Result<String, WordsFault> {
     if is_text(words) || is_read(parsed(alloc, words))? {
         return Ok(String::from_str(alloc, "these words are a command line\n")?);

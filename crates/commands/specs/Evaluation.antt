@@ -1,4 +1,4 @@
--- What a static method gives when it runs by itself, and what is printed of it.
+-- Defines the run of a static method by itself, and what is printed of it.
 use Rattle.std.specs.Prelude.{ℕ, List, [], ◌∷◌, ◌++◌, Option, Some, None, codes, Result}
 use Rattle.std.specs.Fmt.{decimal, signed_decimal}
 use Rattle.jvms_machine.specs.declared.machine.Entry.{Entry}
@@ -11,11 +11,11 @@ use Rattle.judge.specs.Programs.{NotRun}
 use Rattle.judge.specs.Shown.{run_judged}
 use Rattle.commands.specs.Limits.{default_limits}
 
--- The run by thread 0 alone, of at most 1,000,000 turns.
+-- Returns what the run by thread 0 alone shows, for at most 1,000,000 turns.
 abbrev pub evaluated : List Input → Entry → Result Shown NotRun
 evaluated inputs entry = run_judged 1000000 Alone default_limits inputs entry
 
--- A value: an int or a long in decimal, a reference as null or R:n.
+-- Returns the text of a value: an int or a long in decimal, and a reference as null or R:n.
 abbrev pub value_text : Value → List ℕ
 value_text (value.Int n) = signed_decimal n
 value_text (value.Long n) = signed_decimal n
@@ -25,7 +25,7 @@ value_text (value.Reference r) = codes "R:" ++ decimal r
 value_text (value.ReturnAddress i) = codes "ret:" ++ decimal i
 value_text value.Unset = codes "-"
 
--- The line of a result; of none there is no line.
+-- Returns the line of a result, or nothing if there is none.
 abbrev pub result_text : Option Value → List ℕ
 result_text None = []
 result_text (Some v) = value_text v ++ 10 ∷ []

@@ -1,4 +1,4 @@
--- Why nothing was run, or what a run gave wasn't written.
+-- Defines why nothing was run, or why its text wasn't written.
 use Rattle.std.specs.Prelude.{◌≡◌, ℕ, List, Option, Result, Ok}
 use Rattle.trace.specs.Bytes.{AppendsBeginning}
 use Rattle.judge.specs.Faults as judge
@@ -6,16 +6,16 @@ use Rattle.judge.specs.Programs.{NotRun}
 use Rattle.commands.specs.declared.fault.RunFault.{RunFault}
 use Rattle.commands.specs.declared.fault.RunFault.TheVariants as run_fault
 
--- A fault is what was said, unless memory ran out or the writer failed.
+-- The fault is the reason of the definition, unless memory ran out or the writer failed.
 abbrev pub IsFault : {A : Type 0} → RunFault → Result A NotRun → Type 0
 IsFault (run_fault.Judge fault) said = judge.IsFault fault said
 IsFault run_fault.Output said = Unit {0}
 
--- It names one of so many files.
+-- A fault of a file names one of this number of files.
 abbrev pub NamesFile : ℕ → RunFault → Type 0
 NamesFile files (run_fault.Judge fault) = judge.NamesFile files fault
 NamesFile files run_fault.Output = Unit {0}
 
--- A beginning of what is to be written of the run was written.
+-- A prefix of the text of a run was written.
 abbrev pub WroteBeginning : {A : Type 0} → Result A NotRun → (A → List ℕ) → Option (List ℕ) → Option (List ℕ) → Type 0
 WroteBeginning {A} said text old new = (shown : A) × (said ≡ Ok shown) × AppendsBeginning old new (text shown)

@@ -1,4 +1,4 @@
--- What a run may use, unless words say otherwise.
+-- Defines the default limits of a run.
 use Rattle.jvms_machine.specs.declared.machine.Limits.{Limits}
 
 abbrev pub default_limits : Limits

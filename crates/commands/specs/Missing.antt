@@ -1,4 +1,4 @@
--- What is missing in the program that inputs make.
+-- Defines what the program of inputs lacks.
 use Rattle.std.specs.Prelude.{◌≡◌, ◌-◌, ℕ, Bool, ◌==◌, cond, List, length, Option, Result, Ok}
 use Rattle.std.specs.Io.KnownBytes.{Appends}
 use Rattle.jvms_file.specs.declared.class_file.ClassFile.{ClassFile}
@@ -9,24 +9,24 @@ use Rattle.judge.specs.Programs.{NotRun, classes_from, program_in}
 use Rattle.needs.specs.Supers.{missing_supers}
 use Rattle.needs.specs.Unmatched.{missing_text}
 
--- The text of what is missing in the program that inputs make, for a specification too, given the classes that they are; or
--- why there is no program.
+-- Returns the text of what the program of inputs lacks, and of the lines of a specification that match no method, or
+-- why there is no program. The classes of the inputs are given.
 abbrev pub missing_in_program : Specification → List ClassFile → List Input → Result (List ℕ) NotRun
 missing_in_program lines files inputs = do
   program ← program_in inputs
   Ok (missing_text program (length program - length files) files lines)
 
--- This text, if it isn't empty, else what follows.
+-- Returns this text if it isn't empty, else the rest.
 abbrev pub text_or : List ℕ → Result (List ℕ) NotRun → Result (List ℕ) NotRun
 text_or text rest = cond (length text == 0) rest (Ok text)
 
--- The text of the superclasses that aren't there, else of what is missing in the program.
+-- Returns the text of missing superclasses, or else of what the program lacks.
 unfoldable pub missing_in : Specification → List Input → Result (List ℕ) NotRun
 missing_in lines inputs = do
   files ← classes_from 0 inputs
   text_or (missing_supers files) (missing_in_program lines files inputs)
 
--- This text was written whole, and it is empty where nothing is missing.
+-- This text was written whole, and the result is whether it is empty.
 abbrev pub HasWritten : Result (List ℕ) NotRun → Option (List ℕ) → Option (List ℕ) → Bool → Type 0
 HasWritten said old new is_whole =
     (text : List ℕ) × (said ≡ Ok text) × Appends old new text × (is_whole ≡ (length text == 0))

@@ -1,4 +1,4 @@
-//! `campaign`: a program under many schedules.
+//! `campaign`: runs a program under many schedules.
 
 use crate::files::Files;
 use crate::limits::DEFAULT_LIMITS;
@@ -19,7 +19,7 @@ use std::sync::Wait;
 use std::thread::Threads;
 use trace::ByteOut;
 
-/// What a campaign takes besides its words.
+/// The inputs of a campaign: the names of its words, the plan and the FILEs.
 #[derive(Drop)]
 struct CampaignParts<'w> {
     names: ProgramNames<'w>,
@@ -27,7 +27,7 @@ struct CampaignParts<'w> {
     inputs: Vec<Input>,
 }
 
-/// Reads what the words of a campaign name: the specification comes first, then the FILEs.
+/// Reads the files that the words of a campaign name: first the specification, then the FILEs.
 fn read_campaign<'w, F: Files>(
     alloc: Global,
     words: CampaignWords<'w>,
@@ -69,7 +69,7 @@ fn print_table<'w, G: Gate + Sync, R: Threads + Wait + Sync, W: ByteOut>(
     }
 }
 
-/// Runs the jobs, and prints the table. At a terminal it shows how many are done.
+/// Runs the jobs, and prints the table. At a terminal it also shows how many jobs are done.
 fn run_jobs<'w, R: Clock + Eprint + Threads + Wait + Sync, W: ByteOut>(
     rt: &R,
     alloc: Global,
@@ -96,16 +96,16 @@ pub(crate) fn is_good(table: &Table) -> bool {
     true
 }
 
-/// Returns a line for each of the specification's lines that matches no method.
+/// Returns a line for each line of the specification that matches no method.
 fn unmatched_lines(alloc: Global, parts: &CampaignParts<'_>) -> Result<String, AllocError> {
     match program_of(alloc, parts.inputs.as_slice()) {
         Ok(program) => unmatched_text(alloc, &program, parts.plan.spec.lines()),
-        // The jobs have run: only the memory for the program may be missing.
+        // The jobs have run, so only memory for the program may be missing.
         Err(_) => Ok(String::new(alloc)),
     }
 }
 
-/// Prints the table of a campaign. At a terminal, or where the words ask for it, it prints a summary too.
+/// Prints the table of a campaign. At a terminal, or if the words ask for it, it prints a summary too.
 pub(crate) fn perform_campaign<
     'w,
     R: Clock + Eprint + Threads + Wait + Sync,

@@ -1,25 +1,25 @@
-//! The choices of a run, as a schedule.
+//! Writes the choices of a run as a schedule.
 
 ghost use Rattle.std.specs.Prelude.{◌≡◌, ◌++◌, IfOk, OnOk};
 ghost use Rattle.std.specs.List.{flat_map};
 ghost use Rattle.std.specs.String.{string_bytes};
-ghost use Rattle.program_runs.specs.Shown.{shown_in};
+ghost use Rattle.program_runs.specs.Shown.{view_of_traced};
 ghost use Rattle.commands.specs.Choices.{choices_text, further_text, text_of, threads_text};
 
 use jvms_machine::machine::ThreadId;
 use program_runs::TracedRun;
 use std::alloc::{AllocError, Global};
 
-/// Says what `trace` prints.
+/// The kinds of text that `trace` prints.
 #[derive(Clone, Copy, Debug, PartialEq, Eq)]
 pub enum TraceText {
-    /// What the threads did.
+    /// The items: what the threads did.
     Items,
-    /// The threads that took the turns, as a schedule.
+    /// The choices as a schedule: the threads that took the turns.
     Choices,
 }
 
-/// Appends threads that aren't the first of a list.
+/// Appends threads after the first one of a list.
 fn put_further(alloc: Global, text: &mut String, threads: &[ThreadId]) -> Result<(), AllocError>
     ensures { OnOk result (string_bytes text.new ≡ string_bytes text.old ++ flat_map further_text threads.now) }
 {
@@ -42,7 +42,7 @@ fn put_threads(alloc: Global, text: &mut String, threads: &[ThreadId]) -> Result
     put_further(alloc, text, further)
 }
 
-/// Returns the schedule of these choices, and the end of its line.
+/// Returns the line of the schedule of these choices.
 fn choices_text(alloc: Global, choices: &[ThreadId]) -> Result<String, AllocError>
     ensures { IfOk result (λ text. string_bytes text ≡ choices_text choices.now) }
 {
@@ -52,9 +52,9 @@ fn choices_text(alloc: Global, choices: &[ThreadId]) -> Result<String, AllocErro
     Ok(text)
 }
 
-/// Returns what is printed of a run.
+/// Returns the text of a run.
 pub(crate) fn text_of(alloc: Global, kind: TraceText, run: &TracedRun) -> Result<String, AllocError>
-    ensures { IfOk result (λ text. string_bytes text ≡ text_of kind (shown_in run.now)) }
+    ensures { IfOk result (λ text. string_bytes text ≡ text_of kind (view_of_traced run.now)) }
 {
     match kind {
         TraceText::Items => trace_text::write(alloc, &run.trace),

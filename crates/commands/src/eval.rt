@@ -1,9 +1,9 @@
-//! `eval`: what a static method gives.
+//! `eval`: runs a static method and prints its result.
 
 ghost use Rattle.std.specs.Prelude.{◌≡◌, ◌≢◌, ◌+◌, ◌++◌, ◌∷◌, [], IfOk, IfErr, OnOk, IsErrOf, length, string_bytes};
 ghost use Rattle.std.specs.Io.KnownBytes.{Appends};
 ghost use Rattle.trace.specs.Bytes.{AppendsBeginning};
-ghost use Rattle.program_runs.specs.Shown.{EndsAs};
+ghost use Rattle.program_runs.specs.Shown.{HasEnding};
 ghost use Rattle.commands.specs.Faults.{IsFault, NamesFile, WroteBeginning};
 ghost use Rattle.commands.specs.Evaluation.{evaluated, result_text, value_text};
 
@@ -19,10 +19,10 @@ use std::alloc::{AllocError, Global};
 use trace::ByteOut;
 use turn_limit::TurnLimit;
 
-/// How many turns thread 0 may take.
+/// The maximum number of turns of thread 0.
 const MOST_TURNS: u64 = 1_000_000;
 
-/// Returns how many turns thread 0 may take.
+/// Returns the maximum number of turns of thread 0.
 fn most_turns() -> TurnLimit
     ensures { result ≡ 1000000 }
 {
@@ -32,7 +32,7 @@ fn most_turns() -> TurnLimit
     }
 }
 
-/// The line of a value.
+/// Returns the line of a value.
 fn value_line(alloc: Global, value: Value) -> Result<String, AllocError>
     ensures { IfOk result (λ line. string_bytes line ≡ value_text value ++ 10 ∷ []) }
 {
@@ -68,8 +68,8 @@ fn write_result<W: ByteOut>(
     Ok(())
 }
 
-/// Runs a static method of the program that class files and sources make, by choices of thread 0 while it is
-/// enabled, at most 1,000,000, and writes its result's line.
+/// Runs a static method of the program of class files and sources, and writes the line of its result. Thread 0 takes
+/// all turns as long as it is enabled, at most 1,000,000.
 pub fn eval<W: ByteOut>(
     alloc: Global,
     inputs: &[Input],
@@ -77,15 +77,15 @@ pub fn eval<W: ByteOut>(
     output: &mut W,
 ) -> Result<Ending, RunFault>
     // The result, the status, the turns and the uncaught exceptions are those of the run by the instruction table.
-    ensures exact { IfOk result (λ e. EndsAs (evaluated inputs.now entry.now) e) }
-    // The result's line was written, or nothing where there is none.
+    ensures exact { IfOk result (λ e. HasEnding (evaluated inputs.now entry.now) e) }
+    // The line of the result was written, or nothing if there is none.
     ensures written { IfOk result (λ e. Appends (W.written output.old) (W.written output.new) (result_text e.result)) }
     ensures count { OnOk result (W.failures output.new ≡ W.failures output.old) }
-    // A fault comes only where its condition stands, and that of a file names one of these.
+    // A fault is returned only if its condition holds. A fault of a file names one of these.
     ensures fault { IfErr result (λ fault. IsFault fault (evaluated inputs.now entry.now)) }
     ensures named { IfErr result (λ fault. NamesFile (length inputs.now) fault) }
     ensures untouched { IfErr result (λ fault. fault ≢ RunFault.Output → output.new ≡ output.old) }
-    // Output comes only where the writer failed; then a beginning of the line was written.
+    // The fault is `Output` only if the writer failed. Then a prefix of the line was written.
     ensures failed { IsErrOf result RunFault.Output → W.failures output.new ≡ W.failures output.old + 1 }
     ensures beginning { IsErrOf result RunFault.Output → WroteBeginning
         (evaluated inputs.now entry.now) (λ shown. result_text shown.result)

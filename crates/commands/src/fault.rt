@@ -1,4 +1,4 @@
-//! Why nothing was run, or what a run gave couldn't be written.
+//! The reasons why nothing was run, or why its text wasn't written.
 
 ghost use Rattle.std.specs.Prelude.{◌≡◌};
 ghost use Rattle.judge.specs.declared.fault.JudgeFault.TheVariants.{Memory};
@@ -9,10 +9,10 @@ use std::alloc::{AllocError, AllocFailed};
 use thiserror::Error;
 use trace::DeviceFailure;
 
-/// Why a program wasn't run, or what it gave wasn't written.
+/// A reason why a program wasn't run, or why its text wasn't written.
 #[derive(Clone, Copy, Debug, PartialEq, Eq, Error)]
 pub enum RunFault {
-    /// The inputs make no program, there is no machine for the entry, or there was no memory.
+    /// The inputs make no program, the entry has no machine, or memory ran out.
     #[error("{0}")]
     Judge(JudgeFault),
     /// P05: the writer failed.

@@ -1,4 +1,4 @@
-//! Files by name.
+//! Reads and writes files by name.
 
 ghost use Rattle.std.specs.Prelude.{◌≡◌, ◌≤◌, ◌<◌, length, IfOk, IfSome, IsErrOf};
 
@@ -6,17 +6,17 @@ use std::alloc::{AllocError, AllocFailed, Global};
 use std::io::{self, ErrorKind, Read, Write};
 use std::{fs, rt};
 
-/// How many bytes a file may have.
+/// The maximum number of bytes of a file.
 pub const MOST_BYTES: u64 = 67_108_864;
 
-/// Why a file wasn't read.
+/// A reason why a file wasn't read.
 #[derive(Clone, Copy, Debug, PartialEq, Eq)]
 pub enum FileFault {
-    /// P02: it isn't there, or it can't be read.
+    /// P02: there is no such file, or it can't be read.
     File,
     /// P01: it has more than 67,108,864 bytes.
     TooLarge,
-    /// There was no memory for its bytes.
+    /// Memory ran out for its bytes.
     Memory,
 }
 
@@ -43,14 +43,14 @@ impl From<io::Error> for FileFault {
 
 /// Files that are read by name.
 pub trait Files {
-    /// The bytes of a file, if there are at most 67,108,864.
+    /// Returns the bytes of a file, if there are at most 67,108,864.
     fn read(&mut self, name: &str) -> Result<Vec<u8>, FileFault>;
 
-    /// Makes these the bytes of a file. If that fails, a file that is there still has its bytes. A device gets them as it is.
+    /// Replaces the bytes of a file. If that fails, an existing file keeps its bytes. A device gets the bytes as it is.
     fn write(&mut self, name: &str, bytes: &[u8]) -> Result<(), FileFault>;
 }
 
-/// All bytes that a reader has left, if there aren't too many; of more, one too many is read.
+/// Returns all remaining bytes of a reader. Fails if there are too many, after reading one byte more than allowed.
 fn read_bounded<R: Read + Drop>(alloc: Global, reader: R) -> Result<Vec<u8>, FileFault> {
     let mut bytes = Vec::new(alloc);
     let mut bounded = reader.take(MOST_BYTES + 1);
@@ -61,12 +61,12 @@ fn read_bounded<R: Read + Drop>(alloc: Global, reader: R) -> Result<Vec<u8>, Fil
     Ok(bytes)
 }
 
-/// The name of the file that is written first, so that a file is replaced as a whole.
+/// Returns the name of the temporary file that is written first, so that a file is replaced as a whole.
 fn name_beside(alloc: Global, name: &str) -> Result<String, AllocError> {
     format!(in alloc; "{name}.part")
 }
 
-/// Writes a file beside another, and puts it in the other's place.
+/// Writes a temporary file, and renames it to the file's name.
 fn replace<R: rt::Files>(rt: &R, beside: &str, name: &str, bytes: &[u8]) -> io::Result<()> {
     let mut file = fs::create(rt, beside)?;
     file.write_all(bytes)?;
@@ -74,7 +74,7 @@ fn replace<R: rt::Files>(rt: &R, beside: &str, name: &str, bytes: &[u8]) -> io::
     fs::rename(rt, beside, name)
 }
 
-/// The files of the system.
+/// The files of the operating system.
 #[derive(Drop)]
 pub struct SystemFiles<'r, R> {
     pub rt: &'r R,

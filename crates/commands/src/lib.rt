@@ -1,5 +1,5 @@
-//! The commands of the program `jvmx`, over named files, a reader and two writers: from the words of a command line to
-//! what is written and the exit status.
+//! The commands of the program `jvmx`, over named files, a reader and two writers. They turn the words of a command
+//! line into output and an exit status.
 #![tactic(auto)]
 
 mod campaigns;

@@ -1,8 +1,8 @@
-//! What a run may use, unless words say otherwise.
+//! The default limits of a run.
 
 use jvms_machine::machine::Limits;
 
-/// What a run may use.
+/// The default limits of a run.
 pub(crate) const DEFAULT_LIMITS: Limits = Limits {
     objects: 1_000_000,
     elements: 10_000_000,

@@ -1,4 +1,4 @@
-//! The lines that tell how a run ended.
+//! Makes the lines that report how a run ended.
 
 ghost use Rattle.std.specs.Prelude.{◌≡◌, ◌++◌, IfOk, OnOk};
 ghost use Rattle.commands.specs.Lines.{ending_lines as lines_of, status_line, uncaught_line};
@@ -36,8 +36,8 @@ fn put_status(
     Ok(())
 }
 
-/// Returns the lines of a run that ended so: a line for each thread that ended with an exception, by rising number, then
-/// the status and the number of turns.
+/// Returns the lines of an ending: a line for each thread that ended with an exception, in ascending order, then the
+/// status and the number of turns.
 pub(crate) fn ending_lines(alloc: Global, ending: &Ending) -> Result<Vec<u8>, AllocError>
     ensures { IfOk result (λ lines. lines.items ≡ lines_of ending.now) }
 {

@@ -1,4 +1,4 @@
-//! `needs`: what the classes of a program use that isn't there.
+//! `needs`: lists what the classes of a program lack.
 
 ghost use Rattle.std.specs.Prelude.{◌≡◌, ◌≢◌, ◌+◌, IfOk, IfErr, OnOk, IsErrOf, Ok, length};
 ghost use Rattle.std.specs.String.{string_bytes};
@@ -16,8 +16,8 @@ use source_lines::SourceFiles;
 use std::alloc::Global;
 use trace::ByteOut;
 
-/// Returns the text of what is missing in the program that class files and sources make, given the classes that they are,
-/// and of a specification's lines.
+/// Returns the text of what the program of class files and sources lacks, and of the lines of a specification that
+/// match no method. `files` are the classes of the inputs.
 fn missing_in_program(
     alloc: Global,
     inputs: &[Input],
@@ -35,8 +35,8 @@ fn missing_in_program(
     Ok(text)
 }
 
-/// Returns the text of the superclasses that aren't there, if there is one, else of what is missing in the program that class
-/// files and sources make, and of a specification's lines.
+/// Returns the text of missing superclasses, if there are any. Else returns the text of what the program lacks, and of
+/// the lines of a specification that match no method.
 #[tactic(auto, unfolding(crate::specs::Missing::missing_in))]
 fn missing_in(
     alloc: Global,
@@ -59,24 +59,23 @@ fn missing_in(
     }
 }
 
-/// Writes what is missing in the program that class files and sources make, and which of a specification's lines speak of
-/// none of its methods. If superclasses or superinterfaces aren't there, writes only those. Returns whether nothing is
-/// missing.
+/// Writes what the program of class files and sources lacks, and which lines of a specification match none of its
+/// methods. If superclasses or superinterfaces are missing, writes only those. Returns whether nothing is missing.
 pub fn write_missing<W: ByteOut>(
     alloc: Global,
     inputs: &[Input],
     lines: &[SpecificationLine],
     output: &mut W,
 ) -> Result<bool, RunFault>
-    // The text that was written is that of the program of the inputs, and the answer is whether it is empty.
+    // The text that was written is that of the program of the inputs, and the result is whether it is empty.
     ensures written { IfOk result (λ is_whole. HasWritten (missing_in lines.now inputs.now)
         (W.written output.old) (W.written output.new) is_whole) }
     ensures count { OnOk result (W.failures output.new ≡ W.failures output.old) }
-    // A fault comes only where its condition stands, and that of a file names one of these.
+    // A fault is returned only if its condition holds. A fault of a file names one of these.
     ensures fault { IfErr result (λ fault. IsFault fault (missing_in lines.now inputs.now)) }
     ensures named { IfErr result (λ fault. NamesFile (length inputs.now) fault) }
     ensures untouched { IfErr result (λ fault. fault ≢ RunFault.Output → output.new ≡ output.old) }
-    // Output comes only where the writer failed; then a beginning of the text was written.
+    // The fault is `Output` only if the writer failed. Then a prefix of the text was written.
     ensures failed { IsErrOf result RunFault.Output → W.failures output.new ≡ W.failures output.old + 1 }
     ensures beginning { IsErrOf result RunFault.Output → WroteBeginning (missing_in lines.now inputs.now) (λ text. text)
         (W.written output.old) (W.written output.new) }

@@ -1,4 +1,4 @@
-//! All of the program, over named files, a reader and two writers.
+//! The whole program, over named files, a reader and two writers.
 
 use crate::campaigns::perform_campaign;
 use crate::choices::TraceText;
@@ -38,7 +38,7 @@ use trace::{ByteIn, ByteOut};
 use trace_check::{Details, check};
 use velodrome::verdict::Verdict;
 
-/// Returns whether a run finished, and no exception is uncaught.
+/// Returns whether a run finished without an uncaught exception.
 fn is_whole(ending: &Ending) -> bool {
     ending.status == Status::Finished && ending.uncaught.as_slice().is_empty()
 }
@@ -55,7 +55,7 @@ fn print_ending<'w, E: ByteOut>(
     Ok(u8::from(!is_whole(ending)))
 }
 
-/// `eval`: prints the result, or how the run ended if there is none.
+/// Performs `eval`: prints the result, or how the run ended if there is none.
 fn perform_eval<'w, F: Files, W: ByteOut, E: ByteOut>(
     alloc: Global,
     words: &ProgramWords<'w>,
@@ -92,7 +92,7 @@ fn chooser_of<'w, F: Files>(
     chooser.map_err(|fault| Refusal::of_schedule(word, fault))
 }
 
-/// The specification that the words name, if they do.
+/// Returns the specification that the words name, if they name one.
 fn spec_of<'w, F: Files>(
     alloc: Global,
     files: &mut F,
@@ -104,7 +104,7 @@ fn spec_of<'w, F: Files>(
     }
 }
 
-/// What a run takes besides its words.
+/// The inputs of a run: the chooser, the specification and the FILEs.
 #[derive(Drop)]
 struct RunParts {
     chooser: Chooser,
@@ -112,7 +112,7 @@ struct RunParts {
     inputs: Vec<Input>,
 }
 
-/// What the words of a run name: the schedule comes first, then the specification, then the FILEs.
+/// Reads the files that the words of a run name: first the schedule, then the specification, then the FILEs.
 fn read_parts<'w, F: Files>(
     alloc: Global,
     words: &RunWords<'w>,
@@ -125,7 +125,7 @@ fn read_parts<'w, F: Files>(
     })
 }
 
-/// Whether no cycle was found, also where none was looked for.
+/// Returns whether no cycle was found, also if none was searched for.
 fn is_without_cycle(judgement: &Option<Judgement>) -> bool {
     match judgement {
         Some(judgement) => !is_cycle(&judgement.verdict),
@@ -148,7 +148,7 @@ fn run_lines(alloc: Global, run: &ExplainedRun) -> Result<Vec<u8>, AllocError> {
     Ok(lines)
 }
 
-/// Runs a program, and prints what it writes.
+/// Runs a program, and prints its output.
 fn run_parts<'w, W: ByteOut>(
     alloc: Global,
     words: &RunWords<'w>,
@@ -168,7 +168,7 @@ fn run_parts<'w, W: ByteOut>(
     }
 }
 
-/// Prints how a run ended, with a specification whether it is atomic, and what explains the run.
+/// Prints how a run ended, its verdict if there is a specification, and what explains the run.
 fn print_run<'w, E: ByteOut>(
     alloc: Global,
     run: &ExplainedRun,
@@ -179,7 +179,7 @@ fn print_run<'w, E: ByteOut>(
     Ok(u8::from(!is_good))
 }
 
-/// `run`: prints what the program writes, how the run ended and, with a specification, whether it is atomic.
+/// Performs `run`: prints the output of the program, how the run ended and, with a specification, whether it is atomic.
 fn perform_run<'w, F: Files, W: ByteOut, E: ByteOut>(
     alloc: Global,
     words: &RunWords<'w>,
@@ -213,7 +213,7 @@ fn trace_parts<'w, W: ByteOut>(
     }
 }
 
-/// `trace`: prints what the threads did, or the choices. Its words name no specification.
+/// Performs `trace`: prints what the threads did, or the choices. Its words name no specification.
 fn perform_trace<'w, F: Files, W: ByteOut>(
     alloc: Global,
     words: &RunWords<'w>,
@@ -225,7 +225,7 @@ fn perform_trace<'w, F: Files, W: ByteOut>(
     Ok(u8::from(!is_whole(&judged.run.ending)))
 }
 
-/// Carries out the commands of `debug`.
+/// Executes the commands of `debug`.
 fn debug_parts<'w, I: ByteIn, W: ByteOut, P: Prompt>(
     alloc: Global,
     words: &RunWords<'w>,
@@ -250,7 +250,7 @@ fn debug_parts<'w, I: ByteIn, W: ByteOut, P: Prompt>(
     }
 }
 
-/// `debug`: carries out the commands that are read. Its words name no specification.
+/// Performs `debug`: executes the commands that are read. Its words name no specification.
 fn perform_debug<'w, F: Files, I: ByteIn, W: ByteOut, E: ByteOut>(
     alloc: Global,
     words: &RunWords<'w>,
@@ -288,7 +288,7 @@ fn check_text<'w, W: ByteOut>(
     }
 }
 
-/// `check`: prints whether a trace is atomic.
+/// Performs `check`: prints whether a trace is atomic.
 fn perform_check<'w, F: Files, W: ByteOut>(
     alloc: Global,
     words: &CheckWords<'w>,
@@ -300,7 +300,7 @@ fn perform_check<'w, F: Files, W: ByteOut>(
     check_text(alloc, words, spec, text.as_str(), output)
 }
 
-/// The class that a FILE holds.
+/// Returns the class of a FILE.
 fn class_in<'w>(alloc: Global, file: &'w str, input: &Input) -> Result<ClassFile, Refusal<'w>> {
     match class_of(alloc, input) {
         Ok(class) => Ok(class),
@@ -308,7 +308,7 @@ fn class_in<'w>(alloc: Global, file: &'w str, input: &Input) -> Result<ClassFile
     }
 }
 
-/// `asm`: writes the class file that a source is assembled to. A refusal before leaves OUT as it is.
+/// Performs `asm`: writes the class file of a source. An earlier refusal leaves OUT unchanged.
 fn perform_asm<'w, F: Files>(
     alloc: Global,
     words: AsmWords<'w>,
@@ -323,7 +323,7 @@ fn perform_asm<'w, F: Files>(
     }
 }
 
-/// `list`: prints the source that a class is listed as.
+/// Performs `list`: prints the listing of a class.
 fn perform_list<'w, F: Files, W: ByteOut>(
     alloc: Global,
     file: &'w str,
@@ -338,7 +338,7 @@ fn perform_list<'w, F: Files, W: ByteOut>(
     }
 }
 
-/// Returns the lines of a specification, and none if there is no specification.
+/// Returns the lines of a specification, or none if there is no specification.
 fn lines_in(spec: &Option<Spec>) -> &[SpecificationLine] {
     match spec {
         Some(spec) => spec.lines(),
@@ -346,7 +346,7 @@ fn lines_in(spec: &Option<Spec>) -> &[SpecificationLine] {
     }
 }
 
-/// `needs`: prints what is missing. The specification is read first, then the FILEs.
+/// Performs `needs`: prints what is missing. The specification is read first, then the FILEs.
 fn perform_needs<'w, F: Files, W: ByteOut>(
     alloc: Global,
     words: &NeedsWords<'w>,
@@ -367,7 +367,7 @@ fn print<'w, W: ByteOut>(output: &mut W, text: &str) -> Result<u8, Refusal<'w>> 
     Ok(0)
 }
 
-/// Does what the words ask for.
+/// Executes the command of the words.
 fn command<
     'w,
     R: Clock + Eprint + Threads + Wait + Sync,
@@ -407,7 +407,8 @@ fn command<
     }
 }
 
-/// Prints the line of a refusal. Where it can't be printed whole, a device has failed.
+/// Prints the line of a refusal and returns the exit status. If the line can't be printed whole, the status is that of
+/// a failed device.
 fn refuse<E: ByteOut>(alloc: Global, refusal: &Refusal<'_>, errors: &mut E) -> u8 {
     let (written, status) = match format!(in alloc; "jvmx: {refusal}\n") {
         Ok(line) => (errors.write_all(line.as_bytes()), refusal.status()),
@@ -416,16 +417,16 @@ fn refuse<E: ByteOut>(alloc: Global, refusal: &Refusal<'_>, errors: &mut E) -> u
     if written.is_ok() { status } else { 3 }
 }
 
-/// Shows why words are no command line, after the line that refuses them. What can't be shown is missing.
+/// Shows why words are no command line, after the line that refuses them. Ignores a failure to show it.
 fn explain_words<E: ByteOut>(alloc: Global, words: &[String], errors: &mut E) {
     if let Ok(text) = words_text(alloc, words) {
         let _shown = errors.write_all(text.as_bytes());
     }
 }
 
-/// Does all of the program, on the words after its name. The answer is its exit status: 0; 1 where a run
-/// didn't finish, an exception is uncaught, a cycle was found or something is missing; 2 where words or inputs are refused;
-/// 3 where memory ran out or a device failed.
+/// Runs the program on the words after its name, and returns the exit status. It is 0 for success. It is 1 if a run
+/// didn't finish, an exception is uncaught, a cycle was found or something is missing. It is 2 if words or inputs are
+/// refused. It is 3 if a file can't be read or written, memory ran out or a device failed.
 pub fn perform<
     R: AllocGlobal + Clock + Eprint + Threads + Wait + Sync,
     F: Files,
@@ -436,8 +437,8 @@ pub fn perform<
     perform_at(rt, Terminal::NONE, words, files, input, output, errors)
 }
 
-/// Does all of the program, as `perform` does. A person at a terminal sees more on standard error: prompts and hints of
-/// `debug`, of `campaign` how far it is and a summary, and why words are refused.
+/// Runs the program as `perform` does. A person at a terminal sees more on standard error: prompts and hints of
+/// `debug`, the progress and a summary of `campaign`, and why words are refused.
 pub fn perform_at<
     R: AllocGlobal + Clock + Eprint + Threads + Wait + Sync,
     F: Files,

@@ -1,4 +1,4 @@
-//! `picture`: a picture of a trace.
+//! `picture`: draws a picture of a trace.
 
 use crate::files::Files;
 use crate::reading::{read_spec, read_text};
@@ -10,7 +10,7 @@ use std::alloc::{AllocError, Global};
 use trace::ByteOut;
 use trace_check::fed_text;
 
-/// Returns the picture of what a checker was fed.
+/// Returns the picture of the trace that a checker was fed.
 fn picture_of(alloc: Global, checker: &Checker, is_dot: bool) -> Result<String, AllocError> {
     let verdict = checker.verdict()?;
     let sketch = sketch_of(alloc, checker, &verdict)?;
@@ -21,7 +21,7 @@ fn picture_of(alloc: Global, checker: &Checker, is_dot: bool) -> Result<String, 
     }
 }
 
-/// Prints a picture of the trace that a file holds. The specification is read first.
+/// Prints a picture of the trace of a file. The specification is read first.
 pub(crate) fn perform_picture<'w, F: Files, W: ByteOut>(
     alloc: Global,
     words: &PictureWords<'w>,

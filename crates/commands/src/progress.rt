@@ -1,4 +1,4 @@
-//! How far a campaign is, as a person at a terminal is shown it.
+//! Shows the progress of a campaign to a person at a terminal.
 
 use campaigning::{Gate, JobResult};
 use std::rt::Clock;
@@ -8,8 +8,9 @@ use std::time::Instant;
 /// The least time between two lines, in milliseconds.
 const SPAN: u128 = 500;
 
-/// Shows one line on standard error, anew after each span: how many jobs are done, how many of them have a cycle, and how
-/// long the others will take. A line that can't be shown is missing, and changes nothing else.
+/// A gate that shows one line on standard error, at most once in each span. It has the number of jobs that are done,
+/// the number of those with a cycle, and how long the others will take. A line that can't be shown is omitted, and
+/// changes nothing else.
 #[derive(Drop)]
 pub(crate) struct Progress<'r, R: Clock + Eprint> {
     rt: &'r R,
@@ -22,7 +23,7 @@ pub(crate) struct Progress<'r, R: Clock + Eprint> {
 }
 
 impl<'r, R: Clock + Eprint> Progress<'r, R> {
-    /// Returns a gate that shows how far a campaign of this number of jobs is. The time runs from now on.
+    /// Returns a gate for a campaign of this number of jobs. Its time starts now.
     pub(crate) fn new(rt: &'r R, jobs: u64) -> Self {
         Progress {
             rt,
@@ -42,7 +43,7 @@ impl<'r, R: Clock + Eprint> Progress<'r, R> {
         }
     }
 
-    /// Returns whether a line is to be shown after this time. Of all threads that ask in a span, one is told so.
+    /// Returns whether to show a line after this time. In each span this is true for one of the threads that ask.
     fn is_due(&self, elapsed: u128) -> bool {
         let spans = u64::try_from(elapsed / SPAN).unwrap_or(u64::MAX);
         let due = self.due.load(Ordering::Relaxed);
@@ -67,7 +68,7 @@ impl<'r, R: Clock + Eprint> Progress<'r, R> {
     }
 }
 
-/// Returns how many seconds the other jobs will take, if they take as long as those that are done.
+/// Returns how many seconds the remaining jobs will take, if they take as long as those that are done.
 fn seconds_left(elapsed: u128, done: u64, jobs: u64) -> u128 {
     let left = jobs.saturating_sub(done) as u128;
     elapsed.saturating_mul(left) / done.max(1) as u128 / 1_000

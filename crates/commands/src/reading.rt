@@ -1,4 +1,4 @@
-//! What the files of a command hold.
+//! Reads the files of a command.
 
 use crate::files::Files;
 use crate::refusal::Refusal;
@@ -6,14 +6,14 @@ use atom_spec::Spec;
 use inputs::Input;
 use std::alloc::Global;
 
-/// The bytes of a file.
+/// Returns the bytes of a file.
 fn read_file<'w, F: Files>(files: &mut F, name: &'w str) -> Result<Vec<u8>, Refusal<'w>> {
     files
         .read(name)
         .map_err(|fault| Refusal::of_file(name, fault))
 }
 
-/// The text of a file in UTF-8.
+/// Returns the text of a file in UTF-8.
 pub(crate) fn read_text<'w, F: Files>(files: &mut F, name: &'w str) -> Result<String, Refusal<'w>> {
     match String::from_utf8(read_file(files, name)?) {
         Ok(text) => Ok(text),
@@ -21,7 +21,7 @@ pub(crate) fn read_text<'w, F: Files>(files: &mut F, name: &'w str) -> Result<St
     }
 }
 
-/// A source in Jasmin, whatever its name.
+/// Returns a source in Jasmin, whatever the name of its file.
 pub(crate) fn read_source<'w, F: Files>(
     files: &mut F,
     name: &'w str,
@@ -29,7 +29,7 @@ pub(crate) fn read_source<'w, F: Files>(
     Ok(Input::Source(read_text(files, name)?))
 }
 
-/// What a FILE holds: a source where its name ends in `.j`, else a class file.
+/// Returns the input of a FILE: a source if its name ends in `.j`, else a class file.
 pub(crate) fn read_input<'w, F: Files>(files: &mut F, name: &'w str) -> Result<Input, Refusal<'w>> {
     if name.ends_with(".j") {
         read_source(files, name)
@@ -38,7 +38,7 @@ pub(crate) fn read_input<'w, F: Files>(files: &mut F, name: &'w str) -> Result<I
     }
 }
 
-/// What all FILEs hold, in order.
+/// Returns the inputs of all FILEs, in order.
 pub(crate) fn read_inputs<'w, F: Files>(
     alloc: Global,
     files: &mut F,
@@ -51,7 +51,7 @@ pub(crate) fn read_inputs<'w, F: Files>(
     Ok(inputs)
 }
 
-/// The specification that a file holds.
+/// Returns the specification of a file.
 pub(crate) fn read_spec<'w, F: Files>(
     alloc: Global,
     files: &mut F,

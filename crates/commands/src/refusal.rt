@@ -1,4 +1,4 @@
-//! Why a command was refused: the line on standard error, and the exit status.
+//! The reasons why a command is refused, each with its line on standard error and its exit status.
 
 use crate::fault::RunFault;
 use crate::files::FileFault;
@@ -18,44 +18,45 @@ use std::fmt;
 use trace::DeviceFailure;
 use trace_check::CheckFault;
 
-/// Why a command was refused, with what its line names: a file, the entry or the schedule, as the words have it.
+/// A reason why a command is refused, with what its line names: a file, the entry or the schedule, as spelled in the
+/// words.
 #[derive(Debug, Drop)]
 pub(crate) enum Refusal<'w> {
     /// P04: the words are no command line.
     Words,
     /// H01: a word is no schedule.
     Schedule { text: &'w str },
-    /// P02: a file isn't there, or can't be read.
+    /// P02: there is no such file, or it can't be read.
     File { file: &'w str },
     /// P01: a file has too many bytes.
     FileTooLarge { file: &'w str },
-    /// P03: a file ought to be a text and isn't UTF-8.
+    /// P03: a file has to be a text and isn't UTF-8.
     NotUtf8 { file: &'w str },
-    /// E01, E02: a file is no specification, or there was no memory for it.
+    /// E01, E02: a file is no specification, or memory ran out for it.
     Spec { file: &'w str, fault: SpecFault },
-    /// X01, X02, F01 to F03: a file is no trace that can be checked, or there was no memory for it.
+    /// X01, X02, F01 to F03: a file is no trace that can be checked, or memory ran out for it.
     Check { file: &'w str, fault: CheckFault },
-    /// C01 to C18, J01 to J12, A01 to A08: a file is no class, or there was no memory for its class.
+    /// C01 to C18, J01 to J12, A01 to A08: a file is no class, or memory ran out for its class.
     Input { file: &'w str, fault: InputFault },
     /// L01 to L03: the class of a file can't be listed.
     List { file: &'w str, fault: ListFault },
     /// K01 to K05: the class of a file can't be linked.
     Link { file: &'w str, fault: LinkFault },
-    /// K06: there was no memory for the program.
+    /// K06: memory ran out for the program.
     LinkMemory,
-    /// M01 to M03: there is no machine for the entry.
+    /// M01 to M03: the entry has no machine.
     Machine { entry: &'w str, fault: MachineFault },
     /// S01 to S03: the script of the debugger ended early.
     Script { fault: ScriptFault },
-    /// G01, G02, G04, G05: a campaign has too many jobs or workers, or there was no memory for it.
+    /// G01, G02, G04, G05: a campaign has too many jobs or workers, or memory ran out for it.
     Campaign { fault: CampaignFault },
-    /// T01: a file is no table, or there was no memory for it.
+    /// T01: a file is no table, or memory ran out for it.
     Table { file: &'w str, fault: TableFault },
-    /// T02, T03: tables make no whole, or there was no memory for it.
+    /// T02, T03: tables can't be joined, or memory ran out for it.
     Join { fault: JoinFault },
     /// P05: standard output or standard error failed.
     Output,
-    /// There was no memory for anything else.
+    /// Memory ran out for anything else.
     Memory,
 }
 
@@ -87,7 +88,7 @@ impl From<DeviceFailure> for Refusal<'_> {
 }
 
 impl<'w> Refusal<'w> {
-    /// A file that wasn't read.
+    /// Returns the refusal for a file that wasn't read or written.
     pub(crate) fn of_file(file: &'w str, fault: FileFault) -> Self {
         match fault {
             FileFault::File => Refusal::File { file },
@@ -96,7 +97,7 @@ impl<'w> Refusal<'w> {
         }
     }
 
-    /// A word that gave no chooser.
+    /// Returns the refusal for a word that is no schedule.
     pub(crate) fn of_schedule(text: &'w str, fault: ScheduleFault) -> Self {
         match fault {
             ScheduleFault::Syntax => Refusal::Schedule { text },
@@ -104,7 +105,7 @@ impl<'w> Refusal<'w> {
         }
     }
 
-    /// A trace of which nothing was said, or what was said wasn't written.
+    /// Returns the refusal for a trace without a verdict, or whose verdict wasn't written.
     pub(crate) fn of_check(file: &'w str, fault: CheckFault) -> Self {
         match fault {
             CheckFault::Memory => Refusal::Memory,
@@ -113,7 +114,7 @@ impl<'w> Refusal<'w> {
         }
     }
 
-    /// A class that wasn't linked.
+    /// Returns the refusal for a class that wasn't linked.
     fn of_link(names: &ProgramNames<'w>, fault: LinkFault) -> Self {
         match fault {
             LinkFault::BuiltInName { class }
@@ -128,7 +129,7 @@ impl<'w> Refusal<'w> {
         }
     }
 
-    /// A program that wasn't run and judged.
+    /// Returns the refusal for a program that wasn't run and judged.
     fn of_judge(names: &ProgramNames<'w>, fault: JudgeFault) -> Self {
         match fault {
             JudgeFault::Input { file, fault } => Refusal::Input {
@@ -144,7 +145,7 @@ impl<'w> Refusal<'w> {
         }
     }
 
-    /// A program that wasn't run, or whose output wasn't written.
+    /// Returns the refusal for a program that wasn't run, or whose output wasn't written.
     pub(crate) fn of_run(names: &ProgramNames<'w>, fault: RunFault) -> Self {
         match fault {
             RunFault::Judge(fault) => Refusal::of_judge(names, fault),
@@ -152,7 +153,7 @@ impl<'w> Refusal<'w> {
         }
     }
 
-    /// A program that wasn't debugged, or a script that ended early.
+    /// Returns the refusal for a program that wasn't debugged, or a script that ended early.
     pub(crate) fn of_debug(names: &ProgramNames<'w>, stop: DebugStop) -> Self {
         match stop {
             DebugStop::Judge(fault) => Refusal::of_judge(names, fault),
@@ -160,7 +161,7 @@ impl<'w> Refusal<'w> {
         }
     }
 
-    /// A campaign without a table, or whose table wasn't written.
+    /// Returns the refusal for a campaign without a table, or whose table wasn't written.
     pub(crate) fn of_campaign(names: &ProgramNames<'w>, fault: CampaignFault) -> Self {
         match fault {
             CampaignFault::Judge(fault) => Refusal::of_judge(names, fault),
@@ -169,7 +170,7 @@ impl<'w> Refusal<'w> {
         }
     }
 
-    /// 3 where memory ran out or a device failed, else 2.
+    /// Returns the exit status: 3 if a file can't be read or written, memory ran out or a device failed, else 2.
     pub(crate) fn status(&self) -> u8 {
         match self {
             Refusal::File { .. } | Refusal::LinkMemory | Refusal::Output | Refusal::Memory => 3,

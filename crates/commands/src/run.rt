@@ -1,4 +1,4 @@
-//! `run`: what a program writes.
+//! `run`: runs a program and writes its output.
 
 ghost use Rattle.std.specs.Prelude.{◌≡◌, ◌≢◌, ◌+◌, IfOk, IfErr, OnOk, IsErrOf, IsTrue, Ok, length};
 ghost use Rattle.std.specs.Io.KnownBytes.{Appends};
@@ -7,7 +7,7 @@ ghost use Rattle.explaining.specs.Explanations.{explanation_of_inputs};
 ghost use Rattle.judge.specs.Faults.{IsFault as IsJudgeFault, NamesFile as NamesInput};
 ghost use Rattle.judge.specs.Judgement.{IsJudgementOn};
 ghost use Rattle.judge.specs.Shown.{run_judged};
-ghost use Rattle.program_runs.specs.Shown.{EndsAs};
+ghost use Rattle.program_runs.specs.Shown.{HasEnding};
 ghost use Rattle.commands.specs.Faults.{IsFault, NamesFile, WroteBeginning};
 ghost use Rattle.commands.specs.Limits.{default_limits};
 
@@ -23,7 +23,7 @@ use std::alloc::Global;
 use trace::ByteOut;
 use turn_limit::TurnLimit;
 
-/// Runs the program that class files and sources make, and explains the run if that is asked for. Else the explanation is
+/// Runs the program of class files and sources, and explains the run if `explains` is set. Else the explanation is
 /// empty.
 fn run_and_explain(
     alloc: Global,
@@ -35,7 +35,7 @@ fn run_and_explain(
     explains: bool,
 ) -> Result<ExplainedRun, JudgeFault>
     ensures ending { IfOk result (λ run.
-        EndsAs (run_judged most chooser.old default_limits inputs.now entry.now) run.ending) }
+        HasEnding (run_judged most chooser.old default_limits inputs.now entry.now) run.ending) }
     ensures judged { IfOk result (λ run. IsJudgementOn spec
         (run_judged most chooser.old default_limits inputs.now entry.now) run.judgement) }
     ensures explained { IfOk result (λ run. IsTrue explains →
@@ -57,8 +57,8 @@ fn run_and_explain(
     })
 }
 
-/// Runs the program that class files and sources make, by the choices of a chooser, at most this number of them, and
-/// writes the bytes that it wrote. With a specification the run is judged too. It is explained if that is asked for.
+/// Runs the program of class files and sources by at most `most` of a chooser's choices, and writes its output. Judges
+/// the run if there is a specification, and explains it if `explains` is set.
 pub fn run<W: ByteOut>(
     alloc: Global,
     inputs: &[Input],
@@ -72,12 +72,12 @@ pub fn run<W: ByteOut>(
     // The number of turns, the status, the uncaught exceptions and the output are those of the run by the instruction
     // table.
     ensures ending { IfOk result (λ run.
-        EndsAs (run_judged most chooser.old default_limits inputs.now entry.now) run.ending) }
+        HasEnding (run_judged most chooser.old default_limits inputs.now entry.now) run.ending) }
     // The verdict is that on the run's items.
     ensures judged { IfOk result (λ run. IsJudgementOn spec
         (run_judged most chooser.old default_limits inputs.now entry.now) run.judgement) }
-    // What is explained is the cycle of that verdict, on the items of that run, with the turns that it gives; and the
-    // threads of the machine after it.
+    // The explanation is that of the verdict's cycle, on the items of that run with their turns, and of the threads of
+    // the machine after the run.
     ensures explained { IfOk result (λ run. IsTrue explains →
         explanation_of_inputs spec run.judgement most chooser.old default_limits inputs.now entry.now
         ≡ Ok (string_bytes run.explanation)) }
@@ -85,11 +85,11 @@ pub fn run<W: ByteOut>(
     ensures written { IfOk result (λ run.
         Appends (W.written output.old) (W.written output.new) run.ending.output) }
     ensures count { OnOk result (W.failures output.new ≡ W.failures output.old) }
-    // A fault comes only where its condition stands, and that of a file names one of these.
+    // A fault is returned only if its condition holds. A fault of a file names one of these.
     ensures fault { IfErr result (λ fault. IsFault fault (run_judged most chooser.old default_limits inputs.now entry.now)) }
     ensures named { IfErr result (λ fault. NamesFile (length inputs.now) fault) }
     ensures untouched { IfErr result (λ fault. fault ≢ RunFault.Output → output.new ≡ output.old) }
-    // Output comes only where the writer failed; then a beginning of the bytes was written.
+    // The fault is `Output` only if the writer failed. Then a prefix of the bytes was written.
     ensures failed { IsErrOf result RunFault.Output → W.failures output.new ≡ W.failures output.old + 1 }
     ensures beginning { IsErrOf result RunFault.Output → WroteBeginning (run_judged most chooser.old default_limits inputs.now entry.now) (λ shown. shown.output) (W.written output.old) (W.written output.new) }
 {

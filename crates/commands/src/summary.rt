@@ -1,4 +1,4 @@
-//! The summary of a campaign: the commands that run some of its jobs again.
+//! Makes the summary of a campaign: the commands that run some of its jobs again.
 
 use campaigning::{JobResult, Table};
 use command_line::ProgramNames;
@@ -6,16 +6,16 @@ use machine::Status;
 use machine_text::status_name;
 use std::alloc::{AllocError, Global};
 
-/// What the words of a campaign say that a command for one of its jobs repeats.
+/// The words of a campaign that a command for one of its jobs repeats.
 #[derive(Clone, Copy)]
 pub(crate) struct JobWords<'n, 'w> {
     pub names: &'n ProgramNames<'w>,
-    /// The file that says which methods are to be atomic.
+    /// The file with the specification of which methods are to be atomic.
     pub spec: &'w str,
     /// The number of the first job.
     pub first: u64,
     pub seed: u64,
-    /// The word that says how many turns a job takes at most, if one does.
+    /// The word for the maximum number of turns of a job, if there is one.
     pub most: Option<&'w str>,
 }
 
@@ -26,16 +26,16 @@ impl JobWords<'_, '_> {
     }
 }
 
-/// Why a person may want to look at a job.
+/// A reason why a job is worth a look.
 #[derive(Clone, Copy)]
 enum Finding {
-    /// It has a cycle.
+    /// The job has a cycle.
     Cycle,
-    /// It has this status.
+    /// The job has this status.
     Status(Status),
 }
 
-/// What a summary looks for.
+/// The findings that a summary searches for.
 const FINDINGS: [Finding; 4] = [
     Finding::Cycle,
     Finding::Status(Status::Deadlocked),
@@ -44,7 +44,7 @@ const FINDINGS: [Finding; 4] = [
 ];
 
 impl Finding {
-    /// Returns whether it is made in a job.
+    /// Returns whether the finding applies to a job.
     fn is_of(self, job: JobResult) -> bool {
         match self {
             Finding::Cycle => job.atomicity.has_cycle(),
@@ -52,7 +52,7 @@ impl Finding {
         }
     }
 
-    /// Returns the place of the first job in which it is made.
+    /// Returns the place of the first job to which the finding applies.
     fn first_in(self, results: &[JobResult]) -> Option<usize> {
         for (place, job) in results.iter().enumerate() {
             if self.is_of(*job) {
@@ -62,7 +62,7 @@ impl Finding {
         None
     }
 
-    /// Returns the number of jobs in which it is made.
+    /// Returns the number of jobs to which the finding applies.
     fn count_in(self, results: &[JobResult]) -> usize {
         let mut count: usize = 0;
         for job in results {
@@ -73,7 +73,7 @@ impl Finding {
         count
     }
 
-    /// Returns what it says of a job.
+    /// Returns the text of the finding.
     fn text(self) -> &'static str {
         match self {
             Finding::Cycle => "a cycle",
@@ -82,12 +82,12 @@ impl Finding {
     }
 }
 
-/// Returns whether a shell takes a byte as it stands.
+/// Returns whether a byte needs no quoting in a shell.
 fn is_plain(byte: u8) -> bool {
     byte.is_ascii_alphanumeric() || b"_./:,=+@%-".contains(&byte)
 }
 
-/// Appends a word, quoted for a shell where it has to be.
+/// Appends a word, quoted for a shell if necessary.
 fn put_quoted(text: &mut String, word: &str) -> Result<(), AllocError> {
     if !word.is_empty() && word.as_bytes().iter().all(|byte| is_plain(*byte)) {
         return text.push_str(word);
@@ -110,7 +110,7 @@ fn put_option(text: &mut String, option: &str, value: &str) -> Result<(), AllocE
     put_quoted(text, value)
 }
 
-/// Appends the FILEs. Where one begins with `-`, they stand behind `--`.
+/// Appends the FILEs. If one begins with `-`, they follow `--`.
 fn put_files(text: &mut String, files: &[&str]) -> Result<(), AllocError> {
     if files.iter().any(|file| file.starts_with('-')) {
         text.push_str(" --")?;
@@ -122,7 +122,7 @@ fn put_files(text: &mut String, files: &[&str]) -> Result<(), AllocError> {
     Ok(())
 }
 
-/// Returns the line of the command that runs a job again, or debugs it where no specification is named.
+/// Returns the line of the command that runs a job again, or debugs it if no specification is named.
 fn command_line(
     alloc: Global,
     command: &str,
@@ -149,14 +149,14 @@ fn command_line(
     Ok(line)
 }
 
-/// Returns whether one of these findings is made first in the job at a place.
+/// Returns whether the job at a place is the first for one of these findings.
 fn is_first_of(findings: &[Finding], results: &[JobResult], place: usize) -> bool {
     findings
         .iter()
         .any(|finding| finding.first_in(results) == Some(place))
 }
 
-/// Appends a finding, and in how many jobs it is made, if there is more than one.
+/// Appends a finding, and the number of jobs to which it applies, if there is more than one.
 fn put_finding(
     alloc: Global,
     line: &mut String,
@@ -172,7 +172,7 @@ fn put_finding(
     Ok(())
 }
 
-/// Returns the line that says what is found first in the job at a place, which has this number.
+/// Returns the line of the findings for which the job at a place is the first. `number` is the job's number.
 fn found_line(
     alloc: Global,
     results: &[JobResult],
@@ -192,7 +192,7 @@ fn found_line(
     Ok(line)
 }
 
-/// Returns the lines of a job: what is found in it first, and the commands that run it again and debug it.
+/// Returns the lines of a job: the findings for which it is the first, and the commands that run it again and debug it.
 fn job_lines(
     alloc: Global,
     words: JobWords<'_, '_>,
@@ -208,7 +208,8 @@ fn job_lines(
     Ok(lines)
 }
 
-/// Returns the summary of a table: of the first job with a cycle, and of the first of each status but Finished.
+/// Returns the summary of a table. It has the first job with a cycle, and the first with each status other than
+/// Finished.
 pub(crate) fn summary_of(
     alloc: Global,
     words: JobWords<'_, '_>,

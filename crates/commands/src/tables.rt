@@ -1,4 +1,4 @@
-//! `tables`: the tables of parts of a campaign, joined.
+//! `tables`: joins the tables of parts of a campaign.
 
 use crate::campaigns::is_good;
 use crate::files::Files;
@@ -9,7 +9,7 @@ use command_line::TablesWords;
 use std::alloc::Global;
 use trace::ByteOut;
 
-/// Reads the table that a file holds.
+/// Reads the table of a file.
 fn read_part<'w, F: Files>(
     alloc: Global,
     files: &mut F,
@@ -22,7 +22,7 @@ fn read_part<'w, F: Files>(
     }
 }
 
-/// Reads the tables that the FILEs hold, in order.
+/// Reads the tables of the FILEs, in order.
 fn read_parts<'w, F: Files>(
     alloc: Global,
     files: &mut F,
@@ -35,7 +35,7 @@ fn read_parts<'w, F: Files>(
     Ok(parts)
 }
 
-/// Prints the table that the tables of the FILEs make together.
+/// Prints the table that joins the tables of the FILEs.
 pub(crate) fn perform_tables<'w, F: Files, W: ByteOut>(
     alloc: Global,
     words: &TablesWords<'w>,

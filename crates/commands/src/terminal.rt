@@ -1,4 +1,4 @@
-//! What a person at a terminal is shown in a session of the debugger, on standard error.
+//! What a person at a terminal sees on standard error in a session of the debugger.
 
 use debugger::Session;
 use debugger_script::Prompt;
@@ -11,17 +11,17 @@ use source_lines::SourceFiles;
 use std::alloc::{AllocError, Global};
 use trace::ByteOut;
 
-/// Says which standard devices are a terminal, at which a person sits.
+/// The standard devices that are a terminal, at which a person sits.
 #[derive(Clone, Copy, Debug, PartialEq, Eq)]
 pub struct Terminal {
-    /// Standard input is one.
+    /// `true` if standard input is a terminal.
     pub input: bool,
-    /// Standard error is one.
+    /// `true` if standard error is a terminal.
     pub errors: bool,
 }
 
 impl Terminal {
-    /// No standard device is a terminal.
+    /// The case that no standard device is a terminal.
     pub const NONE: Terminal = Terminal {
         input: false,
         errors: false,
@@ -33,13 +33,13 @@ impl Terminal {
     }
 }
 
-/// Shows a prompt with the position before each read, and where the thread of the next turn is; and a hint after a fault. A prompt that can't be shown is missing,
-/// and changes nothing else.
+/// A prompt. Before each read it shows the position, and where the thread of the next turn is. After a fault it shows a
+/// hint. Text that can't be shown is omitted, and changes nothing else.
 #[derive(Drop)]
 pub(crate) struct TerminalPrompt<'e, E: ByteOut> {
     alloc: Global,
     errors: &'e mut E,
-    /// The schedule that gave the choices, as the words have it.
+    /// The schedule of the choices, as spelled in the words.
     schedule: &'e str,
     /// The class files of the program.
     files: &'e [ClassFile],
@@ -47,7 +47,7 @@ pub(crate) struct TerminalPrompt<'e, E: ByteOut> {
 }
 
 impl<'e, E: ByteOut> TerminalPrompt<'e, E> {
-    /// Returns a prompt that is shown on this writer.
+    /// Returns a prompt that writes to this writer.
     pub(crate) fn new(
         alloc: Global,
         errors: &'e mut E,
@@ -63,7 +63,7 @@ impl<'e, E: ByteOut> TerminalPrompt<'e, E> {
         }
     }
 
-    /// Shows the prompt of a session. Shows the session's first line before the first prompt.
+    /// Shows the prompt of a session. The first time it shows the session's first line before it.
     fn ask_in(&mut self, session: &Session<'_>) {
         let turns = session.choices().len();
         if !self.is_greeted {
@@ -74,7 +74,7 @@ impl<'e, E: ByteOut> TerminalPrompt<'e, E> {
         self.show(prompt_at(self.alloc, session.position(), turns));
     }
 
-    /// Shows a text, if there was memory for it.
+    /// Shows a text, unless memory ran out for it.
     fn show(&mut self, text: Result<String, AllocError>) {
         if let Ok(text) = text {
             let _ = self.errors.write_all(text.as_bytes());
@@ -82,8 +82,8 @@ impl<'e, E: ByteOut> TerminalPrompt<'e, E> {
     }
 }
 
-/// Returns the classes that inputs are, of which prompts tell the lines. There are none if an input is no class: the session
-/// is refused then.
+/// Returns the classes of inputs, which prompts use for source lines. Returns none if an input is no class, because the
+/// session is then refused.
 pub(crate) fn source_files(alloc: Global, inputs: &[Input]) -> Vec<ClassFile> {
     match classes_of(alloc, inputs) {
         Ok(files) => files,
@@ -98,8 +98,8 @@ fn greeting(alloc: Global, schedule: &str, turns: usize) -> Result<String, Alloc
     )
 }
 
-/// Returns the line of the thread that takes the next turn: where it is in the program and in its source. The text is empty
-/// if there is no next turn, or if the thread is in no call.
+/// Returns the line of the next turn's thread: where it is in the program and in its source. The text is empty if there
+/// is no next turn, or if the thread is in no call.
 fn next_line(
     alloc: Global,
     session: &Session<'_>,
@@ -128,7 +128,7 @@ fn prompt_at(alloc: Global, position: usize, turns: usize) -> Result<String, All
     format!(in alloc; "({position} of {turns}) ")
 }
 
-/// Returns a hint to the answer of a fault.
+/// Returns a hint for the answer of a fault.
 fn hint_of(answer: &str) -> Option<&'static str> {
     if answer.starts_with("fault B01") {
         Some("jvmx help debug lists the commands. One space parts their words.\n")

@@ -1,10 +1,10 @@
-//! `trace`: what the threads of a program did, or which of them took the turns.
+//! `trace`: writes what the threads of a program did, or which of them took the turns.
 
 ghost use Rattle.std.specs.Prelude.{◌≡◌, ◌≢◌, ◌+◌, IfOk, IfErr, OnOk, IsErrOf, length};
 ghost use Rattle.std.specs.Io.KnownBytes.{Appends};
 ghost use Rattle.trace.specs.Bytes.{AppendsBeginning};
 ghost use Rattle.judge.specs.Shown.{run_judged};
-ghost use Rattle.program_runs.specs.Shown.{shown_in};
+ghost use Rattle.program_runs.specs.Shown.{view_of_traced};
 ghost use Rattle.commands.specs.Choices.{text_of as trace_text_of};
 ghost use Rattle.commands.specs.Faults.{IsFault, NamesFile, WroteBeginning};
 ghost use Rattle.commands.specs.Limits.{default_limits};
@@ -21,7 +21,7 @@ use std::alloc::Global;
 use trace::ByteOut;
 use turn_limit::TurnLimit;
 
-/// Writes what is printed of a run.
+/// Writes the text of a run.
 fn write_text<W: ByteOut>(
     alloc: Global,
     kind: TraceText,
@@ -29,10 +29,10 @@ fn write_text<W: ByteOut>(
     output: &mut W,
 ) -> Result<(), RunFault>
     ensures written { OnOk result
-        (Appends (W.written output.old) (W.written output.new) (trace_text_of kind (shown_in run.now))) }
+        (Appends (W.written output.old) (W.written output.new) (trace_text_of kind (view_of_traced run.now))) }
     ensures count { OnOk result (W.failures output.new ≡ W.failures output.old) }
     ensures beginning { IsErrOf result RunFault.Output
-        → AppendsBeginning (W.written output.old) (W.written output.new) (trace_text_of kind (shown_in run.now)) }
+        → AppendsBeginning (W.written output.old) (W.written output.new) (trace_text_of kind (view_of_traced run.now)) }
     ensures failed { IsErrOf result RunFault.Output
         → W.failures output.new ≡ W.failures output.old + 1 }
     ensures named { IfErr result (λ fault. NamesFile 0 fault) }
@@ -44,8 +44,8 @@ fn write_text<W: ByteOut>(
     Ok(())
 }
 
-/// Runs the program that class files and sources make, by the choices of a chooser, at most this number of them, and
-/// writes the text of its trace, one item a line, or its choices as a schedule.
+/// Runs the program of class files and sources by at most `most` of a chooser's choices. Writes the text of its trace,
+/// one item a line, or its choices as a schedule.
 pub fn write_trace<W: ByteOut>(
     alloc: Global,
     inputs: &[Input],
@@ -57,15 +57,15 @@ pub fn write_trace<W: ByteOut>(
 ) -> Result<Judged, RunFault>
     // The turns, the status, the uncaught exceptions and the items are those of the run by the instruction table.
     ensures exact { IfOk result (λ j.
-        run_judged most chooser.old default_limits inputs.now entry.now ≡ Ok (shown_in j.run)) }
+        run_judged most chooser.old default_limits inputs.now entry.now ≡ Ok (view_of_traced j.run)) }
     // Exactly the text of the items, or of the choices, was written.
-    ensures written { IfOk result (λ j. Appends (W.written output.old) (W.written output.new) (trace_text_of kind (shown_in j.run))) }
+    ensures written { IfOk result (λ j. Appends (W.written output.old) (W.written output.new) (trace_text_of kind (view_of_traced j.run))) }
     ensures count { OnOk result (W.failures output.new ≡ W.failures output.old) }
-    // A fault comes only where its condition stands, and that of a file names one of these.
+    // A fault is returned only if its condition holds. A fault of a file names one of these.
     ensures fault { IfErr result (λ fault. IsFault fault (run_judged most chooser.old default_limits inputs.now entry.now)) }
     ensures named { IfErr result (λ fault. NamesFile (length inputs.now) fault) }
     ensures untouched { IfErr result (λ fault. fault ≢ RunFault.Output → output.new ≡ output.old) }
-    // Output comes only where the writer failed; then a beginning of the text was written.
+    // The fault is `Output` only if the writer failed. Then a prefix of the text was written.
     ensures failed { IsErrOf result RunFault.Output → W.failures output.new ≡ W.failures output.old + 1 }
     ensures beginning { IsErrOf result RunFault.Output → WroteBeginning (run_judged most chooser.old default_limits inputs.now entry.now) (trace_text_of kind) (W.written output.old) (W.written output.new) }
 {

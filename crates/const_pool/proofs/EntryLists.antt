@@ -1,4 +1,4 @@
--- The entries of a pool, one behind another.
+-- The entries of a pool, one after another.
 use Rattle.std.proofs.Common.{◌≡◌, ℕ, zero, suc, ◌-◌, ◌<◌, ◌≤◌, true, false, cond, ◌&&◌, nat_lt, List, [], ◌∷◌, ◌++◌, length, refl, ap, sym, ◌∙◌, arith, append-nil}
 use Rattle.std.proofs.lemmas.Bool.Decides.{nat_tests}
 use Rattle.std.specs.Prelude.{Result, Ok, Err}
@@ -13,11 +13,11 @@ use Rattle.jvms_file.specs.ConstantPool.{takes_two, constant_at, entries_at}
 use Rattle.jvms_file.proofs.FrontLaws.{with_front, with_front-append}
 use Rattle.const_pool.specs.Numbered.{numbered}
 
--- What is read of a pool.
+-- The result of reading a pool.
 abbrev Read : Type 0
 Read = Result (List Constant × List ℕ) ClassFault
 
--- The entries behind one that was read, with it in front.
+-- The entries after one that was read, with that one at the front.
 abbrev behind_entry : ClassFault → ℕ → Constant × List ℕ → Read
 behind_entry cut left c = with_front (numbered c.0 left) (entries_at cut (left - length (numbered c.0 left)) c.1)
 
@@ -54,31 +54,31 @@ next_entry cut left (Ok c) =
       | false ↦ rw minus_one (one_more c.0 (entries_at cut (suc left) c.1))
     ]
 
--- The entries of some numbers are the first, and those behind it.
+-- A count of numbers that isn't 0 has the first entry, followed by the others.
 pub entries_at-suc : (cut : ClassFault) (left : ℕ) (bytes : List ℕ) → 0 < left → entries_at cut left bytes ≡ (constant_at cut bytes >>= behind_entry cut left)
 unfolding entries_at
 entries_at-suc cut zero bytes some = absurd (omega arith)
 entries_at-suc cut (suc zero) bytes some = last_entry cut (constant_at cut bytes)
 entries_at-suc cut (suc (suc left)) bytes some = next_entry cut left (constant_at cut bytes)
 
--- One more entry goes from what is left to what was read.
+-- One more entry moves from those that are left to those that were read.
 pub more_entries : (front : List Constant) (cut : ClassFault) (left : ℕ) (bytes : List ℕ) (c : Constant) (rest : List ℕ) → 0 < left → constant_at cut bytes ≡ Ok (c, rest) → with_front (front ++ numbered c left) (entries_at cut (left - length (numbered c left)) rest) ≡ with_front front (entries_at cut left bytes)
 more_entries front cut left bytes c rest some is =
     with_front-append front (numbered c left) (entries_at cut (left - length (numbered c left)) rest)
     ∙ ap (with_front front) (sym (entries_at-suc cut left bytes some ∙ ap (λ r. r >>= behind_entry cut left) is))
 
--- A fault of the next entry is one of all.
+-- The fault of the next entry is the fault of all.
 pub failed_entries : (front : List Constant) (cut : ClassFault) (left : ℕ) (bytes : List ℕ) (f : ClassFault) → 0 < left → constant_at cut bytes ≡ Err f → with_front front (entries_at cut left bytes) ≡ Err f
 failed_entries front cut left bytes f some is =
     ap (with_front front) (entries_at-suc cut left bytes some ∙ ap (λ r. r >>= behind_entry cut left) is)
 
--- With none left, what was read is all.
+-- If none are left, the entries that were read are all.
 pub no_more_entries : (front : List Constant) (cut : ClassFault) (left : ℕ) (rest : List ℕ) (all : Read) → left ≤ 0 → with_front front (entries_at cut left rest) ≡ all → all ≡ Ok (front, rest)
 unfolding entries_at
 no_more_entries front cut zero rest all none whole = sym whole ∙ ap (λ xs. Ok (xs, rest)) (append-nil front)
 no_more_entries front cut (suc left) rest all none whole = absurd (omega arith)
 
--- An error of the next entry is one of all.
+-- The error of the next entry is the error of all.
 pub failed_reading : (front : List Constant) (cut : ClassFault) (left : ℕ) (bytes : List ℕ) (all : Read) (e : ReadError) → 0 < left → with_front front (entries_at cut left bytes) ≡ all → Fails e (constant_at cut bytes) → Fails e all
 failed_reading front cut left bytes all (error.Fault f) some whole is = sym whole ∙ failed_entries front cut left bytes f some is
 failed_reading front cut left bytes all error.Memory some whole is = tt

@@ -36,7 +36,7 @@ by_texts : (f : List ℕ → ℕ) (a b : List ℕ) (t : Bool) → same_text a b 
 by_texts f a b true is = alike (f a) (f b) (slice_cmp nat_cmp a b) (ap f ((bytes_eq-Decides a b).0 is)) ∙ (is_eq-slice_cmp a b ∙ is)
 by_texts f a b false is = unlike (nat_cmp (f a) (f b)) (slice_cmp nat_cmp a b) (is_eq-slice_cmp a b ∙ is)
 
--- Keys in the order of a number that a text has, and then in that of the texts, are one where the texts are.
+-- Keys in the order of a hash of the text, and then in that of the texts, are equal exactly if the texts are.
 pub one_key : (f : List ℕ → ℕ) (a b : List ℕ) → is_eq (ordering_then (nat_cmp (f a) (f b)) (slice_cmp nat_cmp a b)) ≡ same_text a b
 one_key f a b = by_texts f a b (same_text a b) refl
 
@@ -68,7 +68,7 @@ placed n (x ∷ xs) (suc i) text is =
     here_by n (is_this text x) (first_from (n + 1) (take i xs) text) (first_from (n + 1) xs text) (n + suc i)
     (ap (λ m. unwrap_or (first_from (n + 1) (take i xs) text) m) (sym far) ∙ placed (n + 1) xs i text is)
 
--- What is known of an entry from those before it is what is known of it.
+-- The first number of an entry's text, found among the entries before it, is the one of the definition.
 pub placed_text : (pool : List Constant) (i : ℕ) (c : Constant) (known : List ℕ → Option ℕ) → slice_get pool i ≡ Some c → ((text : List ℕ) → known text ≡ first_number (take i pool) text) → text_with (λ text. unwrap_or (known text) (i + 1)) c ≡ text_of pool c
 placed_text pool i (constant.Utf8 text) known is h =
     let next : i + 1 ≡ 1 + i = omega arith in
@@ -138,11 +138,11 @@ one_by pool m n None v is are = rw is refl
 one_by pool m n (Some a) None is are = rw (is, are) refl
 one_by pool m n (Some a) (Some b) is are = rw (is, are) (one_text pool a b (first_at pool m a is) (first_at pool n b are))
 
--- Two numbers have one canonical number exactly where they are one text.
+-- Two numbers have the same canonical number exactly if their texts are equal.
 pub one_canonical : (pool : List Constant) (m n : ℕ) → is_one_number (canonical pool m) (canonical pool n) ≡ same_entry_text pool m n
 one_canonical pool m n = one_by pool m n (utf8_at pool m) (utf8_at pool n) refl refl
 
--- ---- What is kept of a number
+-- ---- The number that a text keeps
 
 known_at : (pool : List Constant) (number : ℕ) → 0 < number → slice_get (map (text_of pool) pool) (number - 1) ≡ option_map (text_of pool) (entry pool number)
 known_at pool zero some = absurd (omega arith)

@@ -1,4 +1,4 @@
--- What the forms of a name and a descriptor say of them.
+-- The forms of a name and a descriptor decide whether they are a member's.
 use Rattle.std.proofs.Common.{◌≡◌, ℕ, cond, ◌&&◌, List, Option, None, Some, refl, ap}
 use Rattle.std.specs.Option.{option_map}
 use Rattle.std.specs.Prelude.{is_some}

@@ -1,4 +1,4 @@
--- Entries numbered by first use, and one more of them.
+-- Entries numbered by first use, followed by one more.
 use Rattle.std.proofs.Common.{◌≡◌, ℕ, ℤ, zero, suc, ◌+◌, ◌-◌, ◌<◌, ◌≤◌, Bool, true, false, cond, List, [], ◌∷◌, ◌++◌, length, ◌==◌, ◌&&◌, Option, None, Some, Ok, Err, refl, sym, ap, ◌∙◌, rules, arith, nat_le, lit<}
 use Rattle.std.proofs.lemmas.Bool.{and_parts, eqb-true, false≢true}
 use Rattle.std.proofs.lemmas.Bool.Decides.{nat_tests}
@@ -19,14 +19,14 @@ use Rattle.const_pool.specs.declared.builder.PoolFault.TheVariants as pool_fault
 use Rattle.const_pool.specs.Interning.{constant_of, constants_of, pool_of, is_same, width, taken, number_from, numbered_from, interned, IsNumbering}
 use Rattle.const_pool.specs.contracts.entry.EntryPartialEq as derived
 
--- What `==` compares by.
+-- The equality that `==` uses.
 abbrev pub same : Entry → Entry → Bool
 same = derived.TheImpl.eq-value.it
 
 pub same-is : (a b : Entry) → same a b ≡ is_same a b
 same-is a b = search rules
 
--- The number that stands beside an entry is its number.
+-- The number that is stored with an entry is its number.
 pub lookup-numbered_from : (n : ℕ) (es : List Entry) (e : Entry) → lookup (same e) (numbered_from n es) ≡ number_from n es e
 lookup-numbered_from n [] e = refl
 lookup-numbered_from n (x ∷ xs) e = rw (same-is e x) (ap (cond (is_same e x) (Some n)) (lookup-numbered_from (n + width x) xs e))
@@ -85,7 +85,7 @@ interned-new es keys e next w are is wide fits some new =
     let here : taken es + 1 ≡ next = omega arith in
     rw (← new, free) (ap (λ n. Ok (n, es ++ e ∷ [])) here)
 
--- An entry that isn't there, and for which a number is left, takes the next.
+-- An entry that isn't there takes the next number, if one is left.
 pub interned-next : (es keys : List Entry) (e : Entry) (next w : ℕ) → keys ≡ es → next ≡ taken keys + 1 → w ≡ width e → w ≤ 65535 - next → 0 < w → None ≡ number_from 1 es e → interned es e ≡ Ok (taken es + 1, es ++ e ∷ [])
 unfolding interned
 interned-next es keys e next w are is wide fits some new =
@@ -95,7 +95,7 @@ interned-next es keys e next w are is wide fits some new =
 
 -- ---- The pool of entries
 
--- Behind each long and double, and nowhere else, stands an unusable entry.
+-- An unusable entry follows each long and double, and is nowhere else.
 pub numbered_pool : (es : List Entry) → IsNumbered false (pool_of es)
 numbered_pool [] = refl
 numbered_pool (entry.Utf8 text ∷ es) = numbered_pool es
@@ -119,7 +119,7 @@ pub length-pool_of : (es : List Entry) → length (pool_of es) ≡ taken es
 length-pool_of [] = refl
 length-pool_of (e ∷ es) = length-constants_of e (pool_of es) ∙ ap (λ n. width e + n) (length-pool_of es)
 
--- Entries that are one are one constant.
+-- Equal entries are equal constants.
 signed_is : (a b : ℤ) → int_eq a b ≡ true → a ≡ b
 signed_is a b h = (signed_Decides a b).0 h
 
@@ -142,7 +142,7 @@ same_constant (entry.InterfaceMethod a m) (entry.InterfaceMethod b n) h = two_ar
 same_constant (entry.NameAndType a m) (entry.NameAndType b n) h = two_are (λ x y. constant.NameAndType x y) a b m n h
 same_constant a b h = absurd (false≢true h)
 
--- What stands behind an entry's numbers stands behind them in the pool.
+-- The constants after those of an entry follow them in the pool.
 behind_entry : (e : Entry) (cs : List Constant) (i : ℕ) → slice_get (constants_of e ++ cs) (width e + i) ≡ slice_get cs i
 behind_entry e cs i =
     elim (takes_two (constant_of e)) as (λ two. slice_get (cond two (constant_of e ∷ constant.Unusable ∷ []) (constant_of e ∷ []) ++ cs) (cond two 2 1 + i) ≡ slice_get cs i) [ true ↦ rw two_more refl | false ↦ rw one_more_place refl ]
@@ -206,12 +206,12 @@ get_in_front [] ys i c is = absurd (none-some c is)
 get_in_front (x ∷ xs) ys zero c is = is
 get_in_front (x ∷ xs) ys (suc i) c is = get_in_front xs ys i c is
 
--- What the numbers name stays.
+-- The entries that numbers name are kept.
 pub names_kept : (es : List Entry) (e : Entry) (n : ℕ) (c : Constant) → entry_at (pool_of es) n ≡ Some c → entry_at (pool_of (es ++ e ∷ [])) n ≡ Some c
 names_kept es e zero c is = is
 names_kept es e (suc i) c is = rw (flat_map-append constants_of es (e ∷ [])) (get_in_front (pool_of es) (pool_of (e ∷ [])) i c is)
 
--- ---- What callers learn
+-- ---- What callers use
 
 pub number_named : (es : List Entry) (e : Entry) (r : Option ℕ) → r ≡ number_from 1 es e → IfSome r (λ n. entry_at (pool_of es) n ≡ Some (constant_of e))
 number_named es e None is = tt

@@ -1,11 +1,11 @@
--- Texts with the numbers under which they came first.
+-- Texts with the number of their first entry (own).
 use Rattle.std.specs.Prelude.{ℕ, ◌*◌, ◌%◌, ◌^◌, List, [], ◌∷◌, Option, bit_xor}
 use Rattle.std.specs.BTreeMap as tree
 use Rattle.std.specs.Cmp.Lexicographic.{slice_cmp}
 use Rattle.std.specs.Ordering.{nat_cmp, ordering_then}
 use Rattle.const_pool.specs.declared.firsts.Firsts.{Firsts}
 
--- The fingerprint of a text that stands behind one of this fingerprint.
+-- The fingerprint of a text that follows one of this fingerprint.
 abbrev pub fingerprint_from : ℕ → List ℕ → ℕ
 fingerprint_from n [] = n
 fingerprint_from n (u ∷ us) = fingerprint_from ((bit_xor n u * 0x100000001b3) % 2 ^ 64) us

@@ -26,7 +26,7 @@ constant_of (entry.Method class name_and_type) = constant.Method class name_and_
 constant_of (entry.InterfaceMethod class name_and_type) = constant.InterfaceMethod class name_and_type
 constant_of (entry.NameAndType name descriptor) = constant.NameAndType name descriptor
 
--- Two entries are one: they have one tag, and the same stands behind it.
+-- Two entries are equal: they have the same tag and the same content.
 abbrev pub is_same : Entry → Entry → Bool
 is_same (entry.Utf8 a) (entry.Utf8 b) = same_text a.items b.items
 is_same (entry.Integer a) (entry.Integer b) = int_eq a b
@@ -41,11 +41,11 @@ is_same (entry.InterfaceMethod a m) (entry.InterfaceMethod b n) = a == b && m ==
 is_same (entry.NameAndType a m) (entry.NameAndType b n) = a == b && m == n
 is_same _ _ = false
 
--- How many numbers an entry takes (JVMS 4.4.5).
+-- The count of numbers that an entry takes (JVMS 4.4.5).
 abbrev pub width : Entry → ℕ
 width e = if takes_two (constant_of e) then 2 else 1
 
--- How many numbers entries take.
+-- The count of numbers that entries take.
 abbrev pub taken : List Entry → ℕ
 taken [] = 0
 taken (e ∷ es) = width e + taken es
@@ -55,9 +55,9 @@ abbrev pub number_from : ℕ → List Entry → Entry → Option ℕ
 number_from n [] e = None
 number_from n (x ∷ xs) e = if is_same e x then Some n else number_from (n + width x) xs e
 
--- The number of an entry in a pool of these, and the entries of the pool with it. An entry that is there
--- keeps its number; a new one takes the next, and a second one behind it if it is a long or a double. No
--- number is above 65534, since constant_pool_count is at most 65535.
+-- The number of an entry in a pool of these, and the entries of the pool with it. An entry that is there keeps its
+-- number. A new one takes the next, and a second one after it if it is a long or a double. No number is above 65534,
+-- since constant_pool_count is at most 65535 (JVMS 4.1).
 unfoldable pub interned : List Entry → Entry → Result (ℕ × List Entry) PoolFault
 interned es e = at_or_next (number_from 1 es e)
   where
@@ -65,7 +65,7 @@ interned es e = at_or_next (number_from 1 es e)
     at_or_next (Some n) = Ok (n, es)
     at_or_next None = if nat_le (taken es + width e) 65534 then Ok (taken es + 1, es ++ e ∷ []) else Err pool_fault.PoolFull
 
--- The numbers of an entry in a pool: behind a long or a double stands an unusable one.
+-- The constants of an entry in a pool: itself, and an unusable one after a long or a double (JVMS 4.4.5).
 abbrev pub constants_of : Entry → List Constant
 constants_of e = if takes_two (constant_of e) then constant_of e ∷ constant.Unusable ∷ [] else constant_of e ∷ []
 
@@ -78,8 +78,8 @@ abbrev pub numbered_from : ℕ → List Entry → List (Entry × ℕ)
 numbered_from n [] = []
 numbered_from n (e ∷ es) = (e, n) ∷ numbered_from (n + width e) es
 
--- An answer of interning, which took the entries from old to new: where it is no number, nothing changed. Memory is
--- wanted for an entry that isn't there and has a number left, and for no other.
+-- A result of interning, which turned the entries old into new. If it is no number, nothing changed. Memory is needed
+-- only for an entry that isn't there and has a number left.
 abbrev pub Interns : List Entry → Entry → Result ℕ PoolFault → List Entry → Type 0
 Interns old e (Ok n) new = interned old e ≡ Ok (n, new)
 Interns old e (Err pool_fault.PoolFull) new = (interned old e ≡ Err pool_fault.PoolFull) × (new ≡ old)

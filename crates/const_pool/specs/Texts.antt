@@ -1,4 +1,4 @@
--- What is known of the texts of a pool's entries.
+-- The first numbers and the forms of the texts of a pool's entries (own).
 use Rattle.std.specs.Prelude.{ℕ, ◌+◌, Bool, false, ◌==◌, ◌&&◌, if◌then◌else◌, List, [], ◌∷◌, Option, Some, None, is_some}
 use Rattle.std.specs.Option.{option_map, unwrap_or}
 use Rattle.jvms_file.specs.declared.class_file.Constant.{Constant}
@@ -11,7 +11,7 @@ use Rattle.const_pool.specs.declared.scanned.Text.{Text}
 
 -- ---- Forms
 
--- The units of a method's parameters, where a text is its descriptor.
+-- The units of a method's parameters, if the text is a method's descriptor.
 abbrev pub method_units_of : List ℕ → Option ℕ
 method_units_of text = option_map parameter_units (method_type_of text)
 
@@ -26,7 +26,7 @@ forms_of text =
       method_units = method_units_of text;
     }
 
--- Whether texts of these forms are a method's name and descriptor, or a field's (JVMS 4.4.6).
+-- Texts of these forms are a method's name and descriptor, or a field's (JVMS 4.4.6).
 abbrev pub is_formed_member : Forms → Forms → Bool
 is_formed_member name descriptor =
     if descriptor.method_sort
@@ -35,11 +35,11 @@ is_formed_member name descriptor =
 
 -- ---- Equal texts
 
--- Whether an entry is this text.
+-- An entry is this text.
 abbrev pub is_this : List ℕ → Constant → Bool
 is_this text c = is_text_with (same_text text) (utf8_of c)
 
--- The number of the first entry that is this text; n is that of the first of these.
+-- The number of the first entry that is this text. n is the number of the first of these entries.
 abbrev pub first_from : ℕ → List Constant → List ℕ → Option ℕ
 first_from n [] text = None
 first_from n (c ∷ cs) text = if is_this text c then Some n else first_from (n + 1) cs text
@@ -48,8 +48,7 @@ first_from n (c ∷ cs) text = if is_this text c then Some n else first_from (n 
 abbrev pub first_number : List Constant → List ℕ → Option ℕ
 first_number pool text = first_from 1 pool text
 
--- The number of a text once an entry of this number is there too: the one that it has, or else the entry's
--- where that is the text.
+-- The number of a text after one more entry of number n: the one that it has, else n if the entry is the text.
 abbrev pub known_after : Option ℕ → ℕ → List ℕ → Constant → Option ℕ
 known_after (Some m) n text c = Some m
 known_after None n text c = if is_this text c then Some n else None
@@ -58,15 +57,15 @@ known_after None n text c = if is_this text c then Some n else None
 abbrev pub text_with : (List ℕ → ℕ) → Constant → Option Text
 text_with number c = option_map (λ text. record { canonical = number text; forms = forms_of text }) (utf8_of c)
 
--- What is known of an entry's text, if it is one.
+-- The first number and the forms of an entry's text, if it is one.
 abbrev pub text_of : List Constant → Constant → Option Text
 text_of pool c = text_with (λ text. unwrap_or (first_number pool text) 0) c
 
--- The least number of an entry whose text is that of this number.
+-- The least number of an entry whose text equals that of this number.
 abbrev pub canonical : List Constant → ℕ → Option ℕ
 canonical pool n = option_map (λ text. unwrap_or (first_number pool text) 0) (utf8_at pool n)
 
--- Whether two numbers are there, and are one.
+-- Two numbers are there, and they are equal.
 abbrev pub is_one_number : Option ℕ → Option ℕ → Bool
 is_one_number (Some m) (Some n) = m == n
 is_one_number _ _ = false

@@ -1,4 +1,4 @@
-//! A pool that is built entry by entry.
+//! Builds a pool entry by entry.
 
 ghost use Rattle.std.specs.Prelude.{◌≡◌, ◌≤◌, ℕ, false, [], ◌++◌, length, Some, IfSome, IfOk, OnOk};
 ghost use Rattle.jvms_file.specs.declared.class_file.Constant.{Constant};
@@ -9,23 +9,23 @@ ghost use Rattle.const_pool.specs.Interning.{constant_of, width as width_of, con
 
 use crate::entry::Entry;
 use crate::pool::Pool;
-use held::items::Items;
+use shared_data::items::Items;
 use indexmap::IndexMap;
 use jvms_file::class_file::Constant;
 use std::alloc::{AllocError, AllocFailed, Global};
 use std::marker::Model;
 use thiserror::Error;
 
-/// The most that constant_pool_count is (JVMS 4.1): one more than the last number.
+/// The greatest constant_pool_count (JVMS 4.1): one more than the last number.
 const MOST_COUNT: u16 = 65535;
 
-/// Why an entry was not put into a pool.
+/// The reason why an entry was not added to a pool.
 #[derive(Debug, PartialEq, Eq, Drop, Error)]
 pub enum PoolFault {
     /// A number above 65534 would be needed.
     #[error("the constant pool is full")]
     PoolFull,
-    /// There was no memory for the entry.
+    /// Memory ran out.
     #[error("out of memory")]
     Memory,
 }
@@ -38,8 +38,8 @@ impl<T: Drop> From<AllocFailed<T>> for PoolFault {
     }
 }
 
-/// The entries of a pool that is being built, in which each stands once, numbered from 1 by first use.
-/// Contracts see the list of them.
+/// The entries of a pool that is being built, numbered from 1 by first use. Each is there once. Contracts see the list
+/// of them.
 #[derive(Debug, Drop)]
 pub struct PoolBuilder {
     /// Each entry, with its number.
@@ -61,14 +61,14 @@ impl Model for PoolBuilder {
     ghost invariant = { λ b. IsNumbering b.numbers.entries b.next };
 }
 
-/// How many numbers an entry takes (JVMS 4.4.5).
+/// Returns the count of numbers that an entry takes (JVMS 4.4.5).
 fn width(entry: &Entry) -> u16
     ensures { result ≡ width_of entry.now }
 {
     if entry.takes_two() { 2 } else { 1 }
 }
 
-/// Puts the numbers of an entry behind the others.
+/// Appends the constants of an entry: itself, and an unusable one after a long or a double.
 fn push_constants(entries: &mut Items<Constant>, entry: Entry) -> Result<(), AllocError>
     ensures { OnOk result (entries.new ≡ entries.old ++ constants_of entry) }
 {
@@ -81,7 +81,7 @@ fn push_constants(entries: &mut Items<Constant>, entry: Entry) -> Result<(), All
 }
 
 impl PoolBuilder {
-    /// A pool of no entries.
+    /// Creates a pool without entries.
     pub fn new(alloc: Global) -> Self
         ensures { result ≡ [] }
     {
@@ -91,7 +91,7 @@ impl PoolBuilder {
         }
     }
 
-    /// The number of an entry, if it is there.
+    /// Returns the number of an entry, if it is there.
     pub fn number(&self, entry: &Entry) -> Option<u16>
         ensures exact { result ≡ number_from 1 self.now entry.now }
         ensures names { IfSome result (λ n. entry_at (pool_of self.now) n ≡ Some (constant_of entry.now)) }
@@ -99,8 +99,7 @@ impl PoolBuilder {
         self.numbers.get(entry).copied()
     }
 
-    /// The number of an entry, which is put behind the others if it isn't there (JVMS 4.4). Where it can't be,
-    /// nothing changes.
+    /// Returns the number of an entry, and appends the entry if it isn't there (JVMS 4.4). On an error nothing changes.
     pub fn intern(&mut self, entry: Entry) -> Result<u16, PoolFault>
         ensures exact { Interns self.old entry result self.new }
         ensures names { IfOk result (λ n. entry_at (pool_of self.new) n ≡ Some (constant_of entry)) }
@@ -119,7 +118,7 @@ impl PoolBuilder {
         Ok(number)
     }
 
-    /// The numbers of these entries, in order.
+    /// Returns the constants of these entries, in order.
     fn into_constants(self, alloc: Global) -> Result<Items<Constant>, AllocError>
         ensures exact { IfOk result (λ constants. constants ≡ pool_of self) }
         ensures few { IfOk result (λ constants. length constants ≤ 65534) }
@@ -131,8 +130,8 @@ impl PoolBuilder {
         Ok(constants)
     }
 
-    /// The pool of these entries. It can be written: constant_pool_count is at most 65535, and behind each long
-    /// and double, and nowhere else, stands an unusable entry (JVMS 4.4.5).
+    /// Returns the pool of these entries. It can be written: constant_pool_count is at most 65535, and an unusable
+    /// entry is after each long and double and nowhere else (JVMS 4.4.5).
     pub fn into_pool(self, alloc: Global) -> Result<Pool, AllocError>
         ensures exact { IfOk result (λ pool. pool ≡ pool_of self) }
         ensures numbered { IfOk result (IsNumbered false) }

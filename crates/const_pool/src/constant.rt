@@ -1,4 +1,4 @@
-//! One entry, as it is read: what its tag asks, and nothing of what it names.
+//! One entry as its tag determines it, whatever its numbers name.
 
 ghost use Rattle.std.specs.Prelude.{◌≡◌, ◌≤◌};
 ghost use Rattle.jvms_file.specs.ConstantPool.{utf8_constant_at, tagged_at, constant_at as entry_read};
@@ -11,7 +11,7 @@ use jvms_file::fault::{ClassFault, ReadError};
 use mutf8::Fault;
 use std::alloc::Global;
 
-/// A text (JVMS 4.4.7).
+/// Reads a text after its tag, and returns it with the bytes after it (JVMS 4.4.7).
 fn text_at(alloc: Global, cut: ClassFault, bytes: &[u8]) -> Result<(Constant, &[u8]), ReadError>
     ensures { Gives (λ x. (x.0, x.1.now)) result (utf8_constant_at cut bytes.now) }
 {
@@ -24,8 +24,8 @@ fn text_at(alloc: Global, cut: ClassFault, bytes: &[u8]) -> Result<(Constant, &[
     }
 }
 
-/// A number of four or eight bytes (JVMS 4.4.4, 4.4.5).
-fn number_behind(tag: u8, cut: ClassFault, bytes: &[u8]) -> Result<(Constant, &[u8]), ClassFault>
+/// Reads a number of four or eight bytes after its tag, and returns it with the bytes after it (JVMS 4.4.4, 4.4.5).
+fn number_after_tag(tag: u8, cut: ClassFault, bytes: &[u8]) -> Result<(Constant, &[u8]), ClassFault>
     requires from { 3 ≤ tag }
     requires to { tag ≤ 6 }
     ensures { Finds (λ x. (x.0, x.1.now)) result (tagged_at tag cut bytes.now) }
@@ -50,8 +50,8 @@ fn number_behind(tag: u8, cut: ClassFault, bytes: &[u8]) -> Result<(Constant, &[
     }
 }
 
-/// The number of one other entry (JVMS 4.4.1, 4.4.3).
-fn name_behind(tag: u8, cut: ClassFault, bytes: &[u8]) -> Result<(Constant, &[u8]), ClassFault>
+/// Reads the number of one other entry after a tag, and returns the entry with the bytes after it (JVMS 4.4.1, 4.4.3).
+fn name_after_tag(tag: u8, cut: ClassFault, bytes: &[u8]) -> Result<(Constant, &[u8]), ClassFault>
     requires from { 7 ≤ tag }
     requires to { tag ≤ 8 }
     ensures { Finds (λ x. (x.0, x.1.now)) result (tagged_at tag cut bytes.now) }
@@ -64,7 +64,8 @@ fn name_behind(tag: u8, cut: ClassFault, bytes: &[u8]) -> Result<(Constant, &[u8
     }
 }
 
-/// The numbers of two other entries (JVMS 4.4.2, 4.4.6).
+/// Reads the numbers of two other entries after a tag, and returns the entry with the bytes after it (JVMS 4.4.2,
+/// 4.4.6).
 fn names_behind(tag: u8, cut: ClassFault, bytes: &[u8]) -> Result<(Constant, &[u8]), ClassFault>
     requires from { 9 ≤ tag }
     requires to { tag ≤ 12 }
@@ -104,8 +105,8 @@ fn names_behind(tag: u8, cut: ClassFault, bytes: &[u8]) -> Result<(Constant, &[u
     }
 }
 
-/// What stands behind a tag (JVMS table 4.4-A).
-fn behind_tag(
+/// Reads the entry after a tag, and returns it with the bytes after it (JVMS table 4.4-A).
+fn entry_after_tag(
     alloc: Global,
     tag: u8,
     cut: ClassFault,
@@ -115,14 +116,14 @@ fn behind_tag(
 {
     match tag {
         1 => text_at(alloc, cut, bytes),
-        3..=6 => Ok(number_behind(tag, cut, bytes)?),
-        7..=8 => Ok(name_behind(tag, cut, bytes)?),
+        3..=6 => Ok(number_after_tag(tag, cut, bytes)?),
+        7..=8 => Ok(name_after_tag(tag, cut, bytes)?),
         9..=12 => Ok(names_behind(tag, cut, bytes)?),
         _ => Err(ReadError::Fault(ClassFault::Tag)),
     }
 }
 
-/// The next entry, and the bytes behind it.
+/// Reads the next entry, and returns it with the bytes after it.
 #[tactic(auto, unfolding(jvms_file::specs::ConstantPool::constant_at))]
 pub(crate) fn constant_at(
     alloc: Global,
@@ -132,5 +133,5 @@ pub(crate) fn constant_at(
     ensures { Gives (λ x. (x.0, x.1.now)) result (entry_read cut bytes.now) }
 {
     let (tag, rest) = u1_at(cut, bytes)?;
-    behind_tag(alloc, tag, cut, rest)
+    entry_after_tag(alloc, tag, cut, rest)
 }

@@ -1,4 +1,4 @@
-//! The entries of a pool, as they are read one behind the other.
+//! The entries of a pool, read one after another.
 
 ghost use Rattle.std.specs.Prelude.{◌≡◌, ◌<◌, ◌-◌, ◌++◌, length, IfOk, OnErr};
 ghost use Rattle.jvms_file.specs.ConstantPool.{takes_two, entries_at, pool_at};
@@ -7,20 +7,20 @@ ghost use Rattle.const_pool.specs.Numbered.{numbered};
 
 use crate::constant::constant_at;
 use file_bytes::u2_at;
-use held::items::Items;
+use shared_data::items::Items;
 use jvms_file::class_file::Constant;
 use jvms_file::fault::{ClassFault, ReadError};
 use std::alloc::{AllocError, Global};
 
-/// Whether an entry takes two numbers (JVMS 4.4.5).
+/// Decides whether an entry takes two numbers (JVMS 4.4.5).
 fn takes_two_numbers(constant: &Constant) -> bool
     ensures { result ≡ takes_two constant.now }
 {
     matches!(constant, Constant::Long(_) | Constant::Double(_))
 }
 
-/// Puts an entry behind the others, and with a number that is left the unusable one behind a long or a
-/// double. The result is how many numbers are left then.
+/// Appends an entry, and after a long or a double an unusable one if a number is left for it. Returns the count of
+/// numbers that are left then.
 fn put(entries: &mut Items<Constant>, constant: Constant, left: usize) -> Result<usize, AllocError>
     requires { 0 < left }
     ensures left { IfOk result (λ after. after ≡ left - length (numbered constant left)) }
@@ -36,7 +36,7 @@ fn put(entries: &mut Items<Constant>, constant: Constant, left: usize) -> Result
     }
 }
 
-/// The entries of so many numbers, and the bytes behind them.
+/// Reads the entries of `count` numbers, and returns them with the bytes after them.
 fn entries_of(
     alloc: Global,
     cut: ClassFault,
@@ -59,7 +59,7 @@ fn entries_of(
     Ok((entries, rest))
 }
 
-/// constant_pool_count and its entries, whatever they name, and the bytes behind them.
+/// Reads constant_pool_count and its entries, whatever they name, and returns them with the bytes after them.
 pub(crate) fn entries_at_front(
     alloc: Global,
     cut: ClassFault,

@@ -1,17 +1,16 @@
-//! Entries that are put into a pool.
+//! Entries that are added to a pool.
 
 ghost use Rattle.std.specs.Prelude.{◌≡◌};
 ghost use Rattle.jvms_file.specs.ConstantPool.{takes_two};
 ghost use Rattle.const_pool.specs.Interning.{constant_of};
 
-use held::items::Items;
+use shared_data::items::Items;
 use jvms_file::class_file::Constant;
 
-/// An entry of a pool (JVMS 4.4): each that a `Constant` is, but for the unusable one, which stands behind a
-/// long or a double and nowhere else.
+/// An entry of a pool (JVMS 4.4). It is a `Constant`, except the unusable one, which only follows a long or a double.
 #[derive(Debug, PartialEq, Eq, Hash, Drop)]
 pub enum Entry {
-    /// A text, as its 16-bit units.
+    /// A text, as its UTF-16 code units.
     Utf8(Vec<u16>),
     Integer(i32),
     /// The four bytes of a float.
@@ -28,14 +27,14 @@ pub enum Entry {
 }
 
 impl Entry {
-    /// Whether this is a long or a double, which take two numbers (JVMS 4.4.5).
+    /// Decides whether this is a long or a double, which take two numbers (JVMS 4.4.5).
     pub(crate) fn takes_two(&self) -> bool
         ensures { result ≡ takes_two (constant_of self.now) }
     {
         matches!(self, Entry::Long(_) | Entry::Double(_))
     }
 
-    /// The entry as a class file has it.
+    /// Converts the entry to that of a class file.
     pub(crate) fn into_constant(self) -> Constant
         ensures { result ≡ constant_of self }
     {

@@ -1,4 +1,4 @@
-//! Whether entries name what they may, and in which form (JVMS 4.4.1 to 4.4.6).
+//! Tests whether entries name entries of the right kinds, in the right forms (JVMS 4.4.1 to 4.4.6).
 
 ghost use Rattle.std.specs.Prelude.{◌≡◌, []};
 ghost use Rattle.jvms_file.specs.declared.class_file.Constant.TheVariants.{Class, NameAndType};
@@ -13,7 +13,7 @@ use file_bytes::want;
 use jvms_file::class_file::Constant;
 use jvms_file::fault::ClassFault;
 
-/// Whether texts of these forms are a method's name and descriptor, or a field's.
+/// Decides whether texts of these forms are a method's name and descriptor, or a field's.
 fn is_member_form(name: Forms, descriptor: Forms) -> bool
     ensures { result ≡ is_formed_member name descriptor }
 {
@@ -24,7 +24,8 @@ fn is_member_form(name: Forms, descriptor: Forms) -> bool
     }
 }
 
-/// Whether the member that an entry names is a method's, or a field's, as asked.
+/// Decides whether an entry names a method, or a field, as asked. Returns true if its numbers name no texts, because
+/// that is a fault of its own.
 fn is_of_sort(method: bool, pool: &Pool, name_and_type: u16) -> bool
     ensures { result ≡ names_sort method pool.now name_and_type }
 {
@@ -34,7 +35,7 @@ fn is_of_sort(method: bool, pool: &Pool, name_and_type: u16) -> bool
     }
 }
 
-/// A field's or a method's entry.
+/// Tests a field's or a method's entry.
 fn check_reference(
     method: bool,
     pool: &Pool,
@@ -53,7 +54,7 @@ fn check_reference(
     )
 }
 
-/// A class's entry.
+/// Tests a class's entry.
 #[tactic(auto, unfolding(jvms_file::specs::ConstantPool::entry_fault))]
 fn check_class(pool: &ScannedPool, name: u16) -> Result<(), ClassFault>
     ensures { Finds (λ x. x) result (entry_fault pool.now (Class name) []) }
@@ -64,7 +65,7 @@ fn check_class(pool: &ScannedPool, name: u16) -> Result<(), ClassFault>
     }
 }
 
-/// The entry of a name and a type.
+/// Tests the entry of a name and a type.
 #[tactic(auto, unfolding(jvms_file::specs::ConstantPool::entry_fault), using(crate::proofs::FormedMembers::formed_member))]
 fn check_name_and_type(pool: &ScannedPool, name: u16, descriptor: u16) -> Result<(), ClassFault>
     ensures { Finds (λ x. x) result (entry_fault pool.now (NameAndType name descriptor) []) }
@@ -77,7 +78,7 @@ fn check_name_and_type(pool: &ScannedPool, name: u16, descriptor: u16) -> Result
     }
 }
 
-/// One entry; `behind` are the entries behind it.
+/// Tests one entry. `behind` are the entries after it.
 #[tactic(auto, unfolding(jvms_file::specs::ConstantPool::entry_fault))]
 fn check_entry(
     pool: &ScannedPool,
@@ -109,7 +110,7 @@ fn check_entry(
     }
 }
 
-/// The first fault of entries, by rising number.
+/// Returns the first fault of entries, in rising order of their numbers.
 #[tactic(auto, unfolding(jvms_file::specs::ConstantPool::entries_fault))]
 pub(crate) fn check_entries(pool: &ScannedPool, entries: &[Constant]) -> Result<(), ClassFault>
     ensures { Finds (λ x. x) result (entries_fault pool.now entries.now) }

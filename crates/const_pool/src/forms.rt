@@ -1,5 +1,5 @@
-//! The forms of texts (JVMS 4.2, 4.3, 4.4.1), which are looked at once for each text and not once for each
-//! entry that names it.
+//! The forms of texts (JVMS 4.2, 4.3, 4.4.1). They are determined once for each text, and not once for each entry that
+//! names it.
 
 ghost use Rattle.std.specs.Prelude.{◌≡◌};
 ghost use Rattle.jvms_file.specs.ConstantPool.{begins_as_method as is_method_sort};
@@ -7,34 +7,34 @@ ghost use Rattle.const_pool.specs.Texts.{forms_of as forms_of_text, method_units
 
 use descriptor::{is_class_entry_name, is_field_descriptor, is_method_name, is_name, method_units};
 
-/// Which forms a text has.
+/// The forms that a text has.
 #[derive(Clone, Copy, Debug, PartialEq, Eq)]
 pub struct Forms {
-    /// Whether it is a field's name.
+    /// True if it is a field's name.
     pub name: bool,
-    /// Whether it is a method's name.
+    /// True if it is a method's name.
     pub method_name: bool,
-    /// Whether it is the name of a class's entry: a class's name, or an array's descriptor.
+    /// True if it is the name of a class's entry: a class's name, or an array's descriptor.
     pub class_entry_name: bool,
-    /// Whether it is a field's descriptor.
+    /// True if it is a field's descriptor.
     pub field_descriptor: bool,
-    /// Whether it begins as a method's descriptor does.
+    /// True if it begins as a method's descriptor does.
     pub method_sort: bool,
-    /// The units of the parameters, at most 255, where it is a method's descriptor (JVMS 4.3.3).
+    /// The units of the parameters, at most 255, if it is a method's descriptor (JVMS 4.3.3).
     pub method_units: Option<u8>,
 }
 
-/// What a method's descriptor begins with (JVMS 4.3.3).
+/// The first unit of a method's descriptor (JVMS 4.3.3).
 const PARENTHESIS: u16 = b'(' as u16;
 
-/// Whether a text begins as a method's descriptor does.
+/// Decides whether a text begins as a method's descriptor does.
 pub(crate) fn begins_as_method(text: &[u16]) -> bool
     ensures { result ≡ is_method_sort text.now }
 {
     matches!(text, [PARENTHESIS, ..])
 }
 
-/// The units of a method's parameters, where a text is its descriptor.
+/// Returns the units of a method's parameters, if the text is a method's descriptor.
 fn units_of(text: &[u16]) -> Option<u8>
     ensures { result ≡ method_units_of text.now }
 {
@@ -42,7 +42,7 @@ fn units_of(text: &[u16]) -> Option<u8>
     Some(units as u8)
 }
 
-/// The forms of a text.
+/// Returns the forms of a text.
 pub(crate) fn forms_of(text: &[u16]) -> Forms
     ensures { result ≡ forms_of_text text.now }
 {

@@ -6,12 +6,12 @@ ghost use Rattle.jvms_file.specs.ConstantPool.{entry, utf8_at, class_name_at, na
 ghost use Rattle.const_pool.specs.Writing.{pool_bytes};
 
 use crate::writing::write_pool;
-use held::items::Items;
+use shared_data::items::Items;
 use jvms_file::class_file::Constant;
 use std::alloc::{AllocError, Global};
 use std::marker::Model;
 
-/// The constant pool. Contracts see the list of its entries, in which entry number n stands at place n - 1.
+/// The constant pool. Contracts see the list of its entries, in which entry number n is at place n - 1.
 #[derive(Drop)]
 pub struct Pool {
     entries: Items<Constant>,
@@ -27,28 +27,28 @@ impl Model for Pool {
 }
 
 impl Pool {
-    /// The pool of these entries.
+    /// Creates the pool of these entries.
     pub fn of(entries: Items<Constant>) -> Self
         ensures { result ≡ entries }
     {
         Pool { entries }
     }
 
-    /// The entries in order.
+    /// Returns the entries in order.
     pub fn entries(&self) -> &Items<Constant>
         ensures { result.now ≡ self.now }
     {
         &self.entries
     }
 
-    /// The entries, by value.
+    /// Returns the entries by value.
     pub fn into_entries(self) -> Items<Constant>
         ensures { result ≡ self }
     {
         self.entries
     }
 
-    /// The entry of a number, if there is one.
+    /// Returns the entry of a number, if there is one.
     pub fn entry(&self, number: u16) -> Option<&Constant>
         ensures { option_copied result ≡ entry self.now number }
     {
@@ -58,7 +58,7 @@ impl Pool {
         self.entries.as_slice().get(usize::from(number) - 1)
     }
 
-    /// The text of a Utf8 entry (JVMS 4.4.7).
+    /// Returns the text of a Utf8 entry (JVMS 4.4.7).
     pub fn utf8(&self, number: u16) -> Option<&[u16]>
         ensures { option_map (λ t. t.now) result ≡ utf8_at self.now number }
     {
@@ -68,21 +68,21 @@ impl Pool {
         }
     }
 
-    /// Whether a number is a Utf8 entry's.
+    /// Decides whether a number is a Utf8 entry's.
     pub fn is_utf8(&self, number: u16) -> bool
         ensures { result ≡ is_utf8 self.now number }
     {
         self.utf8(number).is_some()
     }
 
-    /// Whether a number is a Class entry's.
+    /// Decides whether a number is a Class entry's.
     pub fn is_class(&self, number: u16) -> bool
         ensures { result ≡ is_class self.now number }
     {
         matches!(self.entry(number), Some(Constant::Class { name: _ }))
     }
 
-    /// Whether a number is a NameAndType entry's.
+    /// Decides whether a number is a NameAndType entry's.
     pub fn is_name_and_type(&self, number: u16) -> bool
         ensures { result ≡ is_name_and_type self.now number }
     {
@@ -95,7 +95,7 @@ impl Pool {
         )
     }
 
-    /// The name of a Class entry (JVMS 4.4.1).
+    /// Returns the name of a Class entry (JVMS 4.4.1).
     pub fn class_name(&self, number: u16) -> Option<&[u16]>
         ensures { option_map (λ t. t.now) result ≡ class_name_at self.now number }
     {
@@ -105,7 +105,7 @@ impl Pool {
         }
     }
 
-    /// The name and the descriptor of a NameAndType entry (JVMS 4.4.6).
+    /// Returns the name and the descriptor of a NameAndType entry (JVMS 4.4.6).
     pub fn name_and_type(&self, number: u16) -> Option<(&[u16], &[u16])>
         ensures { option_map (λ x. (x.0.now, x.1.now)) result ≡ name_and_type_at self.now number }
     {
@@ -117,7 +117,7 @@ impl Pool {
         }
     }
 
-    /// The texts of two Utf8 entries, if both are.
+    /// Returns the texts of two Utf8 entries, if both are.
     pub fn two_texts(&self, first: u16, second: u16) -> Option<(&[u16], &[u16])>
         ensures { option_map (λ x. (x.0.now, x.1.now)) result ≡ both (utf8_at self.now first) (utf8_at self.now second) }
     {
@@ -127,8 +127,7 @@ impl Pool {
         }
     }
 
-    /// Puts the pool behind bytes: constant_pool_count, and the entries. Without memory for all of it nothing
-    /// changes.
+    /// Appends the pool to bytes: constant_pool_count, and the entries. Without memory for all of it nothing changes.
     pub fn write(&self, alloc: Global, out: &mut Vec<u8>) -> Result<(), AllocError>
         ensures ok { OnOk result (out.new.items ≡ out.old.items ++ pool_bytes self.now) }
         ensures kept { OnErr result (out.new.items ≡ out.old.items) }

@@ -1,7 +1,7 @@
-//! A constant pool from bytes (JVMS 4.4): first its entries, and then what they name.
+//! Reads a constant pool from bytes (JVMS 4.4): first its entries, then the tests of what they name.
 
 ghost use Rattle.jvms_file.specs.Reading.{Gives};
-ghost use Rattle.const_pool.specs.Reading.{formed_pool_at};
+ghost use Rattle.const_pool.specs.Reading.{checked_pool_at};
 
 use crate::entries::entries_at_front;
 use crate::faults::check_entries;
@@ -11,15 +11,15 @@ use jvms_file::fault::{ClassFault, ReadError};
 use std::alloc::Global;
 
 impl ScannedPool {
-    /// constant_pool_count and the entries, each of which names what it may, and the bytes behind them; else
-    /// the first fault, where `cut` is that of bytes that aren't there. Faults of the bytes come before
-    /// those of what is named.
+    /// Reads constant_pool_count and the entries, tests what each names, and returns the pool with the bytes after it.
+    /// Else it returns the first fault. Faults of the bytes come before faults of names. `cut` is the fault of missing
+    /// bytes.
     pub fn read(
         alloc: Global,
         cut: ClassFault,
         bytes: &[u8],
     ) -> Result<(ScannedPool, &[u8]), ReadError>
-        ensures { Gives (λ x. (x.0, x.1.now)) result (formed_pool_at cut bytes.now) }
+        ensures { Gives (λ x. (x.0, x.1.now)) result (checked_pool_at cut bytes.now) }
     {
         let (entries, rest) = entries_at_front(alloc, cut, bytes)?;
         let pool = ScannedPool::of(alloc, entries)?;
@@ -29,9 +29,9 @@ impl ScannedPool {
 }
 
 impl Pool {
-    /// As `ScannedPool::read`, where what is known of the texts isn't wanted.
+    /// Reads a pool like `ScannedPool::read`, without keeping the forms of its texts.
     pub fn read(alloc: Global, cut: ClassFault, bytes: &[u8]) -> Result<(Pool, &[u8]), ReadError>
-        ensures { Gives (λ x. (x.0, x.1.now)) result (formed_pool_at cut bytes.now) }
+        ensures { Gives (λ x. (x.0, x.1.now)) result (checked_pool_at cut bytes.now) }
     {
         let (pool, rest) = ScannedPool::read(alloc, cut, bytes)?;
         Ok((pool.into_pool(), rest))

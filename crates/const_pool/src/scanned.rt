@@ -1,4 +1,4 @@
-//! A pool with what is known of its texts.
+//! A pool with the forms of its texts.
 
 ghost use Rattle.std.specs.Prelude.{◌≡◌, ℕ, List, IfOk, map, slice_get};
 ghost use Rattle.std.specs.Option.{option_copied, option_map, option_and_then, unwrap_or};
@@ -10,22 +10,22 @@ ghost use Rattle.const_pool.specs.Texts.{forms_of as forms_of_text, text_of as t
 use crate::firsts::Firsts;
 use crate::forms::{Forms, forms_of};
 use crate::pool::Pool;
-use held::items::Items;
+use shared_data::items::Items;
 use jvms_file::class_file::Constant;
 use std::alloc::{AllocError, Global};
 use std::marker::Model;
 
-/// What is known of the text of an entry.
+/// The form of an entry's text, and the first entry with an equal text.
 #[derive(Clone, Copy, Debug, PartialEq, Eq)]
 pub(crate) struct Text {
     /// The least number of an entry with an equal text.
     pub(crate) canonical: usize,
-    /// Which forms it has.
+    /// The forms of the text.
     pub(crate) forms: Forms,
 }
 
-/// A constant pool each of whose texts was looked at once: so what names a text, as a member does, needs
-/// not look at it again. Contracts see the list of its entries, as of a `Pool`.
+/// A constant pool that keeps the forms of each of its texts, so that a member that names a text doesn't inspect it
+/// again. Contracts see the list of its entries, as of a `Pool`.
 #[derive(Drop)]
 pub struct ScannedPool {
     pool: Pool,
@@ -44,7 +44,8 @@ impl Model for ScannedPool {
     ghost invariant = { λ p. p.texts.items ≡ map (text_of p.pool) p.pool };
 }
 
-/// What is known of an entry's text, if it is one; the entries before it are among the first ones.
+/// Returns the first number and the forms of an entry's text, if it is one. `firsts` has the texts of the entries
+/// before it.
 fn text_of<'a>(
     firsts: &mut Firsts<'a>,
     number: usize,
@@ -61,7 +62,7 @@ fn text_of<'a>(
     Ok(Some(Text { canonical, forms }))
 }
 
-/// What is known of the texts of a pool's entries, in order.
+/// Returns the first numbers and the forms of the texts of a pool's entries, in order.
 fn texts_of(alloc: Global, entries: &[Constant]) -> Result<Vec<Option<Text>>, AllocError>
     ensures { IfOk result (λ texts. texts.items ≡ map (text_of_entry entries.now) entries.now) }
 {
@@ -74,7 +75,7 @@ fn texts_of(alloc: Global, entries: &[Constant]) -> Result<Vec<Option<Text>>, Al
     Ok(texts)
 }
 
-/// What is known of the entry at a place, if there is one.
+/// Returns the item at a place, if there is one.
 fn at_place(texts: &[Option<Text>], place: usize) -> Option<&Option<Text>>
     ensures { option_copied result ≡ slice_get texts.now place }
 {
@@ -82,7 +83,7 @@ fn at_place(texts: &[Option<Text>], place: usize) -> Option<&Option<Text>>
 }
 
 impl ScannedPool {
-    /// The pool of these entries.
+    /// Creates the pool of these entries.
     pub fn of(alloc: Global, entries: Items<Constant>) -> Result<Self, AllocError>
         ensures { IfOk result (λ pool. pool ≡ entries) }
     {
@@ -93,28 +94,28 @@ impl ScannedPool {
         })
     }
 
-    /// The pool.
+    /// Returns the pool.
     pub fn pool(&self) -> &Pool
         ensures { result.now ≡ self.now }
     {
         &self.pool
     }
 
-    /// The entries, by value.
+    /// Returns the entries by value.
     pub fn into_entries(self) -> Items<Constant>
         ensures { result ≡ self }
     {
         self.pool.into_entries()
     }
 
-    /// The pool, by value.
+    /// Returns the pool by value.
     pub fn into_pool(self) -> Pool
         ensures { result ≡ self }
     {
         self.pool
     }
 
-    /// What is known of the text of a number, if it is a Utf8 entry's.
+    /// Returns the first number and the forms of the text of a number, if it is a Utf8 entry's.
     fn text(&self, number: u16) -> Option<Text>
         ensures { result ≡ option_and_then (text_of_entry self.now) (entry self.now number) }
     {
@@ -126,14 +127,14 @@ impl ScannedPool {
             .flatten()
     }
 
-    /// The forms of the text of a number, if it is a Utf8 entry's.
+    /// Returns the forms of the text of a number, if it is a Utf8 entry's.
     pub fn forms(&self, number: u16) -> Option<Forms>
         ensures { result ≡ option_map forms_of_text (utf8_at self.now number) }
     {
         self.text(number).map(|text| text.forms)
     }
 
-    /// The forms of the descriptor of a NameAndType entry whose numbers are those of texts (JVMS 4.4.6).
+    /// Returns the forms of the descriptor of a NameAndType entry whose numbers are those of texts (JVMS 4.4.6).
     pub fn descriptor_forms(&self, number: u16) -> Option<Forms>
         ensures { result ≡ option_map (λ x. forms_of_text x.1) (name_and_type_at self.now number) }
     {
@@ -145,8 +146,8 @@ impl ScannedPool {
         }
     }
 
-    /// The least number of a Utf8 entry whose text is equal to that of this number, if it is one's. Two
-    /// entries have one such number exactly where they are one text.
+    /// Returns the least number of a Utf8 entry whose text is equal to that of this number, if it is one's. Two entries
+    /// share such a number exactly if their texts are equal.
     pub fn canonical(&self, number: u16) -> Option<usize>
         ensures exact { result ≡ canonical_number self.now number }
         ensures same { (other : ℕ) → is_one_number result (canonical_number self.now other) ≡ same_entry_text self.now number other }

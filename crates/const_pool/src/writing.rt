@@ -1,4 +1,4 @@
-//! Writing entries (JVMS 4.4).
+//! Writes entries (JVMS 4.4).
 
 ghost use Rattle.std.specs.Prelude.{◌≡◌, ◌++◌, ◌∷◌, OnOk, OnErr, IfOk};
 ghost use Rattle.std.specs.List.{flat_map};
@@ -9,7 +9,7 @@ use file_bytes::{write_count, write_u2, write_u4, write_u8};
 use jvms_file::class_file::Constant;
 use std::alloc::{AllocError, Global};
 
-/// Puts a text behind the bytes (JVMS 4.4.7).
+/// Appends a text (JVMS 4.4.7).
 fn write_text(alloc: Global, out: &mut Vec<u8>, text: &[u16]) -> Result<(), AllocError>
     ensures { OnOk result (out.new.items ≡ out.old.items ++ text_bytes text.now) }
 {
@@ -19,7 +19,7 @@ fn write_text(alloc: Global, out: &mut Vec<u8>, text: &[u16]) -> Result<(), Allo
     out.extend_from_slice(&bytes)
 }
 
-/// Puts a number of four bytes behind the bytes (JVMS 4.4.4).
+/// Appends a tag and a number of four bytes (JVMS 4.4.4).
 fn write_four(out: &mut Vec<u8>, tag: u8, number: u32) -> Result<(), AllocError>
     ensures { OnOk result (out.new.items ≡ out.old.items ++ (tag ∷ u4 number)) }
 {
@@ -27,7 +27,7 @@ fn write_four(out: &mut Vec<u8>, tag: u8, number: u32) -> Result<(), AllocError>
     write_u4(out, number)
 }
 
-/// Puts a number of eight bytes behind the bytes (JVMS 4.4.5).
+/// Appends a tag and a number of eight bytes (JVMS 4.4.5).
 fn write_eight(out: &mut Vec<u8>, tag: u8, number: u64) -> Result<(), AllocError>
     ensures { OnOk result (out.new.items ≡ out.old.items ++ (tag ∷ u8 number)) }
 {
@@ -35,7 +35,7 @@ fn write_eight(out: &mut Vec<u8>, tag: u8, number: u64) -> Result<(), AllocError
     write_u8(out, number)
 }
 
-/// Puts the number of another entry behind the bytes (JVMS 4.4.1, 4.4.3).
+/// Appends a tag and the number of another entry (JVMS 4.4.1, 4.4.3).
 fn write_name(out: &mut Vec<u8>, tag: u8, name: u16) -> Result<(), AllocError>
     ensures { OnOk result (out.new.items ≡ out.old.items ++ (tag ∷ u2 name)) }
 {
@@ -43,7 +43,7 @@ fn write_name(out: &mut Vec<u8>, tag: u8, name: u16) -> Result<(), AllocError>
     write_u2(out, name)
 }
 
-/// Puts the numbers of two other entries behind the bytes (JVMS 4.4.2, 4.4.6).
+/// Appends a tag and the numbers of two other entries (JVMS 4.4.2, 4.4.6).
 fn write_names(out: &mut Vec<u8>, tag: u8, first: u16, second: u16) -> Result<(), AllocError>
     ensures { OnOk result (out.new.items ≡ out.old.items ++ (tag ∷ (u2 first ++ u2 second))) }
 {
@@ -52,7 +52,7 @@ fn write_names(out: &mut Vec<u8>, tag: u8, first: u16, second: u16) -> Result<()
     write_u2(out, second)
 }
 
-/// Puts an entry behind the bytes.
+/// Appends an entry.
 #[tactic(auto, unfolding(crate::specs::Writing::constant_bytes))]
 fn write_constant(alloc: Global, out: &mut Vec<u8>, constant: &Constant) -> Result<(), AllocError>
     ensures { OnOk result (out.new.items ≡ out.old.items ++ constant_bytes constant.now) }
@@ -82,7 +82,7 @@ fn write_constant(alloc: Global, out: &mut Vec<u8>, constant: &Constant) -> Resu
     }
 }
 
-/// Puts entries behind the bytes, one behind the other.
+/// Appends entries, one after another.
 fn write_entries(alloc: Global, out: &mut Vec<u8>, entries: &[Constant]) -> Result<(), AllocError>
     ensures { OnOk result (out.new.items ≡ out.old.items ++ flat_map constant_bytes entries.now) }
 {
@@ -92,7 +92,7 @@ fn write_entries(alloc: Global, out: &mut Vec<u8>, entries: &[Constant]) -> Resu
     Ok(())
 }
 
-/// The bytes of a pool of these entries: constant_pool_count, and the entries.
+/// Returns the bytes of a pool of these entries: constant_pool_count, and the entries.
 fn pool_bytes_of(alloc: Global, entries: &[Constant]) -> Result<Vec<u8>, AllocError>
     ensures { IfOk result (λ bytes. bytes.items ≡ pool_bytes entries.now) }
 {
@@ -102,8 +102,7 @@ fn pool_bytes_of(alloc: Global, entries: &[Constant]) -> Result<Vec<u8>, AllocEr
     Ok(bytes)
 }
 
-/// Puts a pool of these entries behind the bytes: constant_pool_count, and the entries. Without memory for
-/// all of it nothing changes.
+/// Appends a pool of these entries: constant_pool_count, and the entries. Without memory for all of it nothing changes.
 pub fn write_pool(alloc: Global, out: &mut Vec<u8>, entries: &[Constant]) -> Result<(), AllocError>
     ensures ok { OnOk result (out.new.items ≡ out.old.items ++ pool_bytes entries.now) }
     ensures kept { OnErr result (out.new.items ≡ out.old.items) }

@@ -1,4 +1,4 @@
--- A reach whose spacing grows for a position.
+-- A reach whose spacing grows for a target position.
 use Rattle.std.proofs.Common.{◌≡◌, ℕ, ◌+◌, ◌*◌, ◌/◌, ◌≤◌, ◌^◌, List, sym, ap, ◌∙◌, arith, add-one}
 use Rattle.std.proofs.Math.Nat.{mul_assoc, pow-succ'}
 use Rattle.debugger.specs.declared.reach.Reach.{Reach}
@@ -9,7 +9,7 @@ use Rattle.debugger.specs.Walks.{IsAiming}
 power_more : (k : ℕ) → 2 ^ (k + 1) ≡ 2 * 2 ^ k
 power_more k = ap (λ n. 2 ^ n) (add-one k) ∙ pow-succ' 2 k
 
--- It doubles while it is too small.
+-- The spacing doubles while it is too small.
 pub aim_doubles : (g : Setting) (choices : List ℕ) (place : ℕ) (old r s : Reach) → IsAiming g choices place old r → r.spacing ≤ place / 64
     → s.spacing ≡ 2 * r.spacing → s.ratio ≡ 2 * r.ratio → (s.from ≡ r.from) × (s.far ≡ r.far) × (s.most ≡ r.most) × (s.base ≡ r.base)
     → AreMarks (mark_at g choices) s.spacing (s.from / s.spacing + 1) s.far s.fresh.items → IsAiming g choices place old s

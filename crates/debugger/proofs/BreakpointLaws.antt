@@ -1,4 +1,4 @@
--- Breakpoints in slots: found by their numbers, added, deleted and dropped.
+-- Breakpoints in slots: look-up by number, addition, deletion and dropping.
 use Rattle.std.proofs.Common.{◌≡◌, ◌≢◌, ℕ, zero, suc, ◌+◌, ◌*◌, ◌<◌, ◌≤◌, ◌==◌, ◌||◌, ◌&&◌, not, nat_lt, Bool, true, false, cond, List, [], ◌∷◌, ◌++◌, Some, None, length, take, drop, set, get_or, refl, sym, ap, ◌∙◌, arith, subst}
 use Rattle.std.proofs.lemmas.Bool.{eq-eqb, ne_eqb, lt-ltb, le-ltb}
 use Rattle.std.proofs.lemmas.List.{drop_more, length-append, length-set, map-append, set_split, take-append-drop}
@@ -10,7 +10,7 @@ use Rattle.debugger_commands.specs.Sessions.{breakpoint_index}
 use Rattle.debugger.specs.declared.breakpoints.Slot.{Slot}
 use Rattle.debugger.specs.Breakpoints.{AreSlots, IsSlotOf, Rises, kept, numbers}
 
--- ---- Breakpoints of joined slots
+-- ---- Breakpoints of concatenated slots
 
 kept_first : (b : Bool) (x : Breakpoint) (xs ys : List Breakpoint) → cond b (xs ++ ys) (x ∷ (xs ++ ys)) ≡ cond b xs (x ∷ xs) ++ ys
 kept_first true x xs ys = refl
@@ -20,7 +20,7 @@ pub kept_append : (xs ys : List Slot) → kept (xs ++ ys) ≡ kept xs ++ kept ys
 kept_append [] ys = refl
 kept_append (s ∷ xs) ys = ap (λ l. cond s.is_deleted l (s.breakpoint ∷ l)) (kept_append xs ys) ∙ kept_first s.is_deleted s.breakpoint (kept xs) (kept ys)
 
--- A test of all breakpoints, along the slots.
+-- A test of all breakpoints, slot by slot.
 any_first : (b t r : Bool) → (t && not b) || r ≡ cond b r (t || r)
 any_first true true r = refl
 any_first true false r = refl
@@ -56,7 +56,7 @@ pub all_kept : (slots : List Slot) → length (kept slots) ≡ length (filter (�
 all_kept [] = refl
 all_kept (s ∷ slots) = all_first s.is_deleted s (filter (λ (x : Slot). not x.is_deleted) slots) (kept slots) (all_kept slots)
 
--- ---- Numbers that rise
+-- ---- Ascending numbers
 
 pub rises_from : (low less end : ℕ) (ns : List ℕ) → less ≤ low → Rises low end ns → Rises less end ns
 rises_from low less end [] h is = omega (arith, h, is)
@@ -118,7 +118,7 @@ first_after k (x ∷ xs) b ys is here =
     let rest : position_or_len (λ (x : Breakpoint). x.number == k) (xs ++ b ∷ ys) ≡ length xs = first_after k xs b ys is.1 here in
     ap (λ t. cond (not t) (1 + position_or_len (λ (x : Breakpoint). x.number == k) (xs ++ b ∷ ys)) 0) (ne_eqb x.number k is.0) ∙ omega (arith, rest)
 
--- The first breakpoint of a number, after those of others.
+-- The first breakpoint with a number, after those with others.
 index_after : (k : ℕ) (xs : List Breakpoint) (b : Breakpoint) (ys : List Breakpoint) → AllOthers k xs → b.number ≡ k → breakpoint_index k (xs ++ b ∷ ys) ≡ Some (length xs)
 index_after k xs b ys is here =
     let count : length (xs ++ b ∷ ys) ≡ length xs + length (b ∷ ys) = length-append xs (b ∷ ys) in
@@ -139,7 +139,7 @@ no_index k xs is =
 
 -- ---- A number is found
 
--- Those before a slot have less.
+-- All slots before this one have smaller numbers.
 others_before : (k : ℕ) (slots : List Slot) (i : ℕ) → ((j : ℕ) (d : Slot) → j < i → (get_or slots j d).breakpoint.number < k) → AllOthers k (kept (take i slots))
 others_before k [] zero less = tt
 others_before k [] (suc i) less = tt
@@ -163,7 +163,7 @@ others_from k low end (s ∷ slots) zero is more other =
 others_from k low end (s ∷ slots) (suc i) is more other =
     others_from k (s.breakpoint.number + 1) end slots i is.1 (λ j d up within. more (suc j) d (omega arith) (omega arith)) (λ within d stays. other (omega arith) d stays)
 
--- Where the slot before which all numbers are less doesn't have it, none does.
+-- If the slot after all smaller numbers doesn't have the number, none does.
 pub not_found : (k low end : ℕ) (slots : List Slot) (i : ℕ) → Rises low end (numbers slots) → ((j : ℕ) (d : Slot) → j < i → (get_or slots j d).breakpoint.number < k)
     → ((j : ℕ) (d : Slot) → i ≤ j → j < length slots → k ≤ (get_or slots j d).breakpoint.number)
     → (i < length slots → (d : Slot) → (get_or slots i d).is_deleted ≡ false → (get_or slots i d).breakpoint.number ≢ k) → breakpoint_index k (kept slots) ≡ None
@@ -189,7 +189,7 @@ numbers_set [] i s same within = let no : ⊥ = omega arith in absurd no
 numbers_set (x ∷ slots) zero s same within = ap (λ n. n ∷ numbers slots) (sym (same x))
 numbers_set (x ∷ slots) (suc i) s same within = ap (λ l. x.breakpoint.number ∷ l) (numbers_set slots i s same (omega arith))
 
--- The breakpoints before the one of a slot, that one, and those after it.
+-- The breakpoints before a slot's, the slot's own, and those after it.
 kept_split : (k i : ℕ) (slots : List Slot) (s : Slot) → IsSlotOf k slots i → s ≡ get_or slots i s → kept slots ≡ kept (take i slots) ++ s.breakpoint ∷ kept (drop (suc i) slots)
 kept_split k i slots s is here =
     let next : i + 1 ≡ suc i = omega arith in

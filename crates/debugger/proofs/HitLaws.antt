@@ -102,7 +102,7 @@ pub hit_of_choice : (g : Setting) (choices : List ℕ) (breakpoints : List Break
 unfolding is_hit
 hit_of_choice g choices breakpoints n t is = ap (is_hit_by breakpoints (state_after g.program g.limits g.start choices n)) is
 
--- What was found stays before a later position.
+-- A hit before a position is before every later position.
 pub within_more : (h : Option ℕ) (n : ℕ) → IfSome h (λ p. p < n) → IfSome h (λ p. p < n + 1)
 within_more None n within = tt
 within_more (Some p) n within = omega (arith, within)

@@ -1,4 +1,5 @@
--- Marks at the multiples of a spacing, as a place moves on, as the spacing grows, and cut or joined.
+-- Marks at the multiples of a spacing: when the position moves, when the spacing grows, and when marks are cut or
+-- joined.
 use Rattle.std.proofs.Common.{◌≡◌, ℕ, ◌+◌, ◌-◌, ◌*◌, ◌/◌, ◌%◌, ◌<◌, ◌≤◌, List, [], ◌∷◌, ◌++◌, length, take, get_or, refl, sym, ap, ◌∙◌, arith, inl, inr, add_assoc, subst}
 use Rattle.std.proofs.lemmas.Bool.{cases_lt}
 use Rattle.std.proofs.lemmas.List.{length-append, length-take-le, get_or-append_right, get_or-take}
@@ -19,14 +20,14 @@ mul_more a d = grind arith
 
 -- ---- Quotients
 
--- Multiples, by their numbers.
+-- A multiple is at most n if its number is at most the quotient.
 pub multiple_within : (n d k : ℕ) → k ≤ n / d → k * d ≤ n
 multiple_within n d k m =
     let a : k * d ≤ n / d * d = mul-le-mul_right d m in
     let b : n / d * d ≤ n = div-mul-le_self n d in
     omega arith
 
--- Up to the next multiple, the quotient stays; it grows there.
+-- The quotient stays up to the next multiple, and grows there.
 pub div_stays : (n m d : ℕ) → 0 < d → n ≤ m → m ≤ n + (d - n % d) → 0 < m % d → m / d ≡ n / d
 div_stays n m d h up near r =
     let now : n / d * d + n % d ≡ n = div-add-mod' n d in
@@ -79,7 +80,7 @@ marks_one_more at d first last next ms m h up near r is_at is =
 pub marks_more : (at : ℕ → Mark) (d first last next : ℕ) (ms ns : List Mark) (m : Mark) → 0 < d → last < next → next ≤ last + (d - last % d) → next % d ≡ 0 → ns ≡ ms ++ m ∷ [] → m ≡ at next → AreMarks at d first last ms → AreMarks at d first next ns
 marks_more at d first last next ms ns m h up near r more is_at is = subst (λ l. AreMarks at d first next l) (sym more) (marks_one_more at d first last next ms m h up near r is_at is)
 
--- The number of marks that are kept is that of the multiples of the wider spacing.
+-- The number of marks that are kept equals the number of multiples of the wider spacing.
 thin_count : (q first skip ratio next all kept : ℕ) → 0 < ratio → first + skip ≡ next * ratio → next ≤ q / ratio + 1 → first + all ≡ q + 1
     → ((j : ℕ) → j < kept → skip + j * ratio < all)
     → ((j : ℕ) → skip + j * ratio < all → j < kept)
@@ -104,7 +105,7 @@ thin_count q first skip ratio next all kept k seam small many in_all in_kept =
       ]
     ]
 
--- Where every nth mark is kept, these are the marks of a spacing n times as wide.
+-- Keeping every nth mark yields the marks of a spacing n times as wide.
 pub marks_thin : (at : ℕ → Mark) (d first last : ℕ) (ms ns : List Mark) (skip ratio next : ℕ) → 0 < ratio → first + skip ≡ next * ratio → next ≤ last / (ratio * d) + 1
     → ((j : ℕ) (x : Mark) → j < length ns → get_or ns j x ≡ get_or ms (skip + j * ratio) x)
     → ((j : ℕ) → j < length ns → skip + j * ratio < length ms)
@@ -121,7 +122,7 @@ marks_thin at d first last ms ns skip ratio next k seam small each kept all is =
           each j x below ∙ is.each (skip + j * ratio) x (kept j below) ∙ ap at place;
     }
 
--- Those of a session and those beyond.
+-- The session's marks followed by those beyond.
 pub marks_join : (at : ℕ → Mark) (d from last : ℕ) (ms ns : List Mark) → AreMarks at d 0 from ms → AreMarks at d (from / d + 1) last ns → AreMarks at d 0 last (ms ++ ns)
 marks_join at d from last ms ns is more =
     let many : 0 + length ms ≡ from / d + 1 = is.many in
@@ -137,7 +138,7 @@ marks_join at d from last ms ns is more =
       ];
     }
 
--- Those up to a place.
+-- The marks up to a position.
 pub marks_cut : (at : ℕ → Mark) (d last place : ℕ) (ms : List Mark) → 0 < d → place ≤ last → AreMarks at d 0 last ms → AreMarks at d 0 place (take (place / d + 1) ms)
 marks_cut at d last place ms h within is =
     let many : 0 + length ms ≡ last / d + 1 = is.many in
@@ -148,7 +149,7 @@ marks_cut at d last place ms h within is =
       each = λ i x below. get_or-take (place / d + 1) ms i x (omega arith) ∙ is.each i x (omega arith);
     }
 
--- Those of other choices that are the same up to there.
+-- The marks of other choices that are the same up to the last position.
 pub marks_same : (at other : ℕ → Mark) (d first last : ℕ) (ms : List Mark) → ((n : ℕ) → n ≤ last → at n ≡ other n) → AreMarks at d first last ms → AreMarks other d first last ms
 marks_same at other d first last ms same is =
     let many : first + length ms ≡ last / d + 1 = is.many in
@@ -169,7 +170,7 @@ marks_widen at d from far ms ns h within each kept all is =
     let less : from / (2 * d) ≤ far / (2 * d) = le-div (from / (2 * d)) far (2 * d) positive (le_trans (div-mul-le_self from (2 * d)) within) in
     marks_thin at d (from / d + 1) far ms ns ((from / d + 1) % 2) 2 (from / (2 * d) + 1) (omega arith) (omega arith) (omega arith) each kept all is
 
--- Those of a session at its new spacing, and those that a walk brings.
+-- The session's marks at its new spacing, followed by those of a walk.
 pub marks_gather : (at : ℕ → Mark) (base ratio wide from last : ℕ) (ms kept fresh all : List Mark) → 0 < ratio → wide ≡ ratio * base
     → ((j : ℕ) (x : Mark) → j < length kept → get_or kept j x ≡ get_or ms (0 + j * ratio) x)
     → ((j : ℕ) → j < length kept → 0 + j * ratio < length ms)
@@ -180,20 +181,20 @@ marks_gather at base ratio wide from last ms kept fresh all positive is_wide eac
     let here : AreMarks at wide 0 from kept = subst (λ d. AreMarks at d 0 from kept) (sym is_wide) thinned in
     subst (λ l. AreMarks at wide 0 last l) (sym all_is) (marks_join at wide from last kept fresh here more)
 
--- There are at most 64.
+-- There are at most 64 marks.
 pub marks_few : (at : ℕ → Mark) (d most last : ℕ) (ms : List Mark) → IsSpacing most d → last ≤ most → AreMarks at d 0 last ms → length ms ≤ 64
 marks_few at d most last ms spacing within is =
     let small : last / d < 64 = div_below last d 64 spacing.positive (omega (arith, spacing.enough)) in
     let many : 0 + length ms ≡ last / d + 1 = is.many in
     omega arith
 
--- There are none beyond the last place.
+-- There are no marks beyond the last position.
 pub marks_none : (at : ℕ → Mark) (d last : ℕ) (ms : List Mark) → ms ≡ [] → AreMarks at d (last / d + 1) last ms
 marks_none at d last ms none =
     let count : length ms ≡ 0 = ap length none in
     record { many = omega arith; each = λ i x below. absurd (lt_irrefl 0 (omega arith)) }
 
--- The first.
+-- The first mark.
 pub marks_first : (at : ℕ → Mark) (ms : List Mark) (m : Mark) → ms ≡ m ∷ [] → m ≡ at 0 → AreMarks at 1 0 0 ms
 marks_first at ms m only is =
     let count : length ms ≡ 1 = ap length only in

@@ -1,4 +1,4 @@
--- The items after another choice in place of those that follow the position.
+-- The items after the choices that follow the position are replaced by another one.
 use Rattle.std.proofs.Common.{◌≡◌, ℕ, ◌≤◌, List, [], ◌∷◌, ◌++◌, length, take, ap, arith, ◌∙◌, sym}
 use Rattle.std.proofs.lemmas.List.{length-append, length-take}
 use Rattle.jvms_machine.specs.declared.trace.Item.{Item}
@@ -27,7 +27,7 @@ is_branch t new choice is new_is =
       count = omega (arith, ap length new_is, length-append front (choice ∷ []), length-take t.position t.choices.items, within);
     }
 
--- A walk along a branch brings the items of its choices.
+-- A walk along a branch has the items of the branch's choices.
 pub branch_items : (t : Timeline) (new : List ℕ) (w : Walk) (trace items all : List Item) → IsTimeline t → IsBranch t new
     → trace ≡ items_at (setting t) t.choices.items t.far → IsWalk (setting t) new w → w.reach.from ≡ t.position → items ≡ w.items → all ≡ take t.here.items trace ++ items
     → all ≡ items_at (setting t) new w.reach.far
@@ -37,7 +37,7 @@ branch_items t new w trace items all is branch trace_is walk from items_is all_i
     let count : t.here.items ≡ length (items_at g t.choices.items t.position) = ap (λ (m : Mark). m.items) is.here in
     items_joined g t.choices.items new t.position t.far w.reach.far t.here.items trace w.items all is.position count (sym branch.same) trace_is brought (all_is ∙ ap (λ l. take t.here.items trace ++ l) items_is)
 
--- The items before the position are as few as before.
+-- There are no more items before the position than before.
 pub few_front : (t : Timeline) (new : List ℕ) → IsTimeline t → IsBranch t new → length (items_at (setting t) new t.position) ≤ length (items_at (setting t) t.choices.items t.far)
 few_front t new is branch =
     let g = setting t in

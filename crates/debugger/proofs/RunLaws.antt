@@ -1,4 +1,5 @@
--- The machine, the items and the last outcome after the first n choices, as n grows, and along other choices that begin alike.
+-- The machine, the items and the last outcome after the first n choices, as n grows, and along other choices with the
+-- same prefix.
 use Rattle.std.proofs.Common.{◌≡◌, ℕ, zero, suc, ◌+◌, ◌-◌, ◌≤◌, List, [], ◌∷◌, ◌++◌, length, take, drop, replicate, Option, Some, None, IsSome, rules, refl, sym, ap, ◌∙◌, arith}
 use Rattle.std.proofs.lemmas.List.{length-append}
 use Rattle.std.proofs.Math.Seq.{take-append_seam, drop-append_seam}
@@ -17,7 +18,7 @@ use Rattle.debugger.specs.Marks.{mark_at}
 use Rattle.debugger.specs.States.{Setting, setting_of, machine_at, items_at, outcome_at, last_outcome}
 use Rattle.debugger.specs.Walks.{items_between, turns_of}
 
--- The result of the first n choices.
+-- Returns the result of the first n choices.
 abbrev result_at : Setting → List ℕ → ℕ → RunResult
 result_at g cs n = run g.program g.limits g.start (take n cs)
 
@@ -47,7 +48,7 @@ outcome_more g cs ts n m o is last =
 
 -- ---- Consecutive turns of a thread
 
--- The mark after them.
+-- The mark after consecutive turns.
 pub mark_more : (g : Setting) (cs : List ℕ) (n m k t : ℕ) (mark : Mark) (after : Machine) (items : ℕ) (o : Option Outcome) (last : Outcome) → take m cs ≡ take n cs ++ replicate k t → mark ≡ mark_at g cs n
     → after ≡ with_state mark.machine (turns_of mark.machine t k).state → o ≡ Some last → last_outcome (turns_of mark.machine t k).outcomes ≡ Some last
     → items ≡ length (items_at g cs m)
@@ -62,7 +63,7 @@ mark_more g cs n m k t mark after items o last is here state o_is last_is items_
     ∙ ap (λ i. let y : Mark = record { machine = machine_at g cs m; items = i; outcome = o } in y) items_are
     ∙ ap (λ x. let y : Mark = record { machine = machine_at g cs m; items = length (items_at g cs m); outcome = x } in y) outcome
 
--- The items of them.
+-- The items of consecutive turns.
 pub between_more : (g : Setting) (cs : List ℕ) (n m k t : ℕ) (mark : Mark) → take m cs ≡ take n cs ++ replicate k t → mark ≡ mark_at g cs n → (turns_of mark.machine t k).items ≡ items_between g cs n m
 between_more g cs n m k t mark is here =
     let machine : mark.machine ≡ machine_at g cs n = ap (λ (x : Mark). x.machine) here in
@@ -70,7 +71,7 @@ between_more g cs n m k t mark is here =
     ∙ sym (drop-append_seam (items_at g cs n) (turns_of (machine_at g cs n) t k).items)
     ∙ ap (drop (length (items_at g cs n))) (sym (items_more g cs (replicate k t) n m is))
 
--- Their number.
+-- The number of items after consecutive turns.
 pub count_more : (g : Setting) (cs : List ℕ) (n m k t : ℕ) (mark : Mark) → take m cs ≡ take n cs ++ replicate k t → mark ≡ mark_at g cs n → mark.items + length (turns_of mark.machine t k).items ≡ length (items_at g cs m)
 count_more g cs n m k t mark is here =
     let before : mark.items ≡ length (items_at g cs n) = ap (λ (x : Mark). x.items) here in
@@ -80,14 +81,14 @@ count_more g cs n m k t mark is here =
     let same : length (turns_of mark.machine t k).items ≡ length (turns_of (machine_at g cs n) t k).items = ap (λ (x : Machine). length (turns_of x t k).items) machine in
     omega arith
 
--- How many items were appended to those that are kept.
+-- The number of items that were appended to those that are kept.
 pub count_added : (r more : Option (List Item)) (items : List Item) → IsSome r → more ≡ recorded r items → count_of more - count_of r ≡ length items
 count_added None more items kept is = let no : ⊥ = search (rules, kept) in absurd no
 count_added (Some before) more items kept is =
     let many : count_of more ≡ length before + length items = ap count_of is ∙ length-append before items in
     omega arith
 
--- The setting stays.
+-- The setting doesn't change.
 pub setting_stays : (g : Setting) (cs : List ℕ) (n : ℕ) (mark : Mark) → mark ≡ mark_at g cs n → setting_of mark.machine ≡ g
 setting_stays g cs n mark is = ap (λ (m : Mark). setting_of m.machine) is
 
@@ -119,7 +120,7 @@ items_fewer g cs n m h =
 pub items_cut : (g : Setting) (cs : List ℕ) (n m : ℕ) → n ≤ m → take (length (items_at g cs n)) (items_at g cs m) ≡ items_at g cs n
 items_cut g cs n m h = ap (take (length (items_at g cs n))) (items_split g cs n m h) ∙ take-append_seam (items_at g cs n) (items_between g cs n m)
 
--- ---- Other choices that begin alike
+-- ---- Other choices with the same prefix
 
 result_same : (g : Setting) (cs ds : List ℕ) (n : ℕ) → take n cs ≡ take n ds → result_at g cs n ≡ result_at g ds n
 result_same g cs ds n h = ap (run g.program g.limits g.start) h
@@ -133,7 +134,7 @@ pub items_same : (g : Setting) (cs ds : List ℕ) (n : ℕ) → take n cs ≡ ta
 unfolding items_at
 items_same g cs ds n h = ap (λ (r : RunResult). r.items) (result_same g cs ds n h)
 
--- The items of a beginning, followed by those of other choices after it.
+-- The items of a prefix, followed by those of other choices after it.
 pub items_joined : (g : Setting) (old new : List ℕ) (position far reach count : ℕ) (trace items all : List Item) → position ≤ far → count ≡ length (items_at g old position) → take position old ≡ take position new
     → trace ≡ items_at g old far → items_at g new reach ≡ items_at g new position ++ items → all ≡ take count trace ++ items
     → all ≡ items_at g new reach

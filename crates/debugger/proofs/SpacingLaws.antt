@@ -1,4 +1,4 @@
--- The spacing of checkpoints, as the greatest position grows.
+-- The spacing of checkpoints as the greatest position grows.
 use Rattle.std.proofs.Common.{◌≡◌, ℕ, ◌+◌, ◌-◌, ◌*◌, ◌/◌, ◌%◌, ◌<◌, ◌≤◌, ◌^◌, inl, inr, sym, ap, ◌∙◌, arith, add-one}
 use Rattle.std.proofs.lemmas.Bool.{cases_lt}
 use Rattle.std.proofs.lemmas.Nat.{le-div, div-add-mod', div_below}
@@ -24,7 +24,7 @@ next_within most d n m is within near =
     let high : (n / d + 1) * d ≤ 64 * d = mul-le-mul_right d up in
     omega arith
 
--- Where a spacing is too small for a greater position, twice as much isn't.
+-- If a spacing is too small for a greater position, twice the spacing isn't.
 pub spacing_doubles : (most d more wide : ℕ) → more ≤ 64 * d → wide ≡ 2 * d → d ≤ more / 64 → IsSpacing most d → IsSpacing more wide
 spacing_doubles most d more wide within twice small is =
     let k = is.power.0 in
@@ -36,7 +36,7 @@ spacing_doubles most d more wide within twice small is =
       least = λ _. omega arith;
     }
 
--- Else it stays.
+-- Else the spacing stays.
 pub spacing_stays : (most d more : ℕ) → most ≤ more → more / 64 < d → IsSpacing most d → IsSpacing more d
 spacing_stays most d more up large is = record {
   power = is.power;
@@ -45,7 +45,7 @@ spacing_stays most d more up large is = record {
   least = λ one. let least = is.least one in omega arith;
 }
 
--- The next position of a checkpoint, where the spacing has doubled, is no nearer.
+-- After the spacing doubled, the next position of a checkpoint is no nearer.
 pub near_wider : (most d n m wide : ℕ) → IsSpacing most d → n ≤ most → m ≤ n + (d - n % d) → d ≤ m / 64 → wide ≡ 2 * d → m ≤ n + (wide - n % wide)
 near_wider most d n m wide is within near small twice =
     let positive = is.positive in
@@ -58,7 +58,7 @@ near_wider most d n m wide is within near small twice =
     let multiple : 31 * wide ≤ n / wide * wide = mul-le-mul_right wide many in
     omega arith
 
--- The spacing is no more than the greatest position, or 1.
+-- The spacing is at most the greatest position plus 1.
 pub spacing_small : (most d : ℕ) → IsSpacing most d → d ≤ most + 1
 spacing_small most d is = elim (cases_lt 1 d) [
   | inl more ↦ let least = is.least more in omega (arith, least)

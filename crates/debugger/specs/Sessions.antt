@@ -1,4 +1,4 @@
--- Sessions of the debugger: what contracts see of one, and what holds of its parts.
+-- Defines what contracts see of a session, and the invariants of its parts.
 use Rattle.std.specs.Prelude.{◌≡◌, ℕ, List, MatchResult, Result, Ok}
 use Rattle.jvms_program.specs.declared.program.Class.{Class}
 use Rattle.jvms_machine.specs.declared.machine.Entry.{Entry}
@@ -15,9 +15,9 @@ use Rattle.debugger.specs.declared.replay.Replay.{Replay}
 use Rattle.debugger.specs.States.{Setting, items_at}
 use Rattle.debugger.specs.Timelines.{IsTimeline, setting}
 
--- A session with what is debugged. `far` is the greatest position since the choices were last cut, `most` the greatest
--- ever, `spacing` the distance between checkpoints, and `replayed` the number of turns that the last command took that
--- was not refused.
+-- A session with its setting. `far` is the greatest position since the choices were last cut, and `most` the greatest
+-- ever. `spacing` is the distance between checkpoints. `replayed` is the number of turns that the last accepted command
+-- took.
 pub record Debugger : Type 0 where
   pub setting : Setting
   pub session : Session
@@ -26,11 +26,11 @@ pub record Debugger : Type 0 where
   pub spacing : ℕ
   pub replayed : ℕ
 
--- A session that begins.
+-- Returns a new session.
 abbrev pub begun : Setting → List ℕ → Debugger
 begun g choices = record { setting = g; session = opened choices; most = 0; far = 0; spacing = 1; replayed = 0 }
 
--- A session is begun where there is a machine for the entry.
+-- A session begins if there is a machine for the entry.
 abbrev pub IsBegun : List Class → Limits → Entry → List ℕ → Result Debugger MachineFault → Type 0
 IsBegun program limits e choices result =
     MatchResult result (λ d. (start : Start) × (made program limits e ≡ Ok start) × (d ≡ begun (record { program = program; limits = limits; start = start }) choices))
@@ -54,16 +54,16 @@ seen b = record {
   replayed = b.replayed;
 }
 
--- The trace has the items up to the greatest position since the choices were last cut.
+-- The timeline is right, and the trace has the items up to the greatest position since the choices were last cut.
 pub record IsBody (b : Body) : Type 0 where
   pub timeline : IsTimeline b.timeline
   pub trace : b.trace ≡ items_at (setting b.timeline) b.timeline.choices.items b.timeline.far
 
--- A session with other breakpoints, and the number of the next one. No turn is taken for that.
+-- Returns the session with other breakpoints, and with the number of the next one. This takes no turn.
 abbrev pub with_breakpoints : Debugger → List Breakpoint → ℕ → Debugger
 with_breakpoints d breakpoints next = record d { session = record d.session { breakpoints = breakpoints; next = next }; replayed = 0 }
 
--- A session that has moved to where a replay is.
+-- Returns the session after it moved to a replay's position.
 abbrev pub moved_by : Debugger → Replay → Reach → Debugger
 moved_by d r x = record d {
   session = record d.session { position = r.position };

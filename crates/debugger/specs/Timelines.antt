@@ -1,4 +1,4 @@
--- The timeline of a session: its choices, the machine at its position, and its checkpoints.
+-- Defines the timeline of a session: its choices, the machine at its position, and its checkpoints.
 use Rattle.std.specs.Prelude.{◌≡◌, ℕ, ◌+◌, ◌≤◌, ◌<◌, ◌^◌, max, List, [], ◌∷◌, ◌++◌, length, take}
 use Rattle.std.specs.Vec.{vec_capacity}
 use Rattle.debugger.specs.declared.reach.Reach.{Reach}
@@ -9,12 +9,12 @@ use Rattle.debugger.specs.Marks.{mark_at, AreMarks, IsSpacing}
 use Rattle.debugger.specs.States.{Setting, setting_of, items_at}
 use Rattle.debugger.specs.Walks.{IsReach, IsReplay, IsWalk}
 
--- What is debugged on a timeline.
+-- Returns the setting of a timeline.
 abbrev pub setting : Timeline → Setting
 setting t = setting_of t.here.machine
 
--- The positions of a timeline: `far` is the greatest position since the choices were last cut, `most` the greatest ever, and
--- `spacing` the distance between checkpoints.
+-- The extent of a timeline. `far` is the greatest position since the choices were last cut, and `most` the greatest
+-- ever. `spacing` is the distance between checkpoints.
 pub record Extent : Type 0 where
   pub setting : Setting
   pub choices : List ℕ
@@ -33,11 +33,11 @@ extent t = record {
   spacing = t.spacing;
 }
 
--- The extent of a timeline before its first choice.
+-- Returns the extent of a timeline before its first choice.
 abbrev pub opening_extent : Setting → List ℕ → Extent
 opening_extent g choices = record { setting = g; choices = choices; position = 0; most = 0; far = 0; spacing = 1 }
 
--- The machine is the one at the position, and each checkpoint the one at its own.
+-- The machine is the one at the position, and each checkpoint is the machine at its own position.
 pub record IsTimeline (t : Timeline) : Type 0 where
   pub position : t.position ≤ t.far
   pub far : t.far ≤ length t.choices.items
@@ -49,7 +49,7 @@ pub record IsTimeline (t : Timeline) : Type 0 where
   pub room : 64 ≤ vec_capacity t.checkpoints
   pub few : length (items_at (setting t) t.choices.items t.far) < 2 ^ 63
 
--- A replay along a timeline's choices, with what it brings.
+-- A replay along a timeline's choices, with the reach that it adds.
 pub record IsAlong (t : Timeline) (r : Replay) (x : Reach) : Type 0 where
   pub replay : IsReplay (setting t) t.choices.items r
   pub reach : IsReach (setting t) t.choices.items x
@@ -65,16 +65,16 @@ pub record IsWalkOf (t : Timeline) (w : Walk) : Type 0 where
   pub walk : IsWalk (setting t) t.choices.items w
   pub along : IsAlong t w.replay w.reach
 
--- Choices with another in place of those after the position.
+-- Choices with another one in place of those after the position.
 pub record IsBranch (t : Timeline) (choices : List ℕ) : Type 0 where
   pub same : take t.position choices ≡ take t.position t.choices.items
   pub count : length choices ≡ t.position + 1
 
--- The choices before the position, followed by another.
+-- Returns the choices before the position, followed by another one.
 abbrev pub branch_of : Timeline → ℕ → List ℕ
 branch_of t choice = take t.position t.choices.items ++ choice ∷ []
 
--- A walk along a branch that begins at the position.
+-- A walk along a branch, which begins at the position.
 pub record BeginsBranch (t : Timeline) (choices : List ℕ) (w : Walk) : Type 0 where
   pub walk : IsWalk (setting t) choices w
   pub setting : setting_of w.replay.mark.machine ≡ setting t
@@ -84,6 +84,6 @@ pub record BeginsBranch (t : Timeline) (choices : List ℕ) (w : Walk) : Type 0 
   pub base : w.reach.base ≡ t.spacing
   pub most : w.reach.most ≡ t.most
 
--- The extent of a timeline that has moved to where a replay is.
+-- Returns the extent of a timeline after it moved to a replay's position.
 abbrev pub moved : Extent → Replay → Reach → Extent
 moved e r x = record e { position = r.position; most = x.most; far = x.far; spacing = x.spacing }

@@ -1,4 +1,4 @@
--- What each command shows.
+-- Defines the view of each command.
 use Rattle.std.specs.Prelude.{List, unwrap_or}
 use Rattle.std.specs.Option.{option_and_then}
 use Rattle.jvms_program.specs.declared.program.Class.{Class}
@@ -11,7 +11,7 @@ use Rattle.debugger_commands.specs.Sessions.{Session, method_of_place}
 use Rattle.debugger.specs.declared.view.View.{View}
 use Rattle.debugger.specs.declared.view.View.TheVariants as view
 
--- The breakpoint that is added at a place.
+-- Returns the breakpoint that is added at a place.
 abbrev pub breakpoint_at : List Class → Session → Place → Breakpoint
 breakpoint_at program x place = record {
   number = x.next;
@@ -19,7 +19,7 @@ breakpoint_at program x place = record {
   instruction = place.instruction;
 }
 
--- What a command shows that is carried out on a session.
+-- Returns the view of a command that is executed on a session.
 abbrev pub view_of : List Class → Session → Command → View
 view_of program x (command.Step n) = view.Position
 view_of program x (command.Back n) = view.Position

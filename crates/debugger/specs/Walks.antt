@@ -1,4 +1,5 @@
--- A copy of a session's machine that takes turns along the choices, and what the session will keep of it.
+-- Defines replays: a copy of a session's machine takes turns along the choices, and the session keeps part of the
+-- result.
 use Rattle.std.specs.Prelude.{◌≡◌, ℕ, ◌+◌, ◌*◌, ◌/◌, ◌^◌, ◌<◌, ◌≤◌, max, List, ◌++◌, length, drop, replicate}
 use Rattle.jvms_machine.specs.declared.trace.Item.{Item}
 use Rattle.jvms_machine.specs.Run.{RunResult}
@@ -10,17 +11,17 @@ use Rattle.debugger.specs.declared.walk.Walk.{Walk}
 use Rattle.debugger.specs.Marks.{mark_at, AreMarks, IsSpacing}
 use Rattle.debugger.specs.States.{Setting, items_at}
 
--- The result of n consecutive turns of a thread.
+-- Returns the result of n consecutive turns of a thread.
 abbrev pub turns_of : Machine → ℕ → ℕ → RunResult
 turns_of m t n = run_of m (replicate n t)
 
--- The machine stands at its position. It has taken at most as many turns as there are choices before that.
+-- The machine is the one at its position. It has taken at most as many turns as there are choices before the position.
 pub record IsReplay (g : Setting) (choices : List ℕ) (r : Replay) : Type 0 where
   pub within : r.position ≤ length choices
   pub made : r.made ≤ r.position
   pub mark : r.mark ≡ mark_at g choices r.position
 
--- What is kept of the positions after a session's.
+-- The invariant of the reach: what is kept of the positions after the session's.
 pub record IsReach (g : Setting) (choices : List ℕ) (r : Reach) : Type 0 where
   pub from : r.from ≤ r.far
   pub far : r.far ≤ length choices
@@ -32,7 +33,7 @@ pub record IsReach (g : Setting) (choices : List ℕ) (r : Reach) : Type 0 where
   pub base_small : r.base ≤ r.spacing
   pub fresh : AreMarks (mark_at g choices) r.spacing (r.from / r.spacing + 1) r.far r.fresh.items
 
--- A reach whose spacing grows for a position that a walk leads to. It may not be large enough yet.
+-- A reach whose spacing grows for a target position. It may be too small yet.
 pub record IsAiming (g : Setting) (choices : List ℕ) (place : ℕ) (old r : Reach) : Type 0 where
   pub from : r.from ≡ old.from
   pub far : r.far ≡ old.far
@@ -50,11 +51,12 @@ pub record IsAiming (g : Setting) (choices : List ℕ) (place : ℕ) (old r : Re
   pub base_small : r.base ≤ r.spacing
   pub fresh : AreMarks (mark_at g choices) r.spacing (r.from / r.spacing + 1) r.far r.fresh.items
 
--- The items of the choices between two positions.
+-- Returns the items of the choices between two positions.
 abbrev pub items_between : Setting → List ℕ → ℕ → ℕ → List Item
 items_between g choices n m = drop (length (items_at g choices n)) (items_at g choices m)
 
--- The items up to the greatest position of the session are in memory, so that their number fits a machine word.
+-- The invariant of a walk. The items up to the session's greatest position are in memory, so their number fits a
+-- machine word.
 pub record IsWalk (g : Setting) (choices : List ℕ) (w : Walk) : Type 0 where
   pub replay : IsReplay g choices w.replay
   pub reach : IsReach g choices w.reach

@@ -20,12 +20,12 @@ pub(crate) struct Body<'p> {
     /// The items up to the timeline's `far`.
     pub(crate) trace: Trace,
     pub(crate) breakpoints: Breakpoints,
-    /// How many turns the last command took that was not refused.
+    /// The number of turns that the last accepted command took.
     pub(crate) replayed: u64,
 }
 
 impl<'p> Body<'p> {
-    /// Moves to where a walk is, and keeps what it brings. Without memory nothing changes.
+    /// Moves to a walk's position, and keeps its items and checkpoints. Without memory nothing changes.
     fn settle(&mut self, walk: &mut Walk<'p>) -> Result<(), AllocError>
         requires body { IsBody self.old }
         requires walk { IsWalkOf self.old.timeline walk.old }
@@ -104,7 +104,8 @@ impl<'p> Body<'p> {
         Ok(())
     }
 
-    /// Walks along a branch, and takes its choices. Without memory nothing changes.
+    /// Advances a walk along a branch, and replaces the session's choices by the branch. Without memory nothing
+    /// changes.
     fn settle_on_branch(&mut self, t: ThreadId, walk: &mut Walk<'p>) -> Result<(), AllocError>
         requires body { IsBody self.old }
         requires room { self.old.timeline.position < vec_capacity self.old.timeline.choices }
@@ -128,7 +129,7 @@ impl<'p> Body<'p> {
         Ok(())
     }
 
-    /// Takes a branch where there is room for its choice. Without memory nothing changes.
+    /// Takes a branch, for whose choice memory has been reserved. Without memory nothing changes.
     fn take_branch(&mut self, t: ThreadId) -> Result<(), AllocError>
         requires body { IsBody self.old }
         requires room { self.old.timeline.position < vec_capacity self.old.timeline.choices }
@@ -147,7 +148,7 @@ impl<'p> Body<'p> {
         settled
     }
 
-    /// Takes the memory for another choice.
+    /// Reserves the memory for another choice.
     fn reserve_choice(&mut self) -> Result<(), AllocError>
         requires { IsBody self.old }
         ensures body { IsBody self.new }

@@ -1,4 +1,4 @@
-//! The breakpoints of a session, found by their numbers.
+//! The breakpoints of a session, looked up by number.
 
 ghost use Rattle.std.specs.Prelude.{◌≡◌, ℕ, ◌+◌, ◌^◌, ◌<◌, ◌==◌, ◌&&◌, ◌++◌, ◌∷◌, [], length};
 ghost use Rattle.std.specs.Prelude.{not, None, Some, true, false, IfOk, OnErr, MatchOption};
@@ -13,10 +13,10 @@ use jvms_program::number::MethodNumber;
 use std::alloc::{AllocError, Global};
 use std::marker::Model;
 
-/// Up to this many slots, none is of a deleted breakpoint.
+/// The number of slots up to which no slot is of a deleted breakpoint.
 const FEW_SLOTS: usize = 32;
 
-/// A breakpoint that was added.
+/// A breakpoint that was added, and a mark for its deletion.
 #[derive(Clone, Copy)]
 pub(crate) struct Slot {
     pub(crate) breakpoint: Breakpoint,
@@ -26,7 +26,8 @@ pub(crate) struct Slot {
 /// The breakpoints of a session, in the order of their numbers, and the number of the next one.
 #[derive(Drop)]
 pub(crate) struct Breakpoints {
-    /// A breakpoint that is deleted keeps its slot until more than half of them are.
+    /// A deleted breakpoint keeps its slot until more than half of the slots are of deleted ones. With at most 32 slots
+    /// its slot is dropped immediately.
     slots: Vec<Slot>,
     /// The number of slots of deleted breakpoints.
     deleted: usize,
@@ -43,14 +44,14 @@ impl Model for Breakpoints {
     ghost invariant = { λ b. AreSlots b.slots.items b.deleted b.next };
 }
 
-/// Returns whether a slot has the breakpoint of a number.
+/// Returns whether a slot has breakpoint k.
 fn is_slot_of(slot: &Slot, k: u32) -> bool
     ensures { result ≡ (slot.now.breakpoint.number == k) && not slot.now.is_deleted }
 {
     slot.breakpoint.number == k && !slot.is_deleted
 }
 
-/// Finds the slot of the breakpoint of a number.
+/// Returns the slot of breakpoint k, if there is one.
 fn find(slots: &[Slot], k: u32) -> Option<usize>
     requires { (next : ℕ) × Rises 0 next (numbers slots.now) }
     ensures { MatchOption result (breakpoint_index k (kept slots.now) ≡ None)
@@ -67,8 +68,8 @@ fn find(slots: &[Slot], k: u32) -> Option<usize>
     }
 }
 
-/// Deletes the breakpoint of a slot, and returns the number of slots of deleted breakpoints. Drops those slots where they
-/// are more than half.
+/// Deletes breakpoint k, which is at slot i, and returns the number of slots of deleted breakpoints. Drops those slots
+/// if they are more than half, or if there are few slots.
 fn delete_at(slots: &mut Vec<Slot>, deleted: usize, next: u64, k: u32, i: usize) -> usize
     requires slots { AreSlots slots.old.items deleted next }
     requires slot { IsSlotOf k slots.old.items i }
@@ -86,7 +87,7 @@ fn delete_at(slots: &mut Vec<Slot>, deleted: usize, next: u64, k: u32, i: usize)
 }
 
 impl Breakpoints {
-    /// Begins without a breakpoint. The first gets the number 1.
+    /// Returns a list without breakpoints. The first one gets number 1.
     pub(crate) fn new(alloc: Global) -> Breakpoints
         ensures { result ≡ record { items = []; next = 1 } }
     {
@@ -104,14 +105,14 @@ impl Breakpoints {
         self.next
     }
 
-    /// Returns whether there is none.
+    /// Returns whether there are no breakpoints.
     pub(crate) fn is_empty(&self) -> bool
         ensures { result ≡ (length self.now.items == 0) }
     {
         self.slots.is_empty()
     }
 
-    /// Returns the slots. Each breakpoint is in one.
+    /// Returns the slots. Each breakpoint has one.
     pub(crate) fn slots(&self) -> &[Slot]
         ensures { kept result.now ≡ self.now.items }
     {
@@ -144,7 +145,7 @@ impl Breakpoints {
         Ok(breakpoint)
     }
 
-    /// Deletes the breakpoint of a number, and returns whether there was one.
+    /// Deletes breakpoint k, and returns whether it existed.
     pub(crate) fn delete(&mut self, k: u32) -> bool
         ensures none { result ≡ false → breakpoint_index k self.old.items ≡ None }
         ensures kept { result ≡ false → self.new ≡ self.old }

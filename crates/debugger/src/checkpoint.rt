@@ -1,4 +1,4 @@
-//! Checkpoints: marks that are saved, which share the objects that didn't change from one to the next.
+//! Checkpoints: saved marks. Consecutive ones share the objects that didn't change.
 
 ghost use Rattle.std.specs.Prelude.{◌≡◌, ℕ, ◌+◌, ◌*◌, ◌^◌, ◌<◌, ◌≤◌, ◌++◌, ◌∷◌, [], length};
 ghost use Rattle.std.specs.Prelude.{slice_index_or, IfOk, OnOk};
@@ -11,7 +11,7 @@ use machine::SavedMachine;
 use std::alloc::AllocError;
 use std::marker::Model;
 
-/// A mark, saved. Contracts see the mark itself.
+/// A saved mark. Contracts see the mark itself.
 #[derive(Drop)]
 pub(crate) struct Checkpoint<'p> {
     machine: SavedMachine<'p>,
@@ -51,8 +51,8 @@ impl<'p> Checkpoint<'p> {
     }
 }
 
-/// Saves a mark as the last of these checkpoints. It shares objects with the last one before it. Where there is none, it
-/// shares them with `before`.
+/// Appends a saved mark to these checkpoints. It shares objects with the last one before it, or with `before` if there
+/// is none.
 pub(crate) fn push_saved<'p>(
     checkpoints: &mut Vec<Checkpoint<'p>>,
     mark: &Mark<'p>,
@@ -66,7 +66,7 @@ pub(crate) fn push_saved<'p>(
     Ok(())
 }
 
-/// Keeps each checkpoint whose index is `first` and a multiple of `ratio`, and drops the others.
+/// Keeps the checkpoint at index `first` and every `ratio`-th one after it, and drops the others.
 pub(crate) fn thin(checkpoints: &mut Vec<Checkpoint<'_>>, first: usize, ratio: usize)
     requires positive { 0 < ratio }
     requires small { ratio < 2 ^ 63 }

@@ -1,4 +1,4 @@
-//! What each command does.
+//! Executes the commands of a session.
 
 ghost use Rattle.std.specs.Prelude.{◌≡◌, IfErr, IfOk, OnErr};
 ghost use Rattle.debugger.specs.Commands.{Did, IsRefused};
@@ -9,7 +9,7 @@ use crate::body::Body;
 use crate::places::method_of_place;
 use crate::view::View;
 use debugger_commands::{Command, DebugFault, Place};
-use held::shared::Text;
+use shared_data::shared::Text;
 use jvms_machine::machine::ThreadId;
 
 impl Body<'_> {
@@ -36,7 +36,7 @@ impl Body<'_> {
         }
     }
 
-    /// Removes the breakpoint of a number.
+    /// Removes breakpoint k.
     fn delete(&mut self, k: u32) -> Result<View, DebugFault>
         requires { IsBody self.old }
         ensures body { IsBody self.new }
@@ -53,7 +53,7 @@ impl Body<'_> {
         Ok(View::Removed(k))
     }
 
-    /// Shows something; no turn is taken.
+    /// Returns a view without taking a turn.
     fn show(&mut self, view: View) -> View
         requires { IsBody self.old }
         ensures body { IsBody self.new }
@@ -80,7 +80,7 @@ impl Body<'_> {
         }
     }
 
-    /// Shows the object that a reference names.
+    /// Shows the object with this reference.
     fn show_object(&mut self, r: u32) -> Result<View, DebugFault>
         requires { IsBody self.old }
         ensures body { IsBody self.new }
@@ -116,7 +116,7 @@ impl Body<'_> {
         }
     }
 
-    /// Carries a command out. Where it is refused nothing changes.
+    /// Executes a command. If it is refused nothing changes.
     pub(crate) fn carry_out(&mut self, command: &Command) -> Result<View, DebugFault>
         requires { IsBody self.old }
         ensures body { IsBody self.new }

@@ -28,7 +28,7 @@ fn is_frame_at(frame: &Frame<'_>, breakpoint: &Breakpoint) -> bool
         && frame.place() == breakpoint.instruction as usize
 }
 
-/// Returns whether it is at the breakpoint of a slot, where that wasn't deleted.
+/// Returns whether a frame is at the breakpoint of a slot that isn't deleted.
 fn is_frame_at_slot(frame: &Frame<'_>, slot: &Slot) -> bool
     ensures { result ≡ is_frame_at (Some (stack_frame.Call frame.now)) slot.now.breakpoint
         && not slot.now.is_deleted }
@@ -36,7 +36,7 @@ fn is_frame_at_slot(frame: &Frame<'_>, slot: &Slot) -> bool
     is_frame_at(frame, &slot.breakpoint) && !slot.is_deleted
 }
 
-/// Returns whether it is at the breakpoint of one of these slots, where that wasn't deleted.
+/// Returns whether a frame is at the breakpoint of one of these slots that isn't deleted.
 fn is_frame_at_any_slot(frame: &Frame<'_>, slots: &[Slot]) -> bool
     ensures { result ≡ list_any (λ (s : Seen). is_frame_at (Some (stack_frame.Call frame.now))
         s.breakpoint && not s.is_deleted) slots.now }
@@ -44,7 +44,7 @@ fn is_frame_at_any_slot(frame: &Frame<'_>, slots: &[Slot]) -> bool
     slots.iter().any(|slot| is_frame_at_slot(frame, slot))
 }
 
-/// Returns whether it is at one of these breakpoints.
+/// Returns whether a frame is at one of these breakpoints.
 fn is_frame_at_any(frame: &Frame<'_>, breakpoints: &Breakpoints) -> bool
     ensures { result ≡ list_any (is_frame_at (Some (stack_frame.Call frame.now)))
         breakpoints.now.items }
@@ -52,7 +52,7 @@ fn is_frame_at_any(frame: &Frame<'_>, breakpoints: &Breakpoints) -> bool
     is_frame_at_any_slot(frame, breakpoints.slots())
 }
 
-/// Returns whether a thread with nothing pending is at one of these breakpoints with its top frame.
+/// Returns whether a thread has nothing pending and its top frame is at one of these breakpoints.
 fn is_thread_at(machine: &Machine<'_>, t: ThreadId, breakpoints: &Breakpoints) -> bool
     ensures { result ≡ is_thread_at breakpoints.now.items (slice_get machine.now.state.threads t) }
 {

@@ -1,4 +1,4 @@
-//! The debugger: sessions that go forward and back along the choices of a run, with checkpoints to go back by.
+//! The debugger: sessions that move forward and back along the choices of a run, by checkpoints.
 #![tactic(auto)]
 
 mod body;

@@ -10,14 +10,14 @@ use std::alloc::AllocError;
 #[derive(Drop)]
 pub(crate) struct Mark<'p> {
     pub(crate) machine: Machine<'p>,
-    /// How many items come before the position.
+    /// The number of items before the position.
     pub(crate) items: usize,
     /// The outcome of the last choice before it.
     pub(crate) outcome: Option<Outcome>,
 }
 
 impl<'p> Mark<'p> {
-    /// Copies the machine with what goes with it.
+    /// Copies the machine, the number of items and the outcome.
     pub(crate) fn copy(&self) -> Result<Mark<'p>, AllocError>
         ensures { IfOk result (λ m. m ≡ self.now) }
     {

@@ -10,14 +10,14 @@ use crate::timeline::Timeline;
 use crate::walk::Walk;
 use std::alloc::AllocError;
 
-/// The nearest hit before a position, and how many turns were taken to find it.
+/// The nearest hit before a position, and the number of turns that were taken to find it.
 #[derive(Clone, Copy)]
 pub(crate) struct HitBefore {
     pub(crate) position: usize,
     pub(crate) made: u64,
 }
 
-/// The last hit among some positions, if there is one, and how many turns were taken to find it.
+/// The last hit among some positions, if there is one, and the number of turns that were taken to find it.
 #[derive(Clone, Copy)]
 struct LastHit {
     position: Option<usize>,
@@ -25,7 +25,7 @@ struct LastHit {
 }
 
 impl<'p> Timeline<'p> {
-    /// Begins a walk to a position at the nearest machine at or before it.
+    /// Begins a walk to a position, from the nearest saved machine at or before it.
     fn nearest(&self, place: usize) -> Result<Walk<'p>, AllocError>
         requires timeline { IsTimeline self.now }
         ensures walk { IfOk result (λ w. IsWalkOf self.now w) }
@@ -135,7 +135,7 @@ impl<'p> Timeline<'p> {
         }
     }
 
-    /// Walks to the next hit, or to the end if there is none. Without a breakpoint no position is looked at.
+    /// Walks to the next hit, or to the end if there is none. Without a breakpoint it tests no position.
     pub(crate) fn walk_to_hit(&self, breakpoints: &Breakpoints) -> Result<Walk<'p>, AllocError>
         requires timeline { IsTimeline self.now }
         ensures walk { IfOk result (λ w. IsWalkOf self.now w) }
@@ -153,7 +153,7 @@ impl<'p> Timeline<'p> {
         self.walk_by_turns(breakpoints)
     }
 
-    /// Finds the last hit from a walk's position on and before an end, if there is one. Continues the walk to the end.
+    /// Finds the last hit between a walk's position and an end, if there is one. Continues the walk to the end.
     fn last_hit_along(
         &self,
         walk: &mut Walk<'p>,
@@ -186,7 +186,7 @@ impl<'p> Timeline<'p> {
         })
     }
 
-    /// Finds the last hit from the checkpoint of a number on and before an end, if there is one.
+    /// Finds the last hit between checkpoint `number` and an end, if there is one.
     fn last_hit(
         &self,
         breakpoints: &Breakpoints,
@@ -210,8 +210,8 @@ impl<'p> Timeline<'p> {
         hit
     }
 
-    /// Finds the nearest hit before the position, or 0 if there is none: from the last checkpoint before the position back
-    /// to the first, from each up to the next.
+    /// Finds the nearest hit before the position, or 0 if there is none. It searches the stretches between checkpoints,
+    /// from the last one back to the first.
     pub(crate) fn hit_before(&self, breakpoints: &Breakpoints) -> Result<HitBefore, AllocError>
         requires timeline { IsTimeline self.now }
         ensures position { IfOk result (λ h. h.position ≡ nearest_before

@@ -5,7 +5,7 @@ ghost use Rattle.std.specs.Prelude.{◌≡◌, ◌<◌, ◌==◌, length, slice_
 use jvms_machine::machine::ThreadId;
 use std::marker::Model;
 
-/// Choices in two parts, which are borrowed. Contracts see one list.
+/// Borrowed choices in two parts. Contracts see one list.
 #[derive(Drop)]
 pub(crate) struct Path<'a> {
     pub(crate) before: &'a [ThreadId],
@@ -34,7 +34,7 @@ impl<'a> Path<'a> {
         }
     }
 
-    /// Returns whether the choice at a position is a thread.
+    /// Returns whether the choice at a position is thread t.
     pub(crate) fn is_at(&self, position: usize, t: ThreadId) -> bool
         requires { position < length self.now }
         ensures { result ≡ (slice_index self.now position == t) }

@@ -1,4 +1,4 @@
-//! Another choice in place of those after the position.
+//! Replaces the choices after the position by another choice.
 
 ghost use Rattle.std.specs.Prelude.{◌≡◌, ◌+◌, ◌<◌, ◌++◌, max, take};
 ghost use Rattle.std.specs.Prelude.{IfOk, OnOk};
@@ -14,7 +14,7 @@ use jvms_machine::machine::ThreadId;
 use std::alloc::AllocError;
 
 impl<'p> Timeline<'p> {
-    /// Takes the memory for another choice.
+    /// Reserves the memory for another choice.
     pub(crate) fn reserve_choice(&mut self) -> Result<(), AllocError>
         requires { IsTimeline self.old }
         ensures timeline { IsTimeline self.new }
@@ -35,7 +35,7 @@ impl<'p> Timeline<'p> {
         }
     }
 
-    /// Begins a walk along a branch at the position.
+    /// Begins a walk at the position, along a branch.
     pub(crate) fn begin_branch(&self, t: ThreadId) -> Result<Walk<'p>, AllocError>
         requires { IsTimeline self.now }
         ensures { IfOk result (λ w. BeginsBranch self.now (branch_of self.now t) w) }
@@ -45,7 +45,7 @@ impl<'p> Timeline<'p> {
         Ok(self.begin(&self.branch(&choice), mark, self.position, self.position))
     }
 
-    /// Takes the turn after the position along a branch.
+    /// Takes the turn after the position, along a branch.
     pub(crate) fn advance_on_branch(
         &self,
         walk: &mut Walk<'p>,
@@ -68,7 +68,7 @@ impl<'p> Timeline<'p> {
         Ok(())
     }
 
-    /// Takes another choice in place of those after the position. Checkpoints after it are dropped.
+    /// Replaces the choices after the position by another one. Drops the checkpoints after the position.
     pub(crate) fn cut(&mut self, t: ThreadId)
         requires timeline { IsTimeline self.old }
         requires room { self.old.position < vec_capacity self.old.choices }

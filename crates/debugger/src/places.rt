@@ -1,4 +1,4 @@
-//! Places in methods.
+//! Looks up places in methods.
 
 ghost use Rattle.std.specs.Prelude.{◌≡◌};
 ghost use Rattle.debugger_commands.specs.Sessions.{has_instruction, method_of_key, method_of_place};
@@ -22,7 +22,7 @@ fn method_of_key(program: &Program, key: &MethodKey) -> Option<MethodNumber>
     Some(MethodNumber { class, method })
 }
 
-/// Returns whether a method's code has an instruction of this number.
+/// Returns whether a method's code has an instruction with this number.
 fn has_instruction(program: &Program, instruction: u32, method: MethodNumber) -> bool
     ensures { result ≡ has_instruction program.now instruction method }
 {

@@ -1,4 +1,4 @@
-//! The positions after those where a session has been.
+//! The positions after those that a session has visited.
 
 ghost use Rattle.std.specs.Prelude.{◌≡◌, ℕ, ◌+◌, ◌-◌, ◌*◌, ◌/◌, ◌%◌, ◌^◌, ◌<◌, ◌≤◌, max, length};
 ghost use Rattle.std.specs.Prelude.{OnOk};
@@ -13,20 +13,20 @@ use crate::path::Path;
 use crate::replay::Replay;
 use std::alloc::AllocError;
 
-/// What a walk keeps of the positions after those where its session has been.
+/// The checkpoints that a walk keeps of the positions after those that its session has visited.
 #[derive(Drop)]
 pub(crate) struct Reach<'p> {
-    /// The greatest position of the session since its choices were last cut.
+    /// The session's greatest position since its choices were last cut.
     pub(crate) from: usize,
     /// The spacing of the session's checkpoints.
     pub(crate) base: usize,
-    /// The greatest position of session and walk since the choices were last cut.
+    /// The greatest position of the session and the walk since the choices were last cut.
     pub(crate) far: usize,
-    /// The greatest position that session or walk ever had.
+    /// The greatest position that the session or the walk ever had.
     pub(crate) most: usize,
     /// The spacing of checkpoints for `most`.
     pub(crate) spacing: usize,
-    /// How many times the session's spacing that is.
+    /// The factor between this spacing and the session's.
     pub(crate) ratio: usize,
     /// The checkpoints after `from`.
     pub(crate) fresh: Vec<Checkpoint<'p>>,
@@ -42,7 +42,7 @@ impl<'p> Reach<'p> {
         self.spacing - self.far % self.spacing
     }
 
-    /// Doubles the spacing, and drops the checkpoints that are at none of its multiples.
+    /// Doubles the spacing, and drops the checkpoints that aren't at multiples of it.
     fn widen(&mut self)
         requires positive { 0 < self.old.spacing }
         requires small { self.old.spacing < 2 ^ 62 }
@@ -64,7 +64,7 @@ impl<'p> Reach<'p> {
         self.ratio = 2 * self.ratio;
     }
 
-    /// Notes a greater position. The spacing doubles where it is too small for that.
+    /// Records a greater position. Doubles the spacing if it is too small for the position.
     fn grow(&mut self, choices: &Path<'_>, mark: &Mark<'p>, far: usize)
         requires reach { IsReach (setting_of mark.now.machine) choices.now self.old }
         requires more { self.old.far < far }
@@ -83,7 +83,7 @@ impl<'p> Reach<'p> {
         }
     }
 
-    /// Chooses the spacing for a position that a walk leads to, before the walk keeps a checkpoint.
+    /// Sets the spacing for the target of a walk, before the walk keeps a checkpoint.
     pub(crate) fn aim(&mut self, choices: &Path<'_>, mark: &Mark<'p>, place: usize)
         requires reach { IsReach (setting_of mark.now.machine) choices.now self.old }
         requires within { place ≤ length choices.now }
@@ -99,7 +99,8 @@ impl<'p> Reach<'p> {
         }
     }
 
-    /// Extends to a position, up to the next one of a checkpoint. The first checkpoint shares objects with `before`.
+    /// Extends to a position, at most to the next one of a checkpoint. The first checkpoint shares objects with
+    /// `before`.
     pub(crate) fn extend(
         &mut self,
         choices: &Path<'_>,

@@ -1,4 +1,4 @@
-//! A machine that takes the turns of choices.
+//! Takes the turns of choices on a copy of a machine.
 
 ghost use Rattle.std.specs.Prelude.{◌≡◌, ℕ, ◌+◌, ◌^◌, ◌<◌, ◌≤◌, ◌++◌, length, replicate, take};
 ghost use Rattle.std.specs.Prelude.{slice_index, IfOk, IsSome, OnOk, Some};
@@ -40,7 +40,7 @@ fn take_turns(
     ensures items { IfOk result (λ turns. recording.new ≡ recorded recording.old
         (turns_of machine.old t turns.count).items) }
 {
-    let count = machine.step_on(t, most, recording);
+    let count = machine.step_consecutive(t, most, recording);
     if count > 0 {
         return Ok(Turns {
             count,
@@ -51,7 +51,7 @@ fn take_turns(
     Ok(Turns { count: 1, outcome })
 }
 
-/// Returns how many consecutive choices, from a position on and before an end, name the same thread.
+/// Returns how many consecutive choices from a position on name the same thread, up to an end.
 fn consecutive(choices: &Path<'_>, position: usize, end: usize) -> usize
     requires more { position < end }
     requires within { end ≤ length choices.now }
@@ -72,14 +72,14 @@ fn consecutive(choices: &Path<'_>, position: usize, end: usize) -> usize
 #[derive(Drop)]
 pub(crate) struct Replay<'p> {
     pub(crate) mark: Mark<'p>,
-    /// How many choices come before the machine's position.
+    /// The number of choices before the machine's position.
     pub(crate) position: usize,
-    /// How many turns were taken.
+    /// The number of turns that were taken.
     pub(crate) made: u64,
 }
 
 impl<'p> Replay<'p> {
-    /// Takes turns along the choices, at least one and none after an end, while they name one thread.
+    /// Takes turns along the choices as long as they name one thread: at least one turn, and none after an end.
     pub(crate) fn advance(
         &mut self,
         choices: &Path<'_>,

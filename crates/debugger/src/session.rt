@@ -1,4 +1,4 @@
-//! Sessions.
+//! Sessions of the debugger.
 
 ghost use Rattle.std.specs.Prelude.{◌≡◌, ◌+◌, ◌/◌, ◌≤◌, ◌∷◌, [], IfErr, IfOk, OnErr};
 ghost use Rattle.std.specs.Vec.{vec_capacity};
@@ -24,11 +24,11 @@ use std::alloc::{AllocError, Global};
 use std::marker::Model;
 use trace::Trace;
 
-/// The most checkpoints that are kept.
+/// The maximum number of checkpoints.
 const MOST_CHECKPOINTS: usize = 64;
 
-/// A session of the debugger: a program with the choices of a run, a position among these, and breakpoints. Contracts see
-/// these, with the positions that the bounds on turns speak of.
+/// A session of the debugger: a program with the choices of a run, a position among them, and breakpoints. Contracts
+/// also see the positions that bound the number of turns.
 #[derive(Drop)]
 pub struct Session<'p> {
     body: Body<'p>,
@@ -44,7 +44,7 @@ impl<'p> Model for Session<'p> {
     ghost invariant = { λ s. IsBody s.body };
 }
 
-/// Makes the checkpoints of a timeline at its begin: the machine there, with room for all others.
+/// Returns the checkpoints of a timeline before its first choice: the machine there, with memory for all others.
 fn first_checkpoints<'p>(alloc: Global, here: &Mark<'p>) -> Result<Vec<Checkpoint<'p>>, AllocError>
     ensures marks { IfOk result (λ v. v.items ≡ here.now ∷ []) }
     ensures room { IfOk result (λ v. 64 ≤ vec_capacity v) }
@@ -54,7 +54,7 @@ fn first_checkpoints<'p>(alloc: Global, here: &Mark<'p>) -> Result<Vec<Checkpoin
     Ok(checkpoints)
 }
 
-/// Makes the timeline of some choices at their begin.
+/// Returns a timeline of some choices, before the first one.
 fn timeline_of<'p>(
     alloc: Global,
     machine: Machine<'p>,
@@ -93,8 +93,8 @@ impl<'p> Session<'p> {
     ///
     /// # Errors
     ///
-    /// Those of `Machine::new`: M01 where the entry names no method to begin with, else M02 where a limit is out of its
-    /// range, else M03 without memory.
+    /// Those of `Machine::new`: M01 if the entry names no method to begin with, else M02 if a limit is out of its
+    /// range. M03 if memory ran out.
     pub fn new(
         alloc: Global,
         program: &'p Program,
@@ -115,13 +115,13 @@ impl<'p> Session<'p> {
         })
     }
 
-    /// Carries a command out, and returns what it shows. A command that is refused changes nothing.
+    /// Executes a command, and returns its view. A command that is refused changes nothing.
     ///
     /// # Errors
     ///
-    /// B03 where no thread has the number of `frames`, B04 where the reference of `object` names none, B05 where no
-    /// breakpoint has the number of `delete` or no number is left for one, B06 where there is no such place or class, B07
-    /// without memory, and only where none of the others is.
+    /// B03 if no thread has the number of `frames`. B04 if no object has the reference of `object`. B05 if no
+    /// breakpoint has the number of `delete`, or all numbers have been used. B06 if there is no such place or class.
+    /// B07 if memory ran out and there is no other fault.
     pub fn command(&mut self, command: Command) -> Result<View, DebugFault>
         ensures did { IfOk result (λ view. Did command self.old self.new view) }
         ensures spacing { IsSpacing self.new.most self.new.spacing }
@@ -131,7 +131,7 @@ impl<'p> Session<'p> {
         self.body.carry_out(&command)
     }
 
-    /// Returns how many turns the last command took that was not refused.
+    /// Returns the number of turns that the last accepted command took.
     pub fn replayed(&self) -> u64
         ensures { result ≡ self.now.replayed }
     {
@@ -145,7 +145,7 @@ impl<'p> Session<'p> {
         self.body.timeline.choices.as_slice()
     }
 
-    /// Returns the position: how many of the choices come before it.
+    /// Returns the position: the number of choices before it.
     pub fn position(&self) -> usize
         ensures { result ≡ self.now.session.position }
     {

@@ -46,7 +46,7 @@ impl<'p> Timeline<'p> {
         }
     }
 
-    /// Begins a walk along some choices with a mark, whose position is at most `far`.
+    /// Begins a walk along some choices, at a mark whose position is at most `far`.
     pub(crate) fn begin(
         &self,
         choices: &Path<'_>,
@@ -88,7 +88,7 @@ impl<'p> Timeline<'p> {
         }
     }
 
-    /// Begins a walk along the timeline's own choices with the mark of a position where the session has been.
+    /// Begins a walk along the timeline's own choices, at the mark of a position that the session has visited.
     fn start(&self, mark: Mark<'p>, position: usize) -> Walk<'p>
         requires timeline { IsTimeline self.now }
         requires within { position ≤ self.now.far }
@@ -113,7 +113,7 @@ impl<'p> Timeline<'p> {
         Ok(self.start(mark, self.position))
     }
 
-    /// Begins a walk at the checkpoint of a number.
+    /// Begins a walk at checkpoint `number`.
     pub(crate) fn start_at_checkpoint(&self, number: usize) -> Result<Walk<'p>, AllocError>
         requires timeline { IsTimeline self.now }
         requires within { number ≤ self.now.far / self.now.spacing }
@@ -126,7 +126,7 @@ impl<'p> Timeline<'p> {
         Ok(self.start(mark, number * self.spacing))
     }
 
-    /// Chooses the spacing of checkpoints for a position that a walk leads to.
+    /// Sets the spacing of checkpoints for the target of a walk.
     pub(crate) fn aim(&self, walk: &mut Walk<'p>, place: usize)
         requires walk { IsWalkOf self.now walk.old }
         requires within { place ≤ length self.now.choices.items }
@@ -137,7 +137,7 @@ impl<'p> Timeline<'p> {
         walk.reach.aim(&self.path(), &walk.replay.mark, place);
     }
 
-    /// Continues a walk: at least by one turn, and to no position after an end.
+    /// Continues a walk by at least one turn, at most to an end.
     pub(crate) fn advance(&self, walk: &mut Walk<'p>, end: usize) -> Result<(), AllocError>
         requires walk { IsWalkOf self.now walk.old }
         requires more { walk.old.replay.position < end }
@@ -154,7 +154,7 @@ impl<'p> Timeline<'p> {
         Ok(())
     }
 
-    /// Moves to where a replay is, and takes the machine and the checkpoints that it brings.
+    /// Moves to a replay's position, and moves its machine and its new checkpoints into the timeline.
     pub(crate) fn arrive(&mut self, replay: &mut Replay<'p>, reach: &mut Reach<'p>)
         requires timeline { IsTimeline self.old }
         requires along { IsAlong self.old replay.old reach.old }

@@ -1,9 +1,9 @@
-//! What a command shows.
+//! The views that commands return.
 
 use debugger_commands::Breakpoint;
 use jvms_machine::machine::ThreadId;
 
-/// What a command shows of its session.
+/// The part of its session that a command shows.
 #[derive(Clone, Copy, Debug, PartialEq, Eq)]
 pub enum View {
     /// The position, the status of the machine there, and the outcome of the last choice.
@@ -16,9 +16,9 @@ pub enum View {
     Threads,
     /// The frames of a thread.
     Frames(ThreadId),
-    /// The object that a reference names.
+    /// The object with this reference.
     Object(u32),
-    /// The class of a number.
+    /// The class with this number.
     Class(usize),
     /// The trace up to the position.
     Trace,

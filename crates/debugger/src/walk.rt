@@ -12,21 +12,21 @@ use std::alloc::{AllocError, Global};
 use std::mem;
 use trace::{Recording, Trace};
 
-/// The turns whose items, which the session has, are in memory twice at a time.
+/// The maximum number of turns whose items are temporarily in memory twice, because the session already has them.
 const MOST_TURNS: usize = 4_096;
 
-/// A replay with what its session will keep of it.
+/// A replay, with what its session will keep of it.
 #[derive(Drop)]
 pub(crate) struct Walk<'p> {
     pub(crate) replay: Replay<'p>,
     pub(crate) reach: Reach<'p>,
-    /// The items of the choices after those where the session has been.
+    /// The items of the choices after those that the session has visited.
     pub(crate) items: Trace,
     pub(crate) alloc: Global,
 }
 
 impl<'p> Walk<'p> {
-    /// Takes the items out of the walk.
+    /// Moves the items out of the walk.
     pub(crate) fn take_items(&mut self) -> Trace
         ensures items { result ≡ self.old.items }
         ensures replay { self.new.replay ≡ self.old.replay }
@@ -35,7 +35,7 @@ impl<'p> Walk<'p> {
         mem::replace(&mut self.items, Trace::new(self.alloc))
     }
 
-    /// Takes turns where the session has been.
+    /// Takes turns that the session has visited before.
     fn advance_within(&mut self, choices: &Path<'_>, end: usize) -> Result<(), AllocError>
         requires walk { IsWalk (setting_of self.old.replay.mark.machine) choices.now self.old }
         requires more { self.old.replay.position < end }
@@ -58,7 +58,7 @@ impl<'p> Walk<'p> {
         Ok(())
     }
 
-    /// Takes turns after those of the session, up to the next position of a checkpoint.
+    /// Takes turns that the session hasn't visited, at most to the next position of a checkpoint.
     fn advance_beyond(
         &mut self,
         choices: &Path<'_>,

@@ -9,7 +9,7 @@ is_hit_by_test : (test : ℕ → Bool) (p left rest : ℕ) (b : Bool) → test (
 is_hit_by_test test p left rest true is later h = is
 is_hit_by_test test p left rest false is later h = later (omega arith)
 
--- It is a hit, unless it is the end.
+-- The next hit is a hit, unless it is the end.
 pub next_hit_is_hit : (test : ℕ → Bool) (p left : ℕ) → next_hit test p left < p + left → test (next_hit test p left) ≡ true
 unfolding next_hit
 next_hit_is_hit test p zero h = let no : ⊥ = omega arith in absurd no
@@ -22,7 +22,7 @@ is_nearest_by_test test p k rest false is later above below = elim (cases_lt (p 
   | inr next ↦ let here : k ≡ p + 1 = omega arith in ap test here ∙ is
 ]
 
--- None is nearer.
+-- No hit is nearer.
 pub next_hit_is_nearest : (test : ℕ → Bool) (p left k : ℕ) → p < k → k < next_hit test p left → test k ≡ false
 unfolding next_hit
 next_hit_is_nearest test p zero k above below = let no : ⊥ = omega arith in absurd no
@@ -38,7 +38,7 @@ is_before_by_test test p k rest false is earlier below above = elim (cases_lt k 
   | inr here ↦ let at : k ≡ p = omega arith in ap test at ∙ is
 ]
 
--- None is nearer.
+-- No hit is nearer.
 pub hit_before_is_nearest : (test : ℕ → Bool) (p k : ℕ) → k < p → hit_before test p < k → test k ≡ false
 unfolding hit_before
 hit_before_is_nearest test zero k below above = let no : ⊥ = omega arith in absurd no
@@ -49,19 +49,19 @@ was_hit_by_test : (test : ℕ → Bool) (p rest : ℕ) (b : Bool) → test p ≡
 was_hit_by_test test p rest true is earlier h = is
 was_hit_by_test test p rest false is earlier h = earlier h
 
--- It is a hit, unless it is 0.
+-- The hit before is a hit, unless it is 0.
 pub hit_before_is_hit : (test : ℕ → Bool) (p : ℕ) → 0 < hit_before test p → test (hit_before test p) ≡ true
 unfolding hit_before
 hit_before_is_hit test zero h = let no : ⊥ = omega arith in absurd no
 hit_before_is_hit test (suc p) h = was_hit_by_test test p (hit_before test p) (test p) refl (hit_before_is_hit test p) h
 
--- ---- Where they are
+-- ---- Bounds
 
 within_by : (p left rest : ℕ) (b : Bool) → (p + 1 ≤ rest) × (rest ≤ p + 1 + left) → (p < cond b (p + 1) rest) × (cond b (p + 1) rest ≤ p + suc left)
 within_by p left rest true within = (omega arith, omega arith)
 within_by p left rest false within = (omega arith, omega arith)
 
--- The next hit is not before the position, nor behind the end.
+-- The next hit is not before the position, nor after the end.
 pub next_hit_within : (test : ℕ → Bool) (p left : ℕ) → (p ≤ next_hit test p left) × (next_hit test p left ≤ p + left)
 unfolding next_hit
 next_hit_within test p zero = (omega arith, omega arith)
@@ -69,7 +69,7 @@ next_hit_within test p (suc left) =
     let within = within_by p left (next_hit test (p + 1) left) (test (p + 1)) (next_hit_within test (p + 1) left) in
     (omega (arith, within.0), within.1)
 
--- It is behind the position, unless that is the end.
+-- The next hit is after the position, unless that is the end.
 pub next_hit_above : (test : ℕ → Bool) (p left : ℕ) → 0 < left → p < next_hit test p left
 unfolding next_hit
 next_hit_above test p zero some = absurd (omega (arith, some))
@@ -79,13 +79,13 @@ below_by : (p rest : ℕ) (b : Bool) → rest ≤ p → cond b p rest ≤ p
 below_by p rest true h = omega arith
 below_by p rest false h = h
 
--- The hit before is not behind the position.
+-- The hit before is not after the position.
 pub hit_before_within : (test : ℕ → Bool) (p : ℕ) → hit_before test p ≤ p
 unfolding hit_before
 hit_before_within test zero = omega arith
 hit_before_within test (suc p) = let below = below_by p (hit_before test p) (test p) (hit_before_within test p) in omega (arith, below)
 
--- It is before the position, unless that is 0.
+-- The hit before is before the position, unless that is 0.
 pub hit_before_below : (test : ℕ → Bool) (p : ℕ) → 0 < p → hit_before test p < p
 unfolding hit_before
 hit_before_below test zero some = absurd (omega (arith, some))

@@ -1,4 +1,4 @@
--- Words and what they are read as.
+-- The words of a line, and how they are read.
 use Rattle.std.proofs.Common.{◌≡◌, ◌≢◌, ℕ, ◌<◌, true, false, Bool, is_none, Bor, lit<, List, [], ◌∷◌, ◌++◌, length, get_or, eqb, Option, None, Some, Result, Ok, Err, MatchBool, refl, ◌∙◌, ap, sym, subst, arith, codes}
 use Rattle.std.specs.List.{All}
 use Rattle.std.specs.Prelude.{IsUtf8}
@@ -28,15 +28,15 @@ lacks text none = All-from_get_or (λ b. eqb b 32 ≡ false) text 0 (λ i inside
 pub one_word : (text : List ℕ) → ((i : ℕ) → i < length text → get_or text i 0 ≢ 32) → words_of text ≡ text ∷ []
 one_word text none = slice_split_none (λ b. eqb b 32) text (lacks text none)
 
--- What stands before the first space is a word.
+-- The text before the first space is a word.
 pub first_word : (text word rest : List ℕ) → (text ≡ word ++ 32 ∷ rest) × ((i : ℕ) → i < length word → get_or word i 0 ≢ 32) → words_of text ≡ word ∷ words_of rest
 first_word text word rest (e, none) = ap words_of e ∙ slice_split_at (λ b. eqb b 32) word 32 rest (lacks word none) (grind (arith, nat_tests))
 
--- A name has a number, whichever number it is.
+-- Whether a command has a number doesn't depend on the number.
 pub has_number : (w : List ℕ) (n m : ℕ) → with_number w n ≡ None → with_number w m ≡ None
 has_number w n m e = grind arith
 
--- The words of a line that is UTF-8 are read.
+-- If a line is UTF-8, its words are read.
 pub line_read : (line : List ℕ) (words : List (List ℕ)) (r : Result Command DebugFault) → IsUtf8 line → words_of line ≡ words → AreRead words r → Reads line r
 line_read line words (Ok c) utf8 e read = (utf8, subst (λ ws. AreRead ws (Ok c)) (sym e) read)
 line_read line words (Err fault.UnknownCommand) utf8 e read = λ _. subst (λ ws. AreRead ws (Err fault.UnknownCommand)) (sym e) read
@@ -58,7 +58,7 @@ of_no_break name word [] some e = absurd (omega (arith, some))
 of_no_break name word (digits ∷ []) some e = rw e refl
 of_no_break name word (digits ∷ more ∷ ws) some e = refl
 
--- Another name than `break` has no third word.
+-- A name other than `break` has no third word.
 pub no_break : (name word rest : List ℕ) → same_text name (codes "break") ≡ false → AreRead (name ∷ word ∷ words_of rest) (Err fault.UnknownCommand)
 no_break name word rest e = of_no_break name word (words_of rest) (a_word rest) e
 

@@ -1,10 +1,10 @@
--- The words of the debugger's commands.
+-- Defines the words of the debugger's commands.
 use Rattle.std.specs.Prelude.{ℕ, List, Option, Some, None, codes, if◌then◌else◌}
 use Rattle.jvms_file.specs.Names.{same_text}
 use Rattle.debugger_commands.specs.declared.command.Command.{Command}
 use Rattle.debugger_commands.specs.declared.command.Command.TheVariants as command
 
--- The command that one word is.
+-- Returns the command that one word spells.
 abbrev pub command_of : List ℕ → Option Command
 command_of w =
     if same_text w (codes "continue") then Some command.Continue
@@ -14,7 +14,7 @@ command_of w =
     else if same_text w (codes "output") then Some command.Output
     else None
 
--- The command that a name and a number are.
+-- Returns the command that a name and a number spell.
 abbrev pub with_number : List ℕ → ℕ → Option Command
 with_number w n =
     if same_text w (codes "step") then Some (command.Step n)

@@ -4,14 +4,14 @@ ghost use Rattle.debugger_commands.specs.Readings.{Reads};
 
 use crate::fault::DebugFault;
 use crate::line::{alone, with_one_word, with_two_words};
-use held::shared::Text;
+use shared_data::shared::Text;
 use jvms_machine::machine::ThreadId;
 use jvms_program::key::MethodKey;
 use std::alloc::Global;
 
 const SPACE: char = ' ';
 
-/// A place in a method's code. A method that isn't written as `C.m.D` is `None`.
+/// A place in a method's code. The method is `None` if it isn't spelled as `C.m.D`.
 #[derive(Drop)]
 pub struct Place {
     pub method: Option<MethodKey>,
@@ -19,37 +19,37 @@ pub struct Place {
     pub instruction: u32,
 }
 
-/// A command of the debugger. A position is a number of choices, from 0 to their number; it is a hit where the thread of the
-/// next choice has nothing pending and its top frame is at a breakpoint.
+/// A command of the debugger. A position is a number of choices, from 0 to their count. A position is a hit if the next
+/// choice's thread has nothing pending and its top frame is at a breakpoint.
 #[derive(Drop)]
 pub enum Command {
-    /// Moves forward by this number of choices, at most to the end.
+    /// `step N`: moves forward by N choices, at most to the end.
     Step(u32),
-    /// Moves back by this number of choices, at most to 0.
+    /// `back N`: moves back by N choices, at most to 0.
     Back(u32),
-    /// Moves to this position, or to the end if that is less.
+    /// `goto N`: moves to position N, at most to the end.
     Goto(u32),
-    /// Moves to the next hit, or to the end if there is none.
+    /// `continue`: moves to the next hit, or to the end if there is none.
     Continue,
-    /// Moves to the nearest hit before the position, or to 0 if there is none.
+    /// `rcontinue`: moves to the nearest hit before the position, or to 0 if there is none.
     ReverseContinue,
-    /// Truncates the choices at the position, appends this thread, and moves after it.
+    /// `pick T`: truncates the choices at the position, appends this thread, and moves after it.
     Pick(ThreadId),
-    /// Adds a breakpoint.
+    /// `break C.m.D I`: adds a breakpoint.
     Break(Place),
-    /// Removes the breakpoint with this number.
+    /// `delete K`: removes the breakpoint with this number.
     Delete(u32),
-    /// Shows each thread.
+    /// `threads`: shows each thread.
     Threads,
-    /// Shows the frames of a thread.
+    /// `frames T`: shows the frames of a thread.
     Frames(ThreadId),
-    /// Shows the object that a reference names.
+    /// `object R`: shows the object with this reference.
     Object(u32),
-    /// Shows a class. A word that is no class's name is `None`.
+    /// `class C`: shows a class. It is `None` if the word is no class's name.
     Class(Option<Text>),
-    /// Shows the trace so far.
+    /// `trace`: shows the trace so far.
     Trace,
-    /// Shows the output so far.
+    /// `output`: shows the output so far.
     Output,
 }
 
@@ -58,8 +58,8 @@ impl Command {
     ///
     /// # Errors
     ///
-    /// B01 where the line is empty, isn't UTF-8, begins with no command's word, or has too few or too many words; else
-    /// B02 where the word in a number's place isn't decimal digits of at most 4,294,967,295; B07 without memory for the
+    /// B01 if the line is empty, isn't UTF-8, begins with no command's word, or has too few or too many words. Else B02
+    /// if the word at a number's place isn't decimal digits of at most 4,294,967,295. B07 if memory ran out for the
     /// names of `break` and `class`. There are no others.
     pub fn parse(alloc: Global, line: &[u8]) -> Result<Command, DebugFault>
         ensures { Reads line.now result }

@@ -1,4 +1,4 @@
-//! Why a command of the debugger is refused.
+//! The reasons why a command of the debugger is refused.
 
 ghost use Rattle.std.specs.Prelude.{◌≡◌};
 ghost use Rattle.debugger_commands.specs.declared.fault.DebugFault.TheVariants as fault;
@@ -6,13 +6,13 @@ ghost use Rattle.debugger_commands.specs.declared.fault.DebugFault.TheVariants a
 use std::alloc::AllocError;
 use thiserror::Error;
 
-/// Why a command of the debugger is refused. A command that is refused changes nothing.
+/// A reason why a command of the debugger is refused. A command that is refused changes nothing.
 #[derive(Clone, Copy, Debug, PartialEq, Eq, Error)]
 pub enum DebugFault {
     /// B01: the line is empty, isn't UTF-8, begins with no command's word, or has too few or too many words.
     #[error("B01 UnknownCommand")]
     UnknownCommand,
-    /// B02: the word in a number's place isn't decimal digits of at most 4,294,967,295.
+    /// B02: the word at a number's place isn't decimal digits of at most 4,294,967,295.
     #[error("B02 Number")]
     Number,
     /// B03: no thread has this number.
@@ -21,13 +21,13 @@ pub enum DebugFault {
     /// B04: no object has this number.
     #[error("B04 NoObject")]
     NoObject,
-    /// B05: no breakpoint has this number, or no number is left for one.
+    /// B05: no breakpoint has this number, or all numbers have been used.
     #[error("B05 NoBreakpoint")]
     NoBreakpoint,
-    /// B06: there is no such place in a method's code, or no such class.
+    /// B06: no method's code has such a place, or no class has this name.
     #[error("B06 NoPlace")]
     NoPlace,
-    /// B07: there was no memory.
+    /// B07: memory ran out.
     #[error("B07 Memory")]
     Memory,
 }

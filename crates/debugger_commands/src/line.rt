@@ -1,4 +1,4 @@
-//! Lines of one, two and three words.
+//! Reads lines of one, two and three words.
 
 ghost use Rattle.std.specs.Prelude.{◌≡◌, [], ◌∷◌, is_some};
 ghost use Rattle.jvms_file.specs.Names.{same_text};
@@ -13,14 +13,14 @@ use std::alloc::Global;
 
 const SPACE: char = ' ';
 
-/// Whether a word is this one.
+/// Decides whether a word is this name.
 fn is(word: &str, name: &[u8]) -> bool
     ensures { result ≡ same_text word.now name.now }
 {
     word.as_bytes() == name
 }
 
-/// The command that one word is.
+/// Returns the command that one word spells, if it spells one.
 fn named(name: &str) -> Option<Command>
     ensures { result ≡ command_of name.now }
 {
@@ -39,7 +39,7 @@ fn named(name: &str) -> Option<Command>
     }
 }
 
-/// The command that a name and a number are.
+/// Returns the command that a name and a number spell, if they spell one.
 fn with_number(name: &str, number: u32) -> Option<Command>
     ensures { result ≡ command_with name.now number }
 {
@@ -62,7 +62,7 @@ fn with_number(name: &str, number: u32) -> Option<Command>
     }
 }
 
-/// Whether a name is that of a command with a number.
+/// Decides whether the command of this name has a number.
 fn has_number(name: &str) -> bool
     ensures { result ≡ is_some (command_with name.now 0) }
 {
@@ -91,7 +91,7 @@ pub(crate) fn with_one_word(alloc: Global, name: &str, word: &str) -> Result<Com
     with_number(name, number).ok_or(DebugFault::UnknownCommand)
 }
 
-/// `break` at a method and an instruction.
+/// Reads `break` at a method and an instruction.
 fn break_at(alloc: Global, method: &str, instruction: &str) -> Result<Command, DebugFault>
     ensures { IsBreakRead method.now instruction.now result }
 {

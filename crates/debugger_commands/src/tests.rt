@@ -1,4 +1,4 @@
-//! Lines of the debugger: the fault of each that spells no command, and what the others spell.
+//! Tests lines of the debugger: the fault of each that spells no command, and what the others spell.
 
 use super::*;
 use std::alloc::Global;
@@ -24,7 +24,7 @@ const UNKNOWN: [&[u8]; 15] = [
     b"break G.gcd.(II)I",
 ];
 
-/// Lines with another word in a number's place.
+/// Lines with another word at a number's place.
 const WITHOUT_NUMBER: [&[u8]; 7] = [
     b"step x",
     b"goto ",
@@ -35,7 +35,7 @@ const WITHOUT_NUMBER: [&[u8]; 7] = [
     b"break x x",
 ];
 
-/// Whether a line is refused for this reason.
+/// Decides whether a line is refused for this reason.
 fn is_refused(alloc: Global, line: &[u8], reason: DebugFault) -> bool {
     matches!(Command::parse(alloc, line), Err(fault) if fault == reason)
 }

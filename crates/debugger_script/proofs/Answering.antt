@@ -1,4 +1,4 @@
--- Commands that are carried out, with their answers.
+-- Executed commands, with their answers.
 use Rattle.std.proofs.Common.{◌≡◌, ℕ, List, Result, refl, sym, ap, ◌∙◌, subst}
 use Rattle.debugger_commands.specs.declared.command.Command.{Command}
 use Rattle.debugger_commands.specs.declared.fault.DebugFault.{DebugFault}
@@ -10,7 +10,7 @@ use Rattle.debugger.specs.States.{Setting}
 use Rattle.debugger_script.specs.Answers.{IsAnswerTo, view_text}
 use Rattle.debugger_script.specs.Carried.{IsAnswerOf}
 
--- A command was carried out, and this is the text of what it shows.
+-- A command was executed, and this is the text of its view.
 pub shown : (old new : Debugger) (c : Command) (v : View) (text : List ℕ) → Did c old new v → text ≡ view_text new.setting new.session v → IsAnswerOf old c text new
 shown old new c v text did is =
     let said : text ≡ view_text old.setting new.session _ =

@@ -16,7 +16,7 @@ no_answers g x = (refl, refl)
 pub one_answer : (g : Setting) (x y : Session) (line text : List ℕ) → IsAnswer g x line text y → AreAnswers g x (line ∷ []) text y
 one_answer g x y line text is = (text, [], y, is, (refl, refl), sym (append-nil text))
 
--- Answers, and then more.
+-- The answers to lines, followed by those to more lines.
 pub answers-append : (g : Setting) (x m y : Session) (first second : List (List ℕ)) (s t : List ℕ) → AreAnswers g x first s m → AreAnswers g m second t y → AreAnswers g x (first ++ second) (s ++ t) y
 answers-append g x m y [] second s t p q =
     subst (λ (z : Session). AreAnswers g z second (s ++ t) y) p.1 (subst (λ (u : List ℕ). AreAnswers g m second (u ++ t) y) (sym p.0) q)
@@ -29,7 +29,7 @@ both_end : (first second : List (List ℕ)) → AllByRecursion HasNoEnd first �
 both_end [] second p q = q
 both_end (line ∷ lines) second p q = (p.0, both_end lines second p.1 q)
 
--- Lines, and then those that the rest and more bytes are.
+-- Lines, followed by those of the rest and more bytes.
 pub lines-append : (begun a b mid rest : List ℕ) (first second : List (List ℕ)) → AreLines (begun ++ a) first mid → AreLines (mid ++ b) second rest → AreLines (begun ++ (a ++ b)) (first ++ second) rest
 lines-append begun a b mid rest first second p q = record {
   bytes_are =
@@ -40,11 +40,10 @@ lines-append begun a b mid rest first second p q = record {
   rest_is_open = q.rest_is_open;
 }
 
--- A begin of a line, and nothing else.
+-- Only the beginning of a line.
 pub no_lines : (begun : List ℕ) → HasNoEnd begun → AreLines (begun ++ []) [] begun
 no_lines begun is_open = record { bytes_are = append-nil begun; lines_end = tt; rest_is_open = is_open }
 
--- Another byte of the line.
 -- The end of the line.
 pub one_line : (begun : List ℕ) → HasNoEnd begun → AreLines (begun ++ 10 ∷ []) (begun ∷ []) []
 one_line begun is_open = record {

@@ -1,4 +1,4 @@
--- Bytes that are read and taken, up to the end of a script.
+-- Bytes that are read and processed, up to the end of a script.
 use Rattle.std.proofs.Common.{◌≢◌, ℕ, List, [], ◌∷◌, ◌++◌, Option, refl, sym, ◌∙◌, subst, append-nil}
 use Rattle.std.specs.Io.KnownBytes.{Appends, Consumes, IsAtEnd}
 use Rattle.std.proofs.KnownBytes.{Appends-trans, Consumes-trans}
@@ -19,7 +19,7 @@ more_read l k j mid bytes rest w v u old next new p read q = record {
 
 -- ---- Ways to stop
 
--- A line that an LF ends is whole.
+-- A line before an LF is whole.
 whole_line : (line more : List ℕ) (left : Option (List ℕ)) → EndsNow more → IsWhole line more left
 whole_line line [] left ends = absurd ends
 whole_line line (b ∷ more) left ends = ends
@@ -43,7 +43,7 @@ cut_within can l k j mid bytes w v u old next new p read q =
       written_is = c.written_is;
     }
 
--- The last line was not answered whole.
+-- The last line was not wholly answered.
 pub cut_at_rest : (can : Type 0) (l k : Option (List ℕ)) (rest : List ℕ) (w v u : Option (List ℕ)) (old next new : Debugger) → IsUnderWay l k rest w v old next → IsAtEnd k → rest ≢ [] → IsLineCut can rest v u next new → IsCutShort can l k w u old new
 cut_at_rest can l k rest w v u old next new p end some q = record {
   bytes = p.bytes;
@@ -61,7 +61,7 @@ cut_at_rest can l k rest w v u old next new p end some q = record {
   written_is = Appends-trans w v u p.taken.text q.shown p.taken.shown q.written_is;
 }
 
--- It was not carried out.
+-- The last line's command was not executed.
 pub cut_before_rest : (l k : Option (List ℕ)) (rest : List ℕ) (w v : Option (List ℕ)) (old new : Debugger) → IsUnderWay l k rest w v old new → IsCutShort (Unit {0}) l k w v old new
 cut_before_rest l k rest w v old new p = record {
   bytes = p.bytes;

@@ -1,4 +1,4 @@
--- What is said of a result, whatever it is.
+-- Facts about any result.
 use Rattle.std.proofs.Common.{Result, Ok, Err, IfErr, OnErr, OnOk, subst}
 use Rattle.std.specs.Result.{IsErrOf}
 
@@ -10,6 +10,6 @@ pub on_ok_then : {A E : Type 0} (r : Result A E) (P Q : Type 0) → (P → Q) �
 on_ok_then (Ok x) P Q f p = f p
 on_ok_then (Err e) P Q f p = tt
 
--- What holds of any error holds of this one.
+-- What any error has, this one has.
 pub err_of : {A E : Type 0} (r : Result A E) (e : E) (P : E → Type 0) → IfErr r P → IsErrOf r e → P e
 err_of {A} {E} r e P all is = subst (λ (x : Result A E). IfErr x P) is all

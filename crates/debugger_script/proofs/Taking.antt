@@ -1,4 +1,4 @@
--- Bytes that are taken, one after another.
+-- Bytes that are processed, one after another.
 use Rattle.std.proofs.Common.{◌≡◌, ℕ, List, [], ◌∷◌, ◌++◌, Option, refl, sym, ap, ◌∙◌, subst, append_assoc, take, drop, length, get_or, ◌+◌, ◌<◌, take-append-drop, inl, inr}
 use Rattle.std.specs.Io.KnownBytes.{Appends}
 use Rattle.std.proofs.lemmas.List.{take_more}
@@ -15,7 +15,7 @@ use Rattle.debugger_script.proofs.Lines.{answers-append, lines-append, no_answer
 
 -- ---- One line
 
--- There was no memory for the answer.
+-- Memory ran out for the answer.
 pub unanswered : (line : List ℕ) (w : Option (List ℕ)) (old new : Debugger) → new.setting ≡ old.setting → IsLineUnanswered old line new → IsLineCut (Unit {0}) line w w old new
 unanswered line w old new setting (inl same) = record {
   shown = [];
@@ -30,7 +30,7 @@ unanswered line w old new setting (inr text_is) = record {
   written_is = Appends-nil w;
 }
 
--- A beginning of the answer was written.
+-- A prefix of the answer was written.
 pub unwritten : (line text : List ℕ) (w v : Option (List ℕ)) (old new : Debugger) → new.setting ≡ old.setting → IsAnswer old.setting old.session line text new.session → AppendsBeginning w v text → IsLineCut ⊥ line w v old new
 unwritten line text w v old new setting answer written = record {
   shown = take written.0 text;
@@ -39,7 +39,7 @@ unwritten line text w v old new setting answer written = record {
   written_is = written.1;
 }
 
--- ---- Bytes that were taken
+-- ---- Processed bytes
 
 pub taken_none : (start : List ℕ) (w : Option (List ℕ)) (d : Debugger) → HasNoEnd start → HasTaken start [] start w w d d
 taken_none start w d is_open = record {
@@ -61,7 +61,7 @@ taken_line start w v old new is_open did = record {
   shown = did.shown;
 }
 
--- Some bytes were taken, and then more.
+-- Some bytes were processed, and then more.
 pub taken_both : (start a mid b rest : List ℕ) (w v u : Option (List ℕ)) (old next new : Debugger) → HasTaken start a mid w v old next → HasTaken mid b rest v u next new → HasTaken start (a ++ b) rest w u old new
 taken_both start a mid b rest w v u old next new p q = record {
   lines = p.lines ++ q.lines;
@@ -72,14 +72,14 @@ taken_both start a mid b rest w v u old next new p q = record {
   shown = Appends-trans w v u p.text q.text p.shown q.shown;
 }
 
--- ---- A line that was not answered whole
+-- ---- A line that was not wholly answered
 
--- Only the setting of the session counts.
+-- Only the setting of the session matters.
 pub partial_since : (can whole later : Type 0) (old next : Debugger) (x : Session) (line shown : List ℕ) (new : Session) → (whole → later) → next.setting ≡ old.setting → IsPartial can whole next x line shown new → IsPartial can later old x line shown new
 partial_since can whole later old next x line shown new f setting (refused may same none) = refused may same none
 partial_since can whole later old next x line shown new f setting (begun is_whole text n answer is) = begun (f is_whole) text n (subst (λ (g : Setting). IsAnswer g x line text new) setting answer) is
 
--- There was no memory for a byte of it.
+-- Memory ran out for a byte of the line.
 pub cut_at_byte : (start : List ℕ) (b : ℕ) (w : Option (List ℕ)) (d : Debugger) → HasNoEnd start → IsCutWithin (Unit {0}) start (b ∷ []) w w d d
 cut_at_byte start b w d is_open = record {
   taken = [];
@@ -114,7 +114,7 @@ cut_at_line can start b w v old new is_open ends did = record {
   written_is = did.written_is;
 }
 
--- Some bytes were taken, and a line was cut within those that follow.
+-- Some bytes were processed, and a line was cut within those that follow.
 pub cut_after : (can : Type 0) (start a mid b : List ℕ) (w v u : Option (List ℕ)) (old next new : Debugger) → HasTaken start a mid w v old next → IsCutWithin can mid b v u next new → IsCutWithin can start (a ++ b) w u old new
 cut_after can start a mid b w v u old next new p q = record {
   taken = a ++ q.taken;
@@ -132,7 +132,7 @@ cut_after can start a mid b w v u old next new p q = record {
   written_is = subst (Appends w u) (sym (append_assoc p.text q.text q.shown)) (Appends-trans w v u p.text (q.text ++ q.shown) p.shown q.written_is);
 }
 
--- An LF that comes first does so where more bytes follow.
+-- Bytes that begin with an LF still do if more bytes follow.
 ends_before : (bytes more : List ℕ) → EndsNow bytes → EndsNow (bytes ++ more)
 ends_before [] more ends = absurd ends
 ends_before (b ∷ bytes) more ends = ends

@@ -1,4 +1,4 @@
--- The answers of the debugger (own).
+-- Defines the answers of the debugger (own).
 use Rattle.std.specs.Prelude.{◌≡◌, ◌≢◌, ℕ, ◌-◌, List, [], ◌∷◌, ◌++◌, codes, length, Option, Some, slice_get, Result, Ok, Err}
 use Rattle.std.specs.Fmt.{decimal}
 use Rattle.jvms_machine.specs.declared.machine.Outcome.{Outcome}
@@ -22,12 +22,12 @@ use Rattle.debugger.specs.Views.{view_of}
 
 -- ---- Views
 
--- `, thread T OUTCOME`: the last choice before the position, if there is one.
+-- Returns `, thread T OUTCOME` for the last choice before the position, if there is one.
 abbrev pub last_text : List Class → Option ℕ → Option Outcome → List ℕ
 last_text program (Some t) (Some o) = codes ", thread " ++ decimal t ++ codes " " ++ outcome_text program o
 last_text program _ _ = []
 
--- `at P of N STATUS`, and the last choice.
+-- Returns the line `at P of N STATUS`, with the last choice.
 abbrev pub position_text : Setting → Session → List ℕ
 position_text g x =
     let m = machine_at g x.choices x.position in
@@ -35,11 +35,11 @@ position_text g x =
     ++ codes " " ++ status_text (status_of m.program m.limits m.start m.state)
     ++ last_text m.program (slice_get x.choices (x.position - 1)) (outcome_at g x.choices x.position) ++ codes "\n"
 
--- `breakpoint K at C.m.D @i`
+-- Returns the line `breakpoint K at C.m.D @i`.
 abbrev pub breakpoint_text : List Class → Breakpoint → List ℕ
 breakpoint_text program b = codes "breakpoint " ++ decimal b.number ++ codes " at " ++ place_text program b.method b.instruction ++ codes "\n"
 
--- What a session shows at its position.
+-- Returns the text of a view of a session at its position.
 abbrev pub view_text : Setting → Session → View → List ℕ
 view_text g x view.Position = position_text g x
 view_text g x (view.Added b) = breakpoint_text g.program b
@@ -64,21 +64,21 @@ fault_text fault.Memory = codes "fault B07 Memory\n"
 
 -- ---- Lines
 
--- The answer to a command, and the session after it. A refused command changes nothing.
+-- The text is the answer to a command, and y the session after it. A refused command changes nothing.
 abbrev pub IsAnswerTo : Setting → Session → Command → Result Session DebugFault → List ℕ → Session → Type 0
 IsAnswerTo g x c (Ok after) text y = (y ≡ after) × (text ≡ view_text g after (view_of g.program x c))
 IsAnswerTo g x c (Err e) text y = (y ≡ x) × (text ≡ fault_text e)
 
--- The answer to what a line is read as. Want of memory is no answer.
+-- The text is the answer to a line that was read so. Lack of memory is no answer.
 abbrev pub IsAnswerToReading : Setting → Session → Result Command DebugFault → List ℕ → Session → Type 0
 IsAnswerToReading g x (Ok c) text y = IsAnswerTo g x c (after g.program g.limits g.start x c) text y
 IsAnswerToReading g x (Err e) text y = (e ≢ fault.Memory) × (y ≡ x) × (text ≡ fault_text e)
 
--- The answer to a line, and the session after it.
+-- The text is the answer to a line, and y the session after it.
 abbrev pub IsAnswer : Setting → Session → List ℕ → List ℕ → Session → Type 0
 IsAnswer g x line text y = (r : Result Command DebugFault) × Reads line r × IsAnswerToReading g x r text y
 
--- The answers to lines, one after another, and the session after them.
+-- The text has the answers to lines, one after another, and y is the session after them.
 abbrev pub AreAnswers : Setting → Session → List (List ℕ) → List ℕ → Session → Type 0
 AreAnswers g x [] text y = (text ≡ []) × (y ≡ x)
 AreAnswers g x (line ∷ lines) text y =

@@ -1,4 +1,4 @@
--- Scripts: lines of commands, and how far one was carried out.
+-- Defines scripts as lines of commands, and how far one was executed.
 use Rattle.std.specs.Prelude.{◌≡◌, ◌≢◌, ℕ, List, [], ◌∷◌, ◌++◌, take, Option, false, ◌==◌}
 use Rattle.std.specs.Io.KnownBytes.{Appends, Consumes, IsAtEnd}
 use Rattle.std.specs.List.{AllByRecursion, flat_map, list_any}
@@ -8,28 +8,28 @@ use Rattle.debugger_script.specs.Answers.{AreAnswers, IsAnswer}
 
 -- ---- Lines
 
--- A line with the LF that ends it.
+-- Returns a line with the LF that ends it.
 abbrev pub ended : List ℕ → List ℕ
 ended line = line ++ 10 ∷ []
 
--- No byte is an LF.
+-- None of the bytes is an LF.
 abbrev pub HasNoEnd : List ℕ → Type 0
 HasNoEnd bytes = list_any (λ b. b == 10) bytes ≡ false
 
--- Bytes are lines that each end with LF, and a rest without one.
+-- The bytes are lines that each end with LF, and a rest without one.
 pub record AreLines (bytes : List ℕ) (lines : List (List ℕ)) (rest : List ℕ) : Type 0 where
   pub bytes_are : bytes ≡ flat_map ended lines ++ rest
   pub lines_end : AllByRecursion HasNoEnd lines
   pub rest_is_open : HasNoEnd rest
 
--- The last line may lack its LF.
+-- Returns the lines with the rest as the last one, if it isn't empty. The last line may lack its LF.
 abbrev pub with_rest : List (List ℕ) → List ℕ → List (List ℕ)
 with_rest lines [] = lines
 with_rest lines (b ∷ rest) = lines ++ (b ∷ rest) ∷ []
 
--- ---- How far a script was carried out. A reader or a writer may know its bytes.
+-- ---- How far a script was executed. A reader or a writer may know its bytes.
 
--- All of it: the answers to all lines that were read were written.
+-- The whole script was executed: the answers to all lines that were read were written.
 pub record HasRun (left left_after written written_after : Option (List ℕ)) (old new : Debugger) : Type 0 where
   pub bytes : List ℕ
   pub lines : List (List ℕ)
@@ -54,20 +54,20 @@ pub record HasStopped (left left_after written written_after : Option (List ℕ)
   pub answers : AreAnswers old.setting old.session lines text new.session
   pub shown : Appends written written_after text
 
--- A line is whole: an LF follows it, or the input ends, and then it isn't empty.
+-- A line is whole if an LF follows it, or if the input ends and the line isn't empty.
 abbrev pub IsWhole : List ℕ → List ℕ → Option (List ℕ) → Type 0
 IsWhole line [] left_after = IsAtEnd left_after × (line ≢ [])
 IsWhole line (b ∷ more) left_after = b ≡ 10
 
--- The effect of a line whose answer was not written whole.
+-- The effect of a line whose answer was not wholly written.
 pub data IsPartial (can : Type 0) (whole : Type 0) (d : Debugger) (next : Session) (line shown : List ℕ) (new : Session) : Type 0 where
-  -- where that can be, it was not carried out
+  -- if that is possible, its command was not executed
   refused : can → new ≡ next → shown ≡ [] → IsPartial can whole d next line shown new
-  -- it was, and as many bytes of the answer were written
+  -- its command was executed, and the first n bytes of the answer were written
   begun : whole → (text : List ℕ) (n : ℕ) → IsAnswer d.setting next line text new → shown ≡ take n text → IsPartial can whole d next line shown new
 
--- A line was not answered whole: the answers to all lines before it were written, and a beginning of its own, if it was
--- carried out.
+-- A line was not wholly answered. The answers to all lines before it were written. A prefix of its own may have been
+-- written, if its command was executed.
 pub record IsCutShort (can : Type 0) (left left_after written written_after : Option (List ℕ)) (old new : Debugger) : Type 0 where
   pub bytes : List ℕ
   pub more : List ℕ
@@ -83,10 +83,10 @@ pub record IsCutShort (can : Type 0) (left left_after written written_after : Op
   pub partial : IsPartial can (IsWhole line more left_after) old next line shown new.session
   pub written_is : Appends written written_after (text ++ shown)
 
--- There was no memory for a line or for its answer: the line may not have been carried out.
+-- Memory ran out for a line or for its answer. The line's command may not have been executed.
 abbrev pub HasRunOut : Option (List ℕ) → Option (List ℕ) → Option (List ℕ) → Option (List ℕ) → Debugger → Debugger → Type 0
 HasRunOut left left_after written written_after old new = IsCutShort (Unit {0}) left left_after written written_after old new
 
--- A write failed: the line was carried out.
+-- A write failed. The line's command was executed.
 abbrev pub HasFailed : Option (List ℕ) → Option (List ℕ) → Option (List ℕ) → Option (List ℕ) → Debugger → Debugger → Type 0
 HasFailed left left_after written written_after old new = IsCutShort ⊥ left left_after written written_after old new

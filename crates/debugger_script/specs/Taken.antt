@@ -1,4 +1,4 @@
--- What was done so far with the bytes of a script.
+-- Defines how far the bytes of a script were processed.
 use Rattle.std.specs.Prelude.{◌≡◌, ℕ, List, [], ◌∷◌, ◌++◌, Option}
 use Rattle.std.specs.Io.KnownBytes.{Appends, Consumes}
 use Rattle.debugger_commands.specs.Sessions.{Session}
@@ -10,12 +10,12 @@ use Rattle.debugger_script.specs.Scripts.{AreLines, IsPartial}
 
 -- ---- Faults
 
--- Whether a line at which a script ended with a fault may not have been carried out.
+-- The fault allows that the command of its line was not executed.
 abbrev pub MayBeRefused : ScriptFault → Type 0
 MayBeRefused fault.Write = ⊥
 MayBeRefused _ = Unit {0}
 
--- An LF comes first.
+-- The bytes begin with an LF.
 abbrev pub EndsNow : List ℕ → Type 0
 EndsNow [] = ⊥
 EndsNow (b ∷ more) = b ≡ 10
@@ -29,16 +29,16 @@ pub record HasAnswered (line : List ℕ) (written written_after : Option (List �
   pub answer : IsAnswer old.setting old.session line text new.session
   pub shown : Appends written written_after text
 
--- A line was not answered whole.
+-- A line was not wholly answered.
 pub record IsLineCut (can : Type 0) (line : List ℕ) (written written_after : Option (List ℕ)) (old new : Debugger) : Type 0 where
   pub shown : List ℕ
   pub setting : new.setting ≡ old.setting
   pub partial : IsPartial can (Unit {0}) old old.session line shown new.session
   pub written_is : Appends written written_after shown
 
--- ---- Bytes that follow the begin of a line
+-- ---- Bytes that follow the beginning of a line
 
--- The answers to the lines that they end were written, and the rest is the begin of the next line.
+-- The answers to the lines that the bytes end were written, and the rest begins the next line.
 pub record HasTaken (begun bytes rest : List ℕ) (written written_after : Option (List ℕ)) (old new : Debugger) : Type 0 where
   pub lines : List (List ℕ)
   pub text : List ℕ
@@ -47,7 +47,7 @@ pub record HasTaken (begun bytes rest : List ℕ) (written written_after : Optio
   pub answers : AreAnswers old.setting old.session lines text new.session
   pub shown : Appends written written_after text
 
--- A line was not answered whole: the answers to all lines before it were written.
+-- A line was not wholly answered. The answers to all lines before it were written.
 pub record IsCutWithin (can : Type 0) (begun bytes : List ℕ) (written written_after : Option (List ℕ)) (old new : Debugger) : Type 0 where
   pub taken : List ℕ
   pub more : List ℕ
@@ -65,7 +65,7 @@ pub record IsCutWithin (can : Type 0) (begun bytes : List ℕ) (written written_
 
 -- ---- Bytes that are read
 
--- All bytes that were read were taken.
+-- All bytes that were read were processed.
 pub record IsUnderWay (left left_after : Option (List ℕ)) (rest : List ℕ) (written written_after : Option (List ℕ)) (old new : Debugger) : Type 0 where
   pub bytes : List ℕ
   pub read : Consumes left left_after bytes

@@ -1,4 +1,4 @@
-//! Texts of answers.
+//! Makes the texts of answers.
 
 ghost use Rattle.std.specs.Prelude.{◌≡◌, ◌-◌, ◌++◌, IfOk, codes, slice_get};
 ghost use Rattle.std.specs.Fmt.{decimal};
@@ -18,7 +18,7 @@ use program::Program;
 use std::alloc::{AllocError, Global};
 use trace_text::put_line;
 
-/// Returns the last choice before a position. The text is empty where there is none.
+/// Returns the text of the last choice before a position. It is empty if there is none.
 fn last_text(
     alloc: Global,
     program: &Program,
@@ -101,7 +101,7 @@ fn items_text(alloc: Global, items: &[Item]) -> Result<String, AllocError>
     Ok(text)
 }
 
-/// Returns the text of what a session shows at its position.
+/// Returns the text of a view of a session at its position.
 pub fn view_text(alloc: Global, session: &Session<'_>, view: View) -> Result<String, AllocError>
     ensures { IfOk result (λ s. string_bytes s
         ≡ view_text session.now.setting session.now.session view) }

@@ -1,4 +1,4 @@
-//! Why a script was not carried out to its end.
+//! The reasons why a script stopped before its end.
 
 ghost use Rattle.std.specs.Prelude.{◌≡◌};
 ghost use Rattle.debugger_script.specs.declared.fault.ScriptFault.TheVariants as fault;
@@ -6,7 +6,7 @@ ghost use Rattle.debugger_script.specs.declared.fault.ScriptFault.TheVariants as
 use std::alloc::AllocError;
 use thiserror::Error;
 
-/// Why a script was not carried out to its end.
+/// A reason why a script stopped before its end.
 #[derive(Clone, Copy, Debug, PartialEq, Eq, Error)]
 pub enum ScriptFault {
     /// S01: a read of the script failed.
@@ -15,7 +15,7 @@ pub enum ScriptFault {
     /// S02: a write of an answer failed.
     #[error("S02 Write")]
     Write,
-    /// S03: there was no memory for a line or for its answer.
+    /// S03: memory ran out for a line or for its answer.
     #[error("S03 Memory")]
     Memory,
 }

@@ -1,4 +1,4 @@
-//! Scripts for the debugger: lines of commands, and the answers that are written to them.
+//! Scripts for the debugger: reads lines of commands, and writes the answers.
 #![tactic(auto)]
 
 mod answers;

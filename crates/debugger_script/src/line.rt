@@ -1,4 +1,4 @@
-//! Lines: each spells a command, which is carried out.
+//! Executes the command of a line.
 
 ghost use Rattle.std.specs.Prelude.{◌≡◌, IfOk, OnErr};
 ghost use Rattle.std.specs.String.{string_bytes};
@@ -10,7 +10,7 @@ use crate::answers::{fault_text, view_text};
 use debugger::{Command, DebugFault, Session};
 use std::alloc::{AllocError, Global};
 
-/// Returns the text of a fault. Want of memory is no answer, and has none.
+/// Returns the text of a fault. Lack of memory is no answer, so it is returned as an error.
 fn refusal_text(alloc: Global, fault: DebugFault) -> Result<String, AllocError>
     ensures { IfOk result (λ s. IsRefusal fault (string_bytes s)) }
 {
@@ -20,7 +20,7 @@ fn refusal_text(alloc: Global, fault: DebugFault) -> Result<String, AllocError>
     }
 }
 
-/// Carries a command out and returns the answer. Without memory it may have been carried out.
+/// Executes a command and returns the answer. If memory runs out, the command may have been executed.
 fn carry_out(
     alloc: Global,
     session: &mut Session<'_>,
@@ -37,8 +37,8 @@ fn carry_out(
     }
 }
 
-/// Carries out the command that a line spells, and returns the answer. Without memory it may have
-/// been carried out.
+/// Executes the command that a line spells, and returns the answer. If memory runs out, the command may have been
+/// executed.
 pub(crate) fn answer(
     alloc: Global,
     session: &mut Session<'_>,

@@ -1,8 +1,8 @@
-//! What a person at a terminal is shown besides the answers.
+//! What a person at a terminal sees besides the answers.
 
 use debugger::Session;
 
-/// Shows a person at a terminal what to type. It sees the session and the answers, and changes neither.
+/// A prompt, which shows a person at a terminal what to type. It sees the session and the answers, and changes neither.
 pub trait Prompt {
     /// Asks for a line. `run_prompted` calls it before each read.
     fn ask(&mut self, session: &Session<'_>);
@@ -11,7 +11,7 @@ pub trait Prompt {
     fn explain(&mut self, answer: &str);
 }
 
-/// Shows nothing: for scripts that no person types.
+/// A prompt that shows nothing, for scripts that no person types.
 #[derive(Clone, Copy, Debug, Drop)]
 pub struct NoPrompt;
 

@@ -1,4 +1,4 @@
-//! Scripts, carried out line by line.
+//! Runs scripts line by line.
 
 ghost use Rattle.std.specs.Prelude.{◌≡◌, ◌≢◌, ◌+◌, ◌≤◌, ◌<◌, [], ◌∷◌, ◌++◌, length, take};
 ghost use Rattle.std.specs.Prelude.{IfErr, IfOk, IsErrOf, OnErr, OnOk};
@@ -15,13 +15,13 @@ use debugger::Session;
 use std::alloc::{AllocError, Global};
 use trace::{ByteIn, ByteOut};
 
-/// The number of bytes that are read at once.
+/// The number of bytes of one read.
 const BUFFER: usize = 4096;
 
 /// The byte that ends a line.
 const LF: u8 = b'\n';
 
-/// Carries out the command of a line and writes the answer.
+/// Executes the command of a line and writes the answer.
 fn put_answer<W: ByteOut, P: Prompt>(
     alloc: Global,
     session: &mut Session<'_>,
@@ -56,7 +56,7 @@ fn append(line: &mut Vec<u8>, byte: u8) -> Result<(), AllocError>
     Ok(())
 }
 
-/// Takes a byte: appends it to the line, or answers the line that it ends.
+/// Takes a byte: appends it to the line, or answers the line if the byte ends it.
 fn take_byte<W: ByteOut, P: Prompt>(
     alloc: Global,
     session: &mut Session<'_>,
@@ -114,7 +114,7 @@ fn take_bytes<W: ByteOut, P: Prompt>(
     Ok(())
 }
 
-/// Reads some of the bytes into the buffer: none only at the end.
+/// Reads some of the bytes into the buffer. Returns 0 only at the end.
 fn read_some<R: ByteIn>(input: &mut R, buffer: &mut [u8]) -> Result<usize, ScriptFault>
     ensures within { IfOk result (λ n. n ≤ length buffer.new) }
     ensures bytes { IfOk result (λ n. Consumes (R.left input.old) (R.left input.new)
@@ -163,12 +163,12 @@ fn answer_lines<R: ByteIn, W: ByteOut, P: Prompt>(
             Err(fault) => return Err(fault),
         }
     }
-    // It takes 2 ^ 64 reads to get here.
+    // Unreachable before 2^64 reads.
     Err(ScriptFault::Memory)
 }
 
-/// Carries out the commands of a script as `run_script` does. The prompt asks before each read, and
-/// explains each answer that was written.
+/// Executes the commands of a script as `run_script` does. The prompt asks before each read, and explains each answer
+/// that was written.
 ///
 /// # Errors
 ///
@@ -185,11 +185,12 @@ pub fn run_prompted<R: ByteIn, W: ByteOut, P: Prompt>(
     ensures stopped { IsErrOf result ScriptFault.Read
         → HasStopped (R.left input.old) (R.left input.new)
         (W.written output.old) (W.written output.new) session.old session.new }
-    // Without memory the answers to all lines before one were written, and a beginning of its own, if it was carried out.
+    // If memory ran out for a line, the answers to all lines before it were written. A prefix of its own may have been
+    // written, if its command was executed.
     ensures memory { IsErrOf result ScriptFault.Memory
         → HasRunOut (R.left input.old) (R.left input.new)
         (W.written output.old) (W.written output.new) session.old session.new }
-    // Where a write fails the same, and the line was carried out.
+    // If a write failed, the same holds, and the line's command was executed.
     ensures failed { IsErrOf result ScriptFault.Write
         → HasFailed (R.left input.old) (R.left input.new)
         (W.written output.old) (W.written output.new) session.old session.new }
@@ -203,14 +204,13 @@ pub fn run_prompted<R: ByteIn, W: ByteOut, P: Prompt>(
     put_answer(alloc, session, output, prompt, line.as_slice())
 }
 
-/// Carries out the commands of a script, one a line, and writes the answer to each line before it
-/// carries out the next. LF ends a line. The last line may lack it.
+/// Executes the commands of a script, one a line, and writes the answer to each line before it executes the next. LF
+/// ends a line. The last line may lack it.
 ///
 /// # Errors
 ///
-/// S01 where a read failed: the answers to all whole lines before were written. S02 where a write
-/// failed: a beginning of that answer was written. S03 without memory for a line or its answer: its
-/// command may have been carried out.
+/// S01 if a read failed: the answers to all whole lines before were written. S02 if a write failed: a prefix of that
+/// answer was written. S03 if memory ran out for a line or its answer: its command may have been executed.
 pub fn run_script<R: ByteIn, W: ByteOut>(
     alloc: Global,
     session: &mut Session<'_>,
@@ -222,11 +222,12 @@ pub fn run_script<R: ByteIn, W: ByteOut>(
     ensures stopped { IsErrOf result ScriptFault.Read
         → HasStopped (R.left input.old) (R.left input.new)
         (W.written output.old) (W.written output.new) session.old session.new }
-    // Without memory the answers to all lines before one were written, and a beginning of its own, if it was carried out.
+    // If memory ran out for a line, the answers to all lines before it were written. A prefix of its own may have been
+    // written, if its command was executed.
     ensures memory { IsErrOf result ScriptFault.Memory
         → HasRunOut (R.left input.old) (R.left input.new)
         (W.written output.old) (W.written output.new) session.old session.new }
-    // Where a write fails the same, and the line was carried out.
+    // If a write failed, the same holds, and the line's command was executed.
     ensures failed { IsErrOf result ScriptFault.Write
         → HasFailed (R.left input.old) (R.left input.new)
         (W.written output.old) (W.written output.new) session.old session.new }

@@ -11,7 +11,7 @@ use Rattle.debugger_script_laws.proofs.Readings.{IsMemory, OneCommand, one_resul
 not_memory : (c : Command) → IsMemory (Ok c) → ⊥
 not_memory c h = cc
 
--- Want of memory is no answer.
+-- Lack of memory is no answer.
 answers_some : (g : Setting) (x y : Session) (r : Result Command DebugFault) (text : List ℕ) → IsAnswerToReading g x r text y → r ≢ Err fault.Memory
 answers_some g x y (Ok c) text is h = not_memory c h
 answers_some g x y (Err e) text is h = is.0 (cc)

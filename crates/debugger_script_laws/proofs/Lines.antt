@@ -26,7 +26,7 @@ no_end_now b bytes none = now (b == 10) (list_any (λ x. x == 10) bytes) none
 not_end : (b : ℕ) (bytes : List ℕ) → HasNoEnd (b ∷ bytes) → b ≡ 10 → ⊥
 not_end b bytes none is = let no : true ≡ false → ⊥ = λ h. cc in no (ap (λ x. x == 10) (sym is) ∙ no_end_now b bytes none)
 
--- Bytes with an end do have one.
+-- Bytes with an LF have an end.
 has_end : (line rest : List ℕ) → HasNoEnd (line ++ 10 ∷ rest) → ⊥
 has_end [] rest none = not_end 10 rest none refl
 has_end (b ∷ line) rest none = has_end line rest (no_end_later b (line ++ 10 ∷ rest) none)

@@ -1,4 +1,4 @@
--- A line is read as one result, want of memory aside.
+-- A line is read as one result, apart from lack of memory.
 use Rattle.std.proofs.Common.{◌≡◌, ◌≢◌, ◌⊎◌, ℕ, Bool, true, false, List, [], ◌∷◌, Option, Some, None, Result, Ok, Err, MatchBool, inl, inr, refl, sym, ap, ◌∙◌, codes}
 use Rattle.std.specs.Prelude.{IsUtf8}
 use Rattle.jvms_file.specs.Names.{same_text}
@@ -12,7 +12,7 @@ use Rattle.debugger_commands.specs.Readings.{AreRead, IsBreakRead, IsClassRead, 
 abbrev IsUnknown : Result Command DebugFault → Type 0
 IsUnknown r = r ≡ Err fault.UnknownCommand
 
--- There was no memory to read a line.
+-- Memory ran out while reading a line.
 abbrev pub IsMemory : Result Command DebugFault → Type 0
 IsMemory r = r ≡ Err fault.Memory
 
@@ -21,7 +21,7 @@ IsMemory r = r ≡ Err fault.Memory
 no_none : (c : Command) (o : Option Command) → o ≡ Some c → o ≡ None → ⊥
 no_none c o some none = let no : Some c ≡ None → ⊥ = λ h. cc in no (sym some ∙ none)
 
--- A name and a number that are no command: the fault is Number, or UnknownCommand.
+-- If a name and a number are no command, the fault is Number or UnknownCommand.
 data IsNumberFault (name word : List ℕ) (e : DebugFault) : Type 0 where
   number : e ≡ fault.Number → WritesNone word → ((n : ℕ) → with_number name n ≢ None) → IsNumberFault name word e
   unknown : e ≡ fault.UnknownCommand → ((n : ℕ) → with_number name n ≡ None) → IsNumberFault name word e
@@ -35,7 +35,7 @@ number_fault name word fault.NoBreakpoint (is, none) = unknown is none
 number_fault name word fault.NoPlace (is, none) = unknown is none
 number_fault name word fault.Memory (is, none) = unknown is none
 
--- `break` with a place is no command only for its number.
+-- `break` with a place is no command only because of its number.
 break_fault : (word digits : List ℕ) (e : DebugFault) → e ≢ fault.Memory → IsBreakRead word digits (Err e) → (e ≡ fault.Number) × WritesNone digits
 break_fault word digits fault.UnknownCommand some (is, n) = absurd (some is)
 break_fault word digits fault.Number some none = (refl, none)
@@ -98,7 +98,7 @@ fault_words line fault.NoBreakpoint utf8 read = read.1
 fault_words line fault.NoPlace utf8 read = read.1
 fault_words line fault.Memory utf8 read = read.1
 
--- Only an unknown command may not be UTF-8.
+-- Only a line with the fault UnknownCommand may not be UTF-8.
 unknown_or_utf8 : (line : List ℕ) (e : DebugFault) → Reads line (Err e) → (e ≡ fault.UnknownCommand) ⊎ IsUtf8 line
 unknown_or_utf8 line fault.UnknownCommand read = inl refl
 unknown_or_utf8 line fault.Number read = inr read.0

@@ -8,7 +8,7 @@ use Rattle.debugger_script_laws.proofs.Answers.{one_text}
 use Rattle.debugger_script_laws.proofs.Lines.{one_list_of_lines}
 use Rattle.debugger_script_laws.proofs.Readings.{OneCommand}
 
--- A reader that is at its end gave all that it had.
+-- A reader at its end has returned all its bytes.
 all_read : (l : Option (List ℕ)) (read bytes : List ℕ) → Consumes (Some read) l bytes → IsAtEnd l → read ≡ bytes
 all_read None read bytes p end = absurd p
 all_read (Some y) read bytes p end = p ∙ ap (λ k. bytes ++ k) end ∙ append-nil bytes

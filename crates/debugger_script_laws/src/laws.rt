@@ -1,4 +1,4 @@
-//! Laws about the definitions, owed to the gate: each is the contract of a function that does nothing.
+//! Laws about the definitions. Each is the contract of a function that does nothing else.
 
 ghost use Rattle.std.specs.Prelude.{◌≡◌, ◌≢◌, List, Option, Some, Result, Err, ℕ};
 ghost use Rattle.debugger_commands.specs.declared.command.Command.{Command};
@@ -13,7 +13,7 @@ ghost use Rattle.debugger_script.specs.Scripts.{AreLines, HasRun};
 
 use debugger_commands::words_are_of_one_command;
 
-/// Ensures that a line is read as one command or one fault, want of memory aside.
+/// Ensures that a line is read as one command or one fault, apart from lack of memory.
 pub fn a_line_is_read_as_one_result()
     ensures { (line : List ℕ) (a b : Result Command DebugFault)
         → a ≢ Err fault.Memory → b ≢ Err fault.Memory → Reads line a → Reads line b → a ≡ b }
@@ -21,7 +21,7 @@ pub fn a_line_is_read_as_one_result()
     words_are_of_one_command();
 }
 
-/// Ensures that bytes are the lines of one list, and have one rest.
+/// Ensures that bytes are the lines of one list only, with one rest.
 pub fn bytes_are_one_list_of_lines()
     ensures lines { (bytes : List ℕ) (first second : List (List ℕ)) (rest other : List ℕ)
         → AreLines bytes first rest → AreLines bytes second other → first ≡ second }
@@ -39,7 +39,7 @@ pub fn lines_have_one_answer()
     words_are_of_one_command();
 }
 
-/// Ensures that scripts of the same bytes write the same in a session, and lead to one session.
+/// Ensures that scripts of the same bytes write the same answers in a session, and lead to one session.
 pub fn scripts_have_one_answer()
     ensures written { (read written : List ℕ) (l m w v : Option (List ℕ))
         (old first second : Debugger) → HasRun (Some read) l (Some written) w old first

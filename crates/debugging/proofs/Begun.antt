@@ -1,11 +1,11 @@
--- A session that is begun, or why it isn't.
+-- A session that begins, or the reason why it doesn't.
 use Rattle.std.proofs.Common.{◌≡◌, ℕ, List, Result, Ok, Err, refl, sym, ap, ◌∙◌}
 use Rattle.std.specs.Prelude.{IsTrue, is_ok}
 use Rattle.jvms_file.specs.Results.{◌>>=◌}
 use Rattle.jvms_program.specs.declared.program.Class.{Class}
 use Rattle.jvms_machine.specs.declared.machine.Entry.{Entry}
 use Rattle.jvms_machine.specs.declared.machine.Limits.{Limits}
-use Rattle.jvms_machine.specs.Opening.{NotMade, made}
+use Rattle.jvms_machine.specs.Opening.{StartFault, made}
 use Rattle.jvms_machine.specs.Start.{Start}
 use Rattle.machine.specs.declared.fault.MachineFault.{MachineFault}
 use Rattle.machine.specs.declared.fault.MachineFault.TheVariants as machine_fault
@@ -18,13 +18,13 @@ use Rattle.debugging.specs.Sessions.{AreChoices, session_from, session_on}
 
 -- ---- Faults
 
--- Where there is a start, there is a session.
-is_session_too : (start : Result Start NotMade) (session : Start → Debugger) → IsTrue (is_ok start)
+-- If there is a start, there is a session.
+is_session_too : (start : Result Start StartFault) (session : Start → Debugger) → IsTrue (is_ok start)
     → IsTrue (is_ok (refused not_made start >>= λ s. Ok (session s)))
 is_session_too (Ok start) session is = refl
 is_session_too (Err why) session is = absurd (cc)
 
--- Why no machine was made is why there is no session.
+-- The reason why no machine was made is why there is no session.
 pub is_fault : (most : ℕ) (chooser : Chooser) (limits : Limits) (program : List Class) (entry : Entry) (why : MachineFault)
     → IsNotMade program limits entry why → IsMachineFault why (session_on most chooser limits program entry)
 unfolding session_on
@@ -36,7 +36,7 @@ is_fault most chooser limits program entry machine_fault.Memory is =
 -- ---- The session
 
 -- One entry has one start.
-one_start : (r : Result Start NotMade) (a b : Start) → r ≡ Ok a → r ≡ Ok b → a ≡ b
+one_start : (r : Result Start StartFault) (a b : Start) → r ≡ Ok a → r ≡ Ok b → a ≡ b
 one_start r a b first second = let same : Ok a ≡ Ok b = sym first ∙ second in cc
 
 pub is_session : (most : ℕ) (chooser : Chooser) (limits : Limits) (program : List Class) (entry : Entry) (choices : List ℕ) (other : Start) (d : Debugger)

@@ -1,4 +1,4 @@
--- The session of the debugger along the run that a chooser gives (own).
+-- Defines the session of the debugger along the run of a chooser's choices (own).
 use Rattle.std.specs.Prelude.{◌≡◌, ℕ, List, Result, Ok, Err}
 use Rattle.jvms_file.specs.Results.{◌>>=◌}
 use Rattle.jvms_program.specs.declared.program.Class.{Class}
@@ -13,18 +13,18 @@ use Rattle.inputs.specs.declared.input.Input.{Input}
 use Rattle.judge.specs.Programs.{NotRun, not_made, program_in, refused}
 use Rattle.debugger.specs.Sessions.{Debugger, begun}
 
--- The session before the first of a chooser's choices from a start on, at most `most` of them.
+-- Returns the session before the first of a chooser's choices from a start on, at most `most` of them.
 abbrev pub session_from : ℕ → Chooser → Limits → List Class → Start → Debugger
 session_from most chooser limits program start =
     begun (record { program = program; limits = limits; start = start }) (choices_from most chooser (opened program limits start))
 
--- The session from an entry on, if a machine is made for it.
+-- Returns the session from an entry on, if a machine is made for it.
 unfoldable pub session_on : ℕ → Chooser → Limits → List Class → Entry → Result Debugger NotRun
 session_on most chooser limits program entry = do
   start ← refused not_made (made program limits entry)
   Ok (session_from most chooser limits program start)
 
--- The session on the program that inputs make, or why there is none.
+-- Returns the session on the program of inputs, or why there is none.
 unfoldable pub session_of_inputs : ℕ → Chooser → Limits → List Input → Entry → Result Debugger NotRun
 session_of_inputs most chooser limits inputs entry = do
   program ← program_in inputs
@@ -35,7 +35,7 @@ abbrev pub AreChoices : ℕ → Chooser → Limits → List Class → Entry → 
 AreChoices most chooser limits program entry choices =
     (start : Start) × (made program limits entry ≡ Ok start) × (choices ≡ choices_from most chooser (opened program limits start))
 
--- A session begins, and the relation holds of it and some last session.
+-- A session begins, and the relation holds between it and some last session.
 abbrev pub HasDebugged : Result Debugger NotRun → (Debugger → Debugger → Type 0) → Type 0
 HasDebugged (Ok first) Happened = (last : Debugger) × Happened first last
 HasDebugged (Err why) Happened = ⊥

@@ -1,4 +1,4 @@
--- Why the debugging of a program ended early.
+-- Defines why the debugging of a program ended early.
 use Rattle.std.specs.Prelude.{ℕ, Result, Err}
 use Rattle.debugger_script.specs.declared.fault.ScriptFault.TheVariants as fault
 use Rattle.judge.specs.Faults as judge
@@ -6,27 +6,27 @@ use Rattle.judge.specs.Programs.{NotRun}
 use Rattle.debugging.specs.declared.stop.DebugStop.{DebugStop}
 use Rattle.debugging.specs.declared.stop.DebugStop.TheVariants as stop
 
--- Nothing of the script was carried out.
+-- Nothing of the script was executed.
 abbrev pub IsBefore : DebugStop → Type 0
 IsBefore (stop.Judge why) = Unit {0}
 IsBefore (stop.Script why) = ⊥
 
--- A fault is the reason that the definition gives, unless memory ran out or the script ended early.
+-- The fault is the reason that the definition gives, unless memory ran out or the script ended early.
 abbrev pub IsStop : {A : Type 0} → DebugStop → Result A NotRun → Type 0
 IsStop (stop.Judge why) said = judge.IsFault why said
 IsStop (stop.Script why) said = Unit {0}
 
--- It names one of this number of files.
+-- A fault of an input names one of this number of files.
 abbrev pub NamesFile : ℕ → DebugStop → Type 0
 NamesFile files (stop.Judge why) = judge.NamesFile files why
 NamesFile files (stop.Script why) = Unit {0}
 
--- The failures of the reader that a result reports: one at Read, none otherwise.
+-- Returns the number of the reader's failures that a result reports: 1 for `Read`, else 0.
 abbrev pub failed_reads : {A : Type 0} → Result A DebugStop → ℕ
 failed_reads (Err (stop.Script fault.Read)) = 1
 failed_reads _ = 0
 
--- The failures of the writer that a result reports: one at Write, none otherwise.
+-- Returns the number of the writer's failures that a result reports: 1 for `Write`, else 0.
 abbrev pub failed_writes : {A : Type 0} → Result A DebugStop → ℕ
 failed_writes (Err (stop.Script fault.Write)) = 1
 failed_writes _ = 0

@@ -1,4 +1,4 @@
-//! The debugging of a program: a session along the run that a chooser gives, which a script of commands drives.
+//! Debugging a program: a script of commands drives a session along the run of a chooser's choices.
 #![tactic(auto)]
 
 mod opening;

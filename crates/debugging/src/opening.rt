@@ -1,4 +1,4 @@
-//! The session along the run that a chooser gives.
+//! Opens the session along the run of a chooser's choices.
 
 ghost use Rattle.std.specs.Prelude.{◌≡◌, IfErr, IfOk, Ok};
 ghost use Rattle.debugging.specs.Sessions.{AreChoices, session_on};
@@ -15,7 +15,7 @@ use schedule::Chooser;
 use std::alloc::{AllocError, Global};
 use trace::Recording;
 
-/// Returns the choices that a chooser gives for a machine, at most this number of them. The machine takes their turns.
+/// Returns the choices of a chooser for a machine, at most this number of them. The machine takes their turns.
 fn choices_from(
     alloc: Global,
     machine: &mut Machine<'_>,
@@ -29,7 +29,7 @@ fn choices_from(
     Ok(turns.choices.into_vec())
 }
 
-/// Returns the choices that a chooser gives for a program from an entry on, at most this number of them.
+/// Returns the choices of a chooser for a program from an entry on, at most this number of them.
 #[tactic(auto, using(crate::proofs::Begun::is_fault))]
 fn choices_of(
     alloc: Global,
@@ -54,7 +54,7 @@ fn choices_of(
     }
 }
 
-/// Begins a session before the first of the choices that a chooser gives for a program, at most this number of them.
+/// Begins a session before the first of a chooser's choices for a program, at most this number of them.
 #[tactic(auto, using(crate::proofs::Begun::is_fault))]
 pub(crate) fn session_on<'p>(
     alloc: Global,

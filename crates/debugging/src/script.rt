@@ -1,4 +1,4 @@
-//! A script, carried out on a program.
+//! Executes a script on a program.
 
 ghost use Rattle.std.specs.Prelude.{◌≡◌, ◌+◌, length, IfErr, IsErrOf, OnOk};
 ghost use Rattle.debugger_script.specs.Scripts.{HasFailed, HasRun, HasRunOut, HasStopped};
@@ -62,13 +62,13 @@ fn debug_program<R: ByteIn, W: ByteOut, P: Prompt>(
     }
 }
 
-/// Debugs the program that class files and sources make. Begins a session before the first of the choices that a chooser
-/// gives, at most this number of them. Carries out the commands that are read, one a line, and writes the answer to each
-/// line before it carries out the next.
+/// Debugs the program of class files and sources. Begins a session before the first of a chooser's choices, at most
+/// this number of them. Executes the commands that are read, one a line, and writes the answer to each line before it
+/// executes the next.
 ///
 /// # Errors
 ///
-/// Those of `judge`, and then nothing was read or written. Else those of `run_script`.
+/// Those of `judge`, in which case nothing was read or written. Else those of `run_script`.
 #[tactic(auto, unfolding(crate::specs::Sessions::session_of_inputs))]
 pub fn debug<R: ByteIn, W: ByteOut, P: Prompt>(
     alloc: Global,
@@ -81,7 +81,8 @@ pub fn debug<R: ByteIn, W: ByteOut, P: Prompt>(
     output: &mut W,
     prompt: &mut P,
 ) -> Result<(), DebugStop>
-    // The session is on the run of the chooser's choices by the instruction table. The answers to all lines were written.
+    // The session is on the run of the chooser's choices, by the instruction table. The answers to all lines were
+    // written.
     ensures ran { OnOk result (HasDebugged
         (session_of_inputs most chooser limits inputs.now entry.now)
         (HasRun (R.left input.old) (R.left input.new)
@@ -91,18 +92,19 @@ pub fn debug<R: ByteIn, W: ByteOut, P: Prompt>(
         (session_of_inputs most chooser limits inputs.now entry.now)
         (HasStopped (R.left input.old) (R.left input.new)
         (W.written output.old) (W.written output.new)) }
-    // Without memory for a line or its answer, the answers to all lines before it were written. If it was carried out, so
-    // was a beginning of its own.
+    // If memory ran out for a line or its answer, the answers to all lines before it were written. If its command was
+    // executed, so was a prefix of its own answer.
     ensures memory { IsErrOf result (DebugStop.Script ScriptFault.Memory) → HasDebugged
         (session_of_inputs most chooser limits inputs.now entry.now)
         (HasRunOut (R.left input.old) (R.left input.new)
         (W.written output.old) (W.written output.new)) }
-    // After a failed write the line was carried out. All answers before its own were written, and a beginning of that.
+    // After a failed write the line's command was executed. All answers before its own were written, and a prefix of
+    // that.
     ensures failed { IsErrOf result (DebugStop.Script ScriptFault.Write) → HasDebugged
         (session_of_inputs most chooser limits inputs.now entry.now)
         (HasFailed (R.left input.old) (R.left input.new)
         (W.written output.old) (W.written output.new)) }
-    // A refusal before the script is returned only if its condition holds. If it is of an input, it names one of these.
+    // A refusal before the script is returned only if its condition holds. A fault of an input names one of these.
     ensures fault { IfErr result (λ stop. IsStop stop
         (session_of_inputs most chooser limits inputs.now entry.now)) }
     ensures named { IfErr result (λ stop. NamesFile (length inputs.now) stop) }

@@ -1,4 +1,4 @@
-//! Why the debugging of a program ended early.
+//! The reasons why the debugging of a program ended early.
 
 ghost use Rattle.std.specs.Prelude.{◌≡◌};
 ghost use Rattle.debugging.specs.declared.stop.DebugStop.TheVariants.{Judge};
@@ -7,10 +7,10 @@ use debugger_script::ScriptFault;
 use judge::JudgeFault;
 use thiserror::Error;
 
-/// Why a program wasn't debugged, or not to the end of the script.
+/// A reason why a program wasn't debugged, or not to the end of the script.
 #[derive(Clone, Copy, Debug, PartialEq, Eq, Error)]
 pub enum DebugStop {
-    /// The inputs make no program, there is no machine for the entry, or there was no memory: nothing was read.
+    /// The inputs make no program, the entry has no machine, or memory ran out. Nothing was read.
     #[error("{0}")]
     Judge(JudgeFault),
     /// S01 to S03: the script ended early.

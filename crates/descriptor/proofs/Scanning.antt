@@ -19,7 +19,7 @@ pub name_is : (us : List ℕ) → (length us ≡ 0 → ⊥) → is_name us ≡ u
 name_is [] some = absurd (some refl)
 name_is (u ∷ us) some = refl
 
--- a class's type and the text behind it, if its name is one
+-- a class's type and the text after it, if its name is one
 abbrev object_of : List ℕ → List ℕ → Option (Element × List ℕ)
 object_of name rest = Some (element.Object name, rest)
 
@@ -62,12 +62,12 @@ chosen_with : (d : ℕ) (b : Bool) (name rest : List ℕ)
 chosen_with d true name rest = refl
 chosen_with d false name rest = refl
 
--- a class's type behind brackets
+-- a class's type after brackets
 object_with : (d : ℕ) (us : List ℕ) → object_type_from d us ≡ option_map (λ x. with_dimensions d x) (object_at us)
 object_with d us =
     chosen_with d (list_any (λ u. u == 59) us && is_class_name (before_first (λ u. u == 59) us)) (before_first (λ u. u == 59) us) (after_first (λ u. u == 59) us)
 
--- a primitive type and the text behind it
+-- a primitive type and the text after it
 abbrev primitive_before : List ℕ → Primitive → Element × List ℕ
 primitive_before us p = (element.Primitive p, us)
 
@@ -77,7 +77,7 @@ letter_with : (d : ℕ) (us : List ℕ) (o : Option Primitive)
 letter_with d us None = refl
 letter_with d us (Some p) = refl
 
--- what stands behind d brackets, where no further one stands
+-- the type after d brackets, if no further bracket follows
 abbrev unbracketed : ℕ → ℕ → List ℕ → Option (FieldType × List ℕ)
 unbracketed d u us = cond (u == 76) (object_type_from d us) (option_map (λ p. with_dimensions d (primitive_before us p)) (primitive_of u))
 
@@ -92,11 +92,11 @@ class_with d u us false = letter_with d us (primitive_of u)
 unbracketed_with : (d u : ℕ) (us : List ℕ) → unbracketed d u us ≡ option_map (λ x. with_dimensions d x) (element_at (u ∷ us))
 unbracketed_with d u us = class_with d u us (u == 76)
 
--- at most 255 brackets, and more
+-- up to 255 brackets are allowed
 at_few : (d : ℕ) (x : Option (Element × List ℕ)) → d ≤ 255 → at_front d x ≡ option_map (λ y. with_dimensions d y) x
 at_few d x few = rw (le-leb d 255 few) refl
 
--- behind more than 255 brackets stands nothing
+-- more than 255 brackets spell no type
 at_many : (d : ℕ) (x : Option (Element × List ℕ)) → 255 < d → at_front d x ≡ None
 at_many d x many = rw (lt-leb d 255 many) refl
 
@@ -109,7 +109,7 @@ nothing_if false = refl
 at_nothing : (d : ℕ) → at_front d None ≡ None
 at_nothing d = nothing_if (nat_le d 255)
 
--- one bracket more
+-- one more bracket
 bracketed : (d : ℕ) (us : List ℕ) → d ≤ 255
     → (suc d ≤ 255 → field_type_from (suc d) us ≡ at_front (suc d + dimensions_of us) (element_at (drop (dimensions_of us) us)))
     → cond (nat_lt d 255) (field_type_from (suc d) us) None ≡ at_front (d + suc (dimensions_of us)) (element_at (drop (dimensions_of us) us))
@@ -127,13 +127,13 @@ one_unit : (d u : ℕ) (us : List ℕ) (bracket : Bool) → d ≤ 255 → (u == 
 one_unit d u us false few is further = unbracketed_with d u us ∙ sym (at_few d (element_at (u ∷ us)) few) ∙ ap (λ (k : ℕ). at_front k (element_at (u ∷ us))) (sym (add-zero d))
 one_unit d u us true few is further = bracketed d us few further ∙ ap (λ (k : ℕ). at_front (d + k) (element_at (drop k (u ∷ us)))) (omega arith)
 
--- a type behind d brackets
+-- a type after d brackets
 front_from : (d : ℕ) (us : List ℕ) → d ≤ 255 → field_type_from d us ≡ at_front (d + dimensions_of us) (element_at (drop (dimensions_of us) us))
 unfolding field_type_from
 front_from d [] few = sym (at_nothing (d + 0))
 front_from d (u ∷ us) few = one_unit d u us (u == 91) few refl (λ below. front_from (suc d) us below)
 
--- the type at the front of a text, by its brackets and what stands behind them
+-- the type at the front of a text, by its brackets and the element after them
 pub front_is : (us : List ℕ) → field_type_from 0 us ≡ at_front (dimensions_of us) (element_at (drop (dimensions_of us) us))
 front_is us = front_from 0 us (lit≤ tt) ∙ ap (λ (k : ℕ). at_front k (element_at (drop (dimensions_of us) us))) (omega arith)
 
@@ -141,16 +141,16 @@ front_is us = front_from 0 us (lit≤ tt) ∙ ap (λ (k : ℕ). at_front k (elem
 pub front_many : (us : List ℕ) → 255 < dimensions_of us → None ≡ field_type_from 0 us
 front_many us many = sym (front_is us ∙ at_many (dimensions_of us) (element_at (drop (dimensions_of us) us)) many)
 
--- what stands behind n brackets
+-- the element after n brackets
 behind_is : (us : List ℕ) (n : ℕ) → n ≡ dimensions_of us → element_at (take (length us - n) (drop n us)) ≡ element_at (drop (dimensions_of us) us)
 behind_is us n is = ap element_at (take_rest us n) ∙ ap (λ (k : ℕ). element_at (drop k us)) is
 
--- nothing behind the brackets
+-- no element after the brackets
 pub front_none : (us : List ℕ) (n : ℕ) → n ≡ dimensions_of us → None ≡ element_at (take (length us - n) (drop n us)) → None ≡ field_type_from 0 us
 front_none us n is none =
     sym (front_is us ∙ ap (at_front (dimensions_of us)) (sym (none ∙ behind_is us n is)) ∙ at_nothing (dimensions_of us))
 
--- a type behind the brackets
+-- an element after the brackets
 pub front_some : (us : List ℕ) (n : ℕ) (x : Element × List ℕ) → n ≡ dimensions_of us → n ≤ 255 → Some x ≡ element_at (take (length us - n) (drop n us))
     → Some (with_dimensions n x) ≡ field_type_from 0 us
 front_some us n x is few some =

@@ -1,4 +1,4 @@
--- The parts of reading a text that have functions of their own.
+-- The parts of parsing a descriptor that have functions of their own.
 use Rattle.std.specs.Prelude.{ℕ, ◌+◌, Bool, not, ◌&&◌, ◌==◌, nat_le, List, [], ◌∷◌, ◌++◌, length, Option, Some, None, if◌then◌else◌}
 use Rattle.std.specs.Option.{option_and_then, option_map}
 use Rattle.std.specs.List.{before_first, after_first, list_all, list_any, sum_by}
@@ -8,65 +8,65 @@ use Rattle.jvms_file.specs.declared.descriptor.FieldType.{FieldType}
 use Rattle.jvms_file.specs.declared.descriptor.MethodType.{MethodType}
 use Rattle.jvms_file.specs.Names.{is_angle, is_class_name, is_reserved}
 use Rattle.jvms_file.specs.Descriptors.{primitive_of, parameters_from, units_of, result_type_of, within_255_units}
-use Rattle.descriptor.specs.declared.scan.Innermost.{Innermost}
-use Rattle.descriptor.specs.declared.scan.Innermost.TheVariants as innermost
-use Rattle.descriptor.specs.declared.scan.Spelled.{Spelled}
+use Rattle.descriptor.specs.declared.scan.ParsedElement.{ParsedElement}
+use Rattle.descriptor.specs.declared.scan.ParsedElement.TheVariants as innermost
+use Rattle.descriptor.specs.declared.scan.ParsedType.{ParsedType}
 
--- Whether no unit of a text is reserved.
+-- No unit of a text is reserved.
 abbrev pub unreserved : List ℕ → Bool
 unreserved us = list_all (λ u. not (is_reserved u)) us
 
--- Whether a text has neither of < and >.
+-- A text has neither < nor >.
 abbrev pub without_angles : List ℕ → Bool
 without_angles us = list_all (λ u. not (is_angle u)) us
 
--- What a part of a text stands for.
-abbrev pub element_of : Innermost → Element
+-- The element that a slice of a text denotes.
+abbrev pub element_of : ParsedElement → Element
 element_of (innermost.Primitive p) = element.Primitive p
 element_of (innermost.Object name) = element.Object name.now
 
--- A type as it stands in a text, with its name taken for itself.
-abbrev pub type_of : Spelled → FieldType
+-- A parsed type, with its class name as a value.
+abbrev pub type_of : ParsedType → FieldType
 type_of s = record { dimensions = s.dimensions; element = element_of s.innermost }
 
--- Behind the L of a class's type: the name up to the semicolon.
+-- The element after the L of a class's type: its name up to the semicolon, and the text after that.
 abbrev pub object_at : List ℕ → Option (Element × List ℕ)
 object_at us =
     if list_any (λ u. u == 59) us && is_class_name (before_first (λ u. u == 59) us)
     then Some (element.Object (before_first (λ u. u == 59) us), after_first (λ u. u == 59) us)
     else None
 
--- Behind the brackets: a letter, or a class's type.
+-- The element after the brackets: a letter's primitive type, or a class's type. It comes with the text after it.
 abbrev pub element_at : List ℕ → Option (Element × List ℕ)
 element_at [] = None
 element_at (u ∷ us) =
     if u == 76 then object_at us
     else option_map (λ p. (element.Primitive p, us)) (primitive_of u)
 
--- An innermost type and the text behind it, with the brackets before it.
+-- An element and the text after it, with d brackets before it.
 abbrev pub with_dimensions : ℕ → Element × List ℕ → FieldType × List ℕ
 with_dimensions d x = (record { dimensions = d; element = x.0 }, x.1)
 
--- Behind d brackets; there are at most 255.
+-- A type with d brackets, if there are at most 255.
 abbrev pub at_front : ℕ → Option (Element × List ℕ) → Option (FieldType × List ℕ)
 at_front d x = if nat_le d 255 then option_map (λ y. with_dimensions d y) x else None
 
--- The parameters up to the closing parenthesis, behind those that were read already.
-unfoldable pub parameters_behind : List FieldType → List ℕ → Option (List FieldType × List ℕ)
-parameters_behind front us = option_map (λ x. (front ++ x.0, x.1)) (parameters_from (length us) us)
+-- The parameters up to the closing parenthesis, after those that were parsed already.
+unfoldable pub parameters_after : List FieldType → List ℕ → Option (List FieldType × List ℕ)
+parameters_after front us = option_map (λ x. (front ++ x.0, x.1)) (parameters_from (length us) us)
 
--- The units of those parameters, more than those that were counted already.
-unfoldable pub units_behind : ℕ → List ℕ → Option (ℕ × List ℕ)
-units_behind units us = option_map (λ x. (units + sum_by units_of x.0, x.1)) (parameters_from (length us) us)
+-- The units of the parameters up to the closing parenthesis, added to those that were counted already.
+unfoldable pub units_after : ℕ → List ℕ → Option (ℕ × List ℕ)
+units_after units us = option_map (λ x. (units + sum_by units_of x.0, x.1)) (parameters_from (length us) us)
 
--- The text behind the opening parenthesis.
-abbrev pub behind_parenthesis : List ℕ → Option (List ℕ)
-behind_parenthesis [] = None
-behind_parenthesis (u ∷ us) = if u == 40 then Some us else None
+-- The text after the opening parenthesis.
+abbrev pub after_parenthesis : List ℕ → Option (List ℕ)
+after_parenthesis [] = None
+after_parenthesis (u ∷ us) = if u == 40 then Some us else None
 
--- A method's type, by the text behind its opening parenthesis.
-unfoldable pub method_behind : List ℕ → Option MethodType
-method_behind us =
+-- A method's type, from the text after its opening parenthesis.
+unfoldable pub method_after : List ℕ → Option MethodType
+method_after us =
     option_and_then
     (λ ts. option_and_then (λ r. within_255_units (record { parameters = ts.0; result = r })) (result_type_of ts.1))
-    (parameters_behind [] us)
+    (parameters_after [] us)

@@ -7,14 +7,14 @@ use crate::field::is_field_descriptor;
 use crate::letters::BRACKET;
 use crate::names::is_class_name;
 
-/// Whether a class entry's name is that of an array.
+/// Decides whether the name of a class entry is that of an array.
 pub fn is_array_name(text: &[u16]) -> bool
     ensures { result ≡ is_array_name text.now }
 {
     matches!(text, [BRACKET, ..])
 }
 
-/// Whether a text is the name of a class entry: a class's name, or an array's descriptor.
+/// Decides whether a text is the name of a class entry: a class's name, or an array's descriptor.
 pub fn is_class_entry_name(text: &[u16]) -> bool
     ensures { result ≡ is_class_entry_name text.now }
 {
@@ -25,7 +25,7 @@ pub fn is_class_entry_name(text: &[u16]) -> bool
     }
 }
 
-/// How many dimensions the class of this name has; 0 where it is no array.
+/// Returns the number of dimensions of the class with this name, or 0 if it is no array.
 pub fn dimensions_of(text: &[u16]) -> usize
     ensures exact { result ≡ dimensions_of text.now }
     ensures within { result ≤ length text.now }

@@ -1,4 +1,4 @@
-//! Why a descriptor was not read.
+//! Why a descriptor was not parsed.
 
 ghost use Rattle.std.specs.Prelude.{◌≡◌};
 ghost use Rattle.descriptor.specs.declared.fault.DescriptorFault.TheVariants.{Memory};
@@ -6,13 +6,13 @@ ghost use Rattle.descriptor.specs.declared.fault.DescriptorFault.TheVariants.{Me
 use std::alloc::{AllocError, AllocFailed};
 use thiserror::Error;
 
-/// Why a descriptor was not read.
+/// The reason why a descriptor was not parsed.
 #[derive(Clone, Copy, Debug, PartialEq, Eq, Error)]
 pub enum DescriptorFault {
-    /// The text spells no such type.
+    /// The text spells no type of the wanted kind.
     #[error("malformed descriptor")]
     Malformed,
-    /// There was no memory for the type.
+    /// Memory ran out.
     #[error("out of memory")]
     Memory,
 }

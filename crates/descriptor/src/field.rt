@@ -7,18 +7,18 @@ ghost use Rattle.descriptor.specs.Reading.{IsRead};
 ghost use Rattle.descriptor.specs.Scanning.{element_of, type_of};
 
 use crate::fault::DescriptorFault;
-use crate::scan::{Innermost, Spelled, field_in};
-use held::items::Items;
+use crate::scan::{ParsedElement, ParsedType, field_in};
+use shared_data::items::Items;
 use jvms_file::descriptor::{Element, FieldType};
 use std::alloc::{AllocError, Global};
 
-/// The type with a name of its own.
-pub(crate) fn owned(alloc: Global, spelled: Spelled<'_>) -> Result<FieldType, AllocError>
+/// Returns the type with its own copy of the class's name.
+pub(crate) fn owned(alloc: Global, spelled: ParsedType<'_>) -> Result<FieldType, AllocError>
     ensures { IfOk result (λ t. t ≡ type_of spelled.entry) }
 {
     let element = match spelled.innermost {
-        Innermost::Primitive(primitive) => Element::Primitive(primitive),
-        Innermost::Object(name) => Element::Object(Items::from_vec(Vec::from_slice(alloc, name)?)),
+        ParsedElement::Primitive(primitive) => Element::Primitive(primitive),
+        ParsedElement::Object(name) => Element::Object(Items::from_vec(Vec::from_slice(alloc, name)?)),
     };
     Ok(FieldType {
         dimensions: spelled.dimensions,
@@ -26,7 +26,7 @@ pub(crate) fn owned(alloc: Global, spelled: Spelled<'_>) -> Result<FieldType, Al
     })
 }
 
-/// The type that a text spells.
+/// Parses a text as a field's type.
 pub(crate) fn read_field(alloc: Global, text: &[u16]) -> Result<FieldType, DescriptorFault>
     ensures { IsRead result (field_type_of text.now) }
 {
@@ -36,19 +36,19 @@ pub(crate) fn read_field(alloc: Global, text: &[u16]) -> Result<FieldType, Descr
     }
 }
 
-/// The type of a field, by its descriptor.
+/// Parses a field's descriptor.
 pub fn parse_field(alloc: Global, text: &[u16]) -> Result<FieldType, DescriptorFault>
-    // The one type that the text spells, or `Malformed` where it spells none.
+    // The one type that the text spells, or `Malformed` if it spells none.
     ensures exact { IsRead result (field_type_of text.now) }
-    // What is read is spelled so.
+    // A type that is returned is spelled by the text.
     ensures found { IfOk result (λ t. SpellsFieldType text.now t) }
-    // What is spelled so is read, unless memory runs out.
+    // A type that the text spells is returned, unless memory runs out.
     ensures only { (t : FieldType) → SpellsFieldType text.now t → IsRead result (Some t) }
 {
     read_field(alloc, text)
 }
 
-/// Whether a text is a field's descriptor.
+/// Decides whether a text is a field's descriptor.
 pub fn is_field_descriptor(text: &[u16]) -> bool
     ensures { result ≡ is_some (field_type_of text.now) }
 {

@@ -6,8 +6,8 @@ ghost use Rattle.jvms_file.specs.Members.{has_flag, is_private, is_static, is_sy
 
 use bitflags::{Flag, Flags as BitSet, bitflag_items};
 
-/// The access flags of a class, a field or a method: the 16 bits of its `access_flags`. Some bits stand for
-/// one thing in a class or a field and for another in a method, and have a name for each.
+/// The access flags of a class, a field or a method: the 16 bits of its `access_flags`. Some bits mean one thing in a
+/// class or a field and another in a method, and have a name for each.
 #[derive(Clone, Copy, Debug, PartialEq, Eq)]
 pub struct Flags(u16);
 
@@ -51,70 +51,70 @@ impl BitSet for Flags {
 }
 
 impl Flags {
-    /// The flags of an item's `access_flags`; bits that no flag has are kept.
+    /// Returns the flags of an item's `access_flags`. Bits that no flag has are kept.
     pub fn of_access(access: u16) -> Flags
         ensures { result.0 ≡ access }
     {
         Flags(access)
     }
 
-    /// The item's `access_flags`.
+    /// Returns the item's `access_flags`.
     pub fn access(self) -> u16
         ensures { result ≡ self.0 }
     {
         self.bits()
     }
 
-    /// These flags and the others.
+    /// Returns these flags together with the others.
     pub fn with(self, others: Flags) -> Flags
         ensures { result.0 ≡ bit_or self.0 others.0 }
     {
         self.union(others)
     }
 
-    /// Whether one of the others is set.
+    /// Returns whether any of the others is set.
     pub fn has(self, others: Flags) -> bool
         ensures { result ≡ has_flag others.0 self.0 }
     {
         self.intersects(others)
     }
 
-    /// Whether a field or a method is private.
+    /// Returns whether a field or a method is private.
     pub fn is_private(self) -> bool
         ensures { result ≡ is_private self.0 }
     {
         self.has(Flags::PRIVATE)
     }
 
-    /// Whether a field or a method is static.
+    /// Returns whether a field or a method is static.
     pub fn is_static(self) -> bool
         ensures { result ≡ is_static self.0 }
     {
         self.has(Flags::STATIC)
     }
 
-    /// Whether a method is synchronized.
+    /// Returns whether a method is synchronized.
     pub fn is_synchronized(self) -> bool
         ensures { result ≡ is_synchronized self.0 }
     {
         self.has(Flags::SYNCHRONIZED)
     }
 
-    /// Whether a method is native.
+    /// Returns whether a method is native.
     pub fn is_native(self) -> bool
         ensures { result ≡ is_native self.0 }
     {
         self.has(Flags::NATIVE)
     }
 
-    /// Whether what a class file declares is an interface.
+    /// Returns whether a class file declares an interface.
     pub fn is_interface(self) -> bool
         ensures { result ≡ is_interface self.0 }
     {
         self.has(Flags::INTERFACE)
     }
 
-    /// Whether a class or a method is abstract.
+    /// Returns whether a class or a method is abstract.
     pub fn is_abstract(self) -> bool
         ensures { result ≡ is_abstract self.0 }
     {

@@ -1,4 +1,4 @@
-//! The units that descriptors and names are made of (JVMS 4.2 and 4.3).
+//! The code units of descriptors and names (JVMS 4.2 and 4.3).
 
 pub(crate) const OPEN: u16 = b'(' as u16;
 

@@ -1,6 +1,6 @@
-//! Descriptors, names and access flags, as the Java Virtual Machine Specification, Java SE 8 edition
-//! (JVMS) spells them: 4.2 names, 4.3 descriptors, 4.4.1 the names of class entries, and the flags of
-//! tables 4.1-A, 4.5-A and 4.6-A.
+//! Descriptors, names and access flags, as the Java Virtual Machine Specification, Java SE 8 edition (JVMS) spells
+//! them. Names are in 4.2, descriptors in 4.3, the names of class entries in 4.4.1, and the flags in tables 4.1-A,
+//! 4.5-A and 4.6-A.
 #![tactic(auto)]
 
 mod entry;
@@ -22,6 +22,6 @@ pub use method::{is_method_descriptor, method_units, parse_method};
 pub use names::{
     is_class_name, is_constructor_name, is_initializer_name, is_method_name, is_name, same_text,
 };
-pub use scan::{Innermost, Spelled, field_in};
+pub use scan::{ParsedElement, ParsedType, field_in};
 pub use types::{field_type, method_type};
 pub use units::parameter_units;

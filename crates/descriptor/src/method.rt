@@ -6,7 +6,7 @@ ghost use Rattle.jvms_file.specs.declared.descriptor.MethodType.{MethodType};
 ghost use Rattle.jvms_file.specs.Names.{same_text};
 ghost use Rattle.jvms_file.specs.Descriptors.{method_type_of, parameter_units, result_type_of, within_255_units, SpellsMethodType};
 ghost use Rattle.descriptor.specs.Reading.{IsRead, IsReadBy};
-ghost use Rattle.descriptor.specs.Scanning.{parameters_behind, units_behind, behind_parenthesis, method_behind};
+ghost use Rattle.descriptor.specs.Scanning.{parameters_after, units_after, after_parenthesis, method_after};
 
 use crate::fault::DescriptorFault;
 use crate::field::{is_field_descriptor, owned, read_field};
@@ -14,19 +14,19 @@ use crate::letters::{CLOSE, OPEN, VOID};
 use crate::names::same_text;
 use crate::scan::field_at;
 use crate::units::{parameter_units, spelled_units};
-use held::items::Items;
+use shared_data::items::Items;
 use jvms_file::descriptor::{FieldType, MethodType, ResultType};
 use std::alloc::Global;
 
-/// The most units that a method's parameters count.
+/// The greatest number of units of a method's parameters.
 const MOST_UNITS: usize = 255;
 
-/// The descriptor of no result.
+/// The descriptor of a method that returns nothing.
 const NO_RESULT: [u16; 1] = [VOID];
 
-/// The parameters up to the closing parenthesis, and the text behind it.
+/// Parses the parameters up to the closing parenthesis, and returns them with the text after it.
 fn parameters_at(alloc: Global, text: &[u16]) -> Result<(Items<FieldType>, &[u16]), DescriptorFault>
-    ensures { IsReadBy (λ x. (x.0, x.1.now)) result (parameters_behind [] text.now) }
+    ensures { IsReadBy (λ x. (x.0, x.1.now)) result (parameters_after [] text.now) }
 {
     let mut found = Items::new(alloc);
     let mut rest = text;
@@ -43,9 +43,9 @@ fn parameters_at(alloc: Global, text: &[u16]) -> Result<(Items<FieldType>, &[u16
     Err(DescriptorFault::Malformed)
 }
 
-/// The units of the parameters up to the closing parenthesis, and the text behind it.
+/// Counts the units of the parameters up to the closing parenthesis, and returns them with the text after it.
 fn units_at(text: &[u16]) -> Option<(usize, &[u16])>
-    ensures { option_map (λ x. (x.0, x.1.now)) result ≡ units_behind 0 text.now }
+    ensures { option_map (λ x. (x.0, x.1.now)) result ≡ units_after 0 text.now }
 {
     let mut units = 0;
     let mut rest = text;
@@ -60,7 +60,7 @@ fn units_at(text: &[u16]) -> Option<(usize, &[u16])>
     None
 }
 
-/// What a method returns, by the text behind its parameters.
+/// Parses a method's result from the text after its parameters.
 fn read_result(alloc: Global, text: &[u16]) -> Result<ResultType, DescriptorFault>
     ensures { IsRead result (result_type_of text.now) }
 {
@@ -70,22 +70,22 @@ fn read_result(alloc: Global, text: &[u16]) -> Result<ResultType, DescriptorFaul
     Ok(ResultType::Value(read_field(alloc, text)?))
 }
 
-/// Whether a text is that of what a method returns.
+/// Decides whether a text spells a method's result.
 fn is_result(text: &[u16]) -> bool
     ensures { result ≡ is_some (result_type_of text.now) }
 {
     same_text(text, &NO_RESULT) || is_field_descriptor(text)
 }
 
-/// The text behind the opening parenthesis, where a text begins with one.
-fn behind_parenthesis(text: &[u16]) -> Option<&[u16]>
-    ensures { option_map (λ x. x.now) result ≡ behind_parenthesis text.now }
+/// Returns the text after the opening parenthesis, or `None` if the text doesn't begin with one.
+fn after_parenthesis(text: &[u16]) -> Option<&[u16]>
+    ensures { option_map (λ x. x.now) result ≡ after_parenthesis text.now }
 {
     let (first, behind) = text.split_first()?;
     if *first == OPEN { Some(behind) } else { None }
 }
 
-/// The method's type, if its parameters count few enough units.
+/// Returns the method's type, or `Malformed` if its parameters have more than 255 units.
 fn within_255_units(method: MethodType) -> Result<MethodType, DescriptorFault>
     ensures { IsRead result (within_255_units method) }
 {
@@ -95,39 +95,39 @@ fn within_255_units(method: MethodType) -> Result<MethodType, DescriptorFault>
     Ok(method)
 }
 
-/// The type that a text behind its opening parenthesis spells.
-fn read_behind(alloc: Global, behind: &[u16]) -> Result<MethodType, DescriptorFault>
-    ensures { IsRead result (method_behind behind.now) }
+/// Parses a method's descriptor from the text after its opening parenthesis.
+fn read_after_parenthesis(alloc: Global, behind: &[u16]) -> Result<MethodType, DescriptorFault>
+    ensures { IsRead result (method_after behind.now) }
 {
     let (parameters, rest) = parameters_at(alloc, behind)?;
     let result = read_result(alloc, rest)?;
     within_255_units(MethodType { parameters, result })
 }
 
-/// The type that a text spells.
+/// Parses a text as a method's type.
 #[tactic(auto, using(crate::proofs::Methods::method_opened, crate::proofs::Methods::method_unopened))]
 pub(crate) fn read_method(alloc: Global, text: &[u16]) -> Result<MethodType, DescriptorFault>
     ensures { IsRead result (method_type_of text.now) }
 {
-    match behind_parenthesis(text) {
+    match after_parenthesis(text) {
         None => Err(DescriptorFault::Malformed),
-        Some(behind) => read_behind(alloc, behind),
+        Some(behind) => read_after_parenthesis(alloc, behind),
     }
 }
 
-/// The type of a method, by its descriptor.
+/// Parses a method's descriptor.
 pub fn parse_method(alloc: Global, text: &[u16]) -> Result<MethodType, DescriptorFault>
-    // The one type that the text spells, or `Malformed` where it spells none.
+    // The one type that the text spells, or `Malformed` if it spells none.
     ensures exact { IsRead result (method_type_of text.now) }
-    // What is read is spelled so.
+    // A type that is returned is spelled by the text.
     ensures found { IfOk result (λ t. SpellsMethodType text.now t) }
-    // What is spelled so is read, unless memory runs out.
+    // A type that the text spells is returned, unless memory runs out.
     ensures only { (t : MethodType) → SpellsMethodType text.now t → IsRead result (Some t) }
 {
     read_method(alloc, text)
 }
 
-/// So many units, where they are few enough and what the method returns stands behind them.
+/// Returns the number of units if it is at most 255 and a result follows the parameters.
 fn few_enough(units: usize, has_result: bool) -> Option<usize>
     ensures exact { result ≡ (if nat_le units 255 && has_result then Some units else None) }
     ensures few { IfSome result (λ n. n ≤ 255) }
@@ -139,10 +139,11 @@ fn few_enough(units: usize, has_result: bool) -> Option<usize>
     }
 }
 
-/// The units of a method's parameters, by the text behind its opening parenthesis.
+/// Counts the units of a method's parameters, from the text after its opening parenthesis. Returns `None` if that text
+/// doesn't end a method's descriptor.
 #[tactic(auto, using(crate::proofs::Methods::no_parameters, crate::proofs::Methods::some_parameters))]
-fn behind_units(behind: &[u16]) -> Option<usize>
-    ensures exact { result ≡ option_map (λ t. parameter_units t) (method_behind behind.now) }
+fn units_after_parenthesis(behind: &[u16]) -> Option<usize>
+    ensures exact { result ≡ option_map (λ t. parameter_units t) (method_after behind.now) }
     ensures few { IfSome result (λ n. n ≤ 255) }
 {
     match units_at(behind) {
@@ -151,20 +152,19 @@ fn behind_units(behind: &[u16]) -> Option<usize>
     }
 }
 
-/// The units of a method's parameters, by its descriptor and without memory; none where a text is no
-/// method's descriptor.
+/// Counts the units of a method's parameters, without memory. Returns `None` if the text is no method's descriptor.
 #[tactic(auto, using(crate::proofs::Methods::method_opened, crate::proofs::Methods::method_unopened))]
 pub fn method_units(text: &[u16]) -> Option<usize>
     ensures exact { result ≡ option_map (λ t. parameter_units t) (method_type_of text.now) }
     ensures few { IfSome result (λ units. units ≤ 255) }
 {
-    match behind_parenthesis(text) {
+    match after_parenthesis(text) {
         None => None,
-        Some(behind) => behind_units(behind),
+        Some(behind) => units_after_parenthesis(behind),
     }
 }
 
-/// Whether a text is a method's descriptor.
+/// Decides whether a text is a method's descriptor.
 #[tactic(auto, using(crate::proofs::Methods::units_of_some))]
 pub fn is_method_descriptor(text: &[u16]) -> bool
     ensures { result ≡ is_some (method_type_of text.now) }

@@ -28,35 +28,35 @@ const INITIALIZER: [u16; 8] = [
     GREATER,
 ];
 
-/// Whether two texts are the same.
+/// Decides whether two texts are equal.
 pub fn same_text(a: &[u16], b: &[u16]) -> bool
     ensures { result ≡ same_text a.now b.now }
 {
     a == b
 }
 
-/// Whether a unit is one that no name holds: one of `.` `;` `[` `/`.
+/// Decides whether a unit is one that no name may have: `.` `;` `[` or `/`.
 fn is_reserved(unit: u16) -> bool
     ensures { result ≡ is_reserved unit }
 {
     matches!(unit, DOT | SEMICOLON | BRACKET | SLASH)
 }
 
-/// Whether a unit is `<` or `>`.
+/// Decides whether a unit is `<` or `>`.
 fn is_angle(unit: u16) -> bool
     ensures { result ≡ is_angle unit }
 {
     unit == LESS || unit == GREATER
 }
 
-/// Whether no unit of a text is reserved.
+/// Decides whether no unit of a text is reserved.
 fn is_unreserved(text: &[u16]) -> bool
     ensures { result ≡ unreserved text.now }
 {
     text.iter().all(|unit| !is_reserved(*unit))
 }
 
-/// Whether a text is the name of a field, or one part of a class's name (JVMS 4.2.2).
+/// Decides whether a text is the name of a field, or one part of a class's name (JVMS 4.2.2).
 #[tactic(auto, using(crate::proofs::Scanning::name_is))]
 pub fn is_name(text: &[u16]) -> bool
     ensures { result ≡ is_name text.now }
@@ -64,36 +64,36 @@ pub fn is_name(text: &[u16]) -> bool
     !text.is_empty() && is_unreserved(text)
 }
 
-/// Whether a text is the name of a class or an interface: names joined by slashes (JVMS 4.2.1).
+/// Decides whether a text is the name of a class or an interface: names joined by slashes (JVMS 4.2.1).
 pub fn is_class_name(text: &[u16]) -> bool
     ensures { result ≡ is_class_name text.now }
 {
     text.split(|unit| *unit == SLASH).all(|part| is_name(part))
 }
 
-/// Whether a text is the name of a constructor (JVMS 2.9).
+/// Decides whether a text is the name of a constructor (JVMS 2.9).
 pub fn is_constructor_name(text: &[u16]) -> bool
     ensures { result ≡ is_constructor_name text.now }
 {
     same_text(text, &CONSTRUCTOR)
 }
 
-/// Whether a text is the name of the initializer of a class or an interface (JVMS 2.9).
+/// Decides whether a text is the name of the initializer of a class or an interface (JVMS 2.9).
 pub fn is_initializer_name(text: &[u16]) -> bool
     ensures { result ≡ is_initializer_name text.now }
 {
     same_text(text, &INITIALIZER)
 }
 
-/// Whether a text has neither `<` nor `>`.
+/// Decides whether a text has neither `<` nor `>`.
 fn is_without_angles(text: &[u16]) -> bool
     ensures { result ≡ without_angles text.now }
 {
     text.iter().all(|unit| !is_angle(*unit))
 }
 
-/// Whether a text is the name of a method: one with no `<` or `>`, or that of a constructor or an
-/// initializer (JVMS 4.2.2).
+/// Decides whether a text is the name of a method: one with no `<` or `>`, or that of a constructor or an initializer
+/// (JVMS 4.2.2).
 pub fn is_method_name(text: &[u16]) -> bool
     ensures { result ≡ is_method_name text.now }
 {

@@ -1,4 +1,4 @@
-//! The types of fields and methods by their descriptors, also of texts that spell none (JVMS 4.3).
+//! The types of fields and methods from their descriptors, with a default for texts that spell none (JVMS 4.3).
 
 ghost use Rattle.std.specs.Prelude.{◌≡◌, IfOk};
 ghost use Rattle.jvms_file.specs.Descriptors.{field_type, method_type};
@@ -6,11 +6,11 @@ ghost use Rattle.jvms_file.specs.Descriptors.{field_type, method_type};
 use crate::fault::DescriptorFault;
 use crate::field::read_field;
 use crate::method::read_method;
-use held::items::Items;
+use shared_data::items::Items;
 use jvms_file::descriptor::{Element, FieldType, MethodType, Primitive, ResultType};
 use std::alloc::{AllocError, Global};
 
-/// The type that a field's descriptor spells; of a text that spells none, int.
+/// Returns the type that a field's descriptor spells, or int if the text spells none.
 pub fn field_type(alloc: Global, descriptor: &[u16]) -> Result<FieldType, AllocError>
     ensures { IfOk result (λ t. t ≡ field_type descriptor.now) }
 {
@@ -24,7 +24,7 @@ pub fn field_type(alloc: Global, descriptor: &[u16]) -> Result<FieldType, AllocE
     }
 }
 
-/// The type that a method's descriptor spells; of a text that spells none, that of no parameters and no
+/// Returns the type that a method's descriptor spells. If the text spells none, the type has no parameters and no
 /// result.
 pub fn method_type(alloc: Global, descriptor: &[u16]) -> Result<MethodType, AllocError>
     ensures { IfOk result (λ t. t ≡ method_type descriptor.now) }

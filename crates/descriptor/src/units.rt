@@ -1,13 +1,13 @@
-//! How many units parameters count (JVMS 4.3.3).
+//! The numbers of units of parameters (JVMS 4.3.3).
 
 ghost use Rattle.std.specs.Prelude.{◌≡◌};
 ghost use Rattle.jvms_file.specs.Descriptors.{units_of, parameter_units};
 ghost use Rattle.descriptor.specs.Scanning.{type_of};
 
-use crate::scan::{Innermost, Spelled};
+use crate::scan::{ParsedElement, ParsedType};
 use jvms_file::descriptor::{Element, FieldType, MethodType, Primitive};
 
-/// The units that a parameter of this type counts.
+/// Returns the number of units of a parameter of this type.
 fn units_of(t: &FieldType) -> usize
     ensures { result ≡ units_of t.now }
 {
@@ -17,17 +17,17 @@ fn units_of(t: &FieldType) -> usize
     }
 }
 
-/// The units that a parameter of this type counts.
-pub(crate) fn spelled_units(spelled: Spelled<'_>) -> usize
+/// Returns the number of units of a parameter of this parsed type.
+pub(crate) fn spelled_units(spelled: ParsedType<'_>) -> usize
     ensures { result ≡ units_of (type_of spelled.entry) }
 {
     match spelled.innermost {
-        Innermost::Primitive(Primitive::Long | Primitive::Double) if spelled.dimensions == 0 => 2,
+        ParsedElement::Primitive(Primitive::Long | Primitive::Double) if spelled.dimensions == 0 => 2,
         _ => 1,
     }
 }
 
-/// The units of a method's parameters, without the object that it is called on.
+/// Returns the number of units of a method's parameters, without the object that it is called on.
 pub fn parameter_units(t: &MethodType) -> usize
     ensures { result ≡ parameter_units t.now }
 {

@@ -1,4 +1,4 @@
--- What an action changes besides its own thread: objects of the heap, and no other thread.
+-- The changes of an action besides its own thread: objects of the heap, and no other thread.
 use Rattle.enabled_laws.proofs.Heaps.{AreSized, Extends, extends_appended, extends_itself, extends_written, fields_themselves, written_sized}
 use Rattle.enabled_laws.proofs.KnownEffects.{IsKnownEffect}
 use Rattle.jvms_file.specs.Descriptors.{field_type, units_of}
@@ -66,7 +66,7 @@ pub record IsBeside (s made : State) : Type 0 where
 pub beside_itself : (s : State) → IsBeside s s
 beside_itself s = record { heap = extends_itself s.heap; threads = refl }
 
--- So it is if both are the same.
+-- The heap extends and the threads are the same if both are unchanged.
 pub beside_heap : (s made : State) → made.heap ≡ s.heap → made.threads ≡ s.threads → IsBeside s made
 beside_heap s made heap threads = record { heap = subst (Extends s.heap) (sym heap) (extends_itself s.heap); threads = threads }
 
@@ -95,7 +95,7 @@ pub unlock_beside : (s : State) (unlock : Option MonitorUse) → IsBeside s (wit
 unlock_beside s None = beside_itself s
 unlock_beside s (Some monitor) = beside_heap s _ refl refl
 
--- Whether an effect starts no thread.
+-- Decides whether an effect starts no thread.
 abbrev pub starts_none : Effect (List ℕ) → Bool
 starts_none (effect.Starts r u) = false
 starts_none _ = true

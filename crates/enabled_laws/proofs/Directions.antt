@@ -28,7 +28,7 @@ giving_begins_none : (act : TurnAction) → is_giving act ≡ true → begins_no
 giving_begins_none (action.Begins class) gives = absurd (false≢true gives)
 giving_begins_none _ gives = refl
 
--- What is enabled isn't Bad.
+-- An enabled turn isn't Bad.
 pub enabled_is_fit : (o : Outcome) → is_enabled o ≡ true → is_bad o ≡ false
 enabled_is_fit (outcome.Bad why) on = absurd (false≢true on)
 enabled_is_fit _ on = refl

@@ -1,4 +1,4 @@
--- Whether turns that load and store elements and fields are enabled.
+-- The enabledness of turns that load and store elements and fields.
 use Rattle.enabled_laws.proofs.EnabledObjects.{new_array_same}
 use Rattle.enabled_laws.proofs.EnabledTests.{AreValues, IsPair, Same, asking_same, fits_same, found_for, if_deep_same, if_deep_when, same_either, same_on, same_when, thrown_same, related_after, with_object_same}
 use Rattle.enabled_laws.proofs.FieldTypes.{type_of_key}
@@ -23,7 +23,7 @@ use Rattle.jvms_machine.specs.declared.action.FrameAction.{FrameAction}
 use Rattle.jvms_machine.specs.declared.machine.Limits.{Limits}
 use Rattle.jvms_machine.specs.declared.value.Value.{Value}
 use Rattle.jvms_program.specs.Program.{field_key_at}
-use Rattle.jvms_program.specs.Resolution.{FieldFound, field_number, fits, resolved_field}
+use Rattle.jvms_program.specs.Resolution.{ResolvedField, field_number, fits, resolved_field}
 use Rattle.jvms_program.specs.Slots.{same_key}
 use Rattle.jvms_program.specs.declared.key.FieldKey.{FieldKey}
 use Rattle.jvms_program.specs.declared.number.FieldNumber.{FieldNumber}
@@ -46,7 +46,7 @@ use Rattle.jvms_machine.specs.declared.value.Value.TheVariants as value
 module _ {Rel : Bool → Bool → Type 0} {program : List Class} {limits : Limits} {s after : State} {u : ℕ} (thread : Thread) (stays : Stays Rel program limits s after u) where
   -- ---- Arrays
 
-  -- Whether an object is an array.
+  -- Decides whether an object is an array.
   abbrev is_array_object : Object → Bool
   is_array_object (array class elements) = true
   is_array_object (instance class fields) = false
@@ -135,7 +135,7 @@ module _ {Rel : Bool → Bool → Type 0} {program : List Class} {limits : Limit
 
   -- ---- Fields
 
-  -- Where the first read isn't Bad, there is room for the value of the second, unless the relation allows anything.
+  -- If the first read isn't Bad, there is room for the value of the second, unless the relation allows anything.
   read_by : (b c : Bool) (what : Effect (List ℕ)) (x y : FrameAction) → (b ≡ true → (c ≡ true) ⊎ ((d : Bool) → Rel true d)) → Same thread stays (cond b (reaches what x) (bad cause.Depth)) (cond c (reaches what y) (bad cause.Depth))
   read_by false c what x y tells = WasBad _
   read_by true true what x y tells = same_on thread stays refl
@@ -227,7 +227,7 @@ module _ {Rel : Bool → Bool → Type 0} {program : List Class} {limits : Limit
     found_field_same how type None deep spelled = same_on thread stays refl
     found_field_same how type (Some n) deep spelled = numbered_field_same how type n (field_key_at program n) deep (spelled n refl)
 
-    resolved_field_same : (how : FieldUse) (type : FieldType) (o : Result FieldFound Thrown) → has_depth frame.body (field_takes how type) (field_gives how type) frame.activation ≡ true → ((f : FieldFound) (n : FieldNumber) → o ≡ Ok f → field_number program f ≡ Some n → IsTypeOf type n) → Same thread stays (resolved_field_decision program limits s u thread frame how type o) (resolved_field_decision program limits after u thread frame how type o)
+    resolved_field_same : (how : FieldUse) (type : FieldType) (o : Result ResolvedField Thrown) → has_depth frame.body (field_takes how type) (field_gives how type) frame.activation ≡ true → ((f : ResolvedField) (n : FieldNumber) → o ≡ Ok f → field_number program f ≡ Some n → IsTypeOf type n) → Same thread stays (resolved_field_decision program limits s u thread frame how type o) (resolved_field_decision program limits after u thread frame how type o)
     resolved_field_same how type (Err class) deep spelled = thrown_same thread stays class
     resolved_field_same how type (Ok f) deep spelled = found_field_same how type (field_number program f) deep (λ n number. spelled f n refl number)
 

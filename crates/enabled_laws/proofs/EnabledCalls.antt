@@ -1,4 +1,4 @@
--- Whether turns that call a method are enabled.
+-- The enabledness of turns that call a method.
 use Rattle.enabled_laws.proofs.EnabledTests.{AreValues, IsPair, Same, asking_same, called_same, found_for, numbered_same, same_either, same_on, thrown_same, related_after, related_both}
 use Rattle.enabled_laws.proofs.Heaps.{class_kept}
 use Rattle.enabled_laws.proofs.Kept.{is_over}
@@ -19,7 +19,7 @@ use Rattle.jvms_machine.specs.Waiting.{object_native_decision, owned, waits_or_n
 use Rattle.jvms_machine.specs.declared.machine.Limits.{Limits}
 use Rattle.jvms_machine.specs.declared.state.Hold.{Hold}
 use Rattle.jvms_machine.specs.declared.value.Value.{Value}
-use Rattle.jvms_program.specs.Resolution.{MethodFound, fits, method_number, resolved_method}
+use Rattle.jvms_program.specs.Resolution.{ResolvedMethod, fits, method_number, resolved_method}
 use Rattle.jvms_program.specs.declared.number.MethodNumber.{MethodNumber}
 use Rattle.jvms_program.specs.declared.program.Class.{Class}
 use Rattle.jvms_program.specs.declared.program.Method.{Method}
@@ -88,7 +88,7 @@ module _ {Rel : Bool → Bool → Type 0} {program : List Class} {limits : Limit
   start_on st a r (Some v) = throws_on limits st thread thrown.IllegalThreadStateException
   start_on st a r None = on_either (nat_lt (length st.threads) limits.threads) _ _ refl (throws_on limits st thread thrown.OutOfMemoryError)
 
-  -- A thread that was started of an object is there.
+  -- The thread that was started of an object exists.
   started_within : (threads : List Thread) (r v : ℕ) → thread_of threads r ≡ Some v → v < length threads
   started_within threads r v started = within (ltb k (length threads)) refl started
     where
@@ -140,11 +140,11 @@ module _ {Rel : Bool → Bool → Type 0} {program : List Class} {limits : Limit
   call_same a receiver takes n m are =
       called_same thread stays n m receiver takes _ _ (λ body locked. decision.Makes (action.Calls n body takes locked)) (native_same a takes m (slice_get program n.class) are) (λ body locked. refl)
 
-  static_call_same : (a : Activation) (takes : ℕ) (f : MethodFound) → AreValues thread stays a.operands → Same thread stays (static_call_decision program limits s u thread a takes f) (static_call_decision program limits after u thread a takes f)
+  static_call_same : (a : Activation) (takes : ℕ) (f : ResolvedMethod) → AreValues thread stays a.operands → Same thread stays (static_call_decision program limits s u thread a takes f) (static_call_decision program limits after u thread a takes f)
   static_call_same a takes f are =
       numbered_same thread stays (method_number program f) _ _ (λ n m. asking_same thread stays n.class _ _ (call_same a None takes n m are))
 
-  selected_same : (a : Activation) (q takes : ℕ) (o : Option MethodFound) → AreValues thread stays a.operands → Same thread stays (selected_decision program limits s u thread a q takes o) (selected_decision program limits after u thread a q takes o)
+  selected_same : (a : Activation) (q takes : ℕ) (o : Option ResolvedMethod) → AreValues thread stays a.operands → Same thread stays (selected_decision program limits s u thread a q takes o) (selected_decision program limits after u thread a q takes o)
   selected_same a q takes None are = thrown_same thread stays thrown.AbstractMethodError
   selected_same a q takes (Some f) are =
       numbered_same thread stays (method_number program f) (call_decision program limits s u thread a (Some q) takes) (call_decision program limits after u thread a (Some q) takes) (λ n m. call_same a (Some q) takes n m are)
@@ -156,15 +156,15 @@ module _ {Rel : Bool → Bool → Type 0} {program : List Class} {limits : Limit
   wrong_receiver_same invoke.Special = same_on thread stays refl
 
   -- The decision on a call for an object of a class.
-  abbrev for_class : State → MethodFrame → Invoke → MethodReference → MethodFound → ℕ → List ℕ → TurnDecision
+  abbrev for_class : State → MethodFrame → Invoke → MethodReference → ResolvedMethod → ℕ → List ℕ → TurnDecision
   for_class st frame how r f q c =
       cond (fits program c f.class.name) (selected_decision program limits st u thread frame.activation q (taken how r.method_type) (selected program frame how r c f)) (wrong_receiver limits st thread how)
 
-  for_class_same : (frame : MethodFrame) (how : Invoke) (r : MethodReference) (f : MethodFound) (q : ℕ) (c : List ℕ) → AreValues thread stays frame.activation.operands → Same thread stays (for_class s frame how r f q c) (for_class after frame how r f q c)
+  for_class_same : (frame : MethodFrame) (how : Invoke) (r : MethodReference) (f : ResolvedMethod) (q : ℕ) (c : List ℕ) → AreValues thread stays frame.activation.operands → Same thread stays (for_class s frame how r f q c) (for_class after frame how r f q c)
   for_class_same frame how r f q c are =
       same_either thread stays (fits program c f.class.name) _ _ _ _ (selected_same frame.activation q (taken how r.method_type) (selected program frame how r c f) are) (wrong_receiver_same how)
 
-  receiver_call_same : (frame : MethodFrame) (how : Invoke) (r : MethodReference) (f : MethodFound) (o : Option Value) → AreValues thread stays frame.activation.operands → ((v : Value) → o ≡ Some v → IsValue s.heap v) → Same thread stays (receiver_call_decision program limits s u thread frame how r f o) (receiver_call_decision program limits after u thread frame how r f o)
+  receiver_call_same : (frame : MethodFrame) (how : Invoke) (r : MethodReference) (f : ResolvedMethod) (o : Option Value) → AreValues thread stays frame.activation.operands → ((v : Value) → o ≡ Some v → IsValue s.heap v) → Same thread stays (receiver_call_decision program limits s u thread frame how r f o) (receiver_call_decision program limits after u thread frame how r f o)
   receiver_call_same frame how r f (Some (value.Reference q)) are is =
       let p = found_for thread stays q (is (value.Reference q) refl) in
       rw p.was_is (rw p.now_is
@@ -172,7 +172,7 @@ module _ {Rel : Bool → Bool → Type 0} {program : List Class} {limits : Limit
   receiver_call_same frame how r f (Some value.Null) are is = thrown_same thread stays thrown.NullPointerException
   receiver_call_same frame how r f _ are is = same_on thread stays refl
 
-  resolved_call_same : (frame : MethodFrame) (how : Invoke) (r : MethodReference) (o : Result MethodFound Thrown) → AreValues thread stays frame.activation.operands → Same thread stays (resolved_call_decision program limits s u thread frame how r o) (resolved_call_decision program limits after u thread frame how r o)
+  resolved_call_same : (frame : MethodFrame) (how : Invoke) (r : MethodReference) (o : Result ResolvedMethod Thrown) → AreValues thread stays frame.activation.operands → Same thread stays (resolved_call_decision program limits s u thread frame how r o) (resolved_call_decision program limits after u thread frame how r o)
   resolved_call_same frame how r (Err class) are = thrown_same thread stays class
   resolved_call_same frame how r (Ok f) are =
       same_either thread stays (is_static_call how) _ _ _ _ (static_call_same frame.activation (taken how r.method_type) f are)

@@ -1,4 +1,4 @@
--- Whether turns that make objects or ask for their class are enabled, and first calls and initialisations.
+-- The enabledness of turns that create objects or require their class, and of first calls and initialisations.
 use Rattle.enabled_laws.proofs.EnabledTests.{AreValues, Same, asking_same, called_same, found_for, if_deep_same, numbered_same, same_either, same_on, thrown_same, related_after, with_int_same}
 use Rattle.enabled_laws.proofs.Heaps.{class_kept}
 use Rattle.enabled_laws.proofs.Related.{Stays, readiness, on_either, throws_on}
@@ -10,7 +10,7 @@ use Rattle.jvms_machine.specs.Decisions.{TurnDecision}
 use Rattle.jvms_machine.specs.Exceptions.{has_room_for, throws}
 use Rattle.jvms_machine.specs.Heap.{array_of_class, array_of_type, arrays_made, elements_made, has_dimensions, has_room_for_elements}
 use Rattle.jvms_machine.specs.Initialisation.{asked_superclass, initialisation_decision, initializer_call, initializer_decision, initializer_of, superclass_decision}
-use Rattle.jvms_machine.specs.Objects.{cast, class_decision, held_or_made, instance_of_number, is_instantiable, loadable_decision, made_if_room, new_instance_decision, told_instance, with_class_of}
+use Rattle.jvms_machine.specs.Objects.{cast, class_decision, existing_or_new, instance_of_number, is_instantiable, loadable_decision, creation_if_room, new_instance_decision, instance_test_result, with_class_of}
 use Rattle.jvms_machine.specs.Profile.{is_outside_method}
 use Rattle.jvms_machine.specs.Start.{Start}
 use Rattle.jvms_machine.specs.State.{IsReference, MethodFrame, State, Thread, class_of, class_reference, text_reference}
@@ -18,7 +18,7 @@ use Rattle.jvms_machine.specs.declared.action.NewObject.{NewObject}
 use Rattle.jvms_machine.specs.declared.machine.Limits.{Limits}
 use Rattle.jvms_machine.specs.declared.value.Value.{Value}
 use Rattle.jvms_program.specs.Program.{class_named, class_number, method_at}
-use Rattle.jvms_program.specs.Resolution.{MethodFound, class_exists, fits, method_number}
+use Rattle.jvms_program.specs.Resolution.{ResolvedMethod, class_exists, fits, method_number}
 use Rattle.jvms_program.specs.declared.number.MethodNumber.{MethodNumber}
 use Rattle.jvms_program.specs.declared.program.Body.{Body}
 use Rattle.jvms_program.specs.declared.program.Class.{Class}
@@ -72,7 +72,7 @@ module _ {Rel : Bool → Bool → Type 0} {program : List Class} {limits : Limit
       (same_either thread stays (list_any is_negative (lengths_in dimensions frame.activation.operands)) _ _ _ _ (thrown_same thread stays thrown.NegativeArraySizeException)
       (new_arrays_room_same class dimensions (counted_lengths dimensions frame.activation.operands)))))
 
-  made_on : (st : State) (takes : ℕ) (what : NewObject (List ℕ)) → readiness (made_if_room limits st thread takes what) ≡ Some true
+  made_on : (st : State) (takes : ℕ) (what : NewObject (List ℕ)) → readiness (creation_if_room limits st thread takes what) ≡ Some true
   made_on st takes what = on_either (has_room_for 1 limits st) _ _ refl (throws_on limits st thread thrown.OutOfMemoryError)
 
   instance_of_same : (o : Option ℕ) → Same thread stays (instance_of_number program limits s u thread o) (instance_of_number program limits after u thread o)
@@ -89,7 +89,7 @@ module _ {Rel : Bool → Bool → Type 0} {program : List Class} {limits : Limit
   cast_on st frame true = refl
   cast_on st frame false = throws_on limits st thread thrown.ClassCastException
 
-  instance_of_on : (b : Bool) → readiness (told_instance b) ≡ Some true
+  instance_of_on : (b : Bool) → readiness (instance_test_result b) ≡ Some true
   instance_of_on true = refl
   instance_of_on false = refl
 
@@ -109,9 +109,9 @@ module _ {Rel : Bool → Bool → Type 0} {program : List Class} {limits : Limit
   class_same frame class_use.CheckCast name are =
       if_deep_same thread stays frame 1 1 _ _ (with_class_same name frame.activation.operands _ (cast limits s thread frame) (cast limits after thread frame) are (cast_on s frame) (cast_on after frame))
   class_same frame class_use.InstanceOf name are =
-      if_deep_same thread stays frame 1 1 _ _ (with_class_same name frame.activation.operands _ told_instance told_instance are instance_of_on instance_of_on)
+      if_deep_same thread stays frame 1 1 _ _ (with_class_same name frame.activation.operands _ instance_test_result instance_test_result are instance_of_on instance_of_on)
 
-  held_on : (st : State) (o : Option ℕ) (what : NewObject (List ℕ)) → readiness (held_or_made limits st thread o what) ≡ Some true
+  held_on : (st : State) (o : Option ℕ) (what : NewObject (List ℕ)) → readiness (existing_or_new limits st thread o what) ≡ Some true
   held_on st (Some r) what = refl
   held_on st None what = made_on st 0 what
 
@@ -137,7 +137,7 @@ module _ {Rel : Bool → Bool → Type 0} {program : List Class} {limits : Limit
       same_either thread stays (is_outside_method m.method_type) _ _ _ _ (same_on thread stays refl)
       (asking_same thread stays start.method.class _ _ (first_same None (length start.arguments) start.method m))
 
-  selected_run_same : (r : ℕ) (o : Option MethodFound) → Same thread stays (selected_run program limits s u thread r o) (selected_run program limits after u thread r o)
+  selected_run_same : (r : ℕ) (o : Option ResolvedMethod) → Same thread stays (selected_run program limits s u thread r o) (selected_run program limits after u thread r o)
   selected_run_same r None = thrown_same thread stays thrown.AbstractMethodError
   selected_run_same r (Some found) =
       numbered_same thread stays (method_number program found) (first_call program limits s u thread (Some r) 1) (first_call program limits after u thread (Some r) 1) (first_same (Some r) 1)

@@ -1,4 +1,4 @@
--- Whether turns that pop a frame, throw, or enter and leave a monitor are enabled.
+-- The enabledness of turns that pop a frame, throw, or enter and leave a monitor.
 use Rattle.enabled_laws.proofs.EnabledTests.{AreValues, IsPair, Same, entering_same, fits_same, found_for, if_deep_same, same_either, same_on, related_after, with_object_same}
 use Rattle.enabled_laws.proofs.Heaps.{class_kept}
 use Rattle.enabled_laws.proofs.Related.{Stays, readiness, popped_on, throws_on}

@@ -1,4 +1,4 @@
--- Whether turns are enabled that begin with the tests that many share: of initialisation, monitors, calls and operands.
+-- The enabledness of turns that begin with a shared test: of initialisation, monitors, calls or operands.
 use Rattle.enabled_laws.proofs.Heaps.{ArePair, IsFound, class_kept, found}
 use Rattle.enabled_laws.proofs.Kept.{may_enter, may_lock}
 use Rattle.enabled_laws.proofs.Related.{AsBefore, Asked, IsFit, Related, Stays, WaitsNow, WasBad, on_either, on_unless, readiness, ready_or_bad, throws_on}
@@ -8,7 +8,7 @@ use Rattle.jvms_machine.specs.Calls.{called_decision, enter_decision, numbered, 
 use Rattle.jvms_machine.specs.Decisions.{TurnDecision}
 use Rattle.jvms_machine.specs.Exceptions.{has_room_for, throws}
 use Rattle.jvms_machine.specs.Heap.{class_name_at, next_reference}
-use Rattle.jvms_machine.specs.Initialisation.{asking, asking_at, begin_decision, constants_of, new_texts}
+use Rattle.jvms_machine.specs.Initialisation.{asking, requiring_class_in, begin_decision, constants_of, new_texts}
 use Rattle.jvms_machine.specs.Monitors.{class_locking, entering, entering_held, locking, object_locking}
 use Rattle.jvms_machine.specs.State.{IsReference, IsValue, MethodFrame, Object, State, Thread, class_of, class_reference, monitor_at, object_at}
 use Rattle.jvms_machine.specs.declared.action.Lock.{Lock}
@@ -46,7 +46,7 @@ module _ {Rel : Bool → Bool → Type 0} {program : List Class} {limits : Limit
   pub same_on : {a b : Option Bool} → b ≡ a → Related Rel a b
   same_on {a = a} e = related_after e (related_itself a)
 
-  -- Both are enabled as conditions hold that are related.
+  -- Both turns are enabled under conditions that are related.
   pub related_both : {a b : Bool} {x y : Option Bool} → x ≡ Some a → y ≡ Some b → Rel a b → Related Rel x y
   related_both {a = a} {b = b} {y = y} first second is = subst (λ q. Related Rel q y) (sym first) (related_after second (IsFit a b is))
 
@@ -69,7 +69,7 @@ module _ {Rel : Bool → Bool → Type 0} {program : List Class} {limits : Limit
       on_either (not (has_room_for (length (new_texts r.heap (constants_of c.fields))) limits r)) _ _ (throws_on limits r thread thrown.OutOfMemoryError)
       (on_either (nat_le limits.frames (length thread.frames)) _ _ (throws_on limits r thread thrown.StackOverflowError) refl)
 
-  asking_at_same : (class : ℕ) (o : Option Initialisation) (go_on next : TurnDecision) → Same go_on next → Same (asking_at program limits s u thread class o go_on) (asking_at program limits after u thread class o next)
+  asking_at_same : (class : ℕ) (o : Option Initialisation) (go_on next : TurnDecision) → Same go_on next → Same (requiring_class_in program limits s u thread class o go_on) (requiring_class_in program limits after u thread class o next)
   asking_at_same class None go_on next same = same_on refl
   asking_at_same class (Some initialisation.NotBegun) go_on next same = same_on (begin_is_on after class (slice_get program class) ∙ sym (begin_is_on s class (slice_get program class)))
   asking_at_same class (Some (initialisation.InProgress v)) go_on next same = same_either (v == u) _ _ _ _ same (same_on refl)
@@ -77,17 +77,17 @@ module _ {Rel : Bool → Bool → Type 0} {program : List Class} {limits : Limit
   asking_at_same class (Some initialisation.Erroneous) go_on next same = thrown_same thrown.NoClassDefFoundError
 
   -- A thread waits for a class that another thread initialises.
-  waits_off : (st : State) (class v : ℕ) (go_on : TurnDecision) → (v == u) ≡ false → readiness (asking_at program limits st u thread class (Some (initialisation.InProgress v)) go_on) ≡ Some false
+  waits_off : (st : State) (class v : ℕ) (go_on : TurnDecision) → (v == u) ≡ false → readiness (requiring_class_in program limits st u thread class (Some (initialisation.InProgress v)) go_on) ≡ Some false
   waits_off st class v go_on other = cond_both (v == u) _ _ (λ (d : TurnDecision). readiness d ≡ Some false) (λ own. absurd (false≢true (sym other ∙ own))) (λ _. refl)
 
   waits_now : (o : Option Bool) → ((a : Bool) → Rel a false) → Related Rel o (Some false)
   waits_now None tells = WasBad (Some false)
   waits_now (Some a) tells = IsFit a false (tells a)
 
-  asked_same : (class : ℕ) (o p : Option Initialisation) (go_on next : TurnDecision) → Asked Rel u o p → Same go_on next → Same (asking_at program limits s u thread class o go_on) (asking_at program limits after u thread class p next)
+  asked_same : (class : ℕ) (o p : Option Initialisation) (go_on next : TurnDecision) → Asked Rel u o p → Same go_on next → Same (requiring_class_in program limits s u thread class o go_on) (requiring_class_in program limits after u thread class p next)
   asked_same class o p go_on next (AsBefore q) same = asking_at_same class q go_on next same
   asked_same class o p go_on next (WaitsNow q v other tells) same =
-      related_after (waits_off after class v next other) (waits_now (readiness (asking_at program limits s u thread class q go_on)) tells)
+      related_after (waits_off after class v next other) (waits_now (readiness (requiring_class_in program limits s u thread class q go_on)) tells)
 
   pub asking_same : (class : ℕ) (go_on next : TurnDecision) → Same go_on next → Same (asking program limits s u thread class go_on) (asking program limits after u thread class next)
   asking_same class go_on next same = asked_same class (slice_get s.initialisations class) (slice_get after.initialisations class) go_on next (stays.asked class) same

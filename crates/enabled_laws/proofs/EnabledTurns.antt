@@ -1,4 +1,4 @@
--- Whether a thread's turn is enabled in a state, and in one where what it asks for is related.
+-- The enabledness of a thread's turn in two states, where all that the turn depends on is related.
 use Rattle.enabled_laws.proofs.EnabledAccesses.{array_same, field_same}
 use Rattle.enabled_laws.proofs.EnabledCalls.{invoke_same}
 use Rattle.enabled_laws.proofs.EnabledObjects.{class_same, first_call_same, initialisation_same, loadable_same, new_arrays_same}
@@ -12,7 +12,7 @@ use Rattle.jvms_machine.specs.Start.{Start}
 use Rattle.jvms_machine.specs.State.{Frame, IsFrame, IsReference, IsThread, IsThrowable, MethodFrame, State, Thread, is_wait_for, monitor_at, status_by, waits_for}
 use Rattle.jvms_machine.specs.Status.{is_bad, is_enabled}
 use Rattle.jvms_machine.specs.Steps.{frame_decision, instruction_at}
-use Rattle.jvms_machine.specs.Turn.{decide, frame_turn_decision, frames_decision, given_out_decision, instruction_decision, reaching_decision, thread_decision, turn}
+use Rattle.jvms_machine.specs.Turn.{decide, frame_turn_decision, frames_decision, started_decision, instruction_decision, reaching_decision, thread_decision, turn}
 use Rattle.jvms_machine.specs.Waiting.{is_waiter, retaking, waiting_decision}
 use Rattle.jvms_machine.specs.declared.action.FrameDecision.{FrameDecision}
 use Rattle.jvms_machine.specs.declared.machine.Limits.{Limits}
@@ -79,7 +79,7 @@ module _ {Rel : Bool → Bool → Type 0} {program : List Class} {limits : Limit
   waiting_same : (w : Wait) → waits_for w.reference (slice_get s.threads u) ≡ true → Same thread stays (waiting_decision s u w) (waiting_decision after u w)
   waiting_same w waits = related_both thread stays (waiting_is_on s w) (waiting_is_on after w) (stays.retakes w.reference waits)
 
-  status_same : (start : Start) (ended : Bool) (pending : Option ℕ) (waits : Option Wait) → IsThread program limits s.heap thread → slice_get s.threads u ≡ Some thread → thread.pending ≡ pending → thread.waits ≡ waits → Same thread stays (given_out_decision program limits start s u thread (status_by ended pending waits)) (given_out_decision program limits start after u thread (status_by ended pending waits))
+  status_same : (start : Start) (ended : Bool) (pending : Option ℕ) (waits : Option Wait) → IsThread program limits s.heap thread → slice_get s.threads u ≡ Some thread → thread.pending ≡ pending → thread.waits ≡ waits → Same thread stays (started_decision program limits start s u thread (status_by ended pending waits)) (started_decision program limits start after u thread (status_by ended pending waits))
   status_same start true pending waits is at pending_is waits_are = same_on thread stays refl
   status_same start false (Some r) waits is at pending_is waits_are =
       let throwable : IfSome (Some r) (IsThrowable program s.heap) = subst (λ o. IfSome o (IsThrowable program s.heap)) pending_is is.3 in
@@ -92,7 +92,7 @@ module _ (Rel : Bool → Bool → Type 0) (program : List Class) (limits : Limit
   abbrev IsRelated : TurnDecision → TurnDecision → Type 0
   IsRelated d e = Related Rel (readiness d) (readiness e)
 
-  -- It is the same thread in both states.
+  -- The thread is the same in both states.
   thread_same : (o : Option Thread) → slice_get s.threads u ≡ o → IsRelated (thread_decision program limits start s u o) (thread_decision program limits start after u o)
   thread_same None at = IsFit false false (stays.relation.same false false refl)
   thread_same (Some thread) at =

@@ -8,7 +8,7 @@ use Rattle.jvms_machine.proofs.SearchLaws.{find_passes}
 use Rattle.jvms_machine.specs.State.{IsFrame, MethodFrame, Object, body_at}
 use Rattle.jvms_machine.specs.Steps.{instruction_at}
 use Rattle.jvms_program.specs.Program.{IsProgram, IsSpelledClass, IsSpelledInstruction, IsSpelledMethod, field_key_at, method_at}
-use Rattle.jvms_program.specs.Resolution.{FieldFound, ancestry, class_exists, declared_field, field_number, first_in, fits, found_field, members_class, resolved_field}
+use Rattle.jvms_program.specs.Resolution.{ResolvedField, ancestry, class_exists, declared_field, field_number, first_in, fits, reference_field, members_class, resolved_field}
 use Rattle.jvms_program.specs.declared.key.FieldKey.{FieldKey}
 use Rattle.jvms_program.specs.declared.number.FieldNumber.{FieldNumber}
 use Rattle.jvms_program.specs.declared.number.MethodNumber.{MethodNumber}
@@ -24,26 +24,26 @@ use Rattle.std.proofs.lemmas.Option.{none-some, option_and_then_some}
 use Rattle.std.specs.Cmp.Lexicographic.{same_text as texts_are_same}
 use Rattle.std.specs.List.{AllByRecursion, find}
 use Rattle.std.specs.Prelude.{Ok, Result}
-use Rattle.turn_items.proofs.ResolvedFields.{numbered_key}
+use Rattle.turn_item_laws.proofs.ResolvedFields.{numbered_key}
 use Rattle.jvms_program.specs.declared.program.Instruction.TheVariants as instruction
 use Rattle.jvms_machine.specs.declared.state.StackFrame.TheVariants as stack_frame
 use Rattle.jvms_program.specs.declared.thrown.Thrown.TheVariants as thrown
 
--- ---- The descriptor of what is found
+-- ---- The descriptor of the found field
 
-declared_descriptor : (r : FieldReference) (c : Class) (f : FieldFound) → declared_field r.name r.descriptor c ≡ Some f → f.field.descriptor ≡ r.descriptor
+declared_descriptor : (r : FieldReference) (c : Class) (f : ResolvedField) → declared_field r.name r.descriptor c ≡ Some f → f.field.descriptor ≡ r.descriptor
 declared_descriptor r c f is =
     let test = λ (g : Field). same_text g.name r.name && same_text g.descriptor r.descriptor in
-    option_map_some (λ (g : Field). let found : FieldFound = record { class = c; field = g } in found) (find test c.fields) f is
+    option_map_some (λ (g : Field). let found : ResolvedField = record { class = c; field = g } in found) (find test c.fields) f is
     (λ g g_is same.
-    ap (λ (h : FieldFound). h.field.descriptor) (sym same)
+    ap (λ (h : ResolvedField). h.field.descriptor) (sym same)
     ∙ texts_are_same g.descriptor r.descriptor (sym (and_parts (same_text g.name r.name) (same_text g.descriptor r.descriptor) (find_passes test c.fields g g_is)).1))
 
-first_by : (r : FieldReference) (o : Option FieldFound) (c : Class) (cs : List Class) (f : FieldFound) → o ≡ declared_field r.name r.descriptor c → (first_in (declared_field r.name r.descriptor) cs ≡ Some f → f.field.descriptor ≡ r.descriptor) → first_in (declared_field r.name r.descriptor) (c ∷ cs) ≡ Some f → f.field.descriptor ≡ r.descriptor
+first_by : (r : FieldReference) (o : Option ResolvedField) (c : Class) (cs : List Class) (f : ResolvedField) → o ≡ declared_field r.name r.descriptor c → (first_in (declared_field r.name r.descriptor) cs ≡ Some f → f.field.descriptor ≡ r.descriptor) → first_in (declared_field r.name r.descriptor) (c ∷ cs) ≡ Some f → f.field.descriptor ≡ r.descriptor
 first_by r None c cs f e more is = more (rw (← e) at is)
 first_by r (Some g) c cs f e more is = let same : Some g ≡ Some f = rw (← e) at is in declared_descriptor r c f (sym e ∙ same)
 
-first_descriptor : (r : FieldReference) (cs : List Class) (f : FieldFound) → first_in (declared_field r.name r.descriptor) cs ≡ Some f → f.field.descriptor ≡ r.descriptor
+first_descriptor : (r : FieldReference) (cs : List Class) (f : ResolvedField) → first_in (declared_field r.name r.descriptor) cs ≡ Some f → f.field.descriptor ≡ r.descriptor
 first_descriptor r [] f is = absurd (none-some f is)
 first_descriptor r (c ∷ cs) f is = first_by r (declared_field r.name r.descriptor c) c cs f refl (first_descriptor r cs f) is
 
@@ -55,10 +55,10 @@ present_there : {A B : Type 0} (o : Option B) (fault : Thrown) (next : B → Res
 present_there None fault next x is = absurd (cc)
 present_there (Some y) fault next x is = (y, refl, is)
 
-found_descriptor : (program : List Class) (static : Bool) (r : FieldReference) (f : FieldFound) → resolved_field program static r ≡ Ok f → f.field.descriptor ≡ r.descriptor
+found_descriptor : (program : List Class) (static : Bool) (r : FieldReference) (f : ResolvedField) → resolved_field program static r ≡ Ok f → f.field.descriptor ≡ r.descriptor
 found_descriptor program static r f is =
     let there = want_passed (class_exists program r.class) thrown.NoClassDefFoundError _ f is in
-    let found = present_there (found_field program r) thrown.NoSuchFieldError _ f there in
+    let found = present_there (reference_field program r) thrown.NoSuchFieldError _ f there in
     let same : Ok found.0 ≡ Ok f = want_passed (cond static found.0.field.is_static (not found.0.field.is_static)) thrown.IncompatibleClassChangeError _ f found.2 in
     let is_it : found.0 ≡ f = cc in
     first_descriptor r (ancestry program (members_class r.class)) f (found.1 ∙ ap (λ g. Some g) is_it)
@@ -77,7 +77,7 @@ named_type program n b place how r is body_is at =
     let spelled : IfSome (Some b) (λ c. AllByRecursion IsSpelledInstruction c.instructions) = subst (λ o. IfSome o (λ (c : Body). AllByRecursion IsSpelledInstruction c.instructions)) b_is (method_is_spelled program n m is m_is).1 in
     all_at IsSpelledInstruction b.instructions place (instruction.Field how r) at spelled)
 
-pub type_of_key : (program : List Class) (heap : List Object) (frame : MethodFrame) (how : FieldUse) (r : FieldReference) (static : Bool) (f : FieldFound) (n : FieldNumber) (key : FieldKey) → IsProgram program → IsFrame program heap (stack_frame.Call frame) → instruction_at frame ≡ Some (instruction.Field how r) → resolved_field program static r ≡ Ok f → field_number program f ≡ Some n → field_key_at program n ≡ Some key → r.field_type ≡ field_type key.descriptor
+pub type_of_key : (program : List Class) (heap : List Object) (frame : MethodFrame) (how : FieldUse) (r : FieldReference) (static : Bool) (f : ResolvedField) (n : FieldNumber) (key : FieldKey) → IsProgram program → IsFrame program heap (stack_frame.Call frame) → instruction_at frame ≡ Some (instruction.Field how r) → resolved_field program static r ≡ Ok f → field_number program f ≡ Some n → field_key_at program n ≡ Some key → r.field_type ≡ field_type key.descriptor
 type_of_key program heap frame how r static f n key is fits at resolved number key_is =
     let same : key.descriptor ≡ r.descriptor = ap (λ (k : FieldKey). k.descriptor) (numbered_key program static r f n key resolved number key_is) ∙ found_descriptor program static r f resolved in
     named_type program frame.method frame.body frame.activation.place how r is fits.0 at ∙ ap field_type (sym same)

@@ -6,7 +6,7 @@ use Rattle.enabled_laws.proofs.QuietActions.{exception_initialises_none, excepti
 use Rattle.enabled_laws.proofs.Related.{IsRelation}
 use Rattle.enabled_laws.proofs.Turned.{Turned, beside_turned}
 use Rattle.enabled_laws.specs.Quiet.{is_giving, is_giving_effect, is_quiet, is_quiet_effect}
-use Rattle.jvms_machine.specs.Actions.{affected, applied_to, failed, gone_on, operands_of, put_to_wait, raised, returned, unwound, with_changed, with_exception, with_result, with_unlock, with_waiter}
+use Rattle.jvms_machine.specs.Actions.{affected, applied_to, failed, thread_after_action, operands_of, put_to_wait, raised, returned, unwound, with_changed, with_exception, with_result, with_unlock, with_waiter}
 use Rattle.jvms_machine.specs.Decisions.{TurnAction}
 use Rattle.jvms_machine.specs.Exceptions.{exception_reference}
 use Rattle.jvms_machine.specs.Monitors.{left_monitor}
@@ -27,9 +27,9 @@ use Rattle.std.specs.Map.{remove_entry}
 use Rattle.jvms_machine.specs.declared.action.Action.TheVariants as action
 use Rattle.jvms_machine.specs.declared.action.Effect.TheVariants as effect
 
--- ---- Monitors that go
+-- ---- Freed monitors
 
--- What held before the turn holds after it.
+-- What was true before the turn is true after it.
 abbrev pub Forward : Bool → Bool → Type 0
 Forward a b = a ≡ true → b ≡ true
 
@@ -91,8 +91,8 @@ module _ (program : List Class) (limits : Limits) (start : Start) (s : State) (t
       (λ _. record { heap = gives.heap; threads = gives.threads; others = gives.others; enters = gives.enters; asked = gives.asked })
       (λ _. gives)
 
-  effect_gives : (what : Effect (List ℕ)) (act : FrameAction) (others : List Value) → is_giving_effect what ≡ true → is_quiet_effect what ≡ false → Gives (with_changed (affected program s t others what) t (gone_on act))
-  effect_gives (effect.Unlocks monitor) act others gives loud = unlock_gives (Some monitor) (gone_on act) refl
+  effect_gives : (what : Effect (List ℕ)) (act : FrameAction) (others : List Value) → is_giving_effect what ≡ true → is_quiet_effect what ≡ false → Gives (with_changed (affected program s t others what) t (thread_after_action act))
+  effect_gives (effect.Unlocks monitor) act others gives loud = unlock_gives (Some monitor) (thread_after_action act) refl
   effect_gives (effect.Locks monitor) act others gives loud = absurd (true≢false (sym gives ∙ loud))
   effect_gives (effect.Starts q w) act others gives loud = absurd (false≢true gives)
   effect_gives effect.Nothing act others gives loud = absurd (true≢false loud)

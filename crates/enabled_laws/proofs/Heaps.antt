@@ -1,4 +1,4 @@
--- Heaps that extend another: each object is still there, perhaps with other values in its fields or elements.
+-- Heaps that extend another: each object still exists, perhaps with other values in its fields or elements.
 use Rattle.jvms_file.specs.Descriptors.{field_type, units_of}
 use Rattle.jvms_file.specs.Names.{same_text}
 use Rattle.jvms_machine.proofs.HeapGrowth.{Becomes, becomes_itself}
@@ -17,9 +17,9 @@ use Rattle.std.specs.Cmp.Lexicographic.{same_text as texts_are_same}
 use Rattle.std.specs.List.{AllByRecursion}
 use Rattle.std.specs.Map.{lookup}
 
--- ---- The places of fields
+-- ---- The sizes of fields
 
--- A value takes as many places as the one before, or as many as the type of its field counts.
+-- A value has the size of the one before, or that of the type of its field.
 abbrev pub IsSized : FieldKey → Option Value → Option Value → Type 0
 IsSized key (Some was) (Some now) = (value_size now ≡ value_size was) ⊎ (value_size now ≡ units_of (field_type key.descriptor))
 IsSized key _ _ = Unit {0}
@@ -39,7 +39,7 @@ same_descriptor a b same =
     let others = and_parts (same_text a.class b.class) (same_text a.name b.name && same_text a.descriptor b.descriptor) same in
     texts_are_same a.descriptor b.descriptor (sym (and_parts (same_text a.name b.name) (same_text a.descriptor b.descriptor) others.1).1)
 
--- A stored value does so if it takes the places of its field's type.
+-- A stored value of its field's type keeps the sizes.
 pub written_sized : (key : FieldKey) (v : Value) (fields : List (FieldKey × Value)) → value_size v ≡ units_of (field_type key.descriptor) → AreSized fields (with_value key v fields)
 written_sized key v [] size = λ k. tt
 written_sized key v (f ∷ fields) size = λ k.
@@ -57,7 +57,7 @@ written_sized key v (f ∷ fields) size = λ k.
 
 -- ---- Heaps
 
--- Each object of a heap is still there, with fields of the same places. Others may follow.
+-- Each object of a heap still exists, with fields of the same sizes. Others may follow.
 abbrev pub Extends : List Object → List Object → Type 0
 Extends [] ys = Unit {0}
 Extends (x ∷ xs) [] = ⊥
@@ -90,7 +90,7 @@ class_object_kept name (array class elements) now is = ap (is_class_object name)
 class_object_kept name (text units) now is = ap (is_class_object name) is
 class_object_kept name (class_object n) now is = ap (is_class_object name) is
 
--- An object of a heap and what it has become, each with the fields of its class.
+-- An object of a heap and its later form, each with the fields of its class.
 pub record ArePair (program : List Class) (heap after : List Object) (was now : Object) : Type 0 where
   pub becomes : Becomes was now
   pub sized : AreSized (fields_of was) (fields_of now)

@@ -1,4 +1,4 @@
--- Which threads may enter a monitor, after one hold changes.
+-- The threads that may enter a monitor, after one hold changes.
 use Rattle.enabled_laws.proofs.Kept.{may_enter}
 use Rattle.jvms_machine.specs.Monitors.{entered_monitor, left_monitor, with_hold}
 use Rattle.jvms_machine.specs.State.{monitor_at}
@@ -26,7 +26,7 @@ hold_at q h (m ∷ monitors) r =
 abbrev pub KeepsHolds : List (ℕ × Hold) → List (ℕ × Hold) → Type 0
 KeepsHolds before after = (v r : ℕ) → may_enter v (monitor_at after r) ≡ may_enter v (monitor_at before r)
 
--- So it may after a hold is replaced by one of the same owner.
+-- Replacing a hold by one of the same owner keeps which monitors each thread may enter.
 pub owner_kept : (q : ℕ) (h was : Hold) (monitors : List (ℕ × Hold)) → monitor_at monitors q ≡ Some was → h.owner ≡ was.owner → KeepsHolds monitors (with_hold q h monitors)
 owner_kept q h was monitors at owner v r =
     ap (may_enter v) (hold_at q h monitors r)

@@ -1,4 +1,4 @@
--- What a thread asks of monitors, threads and waiters, and what of it stays.
+-- The parts of the state on which a thread's turn depends: monitors, threads and waiters.
 use Rattle.enabled_laws.proofs.Heaps.{Extends, class_object_kept}
 use Rattle.jvms_machine.proofs.MonitorLaws.{held_is}
 use Rattle.jvms_machine.specs.State.{AreMonitors, IsHold, IsReference, Object, State, Thread, class_reference, is_class_object, monitor_at, same_object, waits_for}
@@ -13,17 +13,17 @@ use Rattle.std.specs.List.{position_from}
 
 -- ---- Monitors
 
--- Whether a thread may enter a monitor with this hold.
+-- Decides whether a thread may enter a monitor with this hold.
 abbrev pub may_enter : ℕ → Option Hold → Bool
 may_enter t None = true
 may_enter t (Some h) = h.owner == t
 
--- The same of a class's object. Where there is none, one is made.
+-- Decides whether a thread may lock a class's object. If there is none, one is created.
 abbrev pub may_lock : ℕ → List (ℕ × Hold) → Option ℕ → Bool
 may_lock t monitors None = true
 may_lock t monitors (Some r) = may_enter t (monitor_at monitors r)
 
--- A monitor of a reference past the heap is free.
+-- A monitor of a reference beyond the heap is free.
 free_behind : (heap : List Object) (threads : List Thread) (monitors : List (ℕ × Hold)) (r : ℕ) → AreMonitors heap threads monitors → length heap < r → monitor_at monitors r ≡ None
 free_behind heap threads [] r are behind = refl
 free_behind heap threads (m ∷ monitors) r are behind =
@@ -50,7 +50,7 @@ locks_in t monitors name k (x ∷ xs) (y ∷ ys) extends free =
     lock_either true e = refl
     lock_either false e = e
 
--- Whether a thread may lock a class's object stays, if owners stay and the heap extends.
+-- Whether a thread may lock a class's object is unchanged if owners are kept and the heap extends.
 pub locks_kept : (t : ℕ) (heap after : List Object) (threads : List Thread) (monitors others : List (ℕ × Hold)) → Extends heap after → AreMonitors heap threads monitors → ((r : ℕ) → may_enter t (monitor_at others r) ≡ may_enter t (monitor_at monitors r)) → (name : List ℕ) → may_lock t others (class_reference after name) ≡ may_lock t monitors (class_reference heap name)
 locks_kept t heap after threads monitors others extends are same name =
     lock_same (class_reference after name) ∙ locks_in t monitors name 1 heap after extends (λ r behind. free_behind heap threads monitors r are (omega arith))
@@ -91,7 +91,7 @@ started_kept r xs ys same =
     let test = λ (thread : Thread). same_object thread.object (Some r) in
     position_from-zero test ys ∙ started_from r 0 xs ys same ∙ sym (position_from-zero test xs)
 
--- Whether a thread has ended. One that isn't there hasn't.
+-- Decides whether a thread has ended. One that doesn't exist hasn't.
 abbrev pub is_over : Option Thread → Bool
 is_over None = false
 is_over (Some thread) = thread.ended
@@ -105,17 +105,18 @@ ended_kept (suc v) (x ∷ xs) (y ∷ ys) same = ended_kept v xs ys same.2
 
 -- ---- Waits
 
--- Whether a waiting thread may take its monitor again: it was notified, and the monitor is free.
+-- Decides whether a waiting thread may take its monitor again: it was notified, and the monitor is free.
 abbrev pub may_retake : ℕ → List (ℕ × ℕ) → Option Hold → Bool
 may_retake t waiters o = not (is_waiter t waiters) && is_none o
 
--- The owner of a monitor doesn't wait for its object. So a waiting thread may enter it exactly where it is free.
+-- The owner of a monitor doesn't wait for its object. So a waiting thread may enter the monitor if and only if it is
+-- free.
 owner_waits_not : (heap : List Object) (threads : List Thread) (t r : ℕ) (o : Option Hold) → IfSome o (λ h. IsReference heap r × IsHold threads r h) → waits_for r (slice_get threads t) ≡ true → is_none o ≡ may_enter t o
 owner_waits_not heap threads t r None held waits = refl
 owner_waits_not heap threads t r (Some h) held waits =
     sym (ne_eqb h.owner t (λ same. absurd (true≢false (sym waits ∙ ap (λ v. waits_for r (slice_get threads v)) (sym same) ∙ held.1.3))))
 
--- Whether a thread awaits its notification stays, or all monitors stay and its own is held.
+-- Whether a thread awaits its notification is unchanged, or all monitors are kept and its own is held.
 abbrev pub WaitStays : State → State → ℕ → ℕ → Type 0
 WaitStays s after t r =
     (is_waiter t after.waiters ≡ is_waiter t s.waiters) ⊎ ((is_none (monitor_at s.monitors r) ≡ false) × (after.monitors ≡ s.monitors))

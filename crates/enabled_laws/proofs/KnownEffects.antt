@@ -1,5 +1,5 @@
--- What is known of the effect in a turn's decision: a value that is written in a field takes the places of its type,
--- and the monitor of an object whose waiters are notified is held.
+-- Properties of the effect in a turn's decision. A value that is written to a field has the size of its type, and the
+-- monitor of an object whose waiters are notified is held.
 use Rattle.jvms_file.specs.Descriptors.{field_type, units_of}
 use Rattle.jvms_file.specs.declared.descriptor.FieldType.{FieldType}
 use Rattle.jvms_machine.proofs.PlaceLaws.{type_units}
@@ -28,7 +28,7 @@ use Rattle.jvms_machine.specs.declared.value.Value.TheVariants as value
 
 -- ---- Effects
 
--- A value takes the places of the type of a field.
+-- A value has the size of the type of a field.
 abbrev pub IsOfSize : List Class → FieldNumber → Value → Type 0
 IsOfSize program n v = IfSome (field_key_at program n) (λ key. value_size v ≡ units_of (field_type key.descriptor))
 

@@ -1,4 +1,4 @@
--- What is known of decisions on objects, arrays, monitors, first calls and initialisations.
+-- Properties of decisions on objects, arrays, monitors, first calls and initialisations.
 use Rattle.enabled_laws.proofs.KnownEffects.{IsKnownDecision, IsKnownEffect, throws_known}
 use Rattle.jvms_file.specs.declared.insn.ArrayInsn.{ArrayInsn}
 use Rattle.jvms_file.specs.declared.insn.ArrayKind.{ArrayKind}
@@ -13,7 +13,7 @@ use Rattle.jvms_machine.specs.Heap.{array_of_class, array_of_type, arrays_made, 
 use Rattle.jvms_machine.specs.Initialisation.{asked_superclass, asking, initialisation_decision, initializer_call, initializer_decision, initializer_of, superclass_decision}
 use Rattle.jvms_machine.specs.Locking.{enter_object, exit_object, monitor_enter_decision, monitor_exit_decision, on_top_object}
 use Rattle.jvms_machine.specs.Monitors.{leaving}
-use Rattle.jvms_machine.specs.Objects.{cast, class_decision, held_or_made, instance_of_number, is_instantiable, loadable_decision, made_if_room, new_instance_decision, told_instance, with_class_of}
+use Rattle.jvms_machine.specs.Objects.{cast, class_decision, existing_or_new, instance_of_number, is_instantiable, loadable_decision, creation_if_room, new_instance_decision, instance_test_result, with_class_of}
 use Rattle.jvms_machine.specs.Places.{top_value, value_size}
 use Rattle.jvms_machine.specs.Profile.{is_outside_method}
 use Rattle.jvms_machine.specs.Start.{Start}
@@ -25,7 +25,7 @@ use Rattle.jvms_machine.specs.declared.action.NewObject.{NewObject}
 use Rattle.jvms_machine.specs.declared.machine.Limits.{Limits}
 use Rattle.jvms_machine.specs.declared.value.Value.{Value}
 use Rattle.jvms_program.specs.Program.{class_named, class_number, method_at}
-use Rattle.jvms_program.specs.Resolution.{MethodFound, class_exists, fits, method_number}
+use Rattle.jvms_program.specs.Resolution.{ResolvedMethod, class_exists, fits, method_number}
 use Rattle.jvms_program.specs.declared.number.MethodNumber.{MethodNumber}
 use Rattle.jvms_program.specs.declared.program.Body.{Body}
 use Rattle.jvms_program.specs.declared.program.Class.{Class}
@@ -36,7 +36,7 @@ use Rattle.std.proofs.Common.{Bool, List, None, Option, Some, [], codes, drop, f
 use Rattle.std.proofs.lemmas.Bool.{cond_both}
 use Rattle.std.specs.List.{list_all, list_any}
 use Rattle.std.specs.Prelude.{int_lt, unsigned_abs}
-use Rattle.turn_items.proofs.DecisionWalks.{IsOfTests, asking_has, called_has, entering_has, if_deep_has, numbered_has, with_int_has, with_object_has}
+use Rattle.turn_item_laws.proofs.DecisionWalks.{IsOfTests, asking_has, called_has, entering_has, if_deep_has, numbered_has, with_int_has, with_object_has}
 use Rattle.jvms_machine.specs.declared.action.Action.TheVariants as action
 use Rattle.jvms_file.specs.declared.insn.ArrayInsn.TheVariants as array_insn
 use Rattle.jvms_file.specs.declared.insn.ClassUse.TheVariants as class_use
@@ -127,7 +127,7 @@ module _ (program : List Class) (limits : Limits) (s : State) (t : ℕ) (thread 
       (λ _. throws_is thrown.NegativeArraySizeException)
       (λ _. new_arrays_room_known class dimensions (counted_lengths dimensions frame.activation.operands)))))
 
-  room_known : (takes : ℕ) (what : NewObject (List ℕ)) → Known (made_if_room limits s thread takes what)
+  room_known : (takes : ℕ) (what : NewObject (List ℕ)) → Known (creation_if_room limits s thread takes what)
   room_known takes what = cond_both (has_room_for 1 limits s) _ _ Known (λ _. tt) (λ _. throws_is thrown.OutOfMemoryError)
 
   instance_known : (o : Option ℕ) → Known (instance_of_number program limits s t thread o)
@@ -143,7 +143,7 @@ module _ (program : List Class) (limits : Limits) (s : State) (t : ℕ) (thread 
   cast_known frame true = tt
   cast_known frame false = throws_is thrown.ClassCastException
 
-  instance_of_known : (b : Bool) → Known (told_instance b)
+  instance_of_known : (b : Bool) → Known (instance_test_result b)
   instance_of_known true = tt
   instance_of_known false = tt
 
@@ -164,7 +164,7 @@ module _ (program : List Class) (limits : Limits) (s : State) (t : ℕ) (thread 
   class_known frame class_use.CheckCast name = deep frame 1 1 _ (with_class_known name frame.activation.operands _ _ tt (cast_known frame))
   class_known frame class_use.InstanceOf name = deep frame 1 1 _ (with_class_known name frame.activation.operands _ _ tt instance_of_known)
 
-  held_or_made_known : (o : Option ℕ) (what : NewObject (List ℕ)) → Known (held_or_made limits s thread o what)
+  held_or_made_known : (o : Option ℕ) (what : NewObject (List ℕ)) → Known (existing_or_new limits s thread o what)
   held_or_made_known (Some r) what = tt
   held_or_made_known None what = room_known 0 what
 
@@ -250,7 +250,7 @@ module _ (program : List Class) (limits : Limits) (s : State) (t : ℕ) (thread 
       (λ _. tt)
       (λ _. asked start.method.class _ (first_known None (length start.arguments) start.method m))
 
-  selected_run_known : (r : ℕ) (o : Option MethodFound) → Known (selected_run program limits s t thread r o)
+  selected_run_known : (r : ℕ) (o : Option ResolvedMethod) → Known (selected_run program limits s t thread r o)
   selected_run_known r None = throws_is thrown.AbstractMethodError
   selected_run_known r (Some found) = numbered_has program limits s t thread Known tests (method_number program found) _ (λ n m _ _. first_known (Some r) 1 n m)
 

@@ -1,4 +1,4 @@
--- What is known of decisions on fields and calls, and of each turn's.
+-- Properties of decisions on fields and calls, and of each turn's.
 use Rattle.enabled_laws.proofs.FieldTypes.{type_of_key}
 use Rattle.enabled_laws.proofs.KnownEffects.{IsKnownDecision, returns_known, throws_known, written_size}
 use Rattle.enabled_laws.proofs.KnownObjects.{array_known, class_known, first_call_known, initialisation_known, loadable_known, monitor_enter_known, monitor_exit_known, new_arrays_known, read_known, throw_known}
@@ -22,7 +22,7 @@ use Rattle.jvms_machine.specs.Start.{Start}
 use Rattle.jvms_machine.specs.State.{Activation, Frame, IsFrame, IsThread, MethodFrame, Object, Sound, State, Thread, array, class_object, class_of, instance, monitor_at, object_at, result_length, status_by, text}
 use Rattle.jvms_machine.specs.Steps.{frame_decision, instruction_at}
 use Rattle.jvms_machine.specs.Threads.{join_decision, start_decision, thread_native_decision, thread_of}
-use Rattle.jvms_machine.specs.Turn.{decide, frame_turn_decision, frames_decision, given_out_decision, instruction_decision, reaching_decision, thread_decision}
+use Rattle.jvms_machine.specs.Turn.{decide, frame_turn_decision, frames_decision, started_decision, instruction_decision, reaching_decision, thread_decision}
 use Rattle.jvms_machine.specs.Waiting.{is_waiter, object_native_decision, owned, retaking, waiting_decision, waits_or_notifies}
 use Rattle.jvms_machine.specs.declared.action.FrameDecision.{FrameDecision}
 use Rattle.jvms_machine.specs.declared.machine.Limits.{Limits}
@@ -30,7 +30,7 @@ use Rattle.jvms_machine.specs.declared.state.Hold.{Hold}
 use Rattle.jvms_machine.specs.declared.state.Wait.{Wait}
 use Rattle.jvms_machine.specs.declared.value.Value.{Value}
 use Rattle.jvms_program.specs.Program.{IsProgram, field_key_at, method_at}
-use Rattle.jvms_program.specs.Resolution.{FieldFound, MethodFound, field_number, fits, method_number, resolved_field, resolved_method}
+use Rattle.jvms_program.specs.Resolution.{ResolvedField, ResolvedMethod, field_number, fits, method_number, resolved_field, resolved_method}
 use Rattle.jvms_program.specs.declared.key.FieldKey.{FieldKey}
 use Rattle.jvms_program.specs.declared.number.FieldNumber.{FieldNumber}
 use Rattle.jvms_program.specs.declared.number.MethodNumber.{MethodNumber}
@@ -44,8 +44,8 @@ use Rattle.std.proofs.Common.{Bool, List, None, Option, Some, [], ap, codes, fal
 use Rattle.std.proofs.lemmas.Bool.{cond_both}
 use Rattle.std.specs.List.{AllByRecursion}
 use Rattle.std.specs.Prelude.{Err, Ok, Result}
-use Rattle.turn_items.proofs.DecisionWalks.{IsOfTests, asking_has, called_has, numbered_has}
-use Rattle.turn_items.proofs.InstructionWalks.{IsOfPops, method_return_has, unwinding_has}
+use Rattle.turn_item_laws.proofs.DecisionWalks.{IsOfTests, asking_has, called_has, numbered_has}
+use Rattle.turn_item_laws.proofs.InstructionWalks.{IsOfPops, method_return_has, unwinding_has}
 use Rattle.jvms_machine.specs.declared.action.Action.TheVariants as action
 use Rattle.jvms_machine.specs.declared.action.Decision.TheVariants as decision
 use Rattle.jvms_machine.specs.declared.action.Effect.TheVariants as effect
@@ -118,7 +118,7 @@ module _ (program : List Class) (limits : Limits) (s : State) (t : ℕ) (thread 
     found_field_known how type None is = tt
     found_field_known how type (Some n) is = numbered_field_known how type n (field_key_at program n) (is n refl)
 
-    resolved_field_known : (how : FieldUse) (type : FieldType) (o : Result FieldFound Thrown) → ((f : FieldFound) (n : FieldNumber) → o ≡ Ok f → field_number program f ≡ Some n → IsTypeOf type n) → Known (resolved_field_decision program limits s t thread frame how type o)
+    resolved_field_known : (how : FieldUse) (type : FieldType) (o : Result ResolvedField Thrown) → ((f : ResolvedField) (n : FieldNumber) → o ≡ Ok f → field_number program f ≡ Some n → IsTypeOf type n) → Known (resolved_field_decision program limits s t thread frame how type o)
     resolved_field_known how type (Err class) is = throws_is class
     resolved_field_known how type (Ok f) is = found_field_known how type (field_number program f) (λ n number. is f n refl number)
 
@@ -198,11 +198,11 @@ module _ (program : List Class) (limits : Limits) (s : State) (t : ℕ) (thread 
   call_known a receiver takes n m =
       called_has program limits s t thread Known tests n m receiver takes _ (λ body locked. decision.Makes (action.Calls n body takes locked)) (λ _. native_known a takes m (slice_get program n.class)) (λ body locked. tt)
 
-  static_call_known : (a : Activation) (takes : ℕ) (f : MethodFound) → Known (static_call_decision program limits s t thread a takes f)
+  static_call_known : (a : Activation) (takes : ℕ) (f : ResolvedMethod) → Known (static_call_decision program limits s t thread a takes f)
   static_call_known a takes f =
       numbered_has program limits s t thread Known tests (method_number program f) _ (λ n m _ _. asked n.class _ (call_known a None takes n m))
 
-  selected_known : (a : Activation) (q takes : ℕ) (o : Option MethodFound) → Known (selected_decision program limits s t thread a q takes o)
+  selected_known : (a : Activation) (q takes : ℕ) (o : Option ResolvedMethod) → Known (selected_decision program limits s t thread a q takes o)
   selected_known a q takes None = throws_is thrown.AbstractMethodError
   selected_known a q takes (Some f) = numbered_has program limits s t thread Known tests (method_number program f) _ (λ n m _ _. call_known a (Some q) takes n m)
 
@@ -210,19 +210,19 @@ module _ (program : List Class) (limits : Limits) (s : State) (t : ℕ) (thread 
   wrong_receiver_known invoke.Interface = throws_is thrown.IncompatibleClassChangeError
   wrong_receiver_known _ = tt
 
-  object_call_known : (frame : MethodFrame) (how : Invoke) (r : MethodReference) (f : MethodFound) (q : ℕ) (o : Option Object) → Known (object_call_decision program limits s t thread frame how r f q o)
+  object_call_known : (frame : MethodFrame) (how : Invoke) (r : MethodReference) (f : ResolvedMethod) (q : ℕ) (o : Option Object) → Known (object_call_decision program limits s t thread frame how r f q o)
   object_call_known frame how r f q None = tt
   object_call_known frame how r f q (Some o) =
       cond_both (fits program (class_of o) f.class.name) _ _ Known
       (λ _. selected_known frame.activation q (taken how r.method_type) (selected program frame how r (class_of o) f))
       (λ _. wrong_receiver_known how)
 
-  receiver_call_known : (frame : MethodFrame) (how : Invoke) (r : MethodReference) (f : MethodFound) (o : Option Value) → Known (receiver_call_decision program limits s t thread frame how r f o)
+  receiver_call_known : (frame : MethodFrame) (how : Invoke) (r : MethodReference) (f : ResolvedMethod) (o : Option Value) → Known (receiver_call_decision program limits s t thread frame how r f o)
   receiver_call_known frame how r f (Some (value.Reference q)) = object_call_known frame how r f q (object_at s.heap q)
   receiver_call_known frame how r f (Some value.Null) = throws_is thrown.NullPointerException
   receiver_call_known frame how r f _ = tt
 
-  resolved_call_known : (frame : MethodFrame) (how : Invoke) (r : MethodReference) (o : Result MethodFound Thrown) → Known (resolved_call_decision program limits s t thread frame how r o)
+  resolved_call_known : (frame : MethodFrame) (how : Invoke) (r : MethodReference) (o : Result ResolvedMethod Thrown) → Known (resolved_call_decision program limits s t thread frame how r o)
   resolved_call_known frame how r (Err class) = throws_is class
   resolved_call_known frame how r (Ok f) =
       cond_both (is_static_call how) _ _ Known
@@ -291,7 +291,7 @@ module _ (program : List Class) (limits : Limits) (s : State) (t : ℕ) (thread 
     waiting_known w =
         cond_both (is_waiter t s.waiters) _ _ Known (λ _. tt) (λ _. retaking_known w (monitor_at s.monitors w.reference))
 
-    status_known : (start : Start) (ended : Bool) (pending : Option ℕ) (waits : Option Wait) → IsThread program limits s.heap thread → Known (given_out_decision program limits start s t thread (status_by ended pending waits))
+    status_known : (start : Start) (ended : Bool) (pending : Option ℕ) (waits : Option Wait) → IsThread program limits s.heap thread → Known (started_decision program limits start s t thread (status_by ended pending waits))
     status_known start true pending waits is = tt
     status_known start false (Some r) waits is = unwinding_has program limits s t thread Known pops r
     status_known start false None (Some w) is = waiting_known w

@@ -5,7 +5,7 @@ use Rattle.enabled_laws.proofs.Kept.{AreSameThreads, threads_same, threads_set}
 use Rattle.enabled_laws.proofs.KnownEffects.{IsKnownAction}
 use Rattle.enabled_laws.specs.Kept.{ends_thread}
 use Rattle.jvms_machine.proofs.ListLaws.{get_set_other}
-use Rattle.jvms_machine.specs.Actions.{applied_to, begun, caught, changed_to, first_called, gone_on, operands_of, popped, put_to_wait, raised, returned, thrown_in, unwound, waited, with_changed, with_initialisation, with_retaken, with_waiter}
+use Rattle.jvms_machine.specs.Actions.{applied_to, begun, caught, changed_to, first_called, thread_after_action, operands_of, popped, put_to_wait, raised, returned, after_throw, unwound, waited, with_changed, with_initialisation, with_retaken, with_waiter}
 use Rattle.jvms_machine.specs.Decisions.{TurnAction, outcome_of_action}
 use Rattle.jvms_machine.specs.Exceptions.{exception_reference}
 use Rattle.jvms_machine.specs.Start.{Start}
@@ -45,7 +45,7 @@ changed_moves s made t change beside kept =
 
 -- ---- Actions that neither start nor end a thread
 
--- Whether an action starts no thread.
+-- Decides whether an action starts no thread.
 abbrev pub starts_no_thread : TurnAction → Bool
 starts_no_thread (action.Reaches what act) = starts_none what
 starts_no_thread _ = true
@@ -58,15 +58,15 @@ module _ (program : List Class) (limits : Limits) (start : Start) (s : State) (t
   popped_thread : (change : Thread → Thread) → ((thread : Thread) → ((change thread).object ≡ thread.object) × ((change thread).ended ≡ false)) → (made : State) → IsBeside s made → Moves t s (with_changed made t change)
   popped_thread change kept made beside = changed_moves s made t change beside (λ thread at. ((kept thread).0, (kept thread).1 ∙ sym (live thread at)))
 
-  -- Initialisations are no part of it.
+  -- A change of an initialisation neither starts nor ends a thread.
   initialised_moves : (after : State) (class : ℕ) (how : Initialisation) → Moves t s after → Moves t s (with_initialisation after class how)
   initialised_moves after class how moves = record { heap = moves.heap; threads = moves.threads; others = moves.others }
 
   pub action_moves : (act : TurnAction) → starts_no_thread act ≡ true → ends_thread (outcome_of_action act) ≡ false → IsKnownAction program s act → Moves t s (applied_to program start s t act)
   unfolding applied_to
-  action_moves (action.Goes act) starts ends known = same_thread (gone_on act) (λ thread. (refl, refl)) s (beside_itself s)
+  action_moves (action.Goes act) starts ends known = same_thread (thread_after_action act) (λ thread. (refl, refl)) s (beside_itself s)
   action_moves (action.Reaches what act) starts ends known =
-      same_thread (gone_on act) (λ thread. (refl, refl)) _ (effect_beside program s t (operands_of (slice_get s.threads t)) what starts known)
+      same_thread (thread_after_action act) (λ thread. (refl, refl)) _ (effect_beside program s t (operands_of (slice_get s.threads t)) what starts known)
   action_moves (action.Begins class) starts ends known =
       initialised_moves _ class (initialisation.InProgress t) (same_thread (begun class) (λ thread. (refl, refl)) _ (constants_beside s (slice_get program class)))
   action_moves (action.Finishes class) starts ends known = initialised_moves _ class initialisation.Done (same_thread popped (λ thread. (refl, refl)) s (beside_itself s))
@@ -76,7 +76,7 @@ module _ (program : List Class) (limits : Limits) (start : Start) (s : State) (t
   action_moves (action.Calls method body takes locked) starts ends known = same_thread _ (λ thread. (refl, refl)) _ (lock_beside program s t locked)
   action_moves (action.Returns method result unlock) starts ends known = same_thread (returned result) (λ thread. (refl, refl)) _ (unlock_beside s unlock)
   action_moves (action.Initialises method body) starts ends known = same_thread _ (λ thread. (refl, refl)) s (beside_itself s)
-  action_moves (action.Throws r) starts ends known = same_thread (thrown_in r) (λ thread. (refl, refl)) s (beside_itself s)
+  action_moves (action.Throws r) starts ends known = same_thread (after_throw r) (λ thread. (refl, refl)) s (beside_itself s)
   action_moves (action.Catches r target) starts ends known = same_thread (caught r target) (λ thread. (refl, refl)) s (beside_itself s)
   action_moves (action.Unwinds method true unlock) starts ends known = absurd (true≢false ends)
   action_moves (action.Unwinds method false unlock) starts ends known = popped_thread (unwound false) (λ thread. (refl, refl)) _ (unlock_beside s unlock)

@@ -1,4 +1,4 @@
--- What a quiet action keeps: the owners of monitors and the initialisations of classes.
+-- The state that a quiet action keeps: the owners of monitors and the initialisations of classes.
 use Rattle.enabled_laws.proofs.BesideThread.{starts_none}
 use Rattle.enabled_laws.proofs.Holds.{KeepsHolds, inner_entered, inner_left}
 use Rattle.enabled_laws.proofs.Moves.{starts_no_thread}
@@ -6,7 +6,7 @@ use Rattle.enabled_laws.proofs.Statics.{begins_none}
 use Rattle.enabled_laws.specs.Kept.{ends_thread}
 use Rattle.enabled_laws.specs.Quiet.{is_inner, is_quiet, is_quiet_effect, is_quiet_lock, is_quiet_unlock}
 use Rattle.jvms_machine.proofs.HeldMonitors.{left_old}
-use Rattle.jvms_machine.specs.Actions.{affected, applied_to, effect_items, exit_items, gone_on, items_of, mark, operands_of, put_field, put_static, release_items, returned, unlock_items, unwound, with_changed, with_exception, with_lock, with_unlock}
+use Rattle.jvms_machine.specs.Actions.{affected, applied_to, effect_items, exit_items, thread_after_action, items_of, mark, operands_of, put_field, put_static, release_items, returned, unlock_items, unwound, with_changed, with_exception, with_lock, with_unlock}
 use Rattle.jvms_machine.specs.Decisions.{TurnAction, outcome_of_action}
 use Rattle.jvms_machine.specs.Events.{is_release, newly_held, releases_between}
 use Rattle.jvms_machine.specs.Monitors.{entered_monitor, left_monitor}
@@ -112,7 +112,7 @@ module _ (program : List Class) (limits : Limits) (start : Start) (s : State) (t
   lock_keeps (lock.Monitor monitor) quiet can = entered_keeps monitor quiet can
   lock_keeps (lock.NewClass class r) quiet can = absurd (false≢true quiet)
 
-  -- If no monitor is released, the one that is left was entered more than once.
+  -- If no monitor is released, the monitor that is left was entered more than once.
   left_keeps : (after : State) (q : ℕ) → after.monitors ≡ left_monitor q s.monitors → releases_between t s after ≡ [] → KeepsHolds s.monitors (left_monitor q s.monitors)
   left_keeps after q made none =
       let kept : newly_held (left_monitor q s.monitors) s.monitors ≡ [] = ap (λ ms. newly_held ms s.monitors) (sym made) ∙ no_map (λ r. item.Release t r) (newly_held after.monitors s.monitors) none in
@@ -162,7 +162,7 @@ module _ (program : List Class) (limits : Limits) (start : Start) (s : State) (t
   unfolding applied_to items_of
   action_keeps (action.Goes act) quiet ready releases = λ w q. refl
   action_keeps (action.Reaches what act) quiet ready releases =
-      effect_keeps (with_changed (affected program s t (operands_of (slice_get s.threads t)) what) t (gone_on act)) _ what quiet ready.3 (operands_of (slice_get s.threads t)) refl releases
+      effect_keeps (with_changed (affected program s t (operands_of (slice_get s.threads t)) what) t (thread_after_action act)) _ what quiet ready.3 (operands_of (slice_get s.threads t)) refl releases
   action_keeps (action.Begins class) quiet ready releases = absurd (false≢true quiet)
   action_keeps (action.Finishes class) quiet ready releases = absurd (false≢true quiet)
   action_keeps (action.Enters method body locked) quiet ready releases = lock_keeps locked quiet ready.1

@@ -15,7 +15,7 @@ use Rattle.enabled_laws.specs.Kept.{Keeps, ends_thread}
 use Rattle.enabled_laws.specs.Quiet.{is_quiet_decision}
 use Rattle.jvms_machine.proofs.ListLaws.{count_by_cons, get_set_same}
 use Rattle.jvms_machine.proofs.TurnSoundness.{decided_is_ready, turn_is_told, turn_keeps}
-use Rattle.jvms_machine.specs.Actions.{affected, applied_to, begun, changed_to, gone_on, items_of, operands_of, with_changed, with_class_constants}
+use Rattle.jvms_machine.specs.Actions.{affected, applied_to, begun, changed_to, thread_after_action, items_of, operands_of, with_changed, with_class_constants}
 use Rattle.jvms_machine.specs.Decisions.{TurnAction, TurnDecision, outcome_of, outcome_of_action}
 use Rattle.jvms_machine.specs.Events.{is_release, releases_between}
 use Rattle.jvms_machine.specs.Limits.{are_limits}
@@ -23,7 +23,7 @@ use Rattle.jvms_machine.specs.Start.{IsStart, Start}
 use Rattle.jvms_machine.specs.State.{Sound, State, Thread, frames_in_progress, initialisation_frames, is_initialisation_of, monitor_at, new_thread, status_by, waits_for}
 use Rattle.jvms_machine.specs.Status.{is_bad, is_enabled}
 use Rattle.jvms_machine.specs.Threads.{thread_of}
-use Rattle.jvms_machine.specs.Turn.{IsReady, IsReadyToMake, decide, given_out_decision, items_after, state_after, thread_decision, turn}
+use Rattle.jvms_machine.specs.Turn.{IsReady, IsReadyToMake, decide, started_decision, items_after, state_after, thread_decision, turn}
 use Rattle.jvms_machine.specs.declared.action.Effect.{Effect}
 use Rattle.jvms_machine.specs.declared.machine.Limits.{Limits}
 use Rattle.jvms_machine.specs.declared.machine.Outcome.{Outcome}
@@ -44,8 +44,8 @@ use Rattle.jvms_machine.specs.declared.state.StackFrame.TheVariants as stack_fra
 
 -- ---- Turns
 
--- A thread that takes a turn is there, and hasn't ended.
-taken_lives : (program : List Class) (limits : Limits) (start : Start) (s : State) (t : ℕ) (thread : Thread) (ended : Bool) (pending : Option ℕ) (waits : Option Wait) (act : TurnAction) → given_out_decision program limits start s t thread (status_by ended pending waits) ≡ decision.Makes act → ended ≡ false
+-- A thread that takes a turn exists, and hasn't ended.
+taken_lives : (program : List Class) (limits : Limits) (start : Start) (s : State) (t : ℕ) (thread : Thread) (ended : Bool) (pending : Option ℕ) (waits : Option Wait) (act : TurnAction) → started_decision program limits start s t thread (status_by ended pending waits) ≡ decision.Makes act → ended ≡ false
 taken_lives program limits start s t thread true pending waits act makes = absurd (cc)
 taken_lives program limits start s t thread false pending waits act makes = refl
 
@@ -66,7 +66,7 @@ pub decided_makes : (program : List Class) (limits : Limits) (start : Start) (s 
 unfolding decide
 decided_makes program limits start s t act makes = thread_makes program limits start s t (slice_get s.threads t) act makes
 
--- What is known of a machine's state.
+-- The known properties of a machine's state.
 pub record IsKnown (program : List Class) (limits : Limits) (start : Start) (s : State) : Type 0 where
   pub classes : IsProgram program
   pub within : IsTrue (are_limits limits)
@@ -87,7 +87,7 @@ IsAsEnabled program limits start s t u =
     (is_enabled (turn program limits start (turn program limits start s t).state u).outcome ≡ is_enabled (turn program limits start s u).outcome)
     × (is_bad (turn program limits start (turn program limits start s t).state u).outcome ≡ false)
 
--- So it is if the turn keeps what is waited for.
+-- A turn that keeps what other threads wait for keeps whether they are enabled.
 moved_same : (program : List Class) (limits : Limits) (start : Start) (s : State) (t u : ℕ) → IsKnown program limits start s → (u ≡ t → ⊥) → Moves t s (turn program limits start s t).state → KeepsHolds s.monitors (turn program limits start s t).state.monitors → (turn program limits start s t).state.initialisations ≡ s.initialisations → AreSized s.statics (turn program limits start s t).state.statics → ((r : ℕ) → waits_for r (slice_get s.threads u) ≡ true → WaitStays s (turn program limits start s t).state u r) → IsAsEnabled program limits start s t u
 moved_same program limits start s t u known other moves holds initialisations statics waits =
     let after = (turn program limits start s t).state in
@@ -176,7 +176,7 @@ effect_starts_none program s t operands _ same = refl
 action_starts_none : (program : List Class) (start : Start) (s : State) (t : ℕ) (act : TurnAction) → length (applied_to program start s t act).threads ≡ length s.threads → starts_no_thread act ≡ true
 unfolding applied_to
 action_starts_none program start s t (action.Reaches what act) same =
-    effect_starts_none program s t (operands_of (slice_get s.threads t)) what (sym (as_many_starts s (affected program s t (operands_of (slice_get s.threads t)) what) t (gone_on act)) ∙ same)
+    effect_starts_none program s t (operands_of (slice_get s.threads t)) what (sym (as_many_starts s (affected program s t (operands_of (slice_get s.threads t)) what) t (thread_after_action act)) ∙ same)
 action_starts_none program start s t _ same = refl
 
 -- An initialisation that begins pushes a frame, so the initialisations aren't the same.

@@ -1,4 +1,4 @@
--- What a thread's turn asks of a state, related to the same of another state.
+-- The parts of a state on which a thread's turn depends, related to those of another state.
 use Rattle.enabled_laws.proofs.Heaps.{Extends, IsSized}
 use Rattle.enabled_laws.proofs.Kept.{is_over, may_enter, may_lock, may_retake}
 use Rattle.jvms_machine.proofs.EffectSoundness.{depth_is}
@@ -26,7 +26,7 @@ use Rattle.jvms_machine.specs.declared.value.Value.TheVariants as value
 
 -- ---- Enabled decisions
 
--- Whether a turn with the outcome is enabled, unless it is Bad.
+-- Decides whether a turn with the outcome is enabled, unless it is Bad.
 abbrev pub readiness_of : Outcome → Option Bool
 readiness_of o = cond (is_bad o) None (Some (is_enabled o))
 
@@ -65,7 +65,7 @@ pub popped_on : (last : Bool) → readiness_of (unwound_outcome last) ≡ Some t
 popped_on true = refl
 popped_on false = refl
 
--- A value takes two places at most. So there is room for it in place of an array and an index.
+-- A value takes two slots at most. So there is room for it in place of an array and an index.
 two_at_most : (v : Value) → value_size v ≤ 2
 two_at_most (value.Int n) = omega arith
 two_at_most (value.Long n) = omega arith
@@ -82,15 +82,15 @@ room_for_any frame gives deep within v =
     (le-leb 2 (length frame.activation.operands) there)
     (le-leb (length frame.activation.operands - 2 + value_size v) frame.body.max_stack (omega (arith, two_at_most v)))
 
--- ---- What stays for a thread
+-- ---- The parts that stay for a thread
 
--- Relates whether a thread is enabled before a turn to whether it is after. Both are the same, or one implies the
+-- A relation between whether a thread is enabled before a turn and after it. Both are the same, or one implies the
 -- other.
 pub record IsRelation (Rel : Bool → Bool → Type 0) : Type 0 where
   pub same : (a b : Bool) → b ≡ a → Rel a b
 
--- Relates the readiness of two turns. If the first isn't Bad, neither is the second, unless the first is enabled and the
--- relation allows anything after it.
+-- A relation between the readiness of two turns. If the first isn't Bad, neither is the second, unless the first is
+-- enabled and the relation allows anything after it.
 pub data Related (Rel : Bool → Bool → Type 0) : Option Bool → Option Bool → Type 0 where
   WasBad : (o : Option Bool) → Related Rel None o
   IsFit : (a b : Bool) → Rel a b → Related Rel (Some a) (Some b)
@@ -108,17 +108,17 @@ module _ (Rel : Bool → Bool → Type 0) where
   related_fit false true a b (IsFree o free) tells fit = absurd (tells refl free)
   related_fit false false a b is tells fit = refl
 
--- Whether a join of a thread may continue: the thread has ended, or none was started.
+-- Decides whether a join of a thread may continue: the thread has ended, or none was started.
 abbrev pub may_join : List Thread → Option ℕ → Bool
 may_join threads None = true
 may_join threads (Some v) = is_over (slice_get threads v)
 
--- A class's initialisation stays, or thread u waits for it after the turn.
+-- A class's initialisation is unchanged, or thread u waits for it after the turn.
 pub data Asked (Rel : Bool → Bool → Type 0) (u : ℕ) : Option Initialisation → Option Initialisation → Type 0 where
   AsBefore : (o : Option Initialisation) → Asked Rel u o o
   WaitsNow : (o : Option Initialisation) (v : ℕ) → (v == u) ≡ false → ((a : Bool) → Rel a false) → Asked Rel u o (Some (initialisation.InProgress v))
 
--- What the turn of thread u asks of a state is related to the same of another.
+-- The parts of two states on which the turn of thread u depends are related.
 pub record Stays (Rel : Bool → Bool → Type 0) (program : List Class) (limits : Limits) (s after : State) (u : ℕ) : Type 0 where
   pub relation : IsRelation Rel
   pub classes : IsProgram program

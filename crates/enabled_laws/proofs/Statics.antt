@@ -1,4 +1,4 @@
--- Actions that begin no initialisation keep the places of the static fields.
+-- Actions that begin no initialisation keep the sizes of the static fields.
 use Rattle.enabled_laws.proofs.Heaps.{AreSized, fields_themselves, written_sized}
 use Rattle.enabled_laws.proofs.KnownEffects.{IsKnownAction, IsKnownEffect}
 use Rattle.jvms_file.specs.Descriptors.{field_type, units_of}
@@ -24,13 +24,13 @@ use Rattle.jvms_machine.specs.declared.action.Lock.TheVariants as lock
 
 -- ---- Fields of classes
 
--- Whether an action begins no initialisation.
+-- Decides whether an action begins no initialisation.
 abbrev pub begins_none : TurnAction → Bool
 begins_none (action.Begins class) = false
 begins_none _ = true
 
 module _ (program : List Class) (start : Start) (s : State) (t : ℕ) where
-  -- The values of static fields take the same places, or those of their types.
+  -- The values of static fields have the same sizes, or those of their types.
   abbrev pub KeepsStatics : State → Type 0
   KeepsStatics after = AreSized s.statics after.statics
 

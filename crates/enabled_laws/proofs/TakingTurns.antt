@@ -8,7 +8,7 @@ use Rattle.enabled_laws.proofs.Related.{AsBefore, Asked, IsRelation, WaitsNow}
 use Rattle.enabled_laws.proofs.Turned.{Turned, beside_turned, changed_others, changed_threads, threads_started}
 use Rattle.enabled_laws.specs.Quiet.{is_quiet, is_quiet_effect, is_taking, is_taking_effect}
 use Rattle.jvms_machine.proofs.ListLaws.{appended_within}
-use Rattle.jvms_machine.specs.Actions.{affected, applied_to, begun, gone_on, operands_of, waited, with_changed, with_class_constants, with_initialisation, with_lock, with_retaken}
+use Rattle.jvms_machine.specs.Actions.{affected, applied_to, begun, thread_after_action, operands_of, waited, with_changed, with_class_constants, with_initialisation, with_lock, with_retaken}
 use Rattle.jvms_machine.specs.Decisions.{TurnAction}
 use Rattle.jvms_machine.specs.Monitors.{entered_monitor}
 use Rattle.jvms_machine.specs.Start.{Start}
@@ -29,9 +29,9 @@ use Rattle.jvms_machine.specs.declared.action.Effect.TheVariants as effect
 use Rattle.jvms_machine.specs.declared.state.Initialisation.TheVariants as initialisation
 use Rattle.jvms_machine.specs.declared.action.Lock.TheVariants as lock
 
--- ---- Monitors that come
+-- ---- Entered monitors
 
--- What holds after the turn held before it.
+-- What is true after the turn was true before it.
 abbrev pub Backward : Bool → Bool → Type 0
 Backward a b = b ≡ true → a ≡ true
 
@@ -80,15 +80,15 @@ module _ (program : List Class) (start : Start) (s : State) (t : ℕ) (own : Thr
   abbrev Takes : State → Type 0
   Takes after = Turned Backward backward t s after
 
-  effect_takes : (what : Effect (List ℕ)) (act : FrameAction) (others : List Value) → is_taking_effect what ≡ true → is_quiet_effect what ≡ false → Takes (with_changed (affected program s t others what) t (gone_on act))
+  effect_takes : (what : Effect (List ℕ)) (act : FrameAction) (others : List Value) → is_taking_effect what ≡ true → is_quiet_effect what ≡ false → Takes (with_changed (affected program s t others what) t (thread_after_action act))
   effect_takes (effect.Locks monitor) act others takes loud =
-      beside_turned Backward backward s _ t (gone_on act) own at (beside_heap s _ refl refl) refl (λ on. on) (λ v r _. entered_backward t monitor.reference (monitor_at s.monitors monitor.reference) s.monitors refl v r) refl
+      beside_turned Backward backward s _ t (thread_after_action act) own at (beside_heap s _ refl refl) refl (λ on. on) (λ v r _. entered_backward t monitor.reference (monitor_at s.monitors monitor.reference) s.monitors refl v r) refl
   effect_takes (effect.Starts q w) act others takes loud =
       let made : State = record s { threads = s.threads ++ new_thread (Some q) ∷ [] } in
       record {
         heap = extends_itself s.heap;
-        threads = changed_threads Backward backward s made t (gone_on act) own at (appended_within s.threads (new_thread (Some q) ∷ []) t own at) (threads_started Backward backward (λ b _. refl) s.threads q) refl (λ on. on);
-        others = λ u thread other there. changed_others Backward backward made t (gone_on act) u thread other (appended_within s.threads (new_thread (Some q) ∷ []) u thread there);
+        threads = changed_threads Backward backward s made t (thread_after_action act) own at (appended_within s.threads (new_thread (Some q) ∷ []) t own at) (threads_started Backward backward (λ b _. refl) s.threads q) refl (λ on. on);
+        others = λ u thread other there. changed_others Backward backward made t (thread_after_action act) u thread other (appended_within s.threads (new_thread (Some q) ∷ []) u thread there);
         enters = λ v r _ on. on;
         asked = λ v class _. AsBefore (slice_get s.initialisations class);
       }

@@ -1,4 +1,4 @@
--- Turns after which all that another thread asks for is related to before.
+-- Turns that relate the parts of the state on which other threads' turns depend.
 use Rattle.enabled_laws.proofs.BesideThread.{IsBeside}
 use Rattle.enabled_laws.proofs.EnabledTurns.{outcomes_fit, outcomes_same}
 use Rattle.enabled_laws.proofs.Heaps.{Extends, IsSized}
@@ -79,7 +79,7 @@ module _ (Rel : Bool → Bool → Type 0) (relation : IsRelation Rel) where
         (subst (λ (o : Option ℕ). Rel (may_join before (position_from test 0 before)) (may_join after o)) (sym (position_from-zero test after))
         (joins_from 0 before after all))
 
-  -- What other threads than t ask for is related to before.
+  -- The parts of the state on which the turns of other threads than t depend are related before and after.
   pub record Turned (t : ℕ) (s after : State) : Type 0 where
     pub heap : Extends s.heap after.heap
     pub threads : AreThreads Rel s.threads after.threads
@@ -91,8 +91,8 @@ module _ (Rel : Bool → Bool → Type 0) (relation : IsRelation Rel) where
   lock_rel v monitors others enters None = relation.same true true refl
   lock_rel v monitors others enters (Some r) = enters r
 
-  -- If the turn of thread u isn't Bad, whether it is enabled after the turn of thread t is related to before. It isn't
-  -- Bad then either, unless it was enabled and the relation allows anything after it.
+  -- If the turn of thread u isn't Bad, whether it is enabled is related before and after the turn of thread t. It isn't
+  -- Bad after it either, unless it was enabled and the relation allows anything after it.
   pub turned_rel : (program : List Class) (limits : Limits) (start : Start) (s : State) (t u : ℕ) (thread : Thread) → IsKnown program limits start s → (u ≡ t → ⊥) → slice_get s.threads u ≡ Some thread → Turned t s (turn program limits start s t).state → ((key : FieldKey) → IsSized key (value_of key s.statics) (value_of key (turn program limits start s t).state.statics) ⊎ ((b : Bool) → Rel true b)) → ((r : ℕ) → waits_for r (slice_get s.threads u) ≡ true → WaitStays s (turn program limits start s t).state u r) → is_bad (turn program limits start s u).outcome ≡ false → Rel (is_enabled (turn program limits start s u).outcome) (is_enabled (turn program limits start (turn program limits start s t).state u).outcome) × ((is_enabled (turn program limits start s u).outcome ≡ true → ((b : Bool) → Rel true b) → ⊥) → is_bad (turn program limits start (turn program limits start s t).state u).outcome ≡ false)
   turned_rel program limits start s t u thread known other there turned statics waits fit =
       let after = (turn program limits start s t).state in
@@ -117,7 +117,7 @@ module _ (Rel : Bool → Bool → Type 0) (relation : IsRelation Rel) where
       } in
       (outcomes_same Rel program limits start s after u stays kept fit, λ tells. outcomes_fit Rel program limits start s after u stays kept tells fit)
 
-  -- A state after which thread t has changed too.
+  -- A thread other than t is unchanged in a state with thread t changed.
   pub changed_others : (made : State) (t : ℕ) (change : Thread → Thread) (u : ℕ) (thread : Thread) → (u ≡ t → ⊥) → slice_get made.threads u ≡ Some thread → slice_get (with_changed made t change).threads u ≡ Some thread
   changed_others made t change u thread other there = other_is made.threads t u change (slice_get made.threads t) other ∙ there
 
@@ -126,7 +126,7 @@ module _ (Rel : Bool → Bool → Type 0) (relation : IsRelation Rel) where
       subst (λ (o : Option Thread). AreThreads Rel s.threads (changed_to made.threads t change o)) (sym made_at)
       (threads_written s.threads made.threads t own (change own) are at object ended)
 
-  -- So it is if nothing but the heap, the monitors and thread t change.
+  -- A turn that changes nothing but the heap, the monitors and thread t relates the parts on which the others depend.
   pub beside_turned : (s made : State) (t : ℕ) (change : Thread → Thread) (own : Thread) → slice_get s.threads t ≡ Some own → IsBeside s made → (change own).object ≡ own.object → Rel own.ended (change own).ended → ((v r : ℕ) → (v ≡ t → ⊥) → Rel (may_enter v (monitor_at s.monitors r)) (may_enter v (monitor_at made.monitors r))) → made.initialisations ≡ s.initialisations → Turned t s (with_changed made t change)
   beside_turned s made t change own at beside object ended enters initialisations =
       let same : AreThreads Rel s.threads made.threads = subst (AreThreads Rel s.threads) (sym beside.threads) (threads_itself s.threads) in

@@ -1,7 +1,7 @@
 -- An action keeps whether another thread awaits its notification, or the thread's monitor is held.
 use Rattle.enabled_laws.proofs.Kept.{WaitStays}
 use Rattle.enabled_laws.proofs.KnownEffects.{IsKnownAction, IsKnownEffect}
-use Rattle.jvms_machine.specs.Actions.{affected, applied_to, ended, gone_on, operands_of, put_field, put_static, with_changed, with_class_constants, with_exception, with_lock, with_result, with_unlock}
+use Rattle.jvms_machine.specs.Actions.{affected, applied_to, ended, thread_after_action, operands_of, put_field, put_static, with_changed, with_class_constants, with_exception, with_lock, with_result, with_unlock}
 use Rattle.jvms_machine.specs.Decisions.{TurnAction}
 use Rattle.jvms_machine.specs.Start.{Start}
 use Rattle.jvms_machine.specs.State.{AreWaiters, State, Thread, is_wait_for, monitor_at, waits_for}
@@ -56,12 +56,12 @@ module _ (threads : List Thread) (q v r : ℕ) (waits : waits_for r (slice_get t
       (λ of_q. sym (ap (λ b. b || is_waiter v waiters) (is_another w are.0 of_q)))
       (λ _. ap (λ b. (w.1 == v) || b) (left_waiter waiters are.2))
 
-  -- So a notification for object q keeps its wait.
+  -- A notification for object q keeps the wait of a thread for another object.
   notified_waiter : (all : Bool) (waiters : List (ℕ × ℕ)) → AreWaiters threads waiters → is_waiter v (without_notified q all waiters) ≡ is_waiter v waiters
   notified_waiter true waiters are = kept_waiter waiters are
   notified_waiter false waiters are = left_waiter waiters are
 
--- So does another thread that begins to wait.
+-- Another thread that begins to wait keeps a thread's wait.
 one_more_waiter : (r t v : ℕ) (waiters : List (ℕ × ℕ)) → (v ≡ t → ⊥) → is_waiter v (waiters ++ (r, t) ∷ []) ≡ is_waiter v waiters
 one_more_waiter r t v [] other = ap (λ b. b || false) (ne_eqb t v (λ same. other (sym same)))
 one_more_waiter r t v (w ∷ waiters) other = ap (λ b. (w.1 == v) || b) (one_more_waiter r t v waiters other)
@@ -111,7 +111,7 @@ module _ (program : List Class) (start : Start) (s : State) (t v r : ℕ) (other
 
   pub action_waits : (act : TurnAction) → IsKnownAction program s act → WaitStays s (applied_to program start s t act) v r
   unfolding applied_to
-  action_waits (action.Reaches what act) known = effect_waits (operands_of (slice_get s.threads t)) what (gone_on act) known
+  action_waits (action.Reaches what act) known = effect_waits (operands_of (slice_get s.threads t)) what (thread_after_action act) known
   action_waits (action.Begins class) known = inl (ap (is_waiter v) (constants_waiters (slice_get program class)))
   action_waits (action.Enters method body locked) known = inl (ap (is_waiter v) (lock_waiters locked))
   action_waits (action.Ends method result unlock) known =

@@ -3,15 +3,15 @@ use Rattle.std.specs.Prelude.{◌≡◌, Bool, false, length}
 use Rattle.jvms_machine.specs.declared.machine.Outcome.{Outcome}
 use Rattle.jvms_machine.specs.declared.machine.Outcome.TheVariants as outcome
 use Rattle.jvms_machine.specs.State.{State}
-use Rattle.jvms_machine.specs.Turn.{Row}
+use Rattle.jvms_machine.specs.Turn.{Transition}
 
--- Whether the thread ends in the turn.
+-- Decides whether the thread ends in the turn.
 abbrev pub ends_thread : Outcome → Bool
 ends_thread (outcome.Ended last) = last
 ends_thread _ = false
 
 -- The turn keeps the held monitors and the initialisations of classes, starts no thread, and doesn't end its own.
-pub record Keeps (s : State) (row : Row) : Type 0 where
+pub record Keeps (s : State) (row : Transition) : Type 0 where
   pub monitors : row.state.monitors ≡ s.monitors
   pub initialisations : row.state.initialisations ≡ s.initialisations
   pub threads : length row.state.threads ≡ length s.threads

@@ -11,11 +11,13 @@ use Rattle.jvms_machine.specs.declared.action.Lock.{Lock}
 use Rattle.jvms_machine.specs.declared.action.Lock.TheVariants as lock
 use Rattle.jvms_machine.specs.declared.action.MonitorUse.{MonitorUse}
 
--- An entry of a monitor that its thread already holds, or a leave after which it still holds it.
+-- Decides whether a use of a monitor is an entry by the thread that already holds it, or a leave after which the thread
+-- still holds it.
 abbrev pub is_inner : MonitorUse → Bool
 is_inner monitor = not monitor.outermost
 
--- A notification is quiet: the notified thread can't take the monitor yet, which the notifier holds.
+-- Decides whether an effect is quiet. A notification is: the notified thread can't take the monitor yet, which the
+-- notifier holds.
 abbrev pub is_quiet_effect : {T : Type 0} → Effect T → Bool
 is_quiet_effect effect.Nothing = true
 is_quiet_effect (effect.GetField r n) = true
@@ -41,7 +43,8 @@ abbrev pub is_quiet_unlock : Option MonitorUse → Bool
 is_quiet_unlock None = true
 is_quiet_unlock (Some monitor) = is_inner monitor
 
--- Enters no free monitor and frees none, begins and ends no initialisation, and starts and ends no thread.
+-- Decides whether an action enters no free monitor and frees none, begins and ends no initialisation, and starts and
+-- ends no thread.
 abbrev pub is_quiet : {C : Type 0} → {T : Type 0} → Action C T → Bool
 is_quiet (action.Goes act) = true
 is_quiet (action.Reaches what act) = is_quiet_effect what
@@ -62,15 +65,15 @@ is_quiet (action.Retakes w) = false
 is_quiet (action.Raises e) = true
 is_quiet (action.Fails e) = false
 
--- A turn that isn't taken changes nothing.
+-- Decides whether a turn of this decision is quiet. A turn that isn't taken changes nothing.
 abbrev pub is_quiet_decision : {C : Type 0} → {T : Type 0} → Decision C T → Bool
 is_quiet_decision (decision.Unmade o) = true
 is_quiet_decision (decision.Makes act) = is_quiet act
 
 -- ---- Actions that take, and actions that give
 
--- Frees no monitor, and ends no initialisation and no thread. It may enter a monitor, take one again after a wait, begin
--- an initialisation or start a thread.
+-- Decides whether an effect frees no monitor, and ends no initialisation and no thread. It may enter a monitor, take
+-- one again after a wait, begin an initialisation or start a thread.
 abbrev pub is_taking_effect : {T : Type 0} → Effect T → Bool
 is_taking_effect effect.Nothing = true
 is_taking_effect (effect.GetField r n) = true
@@ -111,8 +114,8 @@ abbrev pub is_taking_decision : {C : Type 0} → {T : Type 0} → Decision C T �
 is_taking_decision (decision.Unmade o) = true
 is_taking_decision (decision.Makes act) = is_taking act
 
--- Enters no free monitor, begins and ends no initialisation, and starts no thread. It may free a monitor, also by a
--- wait, or end its thread.
+-- Decides whether an effect enters no free monitor, begins and ends no initialisation, and starts no thread. It may
+-- free a monitor, also by a wait, or end its thread.
 abbrev pub is_giving_effect : {T : Type 0} → Effect T → Bool
 is_giving_effect effect.Nothing = true
 is_giving_effect (effect.GetField r n) = true

@@ -1,4 +1,4 @@
-//! Which turns keep, disable or enable the other threads: tests of their decisions, and laws.
+//! Turns that keep, disable or enable the other threads: tests of their decisions, and laws.
 #![tactic(auto)]
 
 pub mod laws;

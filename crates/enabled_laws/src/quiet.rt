@@ -5,7 +5,7 @@ ghost use Rattle.enabled_laws.specs.Quiet.{is_inner as inner, is_quiet as quiet,
 
 use jvms_machine::action::{Action, Decision, Effect, Lock, MonitorUse};
 
-/// Returns whether a thread enters a monitor that it already holds, or still holds the one that it leaves.
+/// Decides whether a thread enters a monitor that it already holds, or still holds the one that it leaves.
 #[inline]
 fn is_inner(monitor: MonitorUse) -> bool
     ensures { result ≡ inner monitor }
@@ -45,7 +45,7 @@ fn is_quiet_unlock(unlock: Option<MonitorUse>) -> bool
     }
 }
 
-/// Returns whether an action enters no free monitor and frees none, begins and ends no initialisation, and starts and
+/// Decides whether an action enters no free monitor and frees none, begins and ends no initialisation, and starts and
 /// ends no thread.
 #[inline]
 fn is_quiet_action<C, T>(action: &Action<C, T>) -> bool
@@ -72,7 +72,7 @@ fn is_quiet_action<C, T>(action: &Action<C, T>) -> bool
     }
 }
 
-/// Returns whether a turn of this decision keeps which other threads are enabled (`laws`).
+/// Decides whether a turn of this decision keeps which other threads are enabled (`laws`).
 #[inline]
 pub fn is_quiet<C, T>(decision: &Decision<C, T>) -> bool
     ensures { result ≡ quiet_decision decision.now }
@@ -93,7 +93,7 @@ fn is_taking_effect<T>(effect: &Effect<T>) -> bool
     }
 }
 
-/// Returns whether an action frees no monitor, and ends no initialisation and no thread.
+/// Decides whether an action frees no monitor, and ends no initialisation and no thread.
 #[inline]
 fn is_taking_action<C, T>(action: &Action<C, T>) -> bool
     ensures { result ≡ taking action.now }
@@ -112,7 +112,7 @@ fn is_taking_action<C, T>(action: &Action<C, T>) -> bool
     }
 }
 
-/// Returns whether a turn of this decision enables no other thread that was there before (`laws`).
+/// Decides whether a turn of this decision enables no other thread that was started before (`laws`).
 #[inline]
 pub fn is_taking<C, T>(decision: &Decision<C, T>) -> bool
     ensures { result ≡ taking_decision decision.now }
@@ -134,7 +134,7 @@ fn is_giving_effect<T>(effect: &Effect<T>) -> bool
     }
 }
 
-/// Returns whether an action enters no free monitor, begins and ends no initialisation, and starts no thread.
+/// Decides whether an action enters no free monitor, begins and ends no initialisation, and starts no thread.
 #[inline]
 fn is_giving_action<C, T>(action: &Action<C, T>) -> bool
     ensures { result ≡ giving action.now }
@@ -150,7 +150,7 @@ fn is_giving_action<C, T>(action: &Action<C, T>) -> bool
     }
 }
 
-/// Returns whether a turn of this decision disables no other thread (`laws`).
+/// Decides whether a turn of this decision disables no other thread (`laws`).
 #[inline]
 pub fn is_giving<C, T>(decision: &Decision<C, T>) -> bool
     ensures { result ≡ giving_decision decision.now }

@@ -15,7 +15,7 @@ none_if : (any inside : Bool) (place : ℕ) → any ≡ inside → cond inside (
 none_if any true place same none = absurd cc
 none_if any false place same none = same
 
--- No such byte has a place.
+-- Without a place there is no such byte.
 pub no_place : (b : ℕ) (xs : List ℕ) → position (λ x. x == b) xs ≡ None → has b xs ≡ false
 no_place b xs e =
     none_if (has b xs) (nat_lt (position_or_len (λ x. x == b) xs) (length xs)) (position_or_len (λ x. x == b) xs) (any_is_inside (λ x. x == b) xs) e
@@ -29,7 +29,7 @@ clear_before : (b : ℕ) (xs : List ℕ) → has b (take (position_or_len (λ x.
 clear_before b [] = refl
 clear_before b (x ∷ xs) = clear_step b x xs (x == b) refl (clear_before b xs)
 
--- The list is what stands before the first such byte, the byte, and what stands behind it.
+-- The list is the part before the first such byte, the byte, and the part after it.
 pub place_cuts : (b : ℕ) (xs : List ℕ) (place : ℕ) → position (λ x. x == b) xs ≡ Some place → IsCut b xs (Some (take place xs, take (length xs - (place + 1)) (drop (place + 1) xs)))
 place_cuts b xs place e =
     let both = cond_some (nat_lt (position_or_len (λ x. x == b) xs) (length xs)) (position_or_len (λ x. x == b) xs) place e in
@@ -38,7 +38,7 @@ place_cuts b xs place e =
     let byte = eqb-true (get_or xs (position_or_len (λ x. x == b) xs) 0) b (passes_at_first (λ x. x == b) xs 0 inside) in
     rw (take_rest xs (place + 1), ← both.1) (whole ∙ ap (λ (x : ℕ). before_first (λ y. y == b) xs ++ x ∷ after_first (λ y. y == b) xs) byte, clear_before b xs)
 
--- ---- One cut alone
+-- ---- The uniqueness of a split
 
 head_is : (x y : ℕ) (xs ys : List ℕ) → x ∷ xs ≡ y ∷ ys → (x ≡ y) × (xs ≡ ys)
 head_is x y xs ys e = (cc, cc)
@@ -51,7 +51,7 @@ not_first b x xs none same =
 behind_first : (b x : ℕ) (xs : List ℕ) → has b (x ∷ xs) ≡ false → has b xs ≡ false
 behind_first b x xs none = (or_parts (x == b) (has b xs) none).1
 
--- The same list, cut at a byte that neither beginning has: both are cut at one place.
+-- A list that is split at a byte that neither front has is split at one place.
 pub one_cut : (b : ℕ) (xs ys us vs : List ℕ) → has b xs ≡ false → has b us ≡ false → xs ++ b ∷ ys ≡ us ++ b ∷ vs → (xs ≡ us) × (ys ≡ vs)
 one_cut b [] ys [] vs left right e = (refl, (head_is b b ys vs e).1)
 one_cut b [] ys (u ∷ us) vs left right e = absurd (not_first b u us right (head_is b u ys (us ++ b ∷ vs) e).0)
@@ -61,7 +61,7 @@ one_cut b (x ∷ xs) ys (u ∷ us) vs left right e =
     let rest = one_cut b xs ys us vs (behind_first b x xs left) (behind_first b u us right) parts.1 in
     (cc, rest.1)
 
--- ---- Two cuts
+-- ---- Two splits
 
 or_true : (b : Bool) → (b || true) ≡ true
 or_true true = refl
@@ -71,7 +71,7 @@ has_between : (b : ℕ) (xs ys : List ℕ) → has b (xs ++ b ∷ ys) ≡ true
 has_between b [] ys = rw (eq-eqb b b refl) refl
 has_between b (x ∷ xs) ys = rw (has_between b xs ys) (or_true (x == b))
 
--- A list without such a byte isn't cut at one.
+-- A list without such a byte isn't split at one.
 pub no_first : (b : ℕ) (bytes xs ys : List ℕ) → has b bytes ≡ false → bytes ≢ xs ++ b ∷ ys
 no_first b bytes xs ys none e = true≢false (sym (has_between b xs ys) ∙ ap (has b) (sym e) ∙ none)
 

@@ -1,4 +1,4 @@
--- How many dots texts have.
+-- The numbers of dots in texts.
 use Rattle.std.proofs.Common.{◌≡◌, ℕ, ◌+◌, ◌==◌, Bool, false, cond, List, [], ◌∷◌, ◌++◌, refl, ap, ◌∙◌, arith}
 use Rattle.std.proofs.lemmas.Bool.{or_parts}
 use Rattle.std.proofs.lemmas.List.Sums.{sum_by-cons, sum_by-append}
@@ -34,7 +34,7 @@ behind_dot xs n e = behind_one 46 xs ∙ ap (λ (k : ℕ). 1 + k) e
 pub name_dots : (s : NameSort) (us : List ℕ) → IsNameOf s us → dots_in (spelled us) ≡ 0
 name_dots s us is = none_counted (spelled us) (spelled_no_dot us (no_dot s us is))
 
--- A member has two.
+-- A member has two dots.
 pub member_dots : (n d : NameSort) (class name descriptor : List ℕ) → IsMember n d class name descriptor → dots_in (member_text class name descriptor) ≡ 2
 member_dots n d class name descriptor is =
     joined_count (spelled class ++ 46 ∷ spelled name) (46 ∷ spelled descriptor) 1 1

@@ -1,4 +1,4 @@
--- No name and no descriptor has a dot, so a member's text is cut at dots in one way.
+-- No name and no descriptor has a dot, so a member's text is split at dots in one way.
 use Rattle.std.proofs.Common.{◌≡◌, ◌≢◌, ℕ, zero, suc, ◌/◌, ◌%◌, ◌<◌, ◌==◌, nat_eq, ◌&&◌, ◌||◌, not, Bool, true, false, cond, List, [], ◌∷◌, ◌++◌, Option, Some, None, refl, sym, ap, ◌∙◌, append_assoc, arith}
 use Rattle.std.specs.Prelude.{replicate, is_some}
 use Rattle.std.specs.Cmp.Lexicographic.{pointwise}
@@ -161,7 +161,7 @@ clear_by_cases b u true low is isnt = rw (ne_eqb u b (isnt is)) refl
 clear_by_cases b u false low is isnt =
     rw (ne_eqb 92 b (λ same. omega arith), ne_eqb 117 b (λ same. omega arith), digit_is_high b (u / 4096) low, digit_is_high b (u / 256 % 16) low, digit_is_high b (u / 16 % 16) low, digit_is_high b (u % 16) low) refl
 
--- A unit as it is written holds no byte below the digits but the unit itself.
+-- A written unit has no byte below the digits, except the unit itself.
 clear_unit : (b u : ℕ) → b < 48 → (is_plain u ≡ true → u ≡ b → ⊥) → has b (escaped u) ≡ false
 clear_unit b u low isnt = clear_by_cases b u (is_plain u) low refl isnt
 
@@ -174,20 +174,20 @@ spelled_no_dot (u ∷ us) none =
 low_is_not_plain : (b u : ℕ) → b < 33 → is_plain u ≡ true → u ≡ b → ⊥
 low_is_not_plain b u low plain same = grind (arith, nat_tests)
 
--- No space and no line's end.
+-- A written name has no space and no line end.
 pub spelled_no_low : (b : ℕ) (us : List ℕ) → b < 33 → has b (spelled us) ≡ false
 spelled_no_low b [] low = refl
 spelled_no_low b (u ∷ us) low = has_append b (escaped u) (spelled us) (clear_unit b u (omega arith) (low_is_not_plain b u low)) (spelled_no_low b us low)
 
 -- ---- Members
 
--- A text's parts before, between and behind the first two of a byte.
+-- The parts of a text before, between and after the first two of a byte.
 pub record AreParts (b : ℕ) (text first second third : List ℕ) : Type 0 where
   pub split : text ≡ first ++ b ∷ (second ++ b ∷ third)
   pub first_clear : has b first ≡ false
   pub second_clear : has b second ≡ false
 
--- A member's text, cut at its first two dots.
+-- A member's text is split at its first two dots.
 pub member_parts : (n d : NameSort) (class name descriptor : List ℕ) → IsMember n d class name descriptor → AreParts 46 (member_text class name descriptor) (spelled class) (spelled name) (spelled descriptor)
 member_parts n d class name descriptor is = record {
   split = append_assoc (spelled class) (46 ∷ spelled name) (46 ∷ spelled descriptor);
@@ -209,7 +209,7 @@ one_cutting b text first second third xs ys zs left right =
 pub parts_along : (b : ℕ) (text text' first second third : List ℕ) → text ≡ text' → AreParts b text' first second third → AreParts b text first second third
 parts_along b text text' first second third same parts = record { split = same ∙ parts.split; first_clear = parts.first_clear; second_clear = parts.second_clear }
 
--- The parts of a text that is a member's are its names as they are written.
+-- The parts of a member's text are its names as they are written.
 pub are_member : (n d : NameSort) (text first second third class name descriptor : List ℕ) → AreParts 46 text first second third → IsMember n d class name descriptor → text ≡ member_text class name descriptor → SameParts first second third (spelled class) (spelled name) (spelled descriptor)
 are_member n d text first second third class name descriptor parts is e =
     one_cutting 46 text first second third (spelled class) (spelled name) (spelled descriptor) parts
@@ -221,7 +221,7 @@ no_parts n d text class name descriptor none is e =
     let parts = member_parts n d class name descriptor is in
     none (spelled class) (spelled name) (spelled descriptor) parts.first_clear parts.second_clear (e ∙ parts.split)
 
--- The same text is of the same member.
+-- Equal texts are those of equal members.
 pub one_member : (n d : NameSort) (class name descriptor c m t : List ℕ) → IsMember n d class name descriptor → IsMember n d c m t → member_text class name descriptor ≡ member_text c m t → SameParts class name descriptor c m t
 one_member n d class name descriptor c m t left right e =
     let same = are_member n d (member_text class name descriptor) (spelled class) (spelled name) (spelled descriptor) c m t (member_parts n d class name descriptor left) right e in
@@ -251,7 +251,7 @@ pub no_descriptor : (n d : NameSort) (text first second third : Text) → ArePar
 no_descriptor n d text first second third parts none c m t is e =
     none t is.descriptor (are_member n d text first second third c m t parts is e).same_third
 
--- The names of its parts are a member's.
+-- A text whose parts are the names of a member is that member's.
 pub is_written : (text first second third c m t : Text) → AreParts 46 text first second third → first ≡ spelled c → second ≡ spelled m → third ≡ spelled t → text ≡ member_text c m t
 is_written text first second third c m t parts one two three =
     parts.split ∙ ap (λ (x : Text). x ++ 46 ∷ (second ++ 46 ∷ third)) one ∙ ap (λ (x : Text). spelled c ++ 46 ∷ (x ++ 46 ∷ third)) two

@@ -12,7 +12,7 @@ use Rattle.escapes.specs.Readings.{IsUnit}
 one_digit : (a b : ℕ) → a < 16 → b < 16 → hexadecimal a ≡ hexadecimal b → a ≡ b
 one_digit a b small few e = grind (arith, nat_tests)
 
--- The digits of two units that are the same, digit by digit.
+-- Units with equal digits are equal.
 digits_unit : (u v : ℕ) → IsUnit u → IsUnit v → u / 4096 ≡ v / 4096 → u / 256 % 16 ≡ v / 256 % 16 → u / 16 % 16 ≡ v / 16 % 16 → u % 16 ≡ v % 16 → u ≡ v
 digits_unit u v small few first second third fourth = omega arith
 
@@ -55,26 +55,26 @@ some_by_cases : (u : ℕ) (p : Bool) (us : List ℕ) → cond p (u ∷ []) (92 �
 some_by_cases u true us e = cc
 some_by_cases u false us e = cc
 
--- A unit is written by some byte.
+-- A written unit has at least one byte.
 pub unit_is_some : (u : ℕ) (us : List ℕ) → escaped u ++ us ≡ [] → ⊥
 unit_is_some u us e = some_by_cases u (is_plain u) us e
 
--- ---- Units one behind another
+-- ---- Units, one after another
 
--- What is left of a name behind some of its units.
+-- The rest of a name after some of its units.
 pub record IsLeft (rest : List ℕ) : Type 0 where
   pub units : List ℕ
   pub are : IsText units
   pub text : rest ≡ spelled units
 
-pub behind_units : (us vs rest : List ℕ) → IsText us → IsText vs → spelled us ++ rest ≡ spelled vs → IsLeft rest
-behind_units [] vs rest small few e = record { units = vs; are = few; text = e }
-behind_units (u ∷ us) [] rest small few e = absurd (unit_is_some u (spelled us ++ rest) (sym (append_assoc (escaped u) (spelled us) rest) ∙ e))
-behind_units (u ∷ us) (v ∷ vs) rest small few e =
+pub units_after_parenthesis : (us vs rest : List ℕ) → IsText us → IsText vs → spelled us ++ rest ≡ spelled vs → IsLeft rest
+units_after_parenthesis [] vs rest small few e = record { units = vs; are = few; text = e }
+units_after_parenthesis (u ∷ us) [] rest small few e = absurd (unit_is_some u (spelled us ++ rest) (sym (append_assoc (escaped u) (spelled us) rest) ∙ e))
+units_after_parenthesis (u ∷ us) (v ∷ vs) rest small few e =
     let parts = one_unit u v (spelled us ++ rest) (spelled vs) small.0 few.0 (sym (append_assoc (escaped u) (spelled us) rest) ∙ e) in
-    behind_units us vs rest small.1 few.1 parts.1
+    units_after_parenthesis us vs rest small.1 few.1 parts.1
 
--- Nothing that isn't a unit stands behind units of a name.
+-- A rest that begins with no unit isn't one of a name.
 nothing_left : (rest : List ℕ) (units : List ℕ) → IsText units → rest ≡ spelled units → (rest ≡ [] → ⊥)
     → ((u : ℕ) (behind : List ℕ) → IsUnit u → rest ≢ escaped u ++ behind) → ⊥
 nothing_left rest [] are e some none = some e
@@ -83,10 +83,10 @@ nothing_left rest (u ∷ us) are e some none = none u (spelled us) are.0 e
 pub no_name : (text us rest : List ℕ) → IsText us → text ≡ spelled us ++ rest → (rest ≡ [] → ⊥)
     → ((u : ℕ) (behind : List ℕ) → IsUnit u → rest ≢ escaped u ++ behind) → (vs : List ℕ) → IsText vs → text ≢ spelled vs
 no_name text us rest small split some none vs few e =
-    let left = behind_units us vs rest small few (sym split ∙ e) in
+    let left = units_after_parenthesis us vs rest small few (sym split ∙ e) in
     nothing_left rest left.units left.are left.text some none
 
--- The same spelling is of the same name.
+-- Equal spellings are those of equal names.
 pub one_name : (us vs : List ℕ) → IsText us → IsText vs → spelled us ≡ spelled vs → us ≡ vs
 one_name [] [] small few e = refl
 one_name [] (v ∷ vs) small few e = absurd (unit_is_some v (spelled vs) (sym e))
@@ -97,6 +97,6 @@ one_name (u ∷ us) (v ∷ vs) small few e =
     let first = parts.0 in
     cc
 
--- A list that was tested isn't empty.
+-- A list whose length was tested isn't empty.
 pub not_empty : (xs : List ℕ) (b : Bool) → b ≡ (length xs == 0) → b ≡ false → xs ≡ [] → ⊥
 not_empty xs b is isnt none = true≢false (sym (is ∙ ap (λ (ys : List ℕ). length ys == 0) none) ∙ isnt)

@@ -1,8 +1,8 @@
--- Names as texts write them.
+-- Names in texts (own).
 use Rattle.std.specs.Prelude.{ℕ, ◌+◌, ◌/◌, ◌%◌, Bool, not, ◌&&◌, ◌==◌, nat_lt, nat_le, if◌then◌else◌, List, [], ◌∷◌}
 use Rattle.std.specs.List.{flat_map}
 
--- A unit that stands for itself: one from 33 to 126, but the backslash.
+-- A unit that is written as itself: one from 33 to 126, except the backslash.
 abbrev pub is_plain : ℕ → Bool
 is_plain u = nat_le 33 u && nat_le u 126 && not (u == 92)
 
@@ -18,6 +18,6 @@ four_digits u = hexadecimal (u / 4096) ∷ hexadecimal (u / 256 % 16) ∷ hexade
 abbrev pub escaped : ℕ → List ℕ
 escaped u = if is_plain u then u ∷ [] else 92 ∷ 117 ∷ four_digits u
 
--- A name as it is written, one unit behind another.
+-- A name as it is written, one unit after another.
 abbrev pub spelled : List ℕ → List ℕ
 spelled us = flat_map escaped us

@@ -1,4 +1,4 @@
--- Members as texts write them: the class, the name and the descriptor, parted by dots.
+-- Members in texts: the class, the name and the descriptor, separated by dots (own).
 use Rattle.std.specs.Prelude.{ℕ, Bool, List, ◌∷◌, ◌++◌, IsTrue, is_some}
 use Rattle.jvms_file.specs.Texts.{IsText}
 use Rattle.jvms_file.specs.Names.{is_class_name, is_name, is_method_name}
@@ -9,7 +9,7 @@ use Rattle.escapes.specs.declared.sort.NameSort.{NameSort}
 use Rattle.escapes.specs.declared.sort.NameSort.TheVariants as sort
 use Rattle.escapes.specs.Escapes.{spelled}
 
--- Whether a text is a name of this sort (JVMS 4.2), or a descriptor (JVMS 4.3).
+-- A text is a name of this sort (JVMS 4.2), or a descriptor (JVMS 4.3).
 abbrev pub is_of : NameSort → List ℕ → Bool
 is_of sort.Class us = is_class_name us
 is_of sort.Field us = is_name us
@@ -17,7 +17,7 @@ is_of sort.Method us = is_method_name us
 is_of sort.FieldDescriptor us = is_some (field_type_of us)
 is_of sort.MethodDescriptor us = is_some (method_type_of us)
 
--- A name of this sort, of 16-bit units.
+-- A name of this sort, of UTF-16 code units.
 pub record IsNameOf (s : NameSort) (us : List ℕ) : Type 0 where
   pub units : IsText us
   pub sort : IsTrue (is_of s us)
@@ -34,14 +34,14 @@ IsFieldKey f = IsMember sort.Field sort.FieldDescriptor f.class f.name f.descrip
 abbrev pub IsMethodKey : MethodKey → Type 0
 IsMethodKey m = IsMember sort.Method sort.MethodDescriptor m.class m.name m.descriptor
 
--- A member as it is written: its class, its name and its descriptor, parted by dots.
+-- A member as it is written: its class, its name and its descriptor, separated by dots.
 abbrev pub member_text : List ℕ → List ℕ → List ℕ → List ℕ
 member_text class name descriptor = spelled class ++ 46 ∷ spelled name ++ 46 ∷ spelled descriptor
 
--- `C.x.D`
+-- A field as it is written: `C.x.D`.
 abbrev pub field_text : FieldKey → List ℕ
 field_text f = member_text f.class f.name f.descriptor
 
--- `C.m.D`
+-- A method as it is written: `C.m.D`.
 abbrev pub method_text : MethodKey → List ℕ
 method_text m = member_text m.class m.name m.descriptor

@@ -1,8 +1,9 @@
--- What a reading of a text answers.
+-- The results of parsing a text (own).
 use Rattle.std.specs.Prelude.{◌≡◌, ◌≢◌, ℕ, ◌<◌, List, ◌++◌, Option, Some, None}
 use Rattle.escapes.specs.Escapes.{escaped}
 
--- The text is that of what is read, which is of the sort that is asked for; or it is the text of nothing of this sort.
+-- The text is that of the result, which has the wanted form. If there is no result, the text is that of nothing of this
+-- form.
 abbrev pub IsReadAs : {X : Type 0} → (X → Type 0) → (X → List ℕ) → List ℕ → Option X → Type 0
 IsReadAs Is text_of text (Some x) = Is x × (text ≡ text_of x)
 IsReadAs {X} Is text_of text None = (x : X) → Is x → text ≢ text_of x
@@ -11,7 +12,7 @@ IsReadAs {X} Is text_of text None = (x : X) → Is x → text ≢ text_of x
 abbrev pub IsUnit : ℕ → Type 0
 IsUnit u = u < 0x10000
 
--- The text begins with a unit as it is written, or with none.
+-- The text begins with a written unit, or with none.
 abbrev pub IsUnitAt : List ℕ → Option (ℕ × List ℕ) → Type 0
 IsUnitAt text (Some x) = IsUnit x.0 × (text ≡ escaped x.0 ++ x.1)
 IsUnitAt text None = (u : ℕ) (behind : List ℕ) → IsUnit u → text ≢ escaped u ++ behind

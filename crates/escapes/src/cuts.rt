@@ -1,17 +1,17 @@
-//! Texts that are cut in two.
+//! Splits texts at a byte.
 
 ghost use Rattle.std.specs.Prelude.{◌≡◌, ◌==◌, ◌<◌, length, IfSome, position};
 ghost use Rattle.std.specs.Option.{option_map};
 ghost use Rattle.escapes.specs.Cuts.{IsCut, IsCutTwice, dots_in as dots_of_text};
 
-/// Where a byte first stands.
+/// Returns the place of the first such byte.
 fn place_of(text: &[u8], byte: u8) -> Option<usize>
     ensures { result ≡ position (λ b. b == byte) text.now }
 {
     text.iter().position(|b| *b == byte)
 }
 
-/// What stands before the first such byte, and what behind it; `None` where there is none.
+/// Splits a text at the first such byte, and returns the parts before and after it. Returns `None` if there is none.
 pub fn cut(text: &[u8], byte: u8) -> Option<(&[u8], &[u8])>
     ensures exact { IsCut byte text.now (option_map (λ x. (x.0.now, x.1.now)) result) }
     ensures shorter { IfSome result (λ x. length x.1.now < length text.now) }
@@ -20,7 +20,7 @@ pub fn cut(text: &[u8], byte: u8) -> Option<(&[u8], &[u8])>
     Some((&text[..place], &text[place + 1..]))
 }
 
-/// What stands before, between and behind the first two such bytes; `None` where there are no two.
+/// Splits a text at the first two such bytes, and returns the three parts. Returns `None` if there are fewer.
 pub fn cut_twice(text: &[u8], byte: u8) -> Option<(&[u8], &[u8], &[u8])>
     ensures { IsCutTwice byte text.now (option_map (λ x. (x.0.now, x.1.now, x.2.now)) result) }
 {
@@ -29,7 +29,7 @@ pub fn cut_twice(text: &[u8], byte: u8) -> Option<(&[u8], &[u8], &[u8])>
     Some((first, second, third))
 }
 
-/// How many dots a text has.
+/// Returns the number of dots in a text.
 pub fn dots_in(text: &[u8]) -> usize
     ensures { result ≡ dots_of_text text.now }
 {

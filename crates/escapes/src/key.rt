@@ -1,21 +1,21 @@
-//! Members, written and read: the class, the name and the descriptor, parted by dots.
+//! Writes and parses members: the class, the name and the descriptor, separated by dots.
 
 ghost use Rattle.std.specs.Prelude.{◌≡◌, ◌++◌, OnOk, OnErr, IfOk};
 ghost use Rattle.std.specs.String.{string_bytes};
-ghost use Rattle.escapes.specs.Behind.{IsPutBehind};
+ghost use Rattle.escapes.specs.Behind.{IsAppended};
 ghost use Rattle.escapes.specs.Keys.{IsMember, IsFieldKey, IsMethodKey, member_text, field_text, method_text};
 ghost use Rattle.escapes.specs.Readings.{IsReadAs};
 
 use crate::cuts::cut_twice;
 use crate::name::{name_of, put_name};
 use crate::sort::NameSort;
-use held::shared::Text;
+use shared_data::shared::Text;
 use jvms_program::key::{FieldKey, MethodKey};
 use std::alloc::{AllocError, Global};
 
 const DOT: u8 = b'.';
 
-/// Puts a member's class, name and descriptor behind a text, or what there was memory for.
+/// Appends a member's class, name and descriptor. On an error a part of them may have been appended.
 fn put_parts(
     out: &mut String,
     class: &[u16],
@@ -23,7 +23,7 @@ fn put_parts(
     descriptor: &[u16],
 ) -> Result<(), AllocError>
     ensures exact { OnOk result (string_bytes out.new ≡ string_bytes out.old ++ member_text class.now name.now descriptor.now) }
-    ensures behind { OnErr result (IsPutBehind (string_bytes out.old) (string_bytes out.new)) }
+    ensures behind { OnErr result (IsAppended (string_bytes out.old) (string_bytes out.new)) }
 {
     put_name(out, class)?;
     out.push_str(".")?;
@@ -32,7 +32,7 @@ fn put_parts(
     put_name(out, descriptor)
 }
 
-/// Puts a member's class, name and descriptor behind a text.
+/// Appends a member's class, name and descriptor. Without memory nothing changes.
 fn put_member(
     out: &mut String,
     class: &[u16],
@@ -50,10 +50,10 @@ fn put_member(
     put
 }
 
-/// Puts a field behind a text: `C.x.D`.
+/// Appends a field: `C.x.D`.
 pub fn put_field(out: &mut String, field: &FieldKey) -> Result<(), AllocError>
     ensures exact { OnOk result (string_bytes out.new ≡ string_bytes out.old ++ field_text field.now) }
-    // Without memory the text is as it was.
+    // Without memory nothing changes.
     ensures kept { OnErr result (string_bytes out.new ≡ string_bytes out.old) }
 {
     put_member(
@@ -64,10 +64,10 @@ pub fn put_field(out: &mut String, field: &FieldKey) -> Result<(), AllocError>
     )
 }
 
-/// Puts a method behind a text: `C.m.D`.
+/// Appends a method: `C.m.D`.
 pub fn put_method(out: &mut String, method: &MethodKey) -> Result<(), AllocError>
     ensures exact { OnOk result (string_bytes out.new ≡ string_bytes out.old ++ method_text method.now) }
-    // Without memory the text is as it was.
+    // Without memory nothing changes.
     ensures kept { OnErr result (string_bytes out.new ≡ string_bytes out.old) }
 {
     put_member(
@@ -78,8 +78,8 @@ pub fn put_method(out: &mut String, method: &MethodKey) -> Result<(), AllocError
     )
 }
 
-/// The class, the name and the descriptor of the member that a text writes, the last two of these sorts; `None` where
-/// it writes none.
+/// Parses the class, the name and the descriptor of a member, the last two of these sorts. Returns `None` if the text
+/// is no member's.
 fn member_of(
     alloc: Global,
     name_sort: NameSort,
@@ -103,7 +103,7 @@ fn member_of(
     Ok(Some((class, name, descriptor)))
 }
 
-/// The field that a text `C.x.D` writes; `None` where it writes none.
+/// Parses a field `C.x.D`. Returns `None` if the text is none.
 pub fn field_of(alloc: Global, text: &[u8]) -> Result<Option<FieldKey>, AllocError>
     ensures { IfOk result (IsReadAs IsFieldKey field_text text.now) }
 {
@@ -117,7 +117,7 @@ pub fn field_of(alloc: Global, text: &[u8]) -> Result<Option<FieldKey>, AllocErr
     }
 }
 
-/// The method that a text `C.m.D` writes; `None` where it writes none.
+/// Parses a method `C.m.D`. Returns `None` if the text is none.
 pub fn method_of(alloc: Global, text: &[u8]) -> Result<Option<MethodKey>, AllocError>
     ensures { IfOk result (IsReadAs IsMethodKey method_text text.now) }
 {

@@ -1,4 +1,4 @@
-//! Names and members as texts write them: in ASCII, with escapes, each in one spelling.
+//! Names and members in texts: in ASCII, with escapes, each with one spelling.
 #![tactic(auto)]
 
 mod cuts;

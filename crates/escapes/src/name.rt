@@ -1,4 +1,4 @@
-//! Names, written and read.
+//! Writes and parses names.
 
 ghost use Rattle.std.specs.Prelude.{◌≡◌, ◌++◌, OnOk, OnErr, IfOk};
 ghost use Rattle.std.specs.Option.{option_map};
@@ -10,15 +10,15 @@ ghost use Rattle.escapes.specs.Readings.{IsReadAs};
 
 use crate::sort::NameSort;
 use crate::unit::{put_unit, unit_at};
-use held::items::Items;
-use held::shared::{Shared, Text};
+use shared_data::items::Items;
+use shared_data::shared::{Shared, Text};
 use std::alloc::{AllocError, Global};
 
-/// Puts a name behind a text: each unit from 33 to 126 but the backslash as itself, each other one as `\u` and four
-/// hexadecimal digits in lower case.
+/// Appends a name. A UTF-16 code unit from 33 to 126 except the backslash is written as itself. Each other one is `\u`
+/// with four hexadecimal digits in lower case.
 pub fn put_name(out: &mut String, name: &[u16]) -> Result<(), AllocError>
     ensures exact { OnOk result (string_bytes out.new ≡ string_bytes out.old ++ spelled name.now) }
-    // Without memory the text is as it was.
+    // Without memory nothing changes.
     ensures kept { OnErr result (string_bytes out.new ≡ string_bytes out.old) }
 {
     let before = out.len();
@@ -31,7 +31,7 @@ pub fn put_name(out: &mut String, name: &[u16]) -> Result<(), AllocError>
     Ok(())
 }
 
-/// The units that a text writes; `None` where it isn't how units are written.
+/// Parses a text as code units. Returns `None` if it isn't how units are written.
 fn units_of(alloc: Global, text: &[u8]) -> Result<Option<Vec<u16>>, AllocError>
     ensures { IfOk result (λ units. IsReadAs IsText spelled text.now (option_map (λ v. v.items) units)) }
 {
@@ -47,7 +47,7 @@ fn units_of(alloc: Global, text: &[u8]) -> Result<Option<Vec<u16>>, AllocError>
     Ok(Some(units))
 }
 
-/// The units of the name that a text writes; `None` where it writes none of this sort. A name has one spelling.
+/// Parses the units of a name. Returns `None` if the text is no name of this sort. A name has one spelling.
 pub fn name_units(
     alloc: Global,
     sort: NameSort,
@@ -64,7 +64,7 @@ pub fn name_units(
     Ok(Some(Items::from_vec(units)))
 }
 
-/// The name that a text writes; `None` where it writes none of this sort.
+/// Parses a name. Returns `None` if the text is no name of this sort.
 pub fn name_of(alloc: Global, sort: NameSort, text: &[u8]) -> Result<Option<Text>, AllocError>
     ensures { IfOk result (IsReadAs (IsNameOf sort) spelled text.now) }
 {

@@ -1,4 +1,4 @@
-//! What a name is a name of.
+//! The sorts of names.
 
 ghost use Rattle.std.specs.Prelude.{◌≡◌};
 
@@ -6,25 +6,25 @@ use descriptor::{
     is_class_name, is_field_descriptor, is_method_descriptor, is_method_name, is_name,
 };
 
-/// What a name is a name of (JVMS 4.2), or a descriptor the descriptor of (JVMS 4.3).
+/// The sort of a name (JVMS 4.2), or of a descriptor (JVMS 4.3).
 #[derive(Clone, Copy, Debug, PartialEq, Eq)]
 pub enum NameSort {
-    /// A class or an interface; no array.
+    /// The name of a class or an interface, not of an array.
     Class,
-    /// A field.
+    /// The name of a field.
     Field,
-    /// A method, `<init>` and `<clinit>` too.
+    /// The name of a method, including `<init>` and `<clinit>`.
     Method,
-    /// A field's type.
+    /// The descriptor of a field.
     FieldDescriptor,
-    /// A method's type, with parameters of at most 255 units.
+    /// The descriptor of a method, with parameters of at most 255 units.
     MethodDescriptor,
 }
 
 impl NameSort {
     ghost use Rattle.escapes.specs.Keys.{is_of};
 
-    /// Whether a text is a name of this sort.
+    /// Decides whether a text is a name of this sort.
     pub(crate) fn is_of(self, text: &[u16]) -> bool
         ensures { result ≡ is_of self text.now }
     {

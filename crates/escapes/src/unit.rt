@@ -1,4 +1,4 @@
-//! One unit of a name, written and read.
+//! Writes and parses one code unit of a name.
 
 ghost use Rattle.std.specs.Prelude.{◌≡◌, ◌≢◌, ℕ, ◌<◌, ◌++◌, ◌∷◌, [], length, OnOk, OnErr, IfSome, MatchOption};
 ghost use Rattle.std.specs.List.{AllByRecursion};
@@ -11,14 +11,14 @@ use std::alloc::AllocError;
 
 const BACKSLASH: u8 = b'\\';
 
-/// Whether a unit stands for itself.
+/// Decides whether a unit is written as itself.
 fn is_plain(unit: u16) -> bool
     ensures { result ≡ unit_is_plain unit }
 {
     33 <= unit && unit <= 126 && unit != 92
 }
 
-/// A hexadecimal digit, in lower case.
+/// Returns a hexadecimal digit, in lower case.
 fn hexadecimal(digit: u16) -> u8
     requires { digit < 16 }
     ensures exact { result ≡ hexadecimal_digit digit }
@@ -31,7 +31,7 @@ fn hexadecimal(digit: u16) -> u8
     }
 }
 
-/// Puts an ASCII character behind a text.
+/// Appends an ASCII character.
 fn put_ascii(out: &mut String, byte: u8) -> Result<(), AllocError>
     requires { byte < 128 }
     ensures exact { OnOk result (string_bytes out.new ≡ string_bytes out.old ++ byte ∷ []) }
@@ -40,7 +40,7 @@ fn put_ascii(out: &mut String, byte: u8) -> Result<(), AllocError>
     out.push(char::from(byte))
 }
 
-/// Puts ASCII characters behind a text, all of them or none.
+/// Appends ASCII characters. Without memory nothing changes.
 fn put_all(out: &mut String, bytes: &[u8]) -> Result<(), AllocError>
     requires { AllByRecursion (λ b. b < 128) bytes.now }
     ensures exact { OnOk result (string_bytes out.new ≡ string_bytes out.old ++ bytes.now) }
@@ -56,7 +56,7 @@ fn put_all(out: &mut String, bytes: &[u8]) -> Result<(), AllocError>
     Ok(())
 }
 
-/// Puts a unit behind a text: itself, or `\u` and its four digits.
+/// Appends a unit: itself, or `\u` with its four digits.
 pub(crate) fn put_unit(out: &mut String, unit: u16) -> Result<(), AllocError>
     ensures exact { OnOk result (string_bytes out.new ≡ string_bytes out.old ++ escaped unit) }
     ensures kept { OnErr result (string_bytes out.new ≡ string_bytes out.old) }
@@ -71,7 +71,7 @@ pub(crate) fn put_unit(out: &mut String, unit: u16) -> Result<(), AllocError>
     put_all(out, &[BACKSLASH, b'u', first, second, third, fourth])
 }
 
-/// What a hexadecimal digit in lower case stands for.
+/// Returns the value of a hexadecimal digit in lower case.
 fn digit_of(byte: u8) -> Option<u16>
     ensures { MatchOption result ((d : ℕ) → d < 16 → byte ≢ hexadecimal_digit d) (λ d. (d < 16) × (byte ≡ hexadecimal_digit d)) }
 {
@@ -82,7 +82,7 @@ fn digit_of(byte: u8) -> Option<u16>
     }
 }
 
-/// The unit that four hexadecimal digits write.
+/// Parses the unit of four hexadecimal digits.
 fn numbered(first: u8, second: u8, third: u8, fourth: u8) -> Option<u16>
     ensures { IsReadAs IsUnit four_digits (first ∷ second ∷ third ∷ fourth ∷ []) result }
 {
@@ -93,7 +93,7 @@ fn numbered(first: u8, second: u8, third: u8, fourth: u8) -> Option<u16>
     Some(first * 4096 + second * 256 + third * 16 + fourth)
 }
 
-/// The unit that a text begins with, and the text behind it.
+/// Parses the unit at the front of a text, and returns it with the text after it.
 pub(crate) fn unit_at(text: &[u8]) -> Option<(u16, &[u8])>
     ensures exact { IsUnitAt text.now (option_map (λ x. (x.0, x.1.now)) result) }
     ensures shorter { IfSome result (λ x. length x.1.now < length text.now) }

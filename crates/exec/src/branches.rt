@@ -26,7 +26,7 @@ fn compares(how: Comparison, m: i32, n: i32) -> bool
     }
 }
 
-// A reference, or null: the number of what it leads to, and none for null.
+// Returns the reference in a value: `Some(None)` for null, and `None` if the value is no reference.
 #[inline(always)]
 fn reference_of(value: Value) -> Option<Option<u32>>
     ensures { result ≡ reference_in value }
@@ -57,7 +57,7 @@ fn is_null(r: Option<u32>) -> bool
     r.is_none()
 }
 
-// To the target where the test holds, else to the next instruction.
+// Returns a jump to the target if the test holds, else to the next instruction.
 #[inline(always)]
 fn jump_if(holds: bool, takes: u16, frame: &Frame, target: u32) -> FrameDecision
     requires place { frame.now.activation.place + 1 < 2 ^ 64 }
@@ -161,7 +161,7 @@ pub(crate) fn if_non_null(target: u32, frame: &Frame) -> FrameDecision
     }
 }
 
-// JVMS 6.5 jsr.
+// Decides JVMS 6.5 `jsr`.
 #[inline(always)]
 fn subroutine(target: u32, frame: &Frame) -> FrameDecision
     ensures decision { result ≡ branch_decision frame.now.body branches.Subroutine target frame.now.activation }

@@ -25,7 +25,7 @@ fn push_value(value: Value, frame: &Frame) -> FrameDecision
     }
 }
 
-/// An int is put on top.
+/// Decides to push an int.
 #[inline(always)]
 pub(crate) fn push_int(n: i32, frame: &Frame) -> FrameDecision
     ensures decision { result ≡ pushed frame.now.body frame.now.activation (Value.Int n) }
@@ -34,7 +34,7 @@ pub(crate) fn push_int(n: i32, frame: &Frame) -> FrameDecision
     push_value(Value::Int(n), frame)
 }
 
-/// A long is put on top.
+/// Decides to push a long.
 #[inline(always)]
 pub(crate) fn push_long(n: i64, frame: &Frame) -> FrameDecision
     ensures decision { result ≡ pushed frame.now.body frame.now.activation (Value.Long n) }
@@ -58,7 +58,7 @@ pub(crate) fn push(what: insn::Push, frame: &Frame) -> FrameDecision
     }
 }
 
-/// A constant of the pool is put on top, where its frame tells it.
+/// Decides JVMS 6.5 `ldc` and `ldc2_w` for numbers. Strings and classes need more than the frame, so they are `Beyond`.
 #[inline(never)]
 pub(crate) fn constant(what: &Loadable, frame: &Frame) -> FrameDecision
     ensures decision { result ≡ constant_decision frame.now.body what.now frame.now.activation }

@@ -1,4 +1,4 @@
-//! What the decisions share: the test of depth, and their commonest answers (JVMS 4.10.1.4, 6.5).
+//! Helpers of the decisions: the test of depth, and the commonest decisions (JVMS 4.10.1.4, 6.5).
 
 ghost use Rattle.std.specs.Prelude.{◌≡◌, ◌+◌, ◌-◌, ◌&&◌, nat_le, length};
 ghost use Rattle.jvms_machine.specs.Activations.{pushes as pushing, jumps as jumping};
@@ -7,7 +7,7 @@ use frames::Frame;
 use jvms_machine::action::{FrameAction, FrameDecision};
 use jvms_machine::value::Value;
 
-/// Whether so many operands are there to take, and those after success fit `max_stack`.
+/// Decides whether there are `takes` operands, and whether `gives` in their place fit `max_stack`.
 #[inline(always)]
 pub fn has_depth(frame: &Frame, takes: u8, gives: u8) -> bool
     ensures { result ≡ (nat_le takes (length frame.now.activation.operands)
@@ -16,14 +16,14 @@ pub fn has_depth(frame: &Frame, takes: u8, gives: u8) -> bool
     let height = usize::from(frame.height());
     let takes = usize::from(takes);
     let gives = usize::from(gives);
-    // Those that are there fit.
+    // The present operands already fit.
     if gives <= takes {
         return takes <= height;
     }
     takes <= height && height - takes + gives <= usize::from(frame.body().max_stack)
 }
 
-/// A value in place of the operands that are taken.
+/// Returns the decision to replace the topmost `takes` operands by a value.
 #[inline(always)]
 pub(crate) fn pushes(takes: u8, value: Value) -> FrameDecision
     ensures { result ≡ pushing takes value }
@@ -31,7 +31,7 @@ pub(crate) fn pushes(takes: u8, value: Value) -> FrameDecision
     FrameDecision::Does(FrameAction::Push { takes, value })
 }
 
-/// On at a place, with the operands taken.
+/// Returns the decision to remove the topmost `takes` operands and to set the pc.
 #[inline(always)]
 pub(crate) fn jumps(takes: u16, target: usize) -> FrameDecision
     ensures { result ≡ jumping takes target }

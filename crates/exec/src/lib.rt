@@ -1,5 +1,5 @@
-//! Instructions that touch one frame alone: numbers, the stack, local variables, jumps and switches (JVMS 6.5).
-//! What one comes to is decided with nothing changed, and its action is then applied.
+//! Instructions that touch one frame alone: arithmetic, the operand stack, local variables, jumps and switches (JVMS
+//! 6.5). Each is decided first, with nothing changed, and its action is then applied.
 #![tactic(auto)]
 
 mod actions;

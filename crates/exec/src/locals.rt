@@ -15,7 +15,7 @@ use jvms_machine::action::{FrameAction, FrameDecision};
 use jvms_machine::machine::BadCause;
 use jvms_machine::value::Value;
 
-/// JVMS 6.5 iload.
+/// Decides JVMS 6.5 `iload`.
 #[inline(always)]
 pub(crate) fn load_int(n: u16, frame: &Frame) -> FrameDecision
     ensures decision { result ≡ load_decision frame.now.body kinds.Int n frame.now.activation }
@@ -33,7 +33,7 @@ pub(crate) fn load_int(n: u16, frame: &Frame) -> FrameDecision
     }
 }
 
-/// JVMS 6.5 aload.
+/// Decides JVMS 6.5 `aload`.
 #[inline(always)]
 pub(crate) fn load_reference(n: u16, frame: &Frame) -> FrameDecision
     ensures decision { result ≡ load_decision frame.now.body kinds.Reference n frame.now.activation }
@@ -52,7 +52,7 @@ pub(crate) fn load_reference(n: u16, frame: &Frame) -> FrameDecision
     }
 }
 
-/// JVMS 6.5 lload.
+/// Decides JVMS 6.5 `lload`.
 #[inline(always)]
 pub(crate) fn load_long(n: u16, frame: &Frame) -> FrameDecision
     ensures decision { result ≡ load_decision frame.now.body kinds.Long n frame.now.activation }
@@ -82,7 +82,7 @@ fn load(kind: Kind, n: u16, frame: &Frame) -> FrameDecision
     }
 }
 
-/// Stores a value in a local variable and removes `takes` operands.
+/// Returns the decision to store a value in a local variable and to remove `takes` operands.
 #[inline(always)]
 fn stores_in(local: u16, takes: u8, value: Value) -> FrameDecision
     ensures { result ≡ decided.Does (action.Store takes local value) }
@@ -94,7 +94,7 @@ fn stores_in(local: u16, takes: u8, value: Value) -> FrameDecision
     })
 }
 
-/// JVMS 6.5 istore.
+/// Decides JVMS 6.5 `istore`.
 #[inline(always)]
 pub(crate) fn store_int(n: u16, frame: &Frame) -> FrameDecision
     ensures decision { result ≡ store_decision frame.now.body kinds.Int n frame.now.activation }
@@ -112,7 +112,7 @@ pub(crate) fn store_int(n: u16, frame: &Frame) -> FrameDecision
     }
 }
 
-/// JVMS 6.5 astore.
+/// Decides JVMS 6.5 `astore`, which takes a reference, null or a return address.
 #[inline(always)]
 pub(crate) fn store_reference(n: u16, frame: &Frame) -> FrameDecision
     ensures decision { result ≡ store_decision frame.now.body kinds.Reference n frame.now.activation }
@@ -132,7 +132,7 @@ pub(crate) fn store_reference(n: u16, frame: &Frame) -> FrameDecision
     }
 }
 
-/// JVMS 6.5 lstore.
+/// Decides JVMS 6.5 `lstore`.
 #[inline(always)]
 pub(crate) fn store_long(n: u16, frame: &Frame) -> FrameDecision
     ensures decision { result ≡ store_decision frame.now.body kinds.Long n frame.now.activation }
@@ -162,7 +162,7 @@ fn store(kind: Kind, n: u16, frame: &Frame) -> FrameDecision
     }
 }
 
-// JVMS 6.5 ret.
+// Decides JVMS 6.5 `ret`.
 #[inline(always)]
 fn return_to(n: u16, frame: &Frame) -> FrameDecision
     ensures decision { result ≡ local_decision frame.now.body local_use.Return n frame.now.activation }
@@ -189,7 +189,7 @@ pub(crate) fn local(how: LocalUse, n: u16, frame: &Frame) -> FrameDecision
     }
 }
 
-// JVMS 6.5 iinc.
+// Decides JVMS 6.5 `iinc`.
 #[inline(always)]
 pub(crate) fn increment(n: u16, by: i16, frame: &Frame) -> FrameDecision
     ensures decision { result ≡ increment_decision frame.now.body n by frame.now.activation }

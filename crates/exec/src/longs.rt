@@ -44,7 +44,7 @@ pub(crate) fn division(op: insn::Division, frame: &Frame) -> FrameDecision
     }
 }
 
-/// The distance is an int, on top of the long.
+/// Decides JVMS 6.5 `lshl`, `lshr` and `lushr`. The shift distance is an int, on top of the long.
 #[inline(always)]
 pub(crate) fn shift(op: insn::LongShift, frame: &Frame) -> FrameDecision
     ensures decision { result ≡ long_decision frame.now.body (long_insn.Shift op) frame.now.activation }

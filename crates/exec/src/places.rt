@@ -1,4 +1,4 @@
-//! The places that values take (JVMS 2.6.1, 2.6.2): a long takes two.
+//! The sizes of values in slots (JVMS 2.6.1, 2.6.2): a long takes two.
 
 ghost use Rattle.std.specs.Prelude.{◌≡◌, ◌≤◌};
 ghost use Rattle.jvms_machine.specs.Arrays.{element_size as size_of_elements, kind_of_elements as element_kind};
@@ -8,7 +8,7 @@ use frames::Frame;
 use jvms_file::insn::{ArrayKind, Kind};
 use jvms_machine::value::Value;
 
-/// How many places a value takes.
+/// Returns the number of slots that a value takes.
 #[inline(always)]
 pub fn value_size(value: Value) -> u8
     ensures { result ≡ size_of_value value }
@@ -24,7 +24,7 @@ pub fn value_size(value: Value) -> u8
     }
 }
 
-/// How many places the values of a kind take.
+/// Returns the number of slots that a value of a kind takes.
 #[inline(always)]
 pub fn kind_size(kind: Kind) -> u8
     ensures exact { result ≡ size_of_kind kind }
@@ -50,7 +50,7 @@ pub fn kind_of_elements(kind: ArrayKind) -> Kind
     }
 }
 
-/// Returns how many places an element takes among the operands that an instruction on arrays of a kind loads or stores.
+/// Returns the number of operand slots of an element that an array instruction of a kind loads or stores.
 #[inline(always)]
 pub fn element_size(kind: ArrayKind) -> u8
     ensures exact { result ≡ size_of_elements kind }
@@ -59,7 +59,7 @@ pub fn element_size(kind: ArrayKind) -> u8
     kind_size(kind_of_elements(kind))
 }
 
-/// Whether a value is of a kind: an int, a long, or a reference or null.
+/// Decides whether a value is of a kind. Null is of the kind of references.
 #[inline(always)]
 pub fn is_of_kind(kind: Kind, value: Value) -> bool
     ensures { result ≡ of_kind kind value }
@@ -72,7 +72,7 @@ pub fn is_of_kind(kind: Kind, value: Value) -> bool
     }
 }
 
-/// The long on top of the operands, if there is one.
+/// Returns the long on top of the operands, if there is one.
 #[inline(always)]
 fn top_long(frame: &Frame) -> Option<Value>
     ensures { result ≡ value_on_top Kind.Long frame.now.activation.operands }
@@ -86,7 +86,7 @@ fn top_long(frame: &Frame) -> Option<Value>
     }
 }
 
-/// The value of a kind on top of the operands, if there is one.
+/// Returns the value of a kind on top of the operands, if there is one.
 #[inline(always)]
 pub fn top_value(kind: Kind, frame: &Frame) -> Option<Value>
     ensures { result ≡ value_on_top kind frame.now.activation.operands }

@@ -1,4 +1,4 @@
-//! What names a type outside of the profile, a float or a double; and the classes of which no object is made.
+//! The tests for what is outside the profile: types with a float or a double, and classes that `new` can't instantiate.
 
 ghost use Rattle.std.specs.Prelude.{◌≡◌};
 ghost use Rattle.std.specs.List.{list_any};
@@ -6,7 +6,7 @@ ghost use Rattle.jvms_file.specs.declared.descriptor.Element.TheVariants as elem
 ghost use Rattle.descriptor.specs.Scanning.{element_of};
 ghost use Rattle.jvms_machine.specs.Profile.{is_outside_element as outside_element, is_outside_result as outside_result, is_outside_method as outside_method, is_outside_class as outside_class, is_outside_kind as outside_kind, is_outside_component as outside_component, is_outside_array as outside_array, is_never_new as never_new, is_outside_use as outside_use};
 
-use descriptor::{Innermost, field_in, is_array_name, same_text};
+use descriptor::{ParsedElement, field_in, is_array_name, same_text};
 use jvms_file::descriptor::{Element, FieldType, MethodType, Primitive, ResultType};
 use jvms_file::insn::{ArrayInsn, ArrayKind, ArrayType, ClassUse};
 
@@ -37,7 +37,7 @@ fn is_outside_primitive(primitive: Primitive) -> bool
     matches!(primitive, Primitive::Float | Primitive::Double)
 }
 
-/// Whether a type is a float or a double, or an array of them.
+/// Decides whether a type is a float or a double, or an array of them.
 #[inline(always)]
 pub(crate) fn is_outside_type(t: &FieldType) -> bool
     ensures { result ≡ outside_element t.now.element }
@@ -65,23 +65,23 @@ fn has_outside_parameter(parameters: &[FieldType]) -> bool
         .any(|parameter| is_outside_type(parameter))
 }
 
-/// Whether a method's descriptor names a float or a double anywhere.
+/// Decides whether a method's descriptor names a float or a double anywhere.
 pub fn is_outside_method(t: &MethodType) -> bool
     ensures { result ≡ outside_method t.now }
 {
     has_outside_parameter(t.parameters.as_slice()) || is_outside_result(&t.result)
 }
 
-fn is_outside_innermost(innermost: Innermost) -> bool
+fn is_outside_innermost(innermost: ParsedElement) -> bool
     ensures { result ≡ outside_element (element_of innermost.entry) }
 {
     match innermost {
-        Innermost::Primitive(primitive) => is_outside_primitive(primitive),
-        Innermost::Object(_) => false,
+        ParsedElement::Primitive(primitive) => is_outside_primitive(primitive),
+        ParsedElement::Object(_) => false,
     }
 }
 
-/// Whether the class of a name is an array of floats or doubles.
+/// Decides whether a class name is that of an array of floats or doubles.
 pub(crate) fn is_outside_class(name: &[u16]) -> bool
     ensures { result ≡ outside_class name.now }
 {
@@ -107,7 +107,7 @@ fn is_outside_component(component: ArrayType) -> bool
     matches!(component, ArrayType::Float | ArrayType::Double)
 }
 
-/// Whether it is a load, a store or newarray of float or double.
+/// Decides whether an array instruction is a load, a store or `newarray` of float or double.
 #[inline(always)]
 pub fn is_outside_array(what: ArrayInsn) -> bool
     ensures { result ≡ outside_array what }
@@ -119,7 +119,7 @@ pub fn is_outside_array(what: ArrayInsn) -> bool
     }
 }
 
-/// Whether `new` makes no object of the class of a name.
+/// Decides whether `new` of this class is outside the profile.
 #[tactic(auto, unfolding(jvms_machine::specs::Profile::is_never_new))]
 fn is_never_new(name: &[u16]) -> bool
     ensures { result ≡ never_new name.now }
@@ -130,7 +130,7 @@ fn is_never_new(name: &[u16]) -> bool
         || same_text(name, &PRINT_STREAM)
 }
 
-/// Whether an instruction makes what stays outside of the profile, of the class of a name.
+/// Decides whether an instruction on the class of a name is outside the profile.
 pub(crate) fn is_outside_use(how: ClassUse, name: &[u16]) -> bool
     ensures { result ≡ outside_use how name.now }
 {

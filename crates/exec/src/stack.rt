@@ -56,7 +56,7 @@ fn is_set(value: Value) -> bool
     }
 }
 
-// Whether one to four operands from the top are all set.
+// Decides whether the topmost `count` operands, one to four, are all set.
 #[inline]
 fn are_set(frame: &Frame, count: u8) -> bool
     requires least { 1 ≤ count }
@@ -81,7 +81,7 @@ fn are_set(frame: &Frame, count: u8) -> bool
     }
 }
 
-/// Whether a value is the second place of a long.
+/// Decides whether a value is the second slot of a long.
 #[inline(always)]
 fn is_second(value: Value) -> bool
     ensures { result ≡ second_value (Some value) }
@@ -89,7 +89,7 @@ fn is_second(value: Value) -> bool
     matches!(value, Value::Second)
 }
 
-/// Returns whether the border of a group parts a long, for a form that takes two operands.
+/// Decides whether a group's border splits a long, for a form that takes two operands.
 fn parts_of_two(form: StackForm, frame: &Frame) -> bool
     requires there { 2 ≤ length frame.now.activation.operands }
     requires few { form_takes form ≡ 2 }
@@ -102,7 +102,7 @@ fn parts_of_two(form: StackForm, frame: &Frame) -> bool
     }
 }
 
-/// Whether the border of a group of a form parts a long from its second place.
+/// Decides whether a group's border splits a long from its second slot.
 #[inline(never)]
 fn parts_a_long(form: StackForm, frame: &Frame) -> bool
     requires { form_takes form ≤ length frame.now.activation.operands }
@@ -128,7 +128,7 @@ fn parts_a_long(form: StackForm, frame: &Frame) -> bool
     }
 }
 
-/// Operands are moved as the form does. In this order: the depth; that each is set; that no long is parted.
+/// Decides JVMS 6.5 `pop` to `swap`. It tests the depth, then that each operand is set, then that no long is split.
 #[inline(never)]
 pub(crate) fn stack(form: StackForm, frame: &Frame) -> FrameDecision
     ensures decision { result ≡ stack_decision frame.now.body form frame.now.activation }
@@ -143,7 +143,7 @@ pub(crate) fn stack(form: StackForm, frame: &Frame) -> FrameDecision
     FrameDecision::Does(FrameAction::Rearrange(form))
 }
 
-/// JVMS 6.5 dup.
+/// Decides JVMS 6.5 `dup`.
 #[inline(always)]
 pub(crate) fn duplicates(frame: &Frame) -> FrameDecision
     ensures decision { result ≡ stack_decision frame.now.body form.Dup frame.now.activation }
@@ -160,8 +160,8 @@ pub(crate) fn duplicates(frame: &Frame) -> FrameDecision
     }
 }
 
-/// Leaves the operands as the form does. It isn't inlined, so that what makes the frequent instructions is short enough
-/// to be.
+/// Rearranges the operands by a form. It isn't inlined, so that the turns of the frequent instructions stay short
+/// enough to be inlined.
 #[inline(never)]
 pub(crate) fn rearrange(form: StackForm, frame: &mut Frame)
     requires there { form_takes form ≤ length frame.old.activation.operands }

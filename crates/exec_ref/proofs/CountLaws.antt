@@ -1,4 +1,4 @@
--- Counts of arrays and elements that are capped beyond any limit.
+-- Counts of arrays and elements that are capped above any limit.
 use Rattle.std.proofs.Common.{◌≡◌, ℕ, zero, suc, ◌+◌, ◌*◌, ◌<◌, ◌≤◌, Bool, true, false, not, ◌&&◌, nat_lt, nat_le, List, [], ◌∷◌, length, if◌then◌else◌, refl, sym, ap, ◌∙◌, arith, add-zero, mul-zero, suc-mul, zero-mul}
 use Rattle.std.specs.Prelude.{map}
 use Rattle.std.proofs.lemmas.Bool.{false≢true}
@@ -37,7 +37,7 @@ grown_by b n y false is = refl
 capped_grows : (b n y : ℕ) → capped (b + n * capped y) ≡ capped (b + n * y)
 capped_grows b n y = grown_by b n y (nat_lt 0x100000000 y) refl
 
--- ---- Arrays in arrays
+-- ---- Nested arrays
 
 arrays_more : (n : ℕ) (lengths : List ℕ) → arrays_made (n ∷ lengths) ≡ 1 + n * arrays_made lengths
 arrays_more n [] = sym (ap (λ k. 1 + k) (mul-zero n))
@@ -80,7 +80,7 @@ room_counted limits s objects elements x y few small is are =
     ∙ ap (λ k. nat_le (length s.heap + objects) limits.objects && nat_le (s.elements + k) limits.elements) are
     ∙ ap (λ b. nat_le (length s.heap + objects) limits.objects && b) (fits_by s.elements elements limits.elements small)
 
--- Some lengths make at least one array.
+-- A list of lengths that isn't empty makes at least one array.
 pub one_at_least : (lengths : List Value) (x : ℕ) → x ≡ capped (arrays_made (map length_of_value lengths)) → 0 < length lengths → 1 ≤ x
 one_at_least [] x is some = omega (arith, some)
 one_at_least (v ∷ lengths) x is some =

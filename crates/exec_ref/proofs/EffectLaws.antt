@@ -1,4 +1,4 @@
--- Effects that are made: their strings, their threads, and arrays of arrays.
+-- Applied effects: their strings, their threads, and nested arrays.
 use Rattle.std.proofs.Common.{◌≡◌, ℕ, ◌≤◌, List, Option, Some, None, IsTrue, length, refl, sym, ap, ◌∙◌, subst}
 use Rattle.std.specs.Option.{option_and_then}
 use Rattle.jvms_program.specs.declared.key.FieldKey.{FieldKey}
@@ -21,11 +21,11 @@ same_units (Some (array class elements)) = refl
 same_units (Some (text units)) = refl
 same_units (Some (class_object name)) = refl
 
--- The units of the string that is printed.
+-- The units of the printed string.
 pub the_string : (heap : List Object) (r : ℕ) (units : Option (List ℕ)) → units ≡ asked units_of heap r → units ≡ strings.units_of (object_at heap r)
 the_string heap r units is = is ∙ same_units (object_at heap r)
 
--- The lengths of arrays in each other have their dimensions.
+-- The lengths of nested arrays fit the dimensions of their class.
 pub are_dimensions : (class : List ℕ) (dimensions : ℕ) (operands : List Value) → IsTrue (has_dimensions class dimensions) → dimensions ≤ length operands → HasDimensions class (counted_lengths dimensions operands)
 are_dimensions class dimensions operands has there =
     dimensions_are class (counted_lengths dimensions operands) (subst (λ n. IsTrue (has_dimensions class n)) (sym (lengths_taken dimensions operands there)) has)

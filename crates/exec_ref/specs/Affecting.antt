@@ -1,18 +1,18 @@
--- Effects of instructions that take no memory beside their events, and those that put a value at most.
+-- Effects that take no memory beside that for their items, and effects that at most store a value.
 use Rattle.std.specs.Prelude.{◌≡◌, ℕ, List, []}
 use Rattle.jvms_machine.specs.declared.action.Effect.{Effect}
 use Rattle.jvms_machine.specs.declared.action.Effect.TheVariants as effect
 use Rattle.jvms_machine.specs.Output.{line_bytes}
 use Rattle.jvms_machine.specs.State.{State}
 
--- An effect makes no object, starts no thread and prints no byte.
+-- An effect creates no object, starts no thread and prints no byte.
 abbrev pub AffectsNone : State → Effect (List ℕ) → Type 0
 AffectsNone s (effect.Makes what) = ⊥
 AffectsNone s (effect.Prints what ends_line) = line_bytes s.heap what ends_line ≡ []
 AffectsNone s (effect.Starts r u) = ⊥
 AffectsNone s _ = Unit {0}
 
--- An effect puts a value into a field or an element, or does nothing beside its event.
+-- An effect stores a value in a field or an element, or only gives an item.
 abbrev pub PutsAtMost : Effect (List ℕ) → Type 0
 PutsAtMost (effect.Makes what) = ⊥
 PutsAtMost (effect.Prints what ends_line) = ⊥

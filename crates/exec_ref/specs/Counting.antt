@@ -1,4 +1,4 @@
--- What multianewarray makes, told from its lengths; no count is told beyond what any limit allows.
+-- The counts of JVMS 6.5 `multianewarray` from its lengths. They are capped above any limit.
 use Rattle.std.specs.Prelude.{ℕ, nat_lt, not, if◌then◌else◌, List, map}
 use Rattle.std.specs.List.{list_all, list_any}
 use Rattle.jvms_program.specs.declared.program.Class.{Class}
@@ -15,7 +15,7 @@ use Rattle.jvms_machine.specs.Arrays.{is_int, is_negative, length_of_value, new_
 abbrev pub capped : ℕ → ℕ
 capped n = if nat_lt 0x100000000 n then 0x100000000 else n
 
--- The arrays of lengths that are there, the outermost first.
+-- Returns the decision on arrays of these lengths, the outermost first.
 abbrev pub lengths_decision : List Class → Limits → State → Thread → List ℕ → ℕ → List Value → TurnDecision
 lengths_decision program limits s thread class dimensions lengths =
     if not (list_all is_int lengths) then bad cause.Kind

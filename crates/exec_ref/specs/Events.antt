@@ -1,4 +1,4 @@
--- The events of fields in a trace.
+-- The items of field accesses in a trace.
 use Rattle.std.specs.Prelude.{if◌then◌else◌, List, Option, None}
 use Rattle.jvms_program.specs.declared.program.Class.{Class}
 use Rattle.jvms_program.specs.declared.key.FieldKey.{FieldKey}
@@ -6,6 +6,6 @@ use Rattle.jvms_program.specs.declared.number.FieldNumber.{FieldNumber}
 use Rattle.jvms_program.specs.Program.{field_key_at}
 use Rattle.machine_parts.specs.Marks.{is_built_in_number}
 
--- The key of a field for its events.
+-- Returns the key of a field for its items. A field of a built-in class has none.
 abbrev pub event_key : List Class → FieldNumber → Option FieldKey
 event_key program n = if is_built_in_number program n.class then None else field_key_at program n

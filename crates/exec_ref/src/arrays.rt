@@ -4,7 +4,7 @@ ghost use Rattle.std.specs.Prelude.{◌≡◌, ◌+◌, ◌<◌, ◌^◌, IsTrue
 ghost use Rattle.jvms_machine.specs.Arrays.{if_deep, making as makes, length_decision as makes_of_length, new_array_decision as makes_array, new_class_array_decision as makes_class_array, array_length_decision as measures, array_decision as arrays};
 ghost use Rattle.jvms_machine.specs.Heap.{has_room_for_elements as room_for_elements};
 ghost use Rattle.exec_ref.specs.Asked.{told_length};
-ghost use Rattle.machine_parts.specs.Decided.{seen, seen_object, text_of};
+ghost use Rattle.machine_parts.specs.Decided.{seen, object_value, text_of};
 
 mod components;
 pub(crate) mod elements;
@@ -12,7 +12,7 @@ pub(crate) mod many;
 
 use crate::arrays::elements::{load_decision, store_decision};
 use frames::Frame;
-use held::shared::Text;
+use shared_data::shared::Text;
 use jvms_file::insn::{ArrayInsn, ArrayType};
 use jvms_machine::action::{Effect, FrameAction, NewObject};
 use jvms_machine::machine::BadCause;
@@ -21,10 +21,10 @@ use jvms_program::thrown::Thrown;
 use machine_parts::{ActionText, Decided, Parts, bad, has_depth, never_seen, reaches};
 use machine_thread::Thread;
 
-/// Whether there is room for so many objects more, and so many elements of arrays more.
+/// Decides whether the limits allow `objects` more objects and `elements` more array elements.
 pub(crate) fn has_room_for_elements(parts: &Parts, objects: usize, elements: usize) -> bool
     ensures exact { result ≡ room_for_elements objects elements parts.now.limits parts.now.state }
-    // Each of their references has a number.
+    // Each of their references fits 32 bits.
     ensures number { IsTrue result → length parts.now.state.heap + objects < 2 ^ 32 }
 {
     let most = parts.limits.elements as usize;
@@ -32,21 +32,21 @@ pub(crate) fn has_room_for_elements(parts: &Parts, objects: usize, elements: usi
     parts.has_room_for(objects) && held <= most && elements <= most - held
 }
 
-/// What is made takes the place of so many operands.
+/// Returns the decision to create an object that replaces the topmost `takes` operands.
 pub(crate) fn making<'p>(
     parts: &Parts<'p>,
     takes: u8,
     what: NewObject<ActionText<'p>>,
 ) -> Decided<'p>
     requires { length parts.now.state.heap + 1 < 2 ^ 32 }
-    ensures { seen result ≡ makes parts.now.state takes (seen_object what.entry) }
+    ensures { seen result ≡ makes parts.now.state takes (object_value what.entry) }
 {
     let value = Value::Reference(parts.heap.count() as u32 + 1);
     reaches(Effect::Makes(what), FrameAction::Push { takes, value })
 }
 
-/// An array of a length is made. In this order: the length isn't negative; there is room for the array and its
-/// elements.
+/// Decides the creation of an array with a length. It tests that the length isn't negative, then that there is room for
+/// the array and its elements.
 fn length_decision<'p>(
     parts: &Parts<'p>,
     thread: &Thread,
@@ -65,7 +65,7 @@ fn length_decision<'p>(
     making(parts, 1, NewObject::Array { class, length })
 }
 
-/// JVMS 6.5 newarray.
+/// Decides JVMS 6.5 `newarray`.
 fn new_array_decision<'p>(
     parts: &Parts<'p>,
     thread: &Thread,
@@ -83,7 +83,7 @@ fn new_array_decision<'p>(
     length_decision(parts, thread, ActionText::ArrayOfType(t), n)
 }
 
-/// JVMS 6.5 anewarray: the component's class is resolved before the length is looked at.
+/// Decides JVMS 6.5 `anewarray`. The component's class is resolved before the length is tested.
 pub(crate) fn new_class_array_decision<'p>(
     parts: &Parts<'p>,
     thread: &Thread,
@@ -104,7 +104,7 @@ pub(crate) fn new_class_array_decision<'p>(
     length_decision(parts, thread, ActionText::ArrayOfClass(name), n)
 }
 
-/// The array of this reference has its length in place of it.
+/// Decides to replace the array of this reference by its length.
 #[inline(always)]
 fn measured<'p>(parts: &Parts<'p>, thread: &Thread, reference: u32) -> Decided<'p>
     ensures { seen result ≡ told_length parts.now.limits parts.now.state thread.now reference }
@@ -121,7 +121,7 @@ fn measured<'p>(parts: &Parts<'p>, thread: &Thread, reference: u32) -> Decided<'
     }
 }
 
-/// JVMS 6.5 arraylength.
+/// Decides JVMS 6.5 `arraylength`.
 #[inline(always)]
 fn array_length_decision<'p>(parts: &Parts<'p>, thread: &Thread, frame: &Frame) -> Decided<'p>
     ensures { seen result ≡ if_deep frame.now 1 1 (measures parts.now.limits parts.now.state thread.now frame.now.activation.operands) }
@@ -137,7 +137,7 @@ fn array_length_decision<'p>(parts: &Parts<'p>, thread: &Thread, frame: &Frame) 
     }
 }
 
-/// The instructions of arrays that name no class.
+/// Decides the array instructions that name no class.
 #[inline(always)]
 #[tactic(auto, unfolding(jvms_machine::specs::Arrays::array_decision))]
 pub fn array_decision<'p>(

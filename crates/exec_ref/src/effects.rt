@@ -1,4 +1,4 @@
-//! What an instruction makes of a machine beside its frame (JVMS 6.5).
+//! Effects of instructions on a machine, beside those on their frame (JVMS 6.5).
 
 ghost use Rattle.std.specs.Prelude.{◌≡◌, [], IsOk, OnOk, OnErr, option_copied, slice_get};
 ghost use Rattle.jvms_machine.specs.declared.action.Action.TheVariants as action;
@@ -8,7 +8,7 @@ ghost use Rattle.jvms_machine.specs.Output.{line_bytes};
 ghost use Rattle.jvms_program.specs.Program.{field_key_at};
 ghost use Rattle.jvms_machine.specs.Turn.{CanBeMade, IsReady};
 ghost use Rattle.printing.specs.Strings.{IsTheString};
-ghost use Rattle.machine_parts.specs.Decided.{seen_effect};
+ghost use Rattle.machine_parts.specs.Decided.{effect_value};
 ghost use Rattle.exec_ref.specs.Affecting.{AffectsNone, PutsAtMost};
 ghost use Rattle.machine_parts.specs.Machine.{with_state, after};
 ghost use Rattle.machine_parts.specs.Ready.{HasCaller};
@@ -28,7 +28,7 @@ use printing::put_line;
 use std::alloc::AllocError;
 use trace::Recording;
 
-/// The string that is printed, if one is.
+/// Returns the printed string, if a string is printed.
 #[tactic(auto, using(crate::proofs::EffectLaws::the_string))]
 fn printed_text<'h>(heap: &'h Heap<'_>, what: Printed) -> Option<&'h [u16]>
     ensures { IsTheString heap.now.objects what (option_copied result) }
@@ -42,7 +42,7 @@ fn printed_text<'h>(heap: &'h Heap<'_>, what: Printed) -> Option<&'h [u16]>
     }
 }
 
-/// A value is put into a field of an object.
+/// Stores a value in a field of an object.
 #[inline(always)]
 fn put_field(parts: &mut Parts, reference: u32, field: FieldNumber, value: Value)
     ensures { parts.new ≡ with_state parts.old (field_put parts.old.state reference value (field_key_at parts.old.program field)) }
@@ -50,19 +50,19 @@ fn put_field(parts: &mut Parts, reference: u32, field: FieldNumber, value: Value
     parts.heap.put_field_numbered(reference, field, value);
 }
 
-/// A value is put into a static field.
+/// Stores a value in a static field.
 fn put_static(parts: &mut Parts, field: FieldNumber, value: Value)
     ensures { parts.new ≡ with_state parts.old (static_put parts.old.state value (field_key_at parts.old.program field)) }
 {
     parts.statics.put_numbered(field, value);
 }
 
-/// What an effect puts into a field or an element. Others put nothing.
+/// Stores the value of an effect in its field or element. Other effects change nothing.
 #[inline(always)]
 fn put<'p>(parts: &mut Parts<'p>, t: ThreadId, effect: Effect<ActionText<'p>>)
-    requires makeable { CanBeMade parts.old.state (operands_of (slice_get parts.old.state.threads t)) (seen_effect effect) }
-    requires puts { PutsAtMost (seen_effect effect) }
-    ensures { parts.new ≡ with_state parts.old (affected parts.old.program parts.old.state t (operands_of (slice_get parts.old.state.threads t)) (seen_effect effect.entry)) }
+    requires makeable { CanBeMade parts.old.state (operands_of (slice_get parts.old.state.threads t)) (effect_value effect) }
+    requires puts { PutsAtMost (effect_value effect) }
+    ensures { parts.new ≡ with_state parts.old (affected parts.old.program parts.old.state t (operands_of (slice_get parts.old.state.threads t)) (effect_value effect.entry)) }
 {
     match effect {
         Effect::PutField {
@@ -80,7 +80,7 @@ fn put<'p>(parts: &mut Parts<'p>, t: ThreadId, effect: Effect<ActionText<'p>>)
     }
 }
 
-/// A line, or what of one is printed.
+/// Prints a value, and ends the line if `ends_line` is set. If there is no memory, nothing changes.
 fn print(parts: &mut Parts, what: Printed, ends_line: bool) -> Result<(), AllocError>
     ensures ok { OnOk result (parts.new ≡ with_state parts.old (affected parts.old.program parts.old.state 0 [] (effects.Prints what ends_line))) }
     ensures err { OnErr result (parts.new ≡ parts.old) }
@@ -90,7 +90,7 @@ fn print(parts: &mut Parts, what: Printed, ends_line: bool) -> Result<(), AllocE
     put_line(&mut parts.output, what, text, ends_line)
 }
 
-/// A thread is started of a Thread object, with its event. Without memory nothing changes.
+/// Starts a thread of a Thread object, and records its item. If there is no memory, nothing changes.
 fn start_thread(
     parts: &mut Parts,
     t: ThreadId,
@@ -114,7 +114,7 @@ fn start_thread(
     Ok(())
 }
 
-/// Puts the event of an instruction behind the other items, if any are kept.
+/// Appends the item of an effect, if items are recorded.
 #[inline(always)]
 fn record<'p>(
     parts: &Parts<'p>,
@@ -122,9 +122,9 @@ fn record<'p>(
     effect: Effect<ActionText<'p>>,
     trace: &mut Recording,
 ) -> Result<(), AllocError>
-    ensures ok { OnOk result (trace.new ≡ recorded trace.old (effect_items parts.now.program t (seen_effect effect.entry))) }
+    ensures ok { OnOk result (trace.new ≡ recorded trace.old (effect_items parts.now.program t (effect_value effect.entry))) }
     ensures err { OnErr result (trace.new ≡ trace.old) }
-    ensures none { effect_items parts.now.program t (seen_effect effect.entry) ≡ [] → IsOk result }
+    ensures none { effect_items parts.now.program t (effect_value effect.entry) ≡ [] → IsOk result }
 {
     if !trace.keeps() {
         return Ok(());
@@ -133,7 +133,7 @@ fn record<'p>(
     push_listed(trace, item)
 }
 
-/// What an effect makes of the machine, with its event.
+/// Applies an effect to the machine, and records its item. If there is no memory, nothing changes.
 #[inline(always)]
 #[tactic(auto, using(trace::proofs::Recorded::recorded_none))]
 fn affect<'p>(
@@ -142,12 +142,12 @@ fn affect<'p>(
     effect: Effect<ActionText<'p>>,
     trace: &mut Recording,
 ) -> Result<(), AllocError>
-    requires { CanBeMade parts.old.state (operands_of (slice_get parts.old.state.threads t)) (seen_effect effect) }
-    ensures state { OnOk result (parts.new ≡ with_state parts.old (affected parts.old.program parts.old.state t (operands_of (slice_get parts.old.state.threads t)) (seen_effect effect.entry))) }
-    ensures items { OnOk result (trace.new ≡ recorded trace.old (effect_items parts.old.program t (seen_effect effect.entry))) }
+    requires { CanBeMade parts.old.state (operands_of (slice_get parts.old.state.threads t)) (effect_value effect) }
+    ensures state { OnOk result (parts.new ≡ with_state parts.old (affected parts.old.program parts.old.state t (operands_of (slice_get parts.old.state.threads t)) (effect_value effect.entry))) }
+    ensures items { OnOk result (trace.new ≡ recorded trace.old (effect_items parts.old.program t (effect_value effect.entry))) }
     ensures kept { OnErr result (parts.new ≡ parts.old) }
     ensures no_items { OnErr result (trace.new ≡ trace.old) }
-    ensures none { AffectsNone parts.old.state (seen_effect effect.entry) → effect_items parts.old.program t (seen_effect effect.entry) ≡ [] → IsOk result }
+    ensures none { AffectsNone parts.old.state (effect_value effect.entry) → effect_items parts.old.program t (effect_value effect.entry) ≡ [] → IsOk result }
 {
     match effect {
         Effect::Makes(what) => make_object(parts, t, what),
@@ -167,7 +167,8 @@ fn affect<'p>(
     }
 }
 
-/// The call on top goes on by an instruction that touches more than its frame.
+/// Applies an effect and the action on the top call's frame, for an instruction that reaches beyond its frame. If there
+/// is no memory, nothing changes.
 #[inline(always)]
 #[tactic(auto, unfolding(jvms_machine::specs::Actions::applied_to, jvms_machine::specs::Actions::items_of), using(jvms_machine::proofs::EffectSoundness::affected_thread))]
 pub fn reach<'p>(
@@ -177,13 +178,13 @@ pub fn reach<'p>(
     act: FrameAction,
     trace: &mut Recording,
 ) -> Result<(), AllocError>
-    requires ready { IsReady parts.old.start parts.old.state t (action.Reaches (seen_effect effect) act) }
-    requires stands { HasCaller parts.old.state t (action.Reaches (seen_effect effect) act) }
-    ensures state { OnOk result (parts.new ≡ after parts.old t (action.Reaches (seen_effect effect.entry) act)) }
-    ensures items { OnOk result (trace.new ≡ recorded trace.old (items_of parts.old.program t (action.Reaches (seen_effect effect.entry) act))) }
+    requires ready { IsReady parts.old.start parts.old.state t (action.Reaches (effect_value effect) act) }
+    requires stands { HasCaller parts.old.state t (action.Reaches (effect_value effect) act) }
+    ensures state { OnOk result (parts.new ≡ after parts.old t (action.Reaches (effect_value effect.entry) act)) }
+    ensures items { OnOk result (trace.new ≡ recorded trace.old (items_of parts.old.program t (action.Reaches (effect_value effect.entry) act))) }
     ensures kept { OnErr result (parts.new ≡ parts.old) }
     ensures no_items { OnErr result (trace.new ≡ trace.old) }
-    ensures none { AffectsNone parts.old.state (seen_effect effect.entry) → items_of parts.old.program t (action.Reaches (seen_effect effect.entry) act) ≡ [] → IsOk result }
+    ensures none { AffectsNone parts.old.state (effect_value effect.entry) → items_of parts.old.program t (action.Reaches (effect_value effect.entry) act) ≡ [] → IsOk result }
 {
     affect(parts, t, effect, trace)?;
     parts.threads[t as usize].go_on(act);

@@ -1,10 +1,10 @@
-//! The events of reads and writes in a trace.
+//! The items of effects in a trace: reads and writes, joins, forks, acquires and releases.
 
 ghost use Rattle.std.specs.Prelude.{◌≡◌, [], None, IsOk, IfOk};
 ghost use Rattle.jvms_machine.specs.declared.trace.Item.TheVariants as item;
 ghost use Rattle.jvms_machine.specs.Actions.{event, effect_items, instance_variable, static_variable};
 ghost use Rattle.jvms_program.specs.Program.{field_key_at};
-ghost use Rattle.machine_parts.specs.Decided.{seen_effect};
+ghost use Rattle.machine_parts.specs.Decided.{effect_value};
 ghost use Rattle.machine_parts.specs.Marks.{listed};
 ghost use Rattle.exec_ref.specs.Events.{event_key};
 
@@ -17,7 +17,7 @@ use machine_parts::{ActionText, Parts, acquire_item, release_item};
 use program::Program;
 use std::alloc::AllocError;
 
-/// The key of the field of a number.
+/// Returns the key of the field of a number.
 fn field_key(program: &Program, n: FieldNumber) -> Result<Option<FieldKey>, AllocError>
     ensures key { IfOk result (λ key. key ≡ field_key_at program.now n) }
     ensures none { field_key_at program.now n ≡ None → IsOk result }
@@ -35,7 +35,7 @@ fn field_key(program: &Program, n: FieldNumber) -> Result<Option<FieldKey>, Allo
     }))
 }
 
-/// The event of a read.
+/// Returns the item of a read of a variable.
 #[inline(always)]
 fn read_of(thread: ThreadId, variable: Option<Variable>) -> Option<Item>
     ensures { listed result ≡ event (λ v. item.Read thread v) variable }
@@ -44,7 +44,7 @@ fn read_of(thread: ThreadId, variable: Option<Variable>) -> Option<Item>
     Some(Item::Read { thread, variable })
 }
 
-/// The event of a write.
+/// Returns the item of a write of a variable.
 #[inline(always)]
 fn write_of(thread: ThreadId, variable: Option<Variable>) -> Option<Item>
     ensures { listed result ≡ event (λ v. item.Write thread v) variable }
@@ -53,7 +53,7 @@ fn write_of(thread: ThreadId, variable: Option<Variable>) -> Option<Item>
     Some(Item::Write { thread, variable })
 }
 
-/// The key of a field for its events: there is none of a field of a built-in class.
+/// Returns the key of a field for its items. A field of a built-in class has none.
 #[inline(always)]
 fn event_key(parts: &Parts, n: FieldNumber) -> Result<Option<FieldKey>, AllocError>
     ensures key { IfOk result (λ key. key ≡ event_key parts.now.program n) }
@@ -65,7 +65,7 @@ fn event_key(parts: &Parts, n: FieldNumber) -> Result<Option<FieldKey>, AllocErr
     field_key(parts.program(), n)
 }
 
-/// An object's field, where its reads and writes are events.
+/// Returns an object's field as a variable, if its reads and writes have items.
 #[inline(always)]
 fn instance_variable(
     parts: &Parts,
@@ -81,7 +81,7 @@ fn instance_variable(
     Ok(Some(Variable::Instance { reference, field }))
 }
 
-/// A static field, where its reads and writes are events.
+/// Returns a static field as a variable, if its reads and writes have items.
 #[inline(always)]
 fn static_variable(parts: &Parts, n: FieldNumber) -> Result<Option<Variable>, AllocError>
     ensures variable { IfOk result (λ v. v ≡ static_variable parts.now.program n) }
@@ -93,15 +93,15 @@ fn static_variable(parts: &Parts, n: FieldNumber) -> Result<Option<Variable>, Al
     Ok(Some(Variable::Static { field }))
 }
 
-/// The event of an instruction, if it has one.
+/// Returns the item of an effect, if it has one.
 #[inline(always)]
 pub(crate) fn effect_item<'p>(
     parts: &Parts<'p>,
     t: ThreadId,
     effect: Effect<ActionText<'p>>,
 ) -> Result<Option<Item>, AllocError>
-    ensures item { IfOk result (λ item. listed item ≡ effect_items parts.now.program t (seen_effect effect.entry)) }
-    ensures none { effect_items parts.now.program t (seen_effect effect.entry) ≡ [] → IsOk result }
+    ensures item { IfOk result (λ item. listed item ≡ effect_items parts.now.program t (effect_value effect.entry)) }
+    ensures none { effect_items parts.now.program t (effect_value effect.entry) ≡ [] → IsOk result }
 {
     match effect {
         Effect::GetField { reference, field } => {

@@ -1,4 +1,4 @@
-//! New objects (JVMS 6.5 new, newarray, anewarray, multianewarray, ldc).
+//! New objects (JVMS 6.5 `new`, `newarray`, `anewarray`, `multianewarray`, `ldc`).
 
 ghost use Rattle.std.specs.Prelude.{◌≡◌, ◌≤◌, IfOk, OnOk, OnErr, length, map, slice_get};
 ghost use Rattle.jvms_machine.specs.declared.action.NewObject.TheVariants as new_object;
@@ -7,14 +7,14 @@ ghost use Rattle.jvms_machine.specs.Actions.{operands_of, with_new};
 ghost use Rattle.jvms_machine.specs.Arrays.{counted_lengths, length_of_value as length_in};
 ghost use Rattle.jvms_machine.specs.Heap.{array_of_class as class_of_array};
 ghost use Rattle.jvms_machine.specs.Turn.{CanBeMade};
-ghost use Rattle.machine_parts.specs.Decided.{seen_object, text_of};
+ghost use Rattle.machine_parts.specs.Decided.{object_value, text_of};
 ghost use Rattle.machine_parts.specs.Machine.{with_state};
 
 use crate::arrays::many::length_of_value;
 use descriptor::is_array_name;
 use heap::Heap;
-use held::items::Items;
-use held::shared::{Shared, Text};
+use shared_data::items::Items;
+use shared_data::shared::{Shared, Text};
 use jvms_machine::action::NewObject;
 use jvms_machine::machine::ThreadId;
 use jvms_machine::value::Value;
@@ -30,7 +30,7 @@ const CLASS_LETTER: u16 = 76;
 /// `;`
 const SEMICOLON: u16 = 59;
 
-/// The class of an array whose components are of the class of this name.
+/// Returns the name of the class of arrays whose components are of the named class.
 fn array_of_class(alloc: Global, name: &[u16]) -> Result<Text, AllocError>
     ensures { IfOk result (λ class. class ≡ class_of_array name.now) }
 {
@@ -46,7 +46,7 @@ fn array_of_class(alloc: Global, name: &[u16]) -> Result<Text, AllocError>
     Shared::new(alloc, Items::from_vec(units))
 }
 
-/// A text of an action.
+/// Returns the text that an action names.
 fn text(alloc: Global, heap: &Heap<'_>, text: ActionText<'_>) -> Result<Text, AllocError>
     ensures { IfOk result (λ units. units ≡ text_of text.entry) }
 {
@@ -57,7 +57,7 @@ fn text(alloc: Global, heap: &Heap<'_>, text: ActionText<'_>) -> Result<Text, Al
     }
 }
 
-/// The lengths of arrays in each other, as operands tell them.
+/// Returns the lengths of nested arrays, which are operands.
 fn lengths_of(alloc: Global, values: &[Value]) -> Result<Vec<u32>, AllocError>
     ensures { IfOk result (λ lengths. lengths.items ≡ map length_in values.now) }
 {
@@ -68,7 +68,7 @@ fn lengths_of(alloc: Global, values: &[Value]) -> Result<Vec<u32>, AllocError>
     Ok(lengths)
 }
 
-/// The lengths that so many operands of the call on top tell.
+/// Returns the lengths in the topmost `dimensions` operands of the top call.
 fn lengths_taken(parts: &Parts, t: ThreadId, dimensions: u8) -> Result<Vec<u32>, AllocError>
     requires { dimensions ≤ length (operands_of (slice_get parts.now.state.threads t)) }
     ensures { IfOk result (λ lengths. lengths.items ≡ counted_lengths dimensions (operands_of (slice_get parts.now.state.threads t))) }
@@ -79,7 +79,7 @@ fn lengths_taken(parts: &Parts, t: ThreadId, dimensions: u8) -> Result<Vec<u32>,
     }
 }
 
-/// An array and the arrays in it, whose lengths are so many operands.
+/// Creates an array and the arrays in it, whose lengths are operands. If there is no memory, nothing changes.
 #[tactic(auto, using(crate::proofs::EffectLaws::are_dimensions))]
 fn make_arrays<'p>(
     parts: &mut Parts<'p>,
@@ -87,8 +87,8 @@ fn make_arrays<'p>(
     class: ActionText<'p>,
     dimensions: u8,
 ) -> Result<(), AllocError>
-    requires { CanBeMade parts.old.state (operands_of (slice_get parts.old.state.threads t)) (effects.Makes (seen_object (new_object.Arrays class dimensions))) }
-    ensures ok { OnOk result (parts.new ≡ with_state parts.old (with_new parts.old.program parts.old.state (operands_of (slice_get parts.old.state.threads t)) (seen_object (new_object.Arrays class.entry dimensions)))) }
+    requires { CanBeMade parts.old.state (operands_of (slice_get parts.old.state.threads t)) (effects.Makes (object_value (new_object.Arrays class dimensions))) }
+    ensures ok { OnOk result (parts.new ≡ with_state parts.old (with_new parts.old.program parts.old.state (operands_of (slice_get parts.old.state.threads t)) (object_value (new_object.Arrays class.entry dimensions)))) }
     ensures err { OnErr result (parts.new ≡ parts.old) }
 {
     let class = text(parts.alloc, &parts.heap, class)?;
@@ -96,14 +96,14 @@ fn make_arrays<'p>(
     parts.heap.new_arrays(&class, lengths.as_slice())
 }
 
-/// A new object, with its parts. Without memory nothing changes.
+/// Creates an object, with its fields or elements. If there is no memory, nothing changes.
 pub(crate) fn make_object<'p>(
     parts: &mut Parts<'p>,
     t: ThreadId,
     what: NewObject<ActionText<'p>>,
 ) -> Result<(), AllocError>
-    requires { CanBeMade parts.old.state (operands_of (slice_get parts.old.state.threads t)) (effects.Makes (seen_object what)) }
-    ensures ok { OnOk result (parts.new ≡ with_state parts.old (with_new parts.old.program parts.old.state (operands_of (slice_get parts.old.state.threads t)) (seen_object what.entry))) }
+    requires { CanBeMade parts.old.state (operands_of (slice_get parts.old.state.threads t)) (effects.Makes (object_value what)) }
+    ensures ok { OnOk result (parts.new ≡ with_state parts.old (with_new parts.old.program parts.old.state (operands_of (slice_get parts.old.state.threads t)) (object_value what.entry))) }
     ensures err { OnErr result (parts.new ≡ parts.old) }
 {
     match what {

@@ -1,4 +1,4 @@
-//! Objects of classes, strings and class objects (JVMS 6.5 new, checkcast, instanceof, ldc).
+//! Objects of classes, strings and class objects (JVMS 6.5 `new`, `checkcast`, `instanceof`, `ldc`).
 
 ghost use Rattle.std.specs.Prelude.{◌≡◌, ◌+◌, ◌<◌, ◌≤◌, ◌^◌, ◌∷◌, Bool, [], Some, false, length};
 ghost use Rattle.std.specs.Option.{option_map};
@@ -7,20 +7,20 @@ ghost use Rattle.jvms_program.specs.declared.program.Instruction.TheVariants as 
 ghost use Rattle.jvms_program.specs.Program.{class_named, class_number};
 ghost use Rattle.jvms_machine.specs.Decisions.{TurnDecision};
 ghost use Rattle.jvms_machine.specs.Arrays.{if_deep};
-ghost use Rattle.jvms_machine.specs.Objects.{is_instantiable as instantiable, made_if_room as makes_if_room, instance_of_number as makes_instance, new_instance_decision as makes_new, with_class_of, cast as casts, told_instance as tells, held_or_made as holds_or_makes, class_decision as classes, loadable_decision as loads};
+ghost use Rattle.jvms_machine.specs.Objects.{is_instantiable as instantiable, creation_if_room as makes_if_room, instance_of_number as makes_instance, new_instance_decision as makes_new, with_class_of, cast as casts, instance_test_result as tells, existing_or_new as holds_or_makes, class_decision as classes, loadable_decision as loads};
 ghost use Rattle.jvms_machine.specs.Fields.{reaches as reaching, taking as takes_on};
 ghost use Rattle.jvms_machine.specs.declared.value.Value.TheVariants as value;
 ghost use Rattle.jvms_machine.specs.declared.action.Effect.TheVariants as effect;
 ghost use Rattle.jvms_machine.specs.declared.action.NewObject.TheVariants as new_object;
 ghost use Rattle.jvms_program.specs.declared.program.Loadable.TheVariants as loadable;
 ghost use Rattle.jvms_machine.specs.State.{class_reference, text_reference};
-ghost use Rattle.machine_parts.specs.Decided.{seen, seen_object};
+ghost use Rattle.machine_parts.specs.Decided.{seen, object_value};
 ghost use Rattle.machine_parts.specs.Sites.{IsSite};
-ghost use Rattle.exec_ref.specs.Telling.{told_by};
+ghost use Rattle.exec_ref.specs.Telling.{by_instance_test};
 
 use crate::arrays::{making, new_class_array_decision};
 use frames::Frame;
-use held::shared::Text;
+use shared_data::shared::Text;
 use jvms_file::insn::ClassUse;
 use jvms_machine::action::{Effect, FrameAction, NewObject};
 use jvms_machine::machine::BadCause;
@@ -30,14 +30,14 @@ use jvms_program::thrown::Thrown;
 use machine_parts::{ActionText, Decided, Parts, bad, has_depth, never_seen, reaches, taking};
 use machine_thread::Thread;
 
-/// What is told of the object on top and a class.
+/// The result of testing the topmost operand against a class.
 #[derive(Clone, Copy)]
 pub(crate) enum Told<'p> {
-    /// There is no object: it is null.
+    /// The operand is null.
     Null,
-    /// Whether the object is an instance of the class.
+    /// The object is an instance of the class, or isn't.
     IsInstance(bool),
-    /// The turn comes to this before.
+    /// The turn does this instead.
     Stops(Decided<'p>),
 }
 
@@ -50,22 +50,22 @@ fn is_instantiable(kind: ClassKind) -> bool
     }
 }
 
-/// Whether an object is an instance, as instanceof puts it on top.
-fn told_instance<'p>(is_instance: bool) -> Decided<'p>
+/// Returns the decision of JVMS 6.5 `instanceof` to replace the object by the result of the test.
+fn instance_test_result<'p>(is_instance: bool) -> Decided<'p>
     ensures { seen result ≡ tells is_instance }
 {
     let value = Value::Int(i32::from(is_instance));
     reaches(Effect::Nothing, FrameAction::Push { takes: 1, value })
 }
 
-/// An object is made, if there is room for one.
-fn made_if_room<'p>(
+/// Decides the creation of an object, if there is room for one.
+fn creation_if_room<'p>(
     parts: &Parts<'p>,
     thread: &Thread,
     takes: u8,
     what: NewObject<ActionText<'p>>,
 ) -> Decided<'p>
-    ensures { seen result ≡ makes_if_room parts.now.limits parts.now.state thread.now takes (seen_object what.entry) }
+    ensures { seen result ≡ makes_if_room parts.now.limits parts.now.state thread.now takes (object_value what.entry) }
 {
     if parts.has_room() {
         making(parts, takes, what)
@@ -74,17 +74,17 @@ fn made_if_room<'p>(
     }
 }
 
-/// An object of the class of a number is made, once the class is initialised.
+/// Decides the creation of an instance of a class by its number, once the class is initialised.
 fn instance_of_number<'p>(parts: &Parts<'p>, t: usize, thread: &Thread, class: usize) -> Decided<'p>
     ensures { seen result ≡ makes_instance parts.now.program parts.now.limits parts.now.state t thread.now (Some class) }
 {
     match parts.asking(t, thread, class) {
         Some(decision) => decision,
-        None => made_if_room(parts, thread, 0, NewObject::Instance { class }),
+        None => creation_if_room(parts, thread, 0, NewObject::Instance { class }),
     }
 }
 
-/// The class that the instruction of a call names, with its number, if it is there.
+/// Returns the class that a call's instruction names, with its number, if it exists.
 fn class_of_site<'p>(
     parts: &Parts<'p>,
     frame: &Frame,
@@ -100,8 +100,8 @@ fn class_of_site<'p>(
         .class_at(frame.method(), frame.place(), how, name)
 }
 
-/// JVMS 6.5 new. In this order: the class is there; it is neither abstract nor an interface; it is initialised; there
-/// is room.
+/// Decides JVMS 6.5 `new`. It tests that the class exists, then that it is neither abstract nor an interface, then its
+/// initialisation, then the room.
 fn new_instance_decision<'p>(
     parts: &Parts<'p>,
     t: usize,
@@ -124,9 +124,9 @@ fn new_instance_decision<'p>(
     }
 }
 
-/// Whether the object of a reference is an instance of the class of a name, which is resolved.
-fn told_of<'p>(parts: &Parts<'p>, thread: &Thread, name: &[u16], reference: u32) -> Told<'p>
-    ensures { (null : TurnDecision) → (told : Bool → TurnDecision) → told_by null told result ≡ with_class_of parts.now.program parts.now.limits parts.now.state thread.now name.now (value.Reference reference ∷ []) null told }
+/// Tests the object of a reference against a named class, which is resolved first.
+fn tested_object<'p>(parts: &Parts<'p>, thread: &Thread, name: &[u16], reference: u32) -> Told<'p>
+    ensures { (null : TurnDecision) → (told : Bool → TurnDecision) → by_instance_test null told result ≡ with_class_of parts.now.program parts.now.limits parts.now.state thread.now name.now (value.Reference reference ∷ []) null told }
 {
     let Some(class) = parts.heap.class_of(reference) else {
         return Told::Stops(never_seen());
@@ -138,21 +138,21 @@ fn told_of<'p>(parts: &Parts<'p>, thread: &Thread, name: &[u16], reference: u32)
     }
 }
 
-/// What is told of the object on top: null is told before the class is resolved.
+/// Tests the topmost operand against a named class. Null is tested before the class is resolved.
 fn top_told<'p>(parts: &Parts<'p>, thread: &Thread, frame: &Frame, name: &[u16]) -> Told<'p>
     requires { 1 ≤ length frame.now.activation.operands }
-    ensures { (null : TurnDecision) → (told : Bool → TurnDecision) → told_by null told result ≡ with_class_of parts.now.program parts.now.limits parts.now.state thread.now name.now frame.now.activation.operands null told }
+    ensures { (null : TurnDecision) → (told : Bool → TurnDecision) → by_instance_test null told result ≡ with_class_of parts.now.program parts.now.limits parts.now.state thread.now name.now frame.now.activation.operands null told }
 {
     match frame.top() {
         Value::Null => Told::Null,
-        Value::Reference(reference) => told_of(parts, thread, name, reference),
+        Value::Reference(reference) => tested_object(parts, thread, name, reference),
         Value::Int(_) | Value::Long(_) | Value::Second | Value::ReturnAddress(_) | Value::Unset => {
             Told::Stops(bad(BadCause::Kind))
         }
     }
 }
 
-/// JVMS 6.5 checkcast: the object stays where it is.
+/// Decides JVMS 6.5 `checkcast`. The object stays on the operand stack.
 fn cast_decision<'p>(parts: &Parts<'p>, thread: &Thread, frame: &Frame, name: &[u16]) -> Decided<'p>
     requires { frame.now.activation.place + 1 < 2 ^ 64 }
     ensures { seen result ≡ if_deep frame.now 1 1 (with_class_of parts.now.program parts.now.limits parts.now.state thread.now name.now frame.now.activation.operands (reaching effect.Nothing (takes_on 0 frame.now.activation)) (casts parts.now.limits parts.now.state thread.now frame.now)) }
@@ -167,7 +167,7 @@ fn cast_decision<'p>(parts: &Parts<'p>, thread: &Thread, frame: &Frame, name: &[
     }
 }
 
-/// JVMS 6.5 instanceof.
+/// Decides JVMS 6.5 `instanceof`.
 fn instance_test_decision<'p>(
     parts: &Parts<'p>,
     thread: &Thread,
@@ -181,12 +181,12 @@ fn instance_test_decision<'p>(
     }
     match top_told(parts, thread, frame, name) {
         Told::Stops(decision) => decision,
-        Told::Null => told_instance(false),
-        Told::IsInstance(is_instance) => told_instance(is_instance),
+        Told::Null => instance_test_result(false),
+        Told::IsInstance(is_instance) => instance_test_result(is_instance),
     }
 }
 
-/// The instructions that name a class.
+/// Decides the instructions that name a class.
 #[tactic(auto, unfolding(jvms_machine::specs::Objects::class_decision))]
 pub fn class_decision<'p>(
     parts: &Parts<'p>,
@@ -214,17 +214,17 @@ pub fn class_decision<'p>(
     }
 }
 
-/// The object that is there, or a new one: equal texts have one, and so has a class.
-fn held_or_made<'p>(
+/// Decides to push the existing object, or else a new one. Equal strings share one object, and a class has one.
+fn existing_or_new<'p>(
     parts: &Parts<'p>,
     thread: &Thread,
     held: Option<u32>,
     what: NewObject<ActionText<'p>>,
 ) -> Decided<'p>
-    ensures { seen result ≡ holds_or_makes parts.now.limits parts.now.state thread.now held (seen_object what.entry) }
+    ensures { seen result ≡ holds_or_makes parts.now.limits parts.now.state thread.now held (object_value what.entry) }
 {
     match held {
-        None => made_if_room(parts, thread, 0, what),
+        None => creation_if_room(parts, thread, 0, what),
         Some(reference) => {
             let value = Value::Reference(reference);
             reaches(Effect::Nothing, FrameAction::Push { takes: 0, value })
@@ -232,7 +232,7 @@ fn held_or_made<'p>(
     }
 }
 
-/// JVMS 6.5 ldc of a string.
+/// Decides JVMS 6.5 `ldc` of a string.
 fn string_decision<'p>(
     parts: &Parts<'p>,
     thread: &Thread,
@@ -246,19 +246,19 @@ fn string_decision<'p>(
     }
     let held = parts.heap.text_reference(units.as_slice());
     let units = ActionText::Of(units);
-    held_or_made(parts, thread, held, NewObject::Text { units })
+    existing_or_new(parts, thread, held, NewObject::Text { units })
 }
 
-/// The object of a class that is there.
+/// Decides to push the object of an existing class.
 fn class_object_decision<'p>(parts: &Parts<'p>, thread: &Thread, name: &'p Text) -> Decided<'p>
     ensures { seen result ≡ holds_or_makes parts.now.limits parts.now.state thread.now (class_reference parts.now.state.heap name.now) (new_object.ClassObject name.now) }
 {
     let held = parts.heap.class_reference(name.as_slice());
     let name = ActionText::Of(name);
-    held_or_made(parts, thread, held, NewObject::ClassObject { name })
+    existing_or_new(parts, thread, held, NewObject::ClassObject { name })
 }
 
-/// JVMS 6.5 ldc of a class.
+/// Decides JVMS 6.5 `ldc` of a class.
 #[tactic(auto, unfolding(jvms_machine::specs::Objects::loadable_decision))]
 fn named_class_decision<'p>(
     parts: &Parts<'p>,
@@ -278,7 +278,7 @@ fn named_class_decision<'p>(
     }
 }
 
-/// JVMS 6.5 ldc of a string or a class.
+/// Decides JVMS 6.5 `ldc` of a string or a class.
 #[tactic(auto, unfolding(jvms_machine::specs::Objects::loadable_decision))]
 pub fn loadable_decision<'p>(
     parts: &Parts<'p>,

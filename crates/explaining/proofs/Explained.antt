@@ -1,4 +1,4 @@
--- What is explained is the run.
+-- The explanation is that of the run.
 use Rattle.std.proofs.Common.{◌≡◌, ℕ, List, length, Some, None, Result, Ok, Err, refl, sym, ap, subst, ◌∙◌}
 use Rattle.std.specs.Prelude.{Option}
 use Rattle.jvms_file.specs.declared.class_file.ClassFile.{ClassFile}
@@ -6,43 +6,43 @@ use Rattle.jvms_file.specs.Results.{◌>>=◌}
 use Rattle.jvms_program.specs.declared.program.Class.{Class}
 use Rattle.jvms_machine.specs.declared.machine.Entry.{Entry}
 use Rattle.jvms_machine.specs.declared.machine.Limits.{Limits}
-use Rattle.jvms_machine.specs.Opening.{NotMade, made}
+use Rattle.jvms_machine.specs.Opening.{StartFault, made}
 use Rattle.jvms_machine.specs.Start.{Start}
 use Rattle.machine.specs.Started.{opened}
 use Rattle.schedule.specs.Choosers.{Chooser}
 use Rattle.velodrome.specs.Specification.{Specification}
 use Rattle.program_runs.specs.declared.feeding.Judgement.{Judgement}
 use Rattle.program_runs.specs.declared.tracing.TracedRun.{TracedRun}
-use Rattle.program_runs.specs.Shown.{EndsAs, Shown, ending_shown, program_shown, shown_in, shown_of}
+use Rattle.program_runs.specs.Shown.{HasEnding, Shown, ending_shown, view_of_program, view_of_traced, view_of_run}
 use Rattle.judge.specs.Judgement.{IsJudgement, IsJudgementOn}
 use Rattle.judge.specs.Programs.{NotRun, not_made, refused}
 use Rattle.explaining.specs.Explanations.{program_explanation, run_explanation}
 
--- The run that is shown is that of the machine from this start.
+-- The run that is shown starts with the machine of this start.
 same_run : (most : ℕ) (chooser : Chooser) (limits : Limits) (program : List Class) (entry : Entry) (start : Start) (shown : Shown)
-    → made program limits entry ≡ Ok start → program_shown most chooser limits program entry ≡ Ok shown
-    → shown_of most chooser (opened program limits start) ≡ shown
-unfolding program_shown
+    → made program limits entry ≡ Ok start → view_of_program most chooser limits program entry ≡ Ok shown
+    → view_of_run most chooser (opened program limits start) ≡ shown
+unfolding view_of_program
 same_run most chooser limits program entry start shown is shows =
-    let both : Ok (shown_of most chooser (opened program limits start)) ≡ Ok shown =
-    sym (ap (λ r. r >>= λ s. Ok (shown_of most chooser (opened program limits s))) is) ∙ shows in cc
+    let both : Ok (view_of_run most chooser (opened program limits start)) ≡ Ok shown =
+    sym (ap (λ r. r >>= λ s. Ok (view_of_run most chooser (opened program limits s))) is) ∙ shows in cc
 
--- What explains it.
+-- The explanation of the run.
 pub is_explanation : (first : ℕ) (files : List ClassFile) (lines : Option Specification) (j : Option Judgement) (most : ℕ) (chooser : Chooser) (limits : Limits) (program : List Class) (entry : Entry) (start : Start) (shown : Shown) (text : List ℕ)
-    → made program limits entry ≡ Ok start → program_shown most chooser limits program entry ≡ Ok shown
+    → made program limits entry ≡ Ok start → view_of_program most chooser limits program entry ≡ Ok shown
     → text ≡ run_explanation first files lines j (opened program limits start) shown
     → program_explanation first files lines j most chooser limits program entry ≡ Ok text
 unfolding program_explanation
 is_explanation first files lines j most chooser limits program entry start shown text is shows told =
-    ap (λ r. r >>= λ s. Ok (run_explanation first files lines j (opened program limits s) (shown_of most chooser (opened program limits s)))) is
+    ap (λ r. r >>= λ s. Ok (run_explanation first files lines j (opened program limits s) (view_of_run most chooser (opened program limits s)))) is
     ∙ ap (λ x. Ok (run_explanation first files lines j (opened program limits start) x)) (same_run most chooser limits program entry start shown is shows)
     ∙ ap Ok (sym told)
 
--- How it ended.
-pub ends_so : (run : TracedRun) (said : Result Shown NotMade) → said ≡ Ok (shown_in run) → run.ending.turns ≡ length run.choices
-    → EndsAs (refused not_made said) run.ending
+-- How the run ended.
+pub ends_so : (run : TracedRun) (said : Result Shown StartFault) → said ≡ Ok (view_of_traced run) → run.ending.turns ≡ length run.choices
+    → HasEnding (refused not_made said) run.ending
 ends_so run said shows turns =
-    let P : Result Shown NotMade → Type 0 = λ r. EndsAs (refused not_made r) run.ending in
+    let P : Result Shown StartFault → Type 0 = λ r. HasEnding (refused not_made r) run.ending in
     subst P (sym shows) (ap (λ n. record { turns = n; result = run.ending.result; output = run.ending.output; status = run.ending.status; uncaught = run.ending.uncaught }) turns)
 
 judged_so : (lines : Option Specification) (shown : Shown) (j : Option Judgement) → IsJudgement lines shown.items j
@@ -52,9 +52,9 @@ judged_so (Some lines) shown (Some j) is = is
 judged_so None shown (Some j) is = absurd is
 judged_so (Some lines) shown None is = absurd is
 
--- The verdict on it.
-pub is_judged : (lines : Option Specification) (shown : Shown) (j : Option Judgement) (said : Result Shown NotMade) → said ≡ Ok shown
+-- The verdict on the run.
+pub is_judged : (lines : Option Specification) (shown : Shown) (j : Option Judgement) (said : Result Shown StartFault) → said ≡ Ok shown
     → IsJudgement lines shown.items j → IsJudgementOn lines (refused not_made said) j
 is_judged lines shown j said shows is =
-    let P : Result Shown NotMade → Type 0 = λ r. IsJudgementOn lines (refused not_made r) j in
+    let P : Result Shown StartFault → Type 0 = λ r. IsJudgementOn lines (refused not_made r) j in
     subst P (sym shows) (judged_so lines shown j is)

@@ -1,7 +1,7 @@
--- Why a program wasn't run is a fault of all of it.
+-- The reason why a program wasn't run is a fault of the whole.
 use Rattle.std.proofs.Common.{ℕ, refl, ap}
 use Rattle.std.specs.Prelude.{Result, Ok, Err}
-use Rattle.jvms_machine.specs.Opening.{NotMade}
+use Rattle.jvms_machine.specs.Opening.{StartFault}
 use Rattle.machine.specs.declared.fault.MachineFault.TheVariants as machine_fault
 use Rattle.program_runs.specs.declared.fault.ProgramFault.{ProgramFault}
 use Rattle.program_runs.specs.declared.fault.ProgramFault.TheVariants as program_fault
@@ -9,7 +9,7 @@ use Rattle.program_runs.specs.Faults.{IsProgramFault}
 use Rattle.judge.specs.Faults.{IsFault, judge_fault_of}
 use Rattle.judge.specs.Programs.{not_made, refused}
 
-pub not_run : {A : Type 0} → (fault : ProgramFault) → (shown : Result A NotMade) → IsProgramFault fault shown → IsFault (judge_fault_of fault) (refused not_made shown)
+pub not_run : {A : Type 0} → (fault : ProgramFault) → (shown : Result A StartFault) → IsProgramFault fault shown → IsFault (judge_fault_of fault) (refused not_made shown)
 not_run (program_fault.Machine machine_fault.NoEntry) shown is = ap (refused not_made) is
 not_run (program_fault.Machine machine_fault.Limits) shown is = ap (refused not_made) is
 not_run (program_fault.Machine machine_fault.Memory) (Ok shown) is = refl

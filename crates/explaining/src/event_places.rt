@@ -1,4 +1,4 @@
-//! Where the events of a cycle are in the program.
+//! Writes where the events of a cycle are in the program.
 
 ghost use Rattle.std.specs.Prelude.{◌≡◌, ◌++◌, cond, OnOk, [], take};
 ghost use Rattle.std.specs.String.{string_bytes};
@@ -12,7 +12,7 @@ use source_lines::SourceFiles;
 use std::alloc::{AllocError, Global};
 use velodrome::verdict::{ConflictingPair, Verdict};
 
-/// How many transactions of a cycle are explained at most.
+/// The maximum number of pairs of a cycle that are explained.
 const MOST_EXPLAINED: usize = 64;
 
 /// Returns the first pairs of a cycle.
@@ -35,7 +35,7 @@ fn pairs_of(verdict: &Verdict) -> &[ConflictingPair]
     }
 }
 
-/// Returns whether the event of this number is of one of these pairs.
+/// Returns whether an event is in one of these pairs.
 fn is_in_pairs(pairs: &[ConflictingPair], event: u64) -> bool
     ensures { result ≡ is_in_pairs pairs.now event }
 {
@@ -66,7 +66,7 @@ fn put_event_place(
     Ok(())
 }
 
-/// Appends where the event of a number is, if it is of one of these pairs.
+/// Appends where event `number` is, if it is in one of these pairs.
 fn put_event(
     alloc: Global,
     out: &mut String,

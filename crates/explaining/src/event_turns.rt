@@ -1,9 +1,9 @@
-//! The turn of each event of a run, and where its thread was.
+//! The turn of each event of a run, and the place of its thread.
 
 ghost use Rattle.std.specs.Prelude.{◌≡◌, ◌++◌, [], IfOk, OnOk, map};
 ghost use Rattle.std.specs.List.{filter};
 ghost use Rattle.std.specs.Option.{option_map};
-ghost use Rattle.machine.specs.Machine.{row_of, with_state};
+ghost use Rattle.machine.specs.Machine.{transition_of, with_state};
 ghost use Rattle.machine.specs.Runs.{run_of};
 ghost use Rattle.runs.specs.Choices.{after_turn};
 ghost use Rattle.velodrome.specs.Transactions.{is_event as is_event_item};
@@ -18,12 +18,12 @@ use report::is_event;
 use std::alloc::{AllocError, Global};
 use trace::Trace;
 
-/// What is said of an event: its turn, and the method and the place of the instruction by which it came.
+/// The turn of an event, and the method and the instruction that made it.
 #[derive(Clone, Copy, Debug)]
 pub struct EventTurn {
     /// The turn, from 1.
     pub turn: u64,
-    /// `None` if its thread was in no call.
+    /// The method and the place of the instruction. It is `None` if the thread was in no call.
     pub place: Option<(MethodNumber, usize)>,
 }
 
@@ -38,7 +38,7 @@ fn call_place(frame: &Option<FrameView<'_, '_>>) -> Option<(MethodNumber, usize)
     }
 }
 
-/// Returns what is said of each event of a thread's turn of this number.
+/// Returns the turn and the place of each event of a thread's turn.
 fn turn_at(turn: u64, machine: &Machine<'_>, thread: ThreadId) -> EventTurn
     ensures { result ≡ turn_at turn machine.now thread }
 {
@@ -48,7 +48,7 @@ fn turn_at(turn: u64, machine: &Machine<'_>, thread: ThreadId) -> EventTurn
     }
 }
 
-/// Appends the same for each event among items.
+/// Appends the same entry for each event among items.
 fn push_events(
     events: &mut Vec<EventTurn>,
     event: EventTurn,
@@ -65,7 +65,8 @@ fn push_events(
     Ok(())
 }
 
-/// Takes the turn of a thread, and appends its events. The trace is empty before and after: its memory is reused.
+/// Takes the turn of a thread, and appends its events. The trace is empty before and after, so that its memory is
+/// reused.
 fn take_turn(
     machine: &mut Machine<'_>,
     thread: ThreadId,
@@ -77,7 +78,7 @@ fn take_turn(
     ensures trace { OnOk result (trace.new ≡ []) }
     ensures machine { OnOk result (machine.new ≡ after_turn machine.old thread) }
     ensures events { OnOk result (events.new.items ≡ events.old.items
-        ++ map (λ i. turn_at turn machine.old thread) (filter is_event_item (row_of machine.old thread).items)) }
+        ++ map (λ i. turn_at turn machine.old thread) (filter is_event_item (transition_of machine.old thread).items)) }
 {
     let event = turn_at(turn, machine, thread);
     machine.step(thread, trace)?;
@@ -86,7 +87,7 @@ fn take_turn(
     Ok(())
 }
 
-/// Takes the turns of choices, and returns what is said of each event.
+/// Takes the turns of choices, and returns the turn and the place of each event.
 pub(crate) fn event_turns(
     alloc: Global,
     machine: &mut Machine<'_>,

@@ -1,4 +1,4 @@
-//! The verdict on a trace, and the lines that explain it.
+//! Judges a trace, and writes the lines that explain the verdict.
 
 ghost use Rattle.std.specs.Prelude.{◌≡◌, IfOk, Some};
 ghost use Rattle.std.specs.String.{string_bytes};
@@ -26,7 +26,7 @@ pub(crate) struct Explained {
     pub(crate) text: String,
 }
 
-/// Judges items by a specification, and explains the verdict. The events are those of the items.
+/// Judges items by a specification, and explains the verdict. `events` are those of the items.
 fn explain_by(
     alloc: Global,
     program: &Program,

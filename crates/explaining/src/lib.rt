@@ -1,5 +1,5 @@
-//! Runs that are explained: a cycle by its transactions and events, and a run that can't continue by what its threads wait for
-//! or need.
+//! Explains runs: a cycle by its transactions and events, and a run that can't continue by what its threads wait for or
+//! need.
 #![tactic(auto)]
 
 mod event_places;

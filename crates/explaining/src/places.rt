@@ -1,4 +1,4 @@
-//! Where the calls of a run are, in the program and in its sources.
+//! Writes where the calls of a run are, in the program and in its sources.
 
 ghost use Rattle.std.specs.Prelude.{◌≡◌, ◌++◌, OnOk, option_copied};
 ghost use Rattle.std.specs.Option.{option_map};
@@ -33,7 +33,7 @@ pub(crate) fn put_at(
     source_lines::put_place(out, sources, method, place)
 }
 
-/// Appends what an instruction needs that isn't there.
+/// Appends the reason why an instruction can't run, if there is one.
 pub(crate) fn put_need_part(
     out: &mut String,
     program: &Program,
@@ -48,7 +48,7 @@ pub(crate) fn put_need_part(
     }
 }
 
-/// Appends where a call is, and what its next instruction needs that isn't there.
+/// Appends where a call is, and why its next instruction can't run, if there is a reason.
 pub(crate) fn put_call(
     out: &mut String,
     program: &Program,

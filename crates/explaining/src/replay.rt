@@ -1,4 +1,4 @@
-//! The turns of a run, taken once more.
+//! Takes the turns of a run again.
 
 ghost use Rattle.std.specs.Prelude.{◌≡◌, List, ℕ, IfOk, Ok};
 ghost use Rattle.std.specs.String.{string_bytes};
@@ -19,16 +19,16 @@ use runs::Ending;
 use source_lines::SourceFiles;
 use std::alloc::{AllocError, Global};
 
-/// What the turns of a run tell when they are taken once more.
+/// The results of taking the turns of a run again.
 #[derive(Debug, Drop)]
 pub(crate) struct Replayed {
-    /// What is said of each event.
+    /// The turn and the place of each event.
     pub(crate) events: Vec<EventTurn>,
-    /// The lines of exceptions that nothing caught, and then of the threads, if none of them can continue.
+    /// The lines of uncaught exceptions, followed by those of the threads if none can continue.
     pub(crate) lines: String,
 }
 
-/// Returns whether no thread can continue, though not all have ended.
+/// Returns whether no thread can continue, although not all have ended.
 fn is_stuck(status: Status) -> bool
     ensures { result ≡ is_stuck status }
 {
@@ -54,7 +54,7 @@ fn threads_part(
     Ok(text)
 }
 
-/// Takes the turns of choices from a machine's opening on.
+/// Takes the turns of choices, starting with a machine's opening state.
 fn replay_on(
     alloc: Global,
     machine: &mut Machine<'_>,
@@ -73,7 +73,7 @@ fn replay_on(
     Ok(Replayed { events, lines })
 }
 
-/// Takes the turns of choices once more, from an entry of a program on, that end so.
+/// Takes the turns of choices again, from an entry of a program on. `ending` is how they ended.
 pub(crate) fn replay(
     alloc: Global,
     program: &Program,

@@ -1,4 +1,4 @@
-//! A run that is explained.
+//! Runs a program and explains the run.
 
 ghost use Rattle.std.specs.Prelude.{◌≡◌, length, IfErr, IfOk, OnErr, OnOk, Ok};
 ghost use Rattle.std.specs.String.{string_bytes};
@@ -7,7 +7,7 @@ ghost use Rattle.judge.specs.Judgement.{IsJudgementOn};
 ghost use Rattle.judge.specs.Programs.{not_made, refused};
 ghost use Rattle.judge.specs.Shown.{chooser_left, program_judged, run_judged};
 ghost use Rattle.program_runs.specs.Faults.{IsProgramFault};
-ghost use Rattle.program_runs.specs.Shown.{EndsAs, program_chooser_left, program_shown};
+ghost use Rattle.program_runs.specs.Shown.{HasEnding, program_chooser_left, view_of_program};
 ghost use Rattle.explaining.specs.Explanations.{explanation_of_inputs, program_explanation};
 
 use crate::judging::explain_items;
@@ -24,18 +24,18 @@ use source_lines::SourceFiles;
 use std::alloc::Global;
 use turn_limit::TurnLimit;
 
-/// How a run ended, whether it is atomic, if a specification asks for it, and the lines that explain it.
+/// The end of a run, its judgement if there is a specification, and the lines that explain it.
 #[derive(Debug, Drop)]
 pub struct ExplainedRun {
     pub ending: Ending,
     pub judgement: Option<Judgement>,
-    /// The lines of its cycle, if there is one, where its events are in the program, and the lines of the specification
-    /// that speak of no method. Then where the exceptions were thrown that nothing caught, and its threads, if none of them
-    /// can continue.
+    /// The explanation. It has the lines of the cycle, if there is one, where its events are, and the lines of the
+    /// specification that match no method. It ends with where uncaught exceptions were thrown, and with the threads if
+    /// none can continue.
     pub explanation: String,
 }
 
-/// Runs a program, judges the run if a specification asks for it, and explains it.
+/// Runs a program, judges the run if there is a specification, and explains it.
 fn explain_program(
     alloc: Global,
     program: &Program,
@@ -47,7 +47,7 @@ fn explain_program(
     spec: Option<Spec>,
 ) -> Result<ExplainedRun, ProgramFault>
     ensures ending { IfOk result (λ run.
-        EndsAs (program_judged most chooser.old limits program.now entry.now) run.ending) }
+        HasEnding (program_judged most chooser.old limits program.now entry.now) run.ending) }
     ensures judged { IfOk result (λ run. IsJudgementOn spec
         (program_judged most chooser.old limits program.now entry.now) run.judgement) }
     ensures explained { IfOk result (λ run.
@@ -56,9 +56,9 @@ fn explain_program(
     ensures chooser { OnOk result
         (program_chooser_left most chooser.old limits program.now entry.now ≡ Ok chooser.new) }
     ensures fault { IfErr result (λ fault.
-        IsProgramFault fault (program_shown most chooser.old limits program.now entry.now)) }
+        IsProgramFault fault (view_of_program most chooser.old limits program.now entry.now)) }
 {
-    program.is_program();
+    program.program_invariant();
     let traced = trace_program(alloc, program, limits, entry, chooser, most.turns())?;
     let choices = traced.choices.as_slice();
     let Ok(replayed) = replay(
@@ -83,7 +83,8 @@ fn explain_program(
     })
 }
 
-/// Runs the program that class files and sources make, and explains the run. The chooser may have moved also at a refusal.
+/// Runs the program of class files and sources, and explains the run. The chooser may have moved even if the result is
+/// a fault.
 #[tactic(auto, using(crate::proofs::Faults::not_run), unfolding(judge::specs::Shown::run_judged, judge::specs::Shown::chooser_left, crate::specs::Explanations::explanation_of_inputs))]
 fn explain_inputs(
     alloc: Global,
@@ -95,7 +96,7 @@ fn explain_inputs(
     spec: Option<Spec>,
 ) -> Result<ExplainedRun, JudgeFault>
     ensures ending { IfOk result (λ run.
-        EndsAs (run_judged most chooser.old limits inputs.now entry.now) run.ending) }
+        HasEnding (run_judged most chooser.old limits inputs.now entry.now) run.ending) }
     ensures judged { IfOk result (λ run. IsJudgementOn spec
         (run_judged most chooser.old limits inputs.now entry.now) run.judgement) }
     ensures explained { IfOk result (λ run.
@@ -108,7 +109,7 @@ fn explain_inputs(
     ensures named { IfErr result (λ fault. NamesFile (length inputs.now) fault) }
 {
     let program = program_of(alloc, inputs)?;
-    // They are classes, since they make a program.
+    // The inputs are classes, because they make a program.
     let Ok(files) = classes_of(alloc, inputs) else {
         return Err(JudgeFault::Memory);
     };
@@ -119,13 +120,13 @@ fn explain_inputs(
     Ok(run)
 }
 
-/// Runs the program that class files and sources make, from its entry on, judges the run by the specification, if there is
-/// one, and explains it. Choices and items are kept, and the turns are taken twice: the second time tells the turn of each
+/// Runs the program of class files and sources from its entry on, judges the run by the specification, if there is one,
+/// and explains it. It keeps choices and items, and takes the turns twice. The second time yields the turn of each
 /// event.
 ///
 /// # Errors
 ///
-/// Those of `judge`. A refusal leaves the chooser as it was.
+/// Those of `judge`. A fault leaves the chooser unchanged.
 pub fn run_explained(
     alloc: Global,
     inputs: &[Input],
@@ -137,20 +138,20 @@ pub fn run_explained(
 ) -> Result<ExplainedRun, JudgeFault>
     // The number of turns, result, output, status and uncaught exceptions are those of the run that `judge` returns.
     ensures ending { IfOk result (λ run.
-        EndsAs (run_judged most chooser.old limits inputs.now entry.now) run.ending) }
-    // The verdict on the items of that run, and their counts; none without a specification.
+        HasEnding (run_judged most chooser.old limits inputs.now entry.now) run.ending) }
+    // The judgement is the verdict on the items of that run with their counts, or `None` without a specification.
     ensures judged { IfOk result (λ run. IsJudgementOn spec
         (run_judged most chooser.old limits inputs.now entry.now) run.judgement) }
-    // What is explained is the cycle of that verdict, on the items of that run, with the turns and the places that it
-    // gives; and the threads of the machine after it.
+    // The explanation is that of the verdict's cycle, on the items of that run with their turns and places, and of the
+    // threads of the machine after the run.
     ensures explained { IfOk result (λ run.
         explanation_of_inputs spec run.judgement most chooser.old limits inputs.now entry.now
         ≡ Ok (string_bytes run.explanation)) }
-    // The chooser is then the one after its choices. At a refusal it is as it was.
+    // The chooser is then the one after its choices. A fault leaves it unchanged.
     ensures chooser { OnOk result
         (chooser_left most chooser.old limits inputs.now entry.now ≡ Ok chooser.new) }
     ensures kept { OnErr result (chooser.new ≡ chooser.old) }
-    // A fault is returned only if its condition holds. If it is of an input, it names one of these.
+    // A fault is returned only if its condition holds. A fault of an input names one of these.
     ensures fault { IfErr result (λ fault.
         IsFault fault (run_judged most chooser.old limits inputs.now entry.now)) }
     ensures named { IfErr result (λ fault. NamesFile (length inputs.now) fault) }

@@ -1,4 +1,4 @@
-//! Threads that can't continue, though they haven't ended.
+//! Writes where threads stop that can't continue, although they haven't ended.
 
 ghost use Rattle.std.specs.Prelude.{◌≡◌, ◌++◌, IfOk, OnOk, Some};
 ghost use Rattle.std.specs.Option.{option_map};
@@ -16,14 +16,14 @@ use program::Program;
 use source_lines::{SourceFiles, put_place};
 use std::alloc::{AllocError, Global};
 
-/// Returns whether a thread of this outcome waits for another, or the instruction table gives it no turn.
+/// Returns whether the thread of this outcome waits for another one, or the instruction table has no turn for it.
 fn is_stopped(outcome: Outcome) -> bool
     ensures { result ≡ is_stopped outcome }
 {
     matches!(outcome, Outcome::Blocked { .. } | Outcome::Bad { .. })
 }
 
-/// Returns whether more is known of where a call is than the method and the instruction.
+/// Returns whether the source place of a call is known, or the reason why its next instruction can't run.
 fn is_known_better(
     alloc: Global,
     program: &Program,
@@ -40,7 +40,7 @@ fn is_known_better(
     Ok(!source.as_str().is_empty() || !need.as_str().is_empty())
 }
 
-/// Appends where the call of a thread stops, if more is known of it than the method and the instruction.
+/// Appends where the call of a thread stops, if more is known than the method and the instruction.
 fn put_call_stop(
     alloc: Global,
     out: &mut String,

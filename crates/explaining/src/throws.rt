@@ -1,4 +1,4 @@
-//! Where the exceptions were thrown with which threads ended.
+//! Finds where the uncaught exceptions were thrown.
 
 ghost use Rattle.std.specs.Prelude.{◌≡◌, IfOk, OnOk};
 ghost use Rattle.std.specs.Option.{option_map};
@@ -14,21 +14,21 @@ use source_lines::SourceFiles;
 use std::alloc::{AllocError, Global};
 use trace::Recording;
 
-/// A throw: the reference of the exception, and the line that says where it was. The reference is 0 if there is none.
+/// A throw: the reference of the exception, and the line with its place. The reference is 0 if there is no throw.
 #[derive(Debug, Drop)]
 struct Throw {
     exception: u32,
     line: String,
 }
 
-/// Returns whether the turn of a thread leaves an exception pending, where none was.
+/// Returns whether the turn of a thread leaves an exception pending when none was before.
 fn throws(machine: &Machine<'_>, thread: ThreadId) -> bool
     ensures { result ≡ throws machine.now thread }
 {
     machine.pending(thread).is_none() && machine.peek(thread) == Outcome::Raised
 }
 
-/// Returns the line of the throw of a thread, by its turn of this number.
+/// Returns the line of the throw of a thread. `turn` is the number of its turn.
 fn throw_line(
     alloc: Global,
     machine: &Machine<'_>,
@@ -50,7 +50,7 @@ fn throw_line(
     Ok(line)
 }
 
-/// Returns the line of the throw of a thread, if the turn of a choice is one.
+/// Returns the line of the throw of a thread, if the turn of `choice` is one.
 fn line_in(
     alloc: Global,
     machine: &Machine<'_>,
@@ -70,14 +70,15 @@ fn line_in(
     }
 }
 
-/// Returns the exception that is pending in a thread, or 0.
+/// Returns the exception that is pending in a thread, or 0 if there is none.
 fn pending_in(machine: &Machine<'_>, thread: ThreadId) -> u32
     ensures { result ≡ pending_in machine.now thread }
 {
     machine.pending(thread).unwrap_or(0)
 }
 
-/// Puts a throw in the place of an earlier one, if there is one. The earlier one is kept if it threw the same exception.
+/// Replaces an earlier throw by a later one, if there is one. If both threw the same exception, the earlier throw is
+/// kept.
 fn put_later(last: &mut Throw, exception: u32, line: Option<String>)
     ensures { record { exception = last.new.exception; line = string_bytes last.new.line }
         ≡ later_throw (record { exception = last.old.exception; line = string_bytes last.old.line })
@@ -93,7 +94,7 @@ fn put_later(last: &mut Throw, exception: u32, line: Option<String>)
     }
 }
 
-/// Takes the turn of a choice. Puts a thread's throw in the place of another, if the turn is one.
+/// Takes the turn of a choice. If it is a throw of the thread, it replaces the last one.
 fn take_turn(
     alloc: Global,
     machine: &mut Machine<'_>,
@@ -115,7 +116,7 @@ fn take_turn(
     Ok(())
 }
 
-/// Returns the line of the last throw of a thread in the turns of choices. The text is empty if it threw nothing.
+/// Returns the line of the last throw of a thread in the turns of choices. It is empty if the thread threw nothing.
 fn last_throw(
     alloc: Global,
     machine: &mut Machine<'_>,
@@ -144,7 +145,7 @@ fn last_throw(
     Ok(last.line)
 }
 
-/// Returns the lines of the last throws of threads in the turns of choices. The turns are taken once for each thread.
+/// Returns the lines of the last throws of threads in the turns of choices. It takes the turns once for each thread.
 pub(crate) fn throw_lines(
     alloc: Global,
     opening: &Machine<'_>,

@@ -1,5 +1,5 @@
--- What a reader of bytes that takes no memory promises: what it returns, seen by a view, is what the
--- definition reads, and its fault is the definition's.
+-- The promise of a reader of bytes that allocates no memory. Its result, seen by a view, is the one that the definition
+-- reads, and its fault is the definition's.
 use Rattle.std.specs.Prelude.{◌≡◌, Result, Ok, Err}
 use Rattle.jvms_file.specs.declared.fault.ClassFault.{ClassFault}
 

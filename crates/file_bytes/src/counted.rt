@@ -1,19 +1,19 @@
-//! Parts that stand one behind another, as many as a count says (JVMS 4).
+//! Consecutive parts, as many as a count says (JVMS 4).
 
 ghost use Rattle.std.specs.Prelude.{◌≡◌, ℕ, List, [], Result};
 ghost use Rattle.jvms_file.specs.declared.fault.ClassFault.{ClassFault as Fault};
 ghost use Rattle.jvms_file.specs.Reading.{Gives};
-ghost use Rattle.jvms_file.specs.Results.{counted_onto};
+ghost use Rattle.jvms_file.specs.Results.{part_list_onto};
 
-use held::items::Items;
+use shared_data::items::Items;
 use jvms_file::fault::ReadError;
 use std::alloc::Global;
 
-/// How one part is read, in view of those before it.
+/// A reader of one part, which may depend on the parts before it.
 pub trait Part<T> {
     ghost at: { Self → List T → List ℕ → Result (T × List ℕ) Fault };
 
-    /// The part at the front, and the bytes behind it; `seen` are the parts before it.
+    /// Reads the part at the front and returns it with the bytes after it. `seen` are the parts before it.
     fn part_at<'a>(
         &self,
         alloc: Global,
@@ -23,14 +23,14 @@ pub trait Part<T> {
         ensures { Gives (λ x. (x.0, x.1.now)) result (at self.now seen.now bytes.now) };
 }
 
-/// So many parts, and the bytes behind them.
+/// Reads `count` consecutive parts and returns them with the bytes after them.
 pub fn parts_of<'a, T: Drop, P: Part<T>>(
     alloc: Global,
     part: &P,
     count: usize,
     bytes: &'a [u8],
 ) -> Result<(Items<T>, &'a [u8]), ReadError>
-    ensures { Gives (λ x. (x.0, x.1.now)) result (counted_onto (P.at part.now) [] count bytes.now) }
+    ensures { Gives (λ x. (x.0, x.1.now)) result (part_list_onto (P.at part.now) [] count bytes.now) }
 {
     let mut parts = Items::new(alloc);
     let mut rest = bytes;

@@ -1,5 +1,4 @@
-//! The bytes of class files (JVMS 4): big-endian numbers that are read and written, and parts that stand one
-//! behind another.
+//! The bytes of class files (JVMS 4): reads and writes big-endian numbers, and reads consecutive parts.
 #![tactic(auto)]
 
 mod counted;

@@ -1,5 +1,5 @@
-//! Big-endian numbers at the front of bytes (JVMS 4, u1, u2, u4). Each reader is told the fault of bytes that
-//! aren't there, and answers no other: it takes no memory.
+//! Big-endian numbers at the front of bytes (JVMS 4, u1, u2, u4). Each reader gets the fault for missing bytes, and
+//! fails with no other. None allocates memory.
 
 ghost use Rattle.std.specs.Prelude.{◌≡◌};
 ghost use Rattle.jvms_file.specs.Bytes.{u1_at as one_byte, u2_at as two_bytes, u4_at as four_bytes, u8_at as eight_bytes, bytes_at as some_bytes};
@@ -9,14 +9,14 @@ ghost use Rattle.file_bytes.specs.Reading.{Finds};
 use byteorder::{BigEndian, ByteOrder};
 use jvms_file::fault::ClassFault;
 
-/// A test whose failing is the fault.
+/// Returns the fault if the test is false.
 pub fn want(test: bool, fault: ClassFault) -> Result<(), ClassFault>
     ensures { Finds (λ x. x) result (wanted test fault) }
 {
     if test { Ok(()) } else { Err(fault) }
 }
 
-/// The first byte, and the bytes behind it.
+/// Reads the first byte and returns it with the bytes after it.
 #[tactic(auto, unfolding(jvms_file::specs::Bytes::number))]
 pub fn u1_at(cut: ClassFault, bytes: &[u8]) -> Result<(u8, &[u8]), ClassFault>
     ensures { Finds (λ x. (x.0, x.1.now)) result (one_byte cut bytes.now) }
@@ -27,7 +27,7 @@ pub fn u1_at(cut: ClassFault, bytes: &[u8]) -> Result<(u8, &[u8]), ClassFault>
     Ok((bytes[0], &bytes[1..]))
 }
 
-/// The number of two bytes at the front, and the bytes behind it.
+/// Reads a number of two bytes and returns it with the bytes after it.
 #[tactic(auto, unfolding(jvms_file::specs::Bytes::number))]
 pub fn u2_at(cut: ClassFault, bytes: &[u8]) -> Result<(u16, &[u8]), ClassFault>
     ensures { Finds (λ x. (x.0, x.1.now)) result (two_bytes cut bytes.now) }
@@ -38,7 +38,7 @@ pub fn u2_at(cut: ClassFault, bytes: &[u8]) -> Result<(u16, &[u8]), ClassFault>
     Ok((BigEndian::read_u16(bytes), &bytes[2..]))
 }
 
-/// The number of four bytes at the front, and the bytes behind it.
+/// Reads a number of four bytes and returns it with the bytes after it.
 #[tactic(auto, unfolding(jvms_file::specs::Bytes::number))]
 pub fn u4_at(cut: ClassFault, bytes: &[u8]) -> Result<(u32, &[u8]), ClassFault>
     ensures { Finds (λ x. (x.0, x.1.now)) result (four_bytes cut bytes.now) }
@@ -49,7 +49,7 @@ pub fn u4_at(cut: ClassFault, bytes: &[u8]) -> Result<(u32, &[u8]), ClassFault>
     Ok((BigEndian::read_u32(bytes), &bytes[4..]))
 }
 
-/// The number of eight bytes at the front, and the bytes behind it.
+/// Reads a number of eight bytes and returns it with the bytes after it.
 #[tactic(auto, unfolding(jvms_file::specs::Bytes::number))]
 pub fn u8_at(cut: ClassFault, bytes: &[u8]) -> Result<(u64, &[u8]), ClassFault>
     ensures { Finds (λ x. (x.0, x.1.now)) result (eight_bytes cut bytes.now) }
@@ -60,7 +60,7 @@ pub fn u8_at(cut: ClassFault, bytes: &[u8]) -> Result<(u64, &[u8]), ClassFault>
     Ok((BigEndian::read_u64(bytes), &bytes[8..]))
 }
 
-/// The first `count` bytes, and the bytes behind them.
+/// Splits off the first `count` bytes and returns them with the bytes after them.
 pub fn bytes_at(cut: ClassFault, count: usize, bytes: &[u8]) -> Result<(&[u8], &[u8]), ClassFault>
     ensures { Finds (λ x. (x.0.now, x.1.now)) result (some_bytes cut count bytes.now) }
 {

@@ -1,4 +1,4 @@
-//! Big-endian numbers put behind bytes (JVMS 4, u2, u4). Without memory for all of a number nothing changes.
+//! Big-endian numbers that are appended to bytes (JVMS 4, u2, u4). Without memory for all of a number nothing changes.
 
 ghost use Rattle.std.specs.Prelude.{◌≡◌, ◌++◌, OnOk, OnErr};
 ghost use Rattle.jvms_file.specs.Spelling.{u2, u4, u8};
@@ -6,7 +6,7 @@ ghost use Rattle.jvms_file.specs.Spelling.{u2, u4, u8};
 use byteorder::{BigEndian, ByteOrder};
 use std::alloc::AllocError;
 
-/// Puts the two bytes of a number behind the others.
+/// Appends the two bytes of a number.
 #[tactic(auto, unfolding(jvms_file::specs::Spelling::u2))]
 pub fn write_u2(out: &mut Vec<u8>, number: u16) -> Result<(), AllocError>
     ensures ok { OnOk result (out.new.items ≡ out.old.items ++ u2 number) }
@@ -17,7 +17,7 @@ pub fn write_u2(out: &mut Vec<u8>, number: u16) -> Result<(), AllocError>
     out.extend_from_slice(&bytes)
 }
 
-/// Puts the four bytes of a number behind the others.
+/// Appends the four bytes of a number.
 #[tactic(auto, unfolding(jvms_file::specs::Spelling::u4))]
 pub fn write_u4(out: &mut Vec<u8>, number: u32) -> Result<(), AllocError>
     ensures ok { OnOk result (out.new.items ≡ out.old.items ++ u4 number) }
@@ -28,7 +28,7 @@ pub fn write_u4(out: &mut Vec<u8>, number: u32) -> Result<(), AllocError>
     out.extend_from_slice(&bytes)
 }
 
-/// Puts the eight bytes of a number behind the others.
+/// Appends the eight bytes of a number.
 #[tactic(auto, unfolding(jvms_file::specs::Spelling::u8))]
 pub fn write_u8(out: &mut Vec<u8>, number: u64) -> Result<(), AllocError>
     ensures ok { OnOk result (out.new.items ≡ out.old.items ++ u8 number) }
@@ -39,7 +39,7 @@ pub fn write_u8(out: &mut Vec<u8>, number: u64) -> Result<(), AllocError>
     out.extend_from_slice(&bytes)
 }
 
-/// Puts the lowest two bytes of a count behind the others: all of it, where it is a u2.
+/// Appends the lowest two bytes of a count. That is the whole count if it is a u2.
 #[tactic(auto, unfolding(jvms_file::specs::Spelling::u2))]
 pub fn write_count(out: &mut Vec<u8>, count: usize) -> Result<(), AllocError>
     ensures ok { OnOk result (out.new.items ≡ out.old.items ++ u2 count) }
@@ -50,7 +50,7 @@ pub fn write_count(out: &mut Vec<u8>, count: usize) -> Result<(), AllocError>
     out.extend_from_slice(&bytes[6..])
 }
 
-/// Puts the lowest four bytes of a length behind the others: all of it, where it is a u4.
+/// Appends the lowest four bytes of a length. That is the whole length if it is a u4.
 #[tactic(auto, unfolding(jvms_file::specs::Spelling::u4))]
 pub fn write_length(out: &mut Vec<u8>, length: usize) -> Result<(), AllocError>
     ensures ok { OnOk result (out.new.items ≡ out.old.items ++ u4 length) }

@@ -1,7 +1,7 @@
-//! Turns of the call on top of a thread that touch its frame and the elements of arrays alone (JVMS 6.5).
+//! Turns of a thread's top call that touch only its frame and the elements of arrays (JVMS 6.5).
 #![tactic(auto)]
 
 mod elements;
 mod turns;
 
-pub use turns::step_on;
+pub use turns::step_consecutive;

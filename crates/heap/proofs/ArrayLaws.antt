@@ -10,17 +10,17 @@ use Rattle.jvms_machine.specs.declared.value.Value.TheVariants as value
 use Rattle.jvms_machine.specs.State.{Object, array}
 use Rattle.jvms_machine.specs.Heap.{arrays_made, component_type, elements_made, part_references, new_arrays, first_element}
 use Rattle.jvms_machine.proofs.ListLaws.{all_append}
-use Rattle.heap.specs.declared.held_object.HeldObject.{HeldObject}
-use Rattle.heap.specs.declared.held_object.HeldObject.TheVariants as held
+use Rattle.heap.specs.declared.held_object.StoredObject.{StoredObject}
+use Rattle.heap.specs.declared.held_object.StoredObject.TheVariants as held
 use Rattle.array_elements.specs.declared.elements.Elements.TheVariants as elements
 use Rattle.array_elements.specs.declared.kind.Kind.TheVariants as kind
 use Rattle.array_elements.specs.Elements.{reference_value}
 use Rattle.array_elements.specs.Kinds.{kind_of}
-use Rattle.heap.specs.Held.{shown, IsKept, IsPlain, AreHeld}
-use Rattle.heap.specs.Arrays.{IsArray, MadeFrom}
+use Rattle.heap.specs.Held.{shown, IsKept, IsPlain, AreStored}
+use Rattle.heap.specs.Arrays.{IsArray, AppendsArrays}
 use Rattle.heap.proofs.MakingLaws.{plain_added}
 
--- ---- How many
+-- ---- Numbers of arrays and elements
 
 once : (x y n : ℕ) → n ≡ suc x → y ≤ n * y
 once x y n is = let e : n * y ≡ y + x * y = ap (λ k. k * y) is ∙ omega arith in omega arith
@@ -70,7 +70,7 @@ part_fits_elements (suc n) rest over h =
 
 -- ---- The references of parts
 
--- So many parts have their references, and the next part this one.
+-- The first i parts have their references, and the next part has this one.
 pub record HasParts (first size i next : ℕ) (references : List ℕ) : Type 0 where
   pub there : references ≡ part_references first size i
   pub next_is : next ≡ first + i * size
@@ -106,11 +106,11 @@ references_by first size (suc n) a over =
     there zero over = absurd (omega (arith, over))
     there (suc r) over = refl
 
--- References that are held show as references.
+-- Stored references denote references.
 pub references_shown : (first size n : ℕ) (references : List ℕ) → references ≡ part_references first size n → 0 < first → map reference_value references ≡ map value.Reference (part_references first size n)
 references_shown first size n references is over = ap (map reference_value) is ∙ references_by first size n 0 over
 
--- So many parts, by their references, are an array.
+-- An array of n parts, by their references.
 pub parts_held : (first size n : ℕ) (t class : List ℕ) (references : Vec ℕ Global) → t ≡ class → references.items ≡ part_references first size n → 0 < first → n < 2 ^ 31 → kind_of (component_type class) ≡ kind.Reference
     → IsArray (held.Array t (elements.References references)) (array class (map value.Reference (part_references first size n)))
 parts_held first size n t class references same are over few of_references =
@@ -122,16 +122,16 @@ parts_held first size n t class references same are over few of_references =
       plain = tt;
     }
 
--- ---- What is made
+-- ---- Created arrays
 
-pub made_none : (before : List HeldObject) → MadeFrom before before []
+pub made_none : (before : List StoredObject) → AppendsArrays before before []
 made_none before = record { new = []; put = sym (append-nil before); show = λ program. refl; kept = λ program. tt; plain = tt }
 
-pub made_one : (before after : List HeldObject) (o : HeldObject) (x : Object) → after ≡ before ++ o ∷ [] → IsArray o x → MadeFrom before after (x ∷ [])
+pub made_one : (before after : List StoredObject) (o : StoredObject) (x : Object) → after ≡ before ++ o ∷ [] → IsArray o x → AppendsArrays before after (x ∷ [])
 made_one before after o x put is =
     record { new = o ∷ []; put = put; show = λ program. ap (λ y. y ∷ []) (is.shows program); kept = λ program. (is.kept program, tt); plain = (is.plain, tt) }
 
-pub made_more : (a b c : List HeldObject) (xs ys : List Object) → MadeFrom a b xs → MadeFrom b c ys → MadeFrom a c (xs ++ ys)
+pub made_more : (a b c : List StoredObject) (xs ys : List Object) → AppendsArrays a b xs → AppendsArrays b c ys → AppendsArrays a c (xs ++ ys)
 made_more a b c xs ys first second =
     record {
       new = first.new ++ second.new;
@@ -141,15 +141,15 @@ made_more a b c xs ys first second =
       plain = all_append IsPlain first.new second.new first.plain second.plain;
     }
 
--- The parts so far are made, and the next one has this reference.
-pub record PartsMade (before after : List HeldObject) (class rest : List ℕ) (first size i next : ℕ) : Type 0 where
-  pub made : MadeFrom before after (flat_map (λ part. new_arrays part class rest) (part_references first size i))
+-- The parts so far are created, and the next one has this reference.
+pub record PartsMade (before after : List StoredObject) (class rest : List ℕ) (first size i next : ℕ) : Type 0 where
+  pub made : AppendsArrays before after (flat_map (λ part. new_arrays part class rest) (part_references first size i))
   pub next_is : next ≡ first + i * size
 
-pub parts_begun : (before : List HeldObject) (class rest : List ℕ) (first size next : ℕ) → next ≡ first → PartsMade before before class rest first size 0 next
+pub parts_begun : (before : List StoredObject) (class rest : List ℕ) (first size next : ℕ) → next ≡ first → PartsMade before before class rest first size 0 next
 parts_begun before class rest first size next is = record { made = made_none before; next_is = is ∙ omega arith }
 
-pub part_made : (before during after : List HeldObject) (class rest : List ℕ) (first size i next more : ℕ) → PartsMade before during class rest first size i next → MadeFrom during after (new_arrays next class rest) → more ≡ next + size
+pub part_made : (before during after : List StoredObject) (class rest : List ℕ) (first size i next more : ℕ) → PartsMade before during class rest first size i next → AppendsArrays during after (new_arrays next class rest) → more ≡ next + size
     → PartsMade before after class rest first size (i + 1) more
 part_made before during after class rest first size i next more parts made is =
     let f : ℕ → List Object = λ part. new_arrays part class rest in
@@ -159,42 +159,42 @@ part_made before during after class rest first size i next more parts made is =
     let same : flat_map f (part_references first size i) ++ new_arrays next class rest ≡ flat_map f (part_references first size (i + 1)) =
     ap (λ l. flat_map f (part_references first size i) ++ l) (ap f e ∙ sym (append-nil (f (first + i * size))))
     ∙ sym (flat_map-append f (part_references first size i) ((first + i * size) ∷ [])) ∙ ap (flat_map f) (sym (parts_push first size i)) in
-    record { made = subst (MadeFrom before after) same both; next_is = omega arith }
+    record { made = subst (AppendsArrays before after) same both; next_is = omega arith }
 
-pub all_parts_made : (before during after : List HeldObject) (class rest : List ℕ) (r n next : ℕ) (x : Object) → MadeFrom before during (x ∷ []) → PartsMade during after (drop 1 class) rest (r + 1) (arrays_made rest) n next
-    → MadeFrom before after (x ∷ flat_map (λ part. new_arrays part (drop 1 class) rest) (part_references (r + 1) (arrays_made rest) n))
+pub all_parts_made : (before during after : List StoredObject) (class rest : List ℕ) (r n next : ℕ) (x : Object) → AppendsArrays before during (x ∷ []) → PartsMade during after (drop 1 class) rest (r + 1) (arrays_made rest) n next
+    → AppendsArrays before after (x ∷ flat_map (λ part. new_arrays part (drop 1 class) rest) (part_references (r + 1) (arrays_made rest) n))
 all_parts_made before during after class rest r n next x one parts = made_more before during after (x ∷ []) _ one parts.made
 
 -- ---- In a heap
 
-pub all_added : (program : List Class) (objects new : List HeldObject) (texts classes : List (List ℕ × ℕ)) → AreHeld program objects texts classes → AllByRecursion (IsKept program) new → AllByRecursion IsPlain new
-    → AreHeld program (objects ++ new) texts classes
-all_added program objects [] texts classes are kept plain = subst (λ l. AreHeld program l texts classes) (sym (append-nil objects)) are
+pub all_added : (program : List Class) (objects new : List StoredObject) (texts classes : List (List ℕ × ℕ)) → AreStored program objects texts classes → AllByRecursion (IsKept program) new → AllByRecursion IsPlain new
+    → AreStored program (objects ++ new) texts classes
+all_added program objects [] texts classes are kept plain = subst (λ l. AreStored program l texts classes) (sym (append-nil objects)) are
 all_added program objects (o ∷ new) texts classes are kept plain =
-    subst (λ l. AreHeld program l texts classes) (append_assoc objects (o ∷ []) new)
+    subst (λ l. AreStored program l texts classes) (append_assoc objects (o ∷ []) new)
     (all_added program (objects ++ o ∷ []) new texts classes (plain_added program objects texts classes o are kept.0 plain.0) kept.1 plain.1)
 
 -- ---- At the end of the lengths, and where there are no parts
 
-pub leaf : (before after : List HeldObject) (o : HeldObject) (r n : ℕ) (class rest : List ℕ) → rest ≡ [] → after ≡ before ++ o ∷ [] → IsArray o (array class (replicate n (first_element class)))
-    → MadeFrom before after (new_arrays r class (n ∷ rest))
+pub leaf : (before after : List StoredObject) (o : StoredObject) (r n : ℕ) (class rest : List ℕ) → rest ≡ [] → after ≡ before ++ o ∷ [] → IsArray o (array class (replicate n (first_element class)))
+    → AppendsArrays before after (new_arrays r class (n ∷ rest))
 leaf before after o r n class rest none put is = rw none (made_one before after o _ put is)
 
-pub no_parts : (before after : List HeldObject) (o : HeldObject) (r n m : ℕ) (class rest ms : List ℕ) → rest ≡ m ∷ ms → n ≡ 0 → after ≡ before ++ o ∷ [] → IsArray o (array class (replicate n (first_element class)))
-    → MadeFrom before after (new_arrays r class (n ∷ rest))
+pub no_parts : (before after : List StoredObject) (o : StoredObject) (r n m : ℕ) (class rest ms : List ℕ) → rest ≡ m ∷ ms → n ≡ 0 → after ≡ before ++ o ∷ [] → IsArray o (array class (replicate n (first_element class)))
+    → AppendsArrays before after (new_arrays r class (n ∷ rest))
 no_parts before after o r n m class rest ms some none put is =
     let it : IsArray o (array class []) = subst (λ k. IsArray o (array class (replicate k (first_element class)))) none is in
     rw (some, none) (made_one before after o (array class []) put it)
 
-pub whole : (before during after : List HeldObject) (o : HeldObject) (r n m next size i : ℕ) (class component rest ms : List ℕ) → rest ≡ m ∷ ms → size ≡ arrays_made rest → i ≡ n → component ≡ drop 1 class → during ≡ before ++ o ∷ []
-    → IsArray o (array class (map value.Reference (part_references (r + 1) size n))) → PartsMade during after component rest (r + 1) size i next → MadeFrom before after (new_arrays r class (n ∷ rest))
+pub whole : (before during after : List StoredObject) (o : StoredObject) (r n m next size i : ℕ) (class component rest ms : List ℕ) → rest ≡ m ∷ ms → size ≡ arrays_made rest → i ≡ n → component ≡ drop 1 class → during ≡ before ++ o ∷ []
+    → IsArray o (array class (map value.Reference (part_references (r + 1) size n))) → PartsMade during after component rest (r + 1) size i next → AppendsArrays before after (new_arrays r class (n ∷ rest))
 whole before during after o r n m next size i class component rest ms some is end same put array_is parts =
     let x : Object = array class (map value.Reference (part_references (r + 1) size n)) in
     let e : x ∷ flat_map (λ part. new_arrays part component rest) (part_references (r + 1) size i) ≡ new_arrays r class (n ∷ rest) = rw (same, end, is, some) refl in
-    subst (MadeFrom before after) e (made_more before during after (x ∷ []) _ (made_one before during o x put array_is) parts.made)
+    subst (AppendsArrays before after) e (made_more before during after (x ∷ []) _ (made_one before during o x put array_is) parts.made)
 
-pub none_of_none : (items : List HeldObject) (r : ℕ) (class lengths : List ℕ) → items ≡ [] → lengths ≡ [] → MadeFrom [] items (new_arrays r class lengths)
+pub none_of_none : (items : List StoredObject) (r : ℕ) (class lengths : List ℕ) → items ≡ [] → lengths ≡ [] → AppendsArrays [] items (new_arrays r class lengths)
 none_of_none items r class lengths is none = rw (is, none) (made_none [])
 
-pub made_of_some : (items after : List HeldObject) (r n : ℕ) (class lengths rest : List ℕ) → items ≡ [] → lengths ≡ n ∷ rest → MadeFrom items after (new_arrays r class (n ∷ rest)) → MadeFrom [] after (new_arrays r class lengths)
-made_of_some items after r n class lengths rest is some made = subst (λ l. MadeFrom [] after (new_arrays r class l)) (sym some) (subst (λ b. MadeFrom b after (new_arrays r class (n ∷ rest))) is made)
+pub made_of_some : (items after : List StoredObject) (r n : ℕ) (class lengths rest : List ℕ) → items ≡ [] → lengths ≡ n ∷ rest → AppendsArrays items after (new_arrays r class (n ∷ rest)) → AppendsArrays [] after (new_arrays r class lengths)
+made_of_some items after r n class lengths rest is some made = subst (λ l. AppendsArrays [] after (new_arrays r class l)) (sym some) (subst (λ b. AppendsArrays b after (new_arrays r class (n ∷ rest))) is made)

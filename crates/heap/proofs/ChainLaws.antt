@@ -35,7 +35,7 @@ unfolding chain_within
 one_up zero less program name super c h e is some = absurd (omega (arith, h))
 one_up (suc most) less program name super c h e is some = let same : less ≡ most = omega (arith, e) in rw (same, ← is, ← some) refl
 
--- Those of what is left come behind those that are there.
+-- The values of the rest of the chain follow those that are there.
 pub record Leaves (program : List Class) (all values : List Value) (most : ℕ) (name : List ℕ) : Type 0 where
   pub all_are : values ++ flat_map values_down (chain_within most program name) ≡ all
 
@@ -61,13 +61,13 @@ module _ (program : List Class) (all values : List Value) (most : ℕ) (name : L
 
 -- ---- Up by numbers
 
--- Those of what is left of the chain of the class of a number come behind those that are there.
+-- The values of the rest of the chain of the class of a number follow those that are there.
 pub record LeavesAt (program : List Class) (all values : List Value) (class : ℕ) : Type 0 where
   pub all_are : values ++ flat_map values_down (chain program (name_at program class)) ≡ all
 
 -- ---- In one class
 
--- Those of the fields from a place on, the last one's first, stand behind those that were there.
+-- The values of the fields from a place on, in reverse order, follow those that were there.
 pub record HasPut (fields : List Field) (before values : List Value) (left : ℕ) : Type 0 where
   pub within : left ≤ length fields
   pub put : values ≡ before ++ reverse (own_values (drop left fields))

@@ -1,4 +1,4 @@
--- Objects that are copied one by one.
+-- Objects that are copied one after another.
 use Rattle.std.proofs.Common.{◌≡◌, ℕ, suc, ◌+◌, ◌<◌, List, [], ◌∷◌, ◌++◌, length, map, take, get_or, Some, slice_get, sym, ap, ◌∙◌, subst, append_assoc, arith}
 use Rattle.std.specs.List.{AllByRecursion}
 use Rattle.std.proofs.Math.Seq.{take-suc}
@@ -7,11 +7,11 @@ use Rattle.std.proofs.lemmas.Option.{slice_get-get_or}
 use Rattle.jvms_program.specs.declared.program.Class.{Class}
 use Rattle.jvms_machine.specs.State.{Object}
 use Rattle.jvms_machine.proofs.ListLaws.{all_append, all_at}
-use Rattle.heap.specs.declared.held_object.HeldObject.{HeldObject}
+use Rattle.heap.specs.declared.held_object.StoredObject.{StoredObject}
 use Rattle.heap.specs.Held.{shown, IsKept}
 
--- The copies so far, with one more, of the object at the next place.
-module _ (program : List Class) (objects copies new : List HeldObject) (i : ℕ) (o x : HeldObject) (within : i < length objects) (at : o ≡ get_or objects i o) (put : new ≡ copies ++ x ∷ []) where
+-- The copies so far, followed by that of the next object.
+module _ (program : List Class) (objects copies new : List StoredObject) (i : ℕ) (o x : StoredObject) (within : i < length objects) (at : o ≡ get_or objects i o) (put : new ≡ copies ++ x ∷ []) where
   pub shown_more : (front : List Object) → map (shown program) copies ≡ front ++ map (shown program) (take i objects) → shown program x ≡ shown program o
       → map (shown program) new ≡ front ++ map (shown program) (take (i + 1) objects)
   shown_more front before same =
@@ -29,5 +29,5 @@ module _ (program : List Class) (objects copies new : List HeldObject) (i : ℕ)
 
   pub kept_more : AllByRecursion (IsKept program) objects → AllByRecursion (IsKept program) copies → (IsKept program o → IsKept program x) → AllByRecursion (IsKept program) new
   kept_more all before same =
-      let there : slice_get objects i ≡ Some o = slice_get-get_or objects i o within ∙ ap (λ (p : HeldObject). Some p) (sym at) in
+      let there : slice_get objects i ≡ Some o = slice_get-get_or objects i o within ∙ ap (λ (p : StoredObject). Some p) (sym at) in
       subst (AllByRecursion (IsKept program)) (sym put) (all_append (IsKept program) copies (x ∷ []) before (same (all_at (IsKept program) objects i o there all), tt))

@@ -1,4 +1,4 @@
--- What the machine asks of arrays is what their making and storing need.
+-- The conditions of the machine on arrays imply those of creating arrays and storing elements.
 use Rattle.std.proofs.Common.{◌≡◌, ℕ, zero, suc, Bool, true, false, not, ◌&&◌, ◌==◌, cond, List, [], ◌∷◌, length, drop, IsTrue, ℤ, refl, sym, ap, subst, arith}
 use Rattle.std.proofs.lemmas.Bool.{false≢true, ne_eqb}
 use Rattle.jvms_file.specs.declared.descriptor.Primitive.TheVariants as primitive
@@ -42,7 +42,7 @@ of_reference value.Null loaded proper = tt
 of_reference (value.Reference r) loaded proper = proper
 of_reference _ loaded proper = absurd (false≢true loaded)
 
--- A value of an element's kind that is kept whole can be held by it.
+-- A value of an element's kind that narrowing doesn't change can be stored in it.
 of_element : (e : Element) (v : Value) → IsTrue (is_of_kind (kind_of_element e) v) → stored_as (record { dimensions = 0; element = e }) v ≡ v → IsProper v → IsOfKind (held_as e) v
 of_element (element.Object name) v loaded whole proper = of_reference v loaded proper
 of_element (element.Primitive primitive.Int) (value.Int n) loaded whole proper = tt

@@ -1,4 +1,4 @@
--- Lists that end in one more.
+-- Lists with one more item at the end.
 use Rattle.std.proofs.Common.{◌≡◌, ℕ, zero, suc, ◌+◌, ◌-◌, ◌<◌, ◌≤◌, List, [], ◌∷◌, ◌++◌, length, take, slice_get, Some, refl, sym, ap, ◌∙◌, arith}
 use Rattle.std.specs.List.{AllByRecursion}
 use Rattle.std.proofs.lemmas.List.{length-append, take-append-le}
@@ -32,7 +32,7 @@ module _ {X : Type 0} where
   pub same_front : (xs ys : List X) (x y : X) → xs ++ x ∷ [] ≡ ys ++ y ∷ [] → xs ≡ ys
   same_front xs ys x y is = sym (front xs x) ∙ ap (λ l. take (length l - 1) l) is ∙ front ys y
 
-  -- What stands before the last.
+  -- The items before the last.
   pub but_last : (xs rest : List X) (x : X) (n : ℕ) → n ≡ length xs → rest ≡ take (n - 1) xs → slice_get xs (length xs - 1) ≡ Some x → xs ≡ rest ++ x ∷ []
   but_last [] rest x n many is last = absurd (none-some x last)
   but_last (y ∷ xs) rest x n many is last =

@@ -1,4 +1,4 @@
--- The objects that are held, by their references.
+-- The stored objects, by their references.
 use Rattle.std.proofs.Common.{◌≡◌, ◌≢◌, ℕ, zero, suc, ◌+◌, ◌-◌, ◌<◌, ◌≤◌, Bool, cond, List, [], ◌∷◌, length, map, Option, Some, None, option_map, slice_get, slice_set, get_or, refl, sym, ap, subst, ◌∙◌, arith}
 use Rattle.std.specs.Prelude.{option_copied, IfSome}
 use Rattle.std.specs.Borrow.{Bor}
@@ -10,9 +10,9 @@ use Rattle.jvms_program.specs.declared.key.FieldKey.{FieldKey}
 use Rattle.jvms_machine.specs.State.{Object, instance, instance_fields, keys, object_at, text_reference, class_reference, is_text, is_class_object}
 use Rattle.jvms_machine.specs.Heap.{with_object}
 use Rattle.jvms_machine.proofs.ListLaws.{all_set, all_at, option_map_some}
-use Rattle.heap.specs.declared.held_object.HeldObject.{HeldObject}
-use Rattle.heap.specs.declared.held_object.HeldObject.TheVariants as held
-use Rattle.heap.specs.Held.{name_at, shown, IsKept, Becomes, AreHeld, SuitsHeld}
+use Rattle.heap.specs.declared.held_object.StoredObject.{StoredObject}
+use Rattle.heap.specs.declared.held_object.StoredObject.TheVariants as held
+use Rattle.heap.specs.Held.{name_at, shown, IsKept, Becomes, AreStored, AcceptsStored}
 use Rattle.text_index.specs.Found.{found}
 use Rattle.array_elements.specs.Kinds.{IsOfKind}
 use Rattle.heap.specs.Objects.{IfThere, Suits, instance_class}
@@ -20,35 +20,35 @@ use Rattle.jvms_machine.specs.declared.value.Value.{Value}
 use Rattle.array_elements.proofs.Lists.{get_map, set_map}
 use Rattle.heap.proofs.SlotLaws.{keys_kept}
 
-pub as_many_shown : (program : List Class) (objects : List HeldObject) → length objects ≡ length (map (shown program) objects)
+pub as_many_shown : (program : List Class) (objects : List StoredObject) → length objects ≡ length (map (shown program) objects)
 as_many_shown program objects = sym (length-map objects (shown program))
 
-pub shown_at : (program : List Class) (objects : List HeldObject) (r place : ℕ) → r ≢ 0 → place ≡ r - 1 → option_map (shown program) (slice_get objects place) ≡ object_at (map (shown program) objects) r
+pub shown_at : (program : List Class) (objects : List StoredObject) (r place : ℕ) → r ≢ 0 → place ≡ r - 1 → option_map (shown program) (slice_get objects place) ≡ object_at (map (shown program) objects) r
 shown_at program objects zero place other is = absurd (other refl)
 shown_at program objects (suc r) place other is = let same : place ≡ r = omega (arith, is) in ap (λ i. option_map (shown program) (slice_get objects i)) same ∙ sym (get_map (shown program) objects r)
 
-pub shown_of : (program : List Class) (objects : List HeldObject) (r place : ℕ) (o : Option (Bor HeldObject)) → r ≢ 0 → place ≡ r - 1 → option_copied o ≡ slice_get objects place
+pub view_of_run : (program : List Class) (objects : List StoredObject) (r place : ℕ) (o : Option (Bor StoredObject)) → r ≢ 0 → place ≡ r - 1 → option_copied o ≡ slice_get objects place
     → option_map (λ x. shown program x.now) o ≡ object_at (map (shown program) objects) r
-shown_of program objects r place None other is at = ap (option_map (shown program)) at ∙ shown_at program objects r place other is
-shown_of program objects r place (Some o) other is at = ap (option_map (shown program)) at ∙ shown_at program objects r place other is
+view_of_run program objects r place None other is at = ap (option_map (shown program)) at ∙ shown_at program objects r place other is
+view_of_run program objects r place (Some o) other is at = ap (option_map (shown program)) at ∙ shown_at program objects r place other is
 
-pub kept_of : (program : List Class) (objects : List HeldObject) (texts classes : List (List ℕ × ℕ)) (place : ℕ) (o : Option (Bor HeldObject)) → AreHeld program objects texts classes → option_copied o ≡ slice_get objects place
+pub kept_of : (program : List Class) (objects : List StoredObject) (texts classes : List (List ℕ × ℕ)) (place : ℕ) (o : Option (Bor StoredObject)) → AreStored program objects texts classes → option_copied o ≡ slice_get objects place
     → IfSome o (λ x. IsKept program x.now)
 kept_of program objects texts classes place None are at = tt
 kept_of program objects texts classes place (Some o) are at = all_at (IsKept program) objects place o.now (sym at) are.kept
 
-pub text_found : (program : List Class) (objects : List HeldObject) (texts classes : List (List ℕ × ℕ)) (units : List ℕ) (o : Option ℕ) → AreHeld program objects texts classes → o ≡ found texts units
+pub text_found : (program : List Class) (objects : List StoredObject) (texts classes : List (List ℕ × ℕ)) (units : List ℕ) (o : Option ℕ) → AreStored program objects texts classes → o ≡ found texts units
     → o ≡ text_reference (map (shown program) objects) units
 text_found program objects texts classes units o are is = is ∙ are.finds_texts units
 
-pub class_found : (program : List Class) (objects : List HeldObject) (texts classes : List (List ℕ × ℕ)) (name : List ℕ) (o : Option ℕ) → AreHeld program objects texts classes → o ≡ found classes name
+pub class_found : (program : List Class) (objects : List StoredObject) (texts classes : List (List ℕ × ℕ)) (name : List ℕ) (o : Option ℕ) → AreStored program objects texts classes → o ≡ found classes name
     → o ≡ class_reference (map (shown program) objects) name
 class_found program objects texts classes name o are is = is ∙ are.finds_classes name
 
 -- ---- An object that is changed
 
--- A search passes an object that is changed as before.
-position_set : (program : List Class) (test : Object → Bool) (xs : List HeldObject) (i n : ℕ) (was now : HeldObject) → slice_get xs i ≡ Some was → test (shown program now) ≡ test (shown program was)
+-- A search gives the same result after an object is changed.
+position_set : (program : List Class) (test : Object → Bool) (xs : List StoredObject) (i n : ℕ) (was now : StoredObject) → slice_get xs i ≡ Some was → test (shown program now) ≡ test (shown program was)
     → position_from test n (map (shown program) (slice_set xs i now)) ≡ position_from test n (map (shown program) xs)
 position_set program test [] i n was now at same = refl
 position_set program test (x ∷ xs) zero n was now at same =
@@ -56,15 +56,15 @@ position_set program test (x ∷ xs) zero n was now at same =
 position_set program test (x ∷ xs) (suc i) n was now at same =
     ap (λ o. cond (test (shown program x)) (Some n) o) (position_set program test xs i (n + 1) was now at same)
 
-module _ (program : List Class) (objects : List HeldObject) (texts classes : List (List ℕ × ℕ)) (place : ℕ) (was now : HeldObject) (change : Object → Object)
-    (are : AreHeld program objects texts classes) (within : place < length objects) (is : was ≡ get_or objects place was) (becomes : IsKept program was → Becomes change program was now) where
+module _ (program : List Class) (objects : List StoredObject) (texts classes : List (List ℕ × ℕ)) (place : ℕ) (was now : StoredObject) (change : Object → Object)
+    (are : AreStored program objects texts classes) (within : place < length objects) (is : was ≡ get_or objects place was) (becomes : IsKept program was → Becomes change program was now) where
   stands : slice_get objects place ≡ Some was
-  stands = slice_get-get_or objects place was within ∙ ap (λ (o : HeldObject). Some o) (sym is)
+  stands = slice_get-get_or objects place was within ∙ ap (λ (o : StoredObject). Some o) (sym is)
 
   was_kept : IsKept program was
   was_kept = all_at (IsKept program) objects place was stands are.kept
 
-  pub still_held : AreHeld program (slice_set objects place now) texts classes
+  pub still_held : AreStored program (slice_set objects place now) texts classes
   still_held =
       let new = becomes was_kept in
       record {
@@ -81,28 +81,28 @@ module _ (program : List Class) (objects : List HeldObject) (texts classes : Lis
       sym (set_map (shown program) objects place now) ∙ ap (λ o. slice_set heap place o) new.shows ∙ ap (λ i. slice_set heap i (change (shown program was))) at
       ∙ sym (ap (with_object heap r change) it)
 
-  pub suits_held : (v : Value) (r : ℕ) → r ≢ 0 → place ≡ r - 1 → IfSome (object_at (map (shown program) objects) r) (Suits v) → SuitsHeld v was
+  pub suits_held : (v : Value) (r : ℕ) → r ≢ 0 → place ≡ r - 1 → IfSome (object_at (map (shown program) objects) r) (Suits v) → AcceptsStored v was
   suits_held v r other at suits =
       let it : object_at (map (shown program) objects) r ≡ Some (shown program was) = sym (shown_at program objects r place other at) ∙ ap (option_map (shown program)) stands in
       by was was_kept (subst (λ o. IfSome o (Suits v)) it suits)
     where
-      by : (o : HeldObject) → IsKept program o → Suits v (shown program o) → SuitsHeld v o
+      by : (o : StoredObject) → IsKept program o → Suits v (shown program o) → AcceptsStored v o
       by (held.Array class elements) kept suits = subst (λ k. IsOfKind k v) (sym kept.0) suits
       by (held.Instance class values) kept suits = tt
       by (held.Text units) kept suits = tt
       by (held.ClassObject name) kept suits = tt
 
 -- An object that is left as it is.
-pub unchanged : (program : List Class) (o : HeldObject) → IsKept program o → Becomes (λ x. x) program o o
+pub unchanged : (program : List Class) (o : StoredObject) → IsKept program o → Becomes (λ x. x) program o o
 unchanged program o kept = record { shows = refl; kept = kept; text_stays = λ units. refl; class_stays = λ name. refl }
 
-past_get : (xs : List HeldObject) (i : ℕ) → length xs ≤ i → slice_get xs i ≡ None
+past_get : (xs : List StoredObject) (i : ℕ) → length xs ≤ i → slice_get xs i ≡ None
 past_get [] i past = refl
 past_get (x ∷ xs) zero past = absurd (omega (arith, past))
 past_get (x ∷ xs) (suc i) past = past_get xs i (omega (arith, past))
 
 -- No object is changed where there is none.
-pub none_changed : (program : List Class) (objects : List HeldObject) (r : ℕ) (change : Object → Object) → length objects ≤ r - 1
+pub none_changed : (program : List Class) (objects : List StoredObject) (r : ℕ) (change : Object → Object) → length objects ≤ r - 1
     → map (shown program) objects ≡ with_object (map (shown program) objects) r change (object_at (map (shown program) objects) r)
 none_changed program objects zero change past = refl
 none_changed program objects (suc r) change past =
@@ -115,7 +115,7 @@ abbrev fields_in : Object → List (FieldKey × Value)
 fields_in (instance class fields) = fields
 fields_in _ = []
 
-has_fields : (program : List Class) (o : HeldObject) (class : List ℕ) (fields : List (FieldKey × Value)) → shown program o ≡ instance class fields → keys fields ≡ keys (instance_fields program class)
+has_fields : (program : List Class) (o : StoredObject) (class : List ℕ) (fields : List (FieldKey × Value)) → shown program o ≡ instance class fields → keys fields ≡ keys (instance_fields program class)
 has_fields program (held.Instance number values) class fields is =
     let class_is : name_at program number ≡ class = same_Some (name_at program number) class (ap instance_class is) in
     ap keys (sym (ap fields_in is)) ∙ keys_kept (instance_fields program (name_at program number)) values.items ∙ ap (λ n. keys (instance_fields program n)) class_is
@@ -123,13 +123,13 @@ has_fields program (held.Array name elements) class fields is = absurd (none-som
 has_fields program (held.Text units) class fields is = absurd (none-some class (ap instance_class is))
 has_fields program (held.ClassObject name) class fields is = absurd (none-some class (ap instance_class is))
 
-pub have_their_fields : (program : List Class) (objects : List HeldObject) (r : ℕ) (class : List ℕ) (fields : List (FieldKey × Value)) → object_at (map (shown program) objects) r ≡ Some (instance class fields)
+pub have_their_fields : (program : List Class) (objects : List StoredObject) (r : ℕ) (class : List ℕ) (fields : List (FieldKey × Value)) → object_at (map (shown program) objects) r ≡ Some (instance class fields)
     → keys fields ≡ keys (instance_fields program class)
 have_their_fields program objects zero class fields is = absurd (none-some (instance class fields) is)
 have_their_fields program objects (suc r) class fields is =
     option_map_some (shown program) (slice_get objects r) (instance class fields) (sym (get_map (shown program) objects r) ∙ is) (λ o at shows. has_fields program o class fields shows)
 
--- What is told of an object is told of the one that a reference leads to.
-pub told_there : (objects : List Object) (r : ℕ) (Told : Value → Object → Type 0) (o : Object) (result : Option Value) → Some o ≡ object_at objects r → IfSome result (λ v. Told v o)
+-- A result about an object holds for the one of a reference.
+pub holds_there : (objects : List Object) (r : ℕ) (Told : Value → Object → Type 0) (o : Object) (result : Option Value) → Some o ≡ object_at objects r → IfSome result (λ v. Told v o)
     → IfSome result (λ v. IfThere (Told v) (object_at objects r))
-told_there objects r Told o result there holds = subst (λ x. IfSome result (λ v. IfThere (Told v) x)) there holds
+holds_there objects r Told o result there holds = subst (λ x. IfSome result (λ v. IfThere (Told v) x)) there holds

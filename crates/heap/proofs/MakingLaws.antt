@@ -1,4 +1,4 @@
--- Objects that are put behind the others.
+-- Objects that are appended.
 use Rattle.std.proofs.Common.{◌≡◌, ℕ, ◌+◌, Bool, true, false, cond, List, [], ◌∷◌, ◌++◌, length, map, Option, Some, None, refl, sym, ap, ◌∙◌, arith, Vec, Global}
 use Rattle.jvms_machine.specs.declared.value.Value.{Value}
 use Rattle.std.specs.List.{position_from}
@@ -8,9 +8,9 @@ use Rattle.jvms_program.specs.declared.program.Class.{Class}
 use Rattle.jvms_file.specs.Names.{same_text}
 use Rattle.jvms_machine.specs.State.{Object, instance, instance_fields, first_instance, is_text, is_class_object}
 use Rattle.jvms_machine.proofs.ListLaws.{all_append}
-use Rattle.heap.specs.declared.held_object.HeldObject.{HeldObject}
-use Rattle.heap.specs.declared.held_object.HeldObject.TheVariants as held
-use Rattle.heap.specs.Held.{name_at, with_values, shown, IsKept, IsPlain, AreHeld}
+use Rattle.heap.specs.declared.held_object.StoredObject.{StoredObject}
+use Rattle.heap.specs.declared.held_object.StoredObject.TheVariants as held
+use Rattle.heap.specs.Held.{name_at, with_values, shown, IsKept, IsPlain, AreStored}
 use Rattle.text_index.specs.Found.{found}
 use Rattle.heap.proofs.SlotLaws.{first_values_are}
 
@@ -24,7 +24,7 @@ more_by : (b : Bool) (n : ℕ) (o rest last : Option ℕ) → rest ≡ option_or
 more_by true n o rest last is = refl
 more_by false n o rest last is = is
 
--- What is found first stays so with one more behind, and else that one is looked at.
+-- The first match is the same after one more object is appended. Without a match the new object is tested.
 pub position_more : (test : Object → Bool) (n : ℕ) (xs : List Object) (x : Object) → position_from test n (xs ++ x ∷ []) ≡ option_or (position_from test n xs) (cond (test x) (Some (n + length xs)) None)
 position_more test n [] x = ap (λ k. cond (test x) (Some k) None) (omega arith)
 position_more test n (y ∷ xs) x =
@@ -34,26 +34,26 @@ position_more test n (y ∷ xs) x =
 
 -- ---- An instance or an array
 
-plain_no_text : (program : List Class) (o : HeldObject) (units : List ℕ) → IsPlain o → is_text units (shown program o) ≡ false
+plain_no_text : (program : List Class) (o : StoredObject) (units : List ℕ) → IsPlain o → is_text units (shown program o) ≡ false
 plain_no_text program (held.Instance class values) units plain = refl
 plain_no_text program (held.Array class elements) units plain = refl
 plain_no_text program (held.Text t) units plain = absurd plain
 plain_no_text program (held.ClassObject t) units plain = absurd plain
 
-plain_no_class : (program : List Class) (o : HeldObject) (name : List ℕ) → IsPlain o → is_class_object name (shown program o) ≡ false
+plain_no_class : (program : List Class) (o : StoredObject) (name : List ℕ) → IsPlain o → is_class_object name (shown program o) ≡ false
 plain_no_class program (held.Instance class values) name plain = refl
 plain_no_class program (held.Array class elements) name plain = refl
 plain_no_class program (held.Text t) name plain = absurd plain
 plain_no_class program (held.ClassObject t) name plain = absurd plain
 
-module _ (program : List Class) (objects : List HeldObject) where
-  pub shown_more : (o : HeldObject) → map (shown program) (objects ++ o ∷ []) ≡ map (shown program) objects ++ shown program o ∷ []
+module _ (program : List Class) (objects : List StoredObject) where
+  pub shown_more : (o : StoredObject) → map (shown program) (objects ++ o ∷ []) ≡ map (shown program) objects ++ shown program o ∷ []
   shown_more o = map-append (shown program) objects (o ∷ [])
 
-  still_past : (test : Object → Bool) (o : HeldObject) → test (shown program o) ≡ false → position_from test 1 (map (shown program) objects) ≡ position_from test 1 (map (shown program) (objects ++ o ∷ []))
+  still_past : (test : Object → Bool) (o : StoredObject) → test (shown program o) ≡ false → position_from test 1 (map (shown program) objects) ≡ position_from test 1 (map (shown program) (objects ++ o ∷ []))
   still_past test o fails = sym (ap (position_from test 1) (shown_more o) ∙ position_past test 1 (map (shown program) objects) (shown program o) fails)
 
-  pub plain_added : (texts classes : List (List ℕ × ℕ)) (o : HeldObject) → AreHeld program objects texts classes → IsKept program o → IsPlain o → AreHeld program (objects ++ o ∷ []) texts classes
+  pub plain_added : (texts classes : List (List ℕ × ℕ)) (o : StoredObject) → AreStored program objects texts classes → IsKept program o → IsPlain o → AreStored program (objects ++ o ∷ []) texts classes
   plain_added texts classes o are kept plain =
       record {
         kept = all_append (IsKept program) objects (o ∷ []) are.kept (kept, tt);
@@ -63,7 +63,7 @@ module _ (program : List Class) (objects : List HeldObject) where
 
   -- ---- A string or a class object
 
-  found_more : (test : List ℕ → Object → Bool) (entries new : List (List ℕ × ℕ)) (units : List ℕ) (o : HeldObject) → ((q : List ℕ) → found entries q ≡ position_from (test q) 1 (map (shown program) objects))
+  found_more : (test : List ℕ → Object → Bool) (entries new : List (List ℕ × ℕ)) (units : List ℕ) (o : StoredObject) → ((q : List ℕ) → found entries q ≡ position_from (test q) 1 (map (shown program) objects))
       → ((q : List ℕ) → test q (shown program o) ≡ same_text units q) → ((q : List ℕ) → found new q ≡ option_or (found entries q) (cond (same_text units q) (Some (length objects + 1)) None))
       → (q : List ℕ) → found new q ≡ position_from (test q) 1 (map (shown program) (objects ++ o ∷ []))
   found_more test entries new units o finds tests puts q =
@@ -74,8 +74,8 @@ module _ (program : List Class) (objects : List HeldObject) where
       ∙ ap (λ b. option_or before (cond b (Some (length objects + 1)) None)) (sym (tests q)) ∙ ap (λ k. option_or before (cond (test q (shown program o)) (Some k) None)) next
       ∙ sym (position_more (test q) 1 (map (shown program) objects) (shown program o)) ∙ ap (position_from (test q) 1) (sym (shown_more o))
 
-  pub text_added : (texts new classes : List (List ℕ × ℕ)) (units t : List ℕ) → AreHeld program objects texts classes → t ≡ units
-      → ((q : List ℕ) → found new q ≡ option_or (found texts q) (cond (same_text units q) (Some (length objects + 1)) None)) → AreHeld program (objects ++ held.Text t ∷ []) new classes
+  pub text_added : (texts new classes : List (List ℕ × ℕ)) (units t : List ℕ) → AreStored program objects texts classes → t ≡ units
+      → ((q : List ℕ) → found new q ≡ option_or (found texts q) (cond (same_text units q) (Some (length objects + 1)) None)) → AreStored program (objects ++ held.Text t ∷ []) new classes
   text_added texts new classes units t are is puts =
       record {
         kept = all_append (IsKept program) objects (held.Text t ∷ []) are.kept (tt, tt);
@@ -83,8 +83,8 @@ module _ (program : List Class) (objects : List HeldObject) where
         finds_classes = λ name. are.finds_classes name ∙ still_past (is_class_object name) (held.Text t) refl;
       }
 
-  pub class_added : (texts classes new : List (List ℕ × ℕ)) (name t : List ℕ) → AreHeld program objects texts classes → t ≡ name
-      → ((q : List ℕ) → found new q ≡ option_or (found classes q) (cond (same_text name q) (Some (length objects + 1)) None)) → AreHeld program (objects ++ held.ClassObject t ∷ []) texts new
+  pub class_added : (texts classes new : List (List ℕ × ℕ)) (name t : List ℕ) → AreStored program objects texts classes → t ≡ name
+      → ((q : List ℕ) → found new q ≡ option_or (found classes q) (cond (same_text name q) (Some (length objects + 1)) None)) → AreStored program (objects ++ held.ClassObject t ∷ []) texts new
   class_added texts classes new name t are is puts =
       record {
         kept = all_append (IsKept program) objects (held.ClassObject t ∷ []) are.kept (tt, tt);
@@ -92,7 +92,7 @@ module _ (program : List Class) (objects : List HeldObject) where
         finds_classes = found_more is_class_object classes new name (held.ClassObject t) are.finds_classes (λ q. ap (λ l. same_text l q) is) puts;
       }
 
--- An instance with the first values is a first instance.
+-- An instance with the first values denotes a first instance.
 pub first_shown : (program : List Class) (class : ℕ) (values : Vec Value Global) → values.items ≡ map (λ f. f.1) (instance_fields program (name_at program class))
     → shown program (held.Instance class values) ≡ first_instance program (name_at program class)
 first_shown program class values are =

@@ -2,7 +2,7 @@
 use Rattle.std.proofs.Common.{◌≡◌, ℕ, zero, suc, ◌<◌, List, [], ◌∷◌, ◌++◌, length, get_or, flat_map, sym, subst, arith}
 use Rattle.std.specs.List.{AllByRecursion}
 use Rattle.jvms_program.specs.declared.program.Class.{Class}
-use Rattle.heap.specs.declared.held_object.HeldObject.{HeldObject}
+use Rattle.heap.specs.declared.held_object.StoredObject.{StoredObject}
 use Rattle.heap.specs.Held.{IsKept}
 
 all_front : {X : Type 0} (P : X → Type 0) (xs ys : List X) → AllByRecursion P (xs ++ ys) → AllByRecursion P xs
@@ -13,8 +13,8 @@ all_back : {X : Type 0} (P : X → Type 0) (xs ys : List X) → AllByRecursion P
 all_back P [] ys all = all
 all_back P (x ∷ xs) ys all = all_back P xs ys all.1
 
--- The objects of each group are kept, where those of all groups are.
-pub group_kept : (program : List Class) (groups : List (List HeldObject)) (i : ℕ) (group default : List HeldObject) → i < length groups → group ≡ get_or groups i default
+-- The objects of each group are well formed, if those of all groups are.
+pub group_kept : (program : List Class) (groups : List (List StoredObject)) (i : ℕ) (group default : List StoredObject) → i < length groups → group ≡ get_or groups i default
     → AllByRecursion (IsKept program) (flat_map (λ g. g) groups) → AllByRecursion (IsKept program) group
 group_kept program [] i group default within at all = absurd (omega (arith, within))
 group_kept program (g ∷ groups) zero group default within at all = subst (AllByRecursion (IsKept program)) (sym at) (all_front (IsKept program) g (flat_map (λ g. g) groups) all)

@@ -1,4 +1,4 @@
--- The last object, a string, is taken away again.
+-- The last object, a string, is removed again.
 use Rattle.std.proofs.Common.{◌≡◌, ◌≢◌, ℕ, ◌+◌, ◌-◌, ◌<◌, Bool, true, false, cond, List, [], ◌∷◌, ◌++◌, length, take, map, slice_get, Option, Some, None, option_map, refl, sym, ap, subst, ◌∙◌, arith}
 use Rattle.std.specs.List.{position_from}
 use Rattle.std.specs.Option.{option_and_then, option_or}
@@ -7,9 +7,9 @@ use Rattle.std.proofs.lemmas.Option.{none-some, same_Some}
 use Rattle.jvms_program.specs.declared.program.Class.{Class}
 use Rattle.jvms_file.specs.Names.{same_text}
 use Rattle.jvms_machine.specs.State.{Object, text, is_text, is_class_object}
-use Rattle.heap.specs.declared.held_object.HeldObject.{HeldObject}
-use Rattle.heap.specs.declared.held_object.HeldObject.TheVariants as held
-use Rattle.heap.specs.Held.{shown, IsKept, AreHeld}
+use Rattle.heap.specs.declared.held_object.StoredObject.{StoredObject}
+use Rattle.heap.specs.declared.held_object.StoredObject.TheVariants as held
+use Rattle.heap.specs.Held.{shown, IsKept, AreStored}
 use Rattle.text_index.specs.Found.{found}
 use Rattle.heap.specs.Objects.{Heap, units_of, with_new}
 use Rattle.heap.proofs.Ends.{all_front, but_last, last_at, same_front}
@@ -20,22 +20,22 @@ use Rattle.heap.proofs.MakingLaws.{position_past, position_more, shown_more}
 -- ---- The last object is a string
 
 module _ (program : List Class) where
-  abbrev pub last_units : List HeldObject → Option (List ℕ)
+  abbrev pub last_units : List StoredObject → Option (List ℕ)
   last_units objects = option_and_then (λ o. units_of (shown program o)) (slice_get objects (length objects - 1))
 
-  text_there : (o : Option HeldObject) (units : List ℕ) → Some units ≡ option_and_then (λ x. units_of (shown program x)) o → o ≡ Some (held.Text units)
+  text_there : (o : Option StoredObject) (units : List ℕ) → Some units ≡ option_and_then (λ x. units_of (shown program x)) o → o ≡ Some (held.Text units)
   text_there None units is = absurd (none-some units (sym is))
   text_there (Some (held.Text t)) units is = ap (λ l. Some (held.Text l)) (sym (same_Some units t is))
   text_there (Some (held.Instance class values)) units is = absurd (none-some units (sym is))
   text_there (Some (held.Array class elements)) units is = absurd (none-some units (sym is))
   text_there (Some (held.ClassObject name)) units is = absurd (none-some units (sym is))
 
-  -- So the others stand before it.
-  pub ends : (objects rest : List HeldObject) (units : List ℕ) (n : ℕ) → n ≡ length objects → rest ≡ take (n - 1) objects → Some units ≡ last_units objects → objects ≡ rest ++ held.Text units ∷ []
+  -- So the other objects come before it.
+  pub ends : (objects rest : List StoredObject) (units : List ℕ) (n : ℕ) → n ≡ length objects → rest ≡ take (n - 1) objects → Some units ≡ last_units objects → objects ≡ rest ++ held.Text units ∷ []
   ends objects rest units n many is last = but_last objects rest (held.Text units) n many is (text_there (slice_get objects (length objects - 1)) units last)
 
-  -- Where the objects end in a string the last one that is held is one.
-  pub is_there : (objects : List HeldObject) (before : List Object) (units : List ℕ) → map (shown program) objects ≡ before ++ text units ∷ [] → None ≡ last_units objects → ⊥
+  -- If the objects end in a string, the last stored one is a string.
+  pub is_there : (objects : List StoredObject) (before : List Object) (units : List ℕ) → map (shown program) objects ≡ before ++ text units ∷ [] → None ≡ last_units objects → ⊥
   is_there objects before units is none = by (slice_get objects (length objects - 1)) shows none
     where
       many : length objects - 1 ≡ length (before ++ text units ∷ []) - 1
@@ -45,13 +45,13 @@ module _ (program : List Class) where
       shows = sym (get_map (shown program) objects (length objects - 1)) ∙ ap (λ l. slice_get l (length objects - 1)) is
           ∙ ap (λ n. slice_get (before ++ text units ∷ []) n) many ∙ last_at before (text units)
 
-      by : (o : Option HeldObject) → option_map (shown program) o ≡ Some (text units) → None ≡ option_and_then (λ x. units_of (shown program x)) o → ⊥
+      by : (o : Option StoredObject) → option_map (shown program) o ≡ Some (text units) → None ≡ option_and_then (λ x. units_of (shown program x)) o → ⊥
       by None shows none = none-some (text units) shows
       by (Some o) shows none = none-some units (none ∙ ap units_of (same_Some (shown program o) (text units) shows))
 
--- ---- What is found without it
+-- ---- Look-ups without it
 
--- What is found stands before the end.
+-- A match is before the end.
 found_within : (test : Object → Bool) (n r : ℕ) (xs : List Object) → position_from test n xs ≡ Some r → r < n + length xs
 found_within test n r [] is = absurd (none-some r is)
 found_within test n r (x ∷ xs) is = by (test x) is (λ more. found_within test (n + 1) r xs more)
@@ -64,7 +64,7 @@ or_none : (o : Option ℕ) → option_or o None ≡ o
 or_none None = refl
 or_none (Some r) = refl
 
-module _ (program : List Class) (objects : List HeldObject) (texts new classes : List (List ℕ × ℕ)) (t : List ℕ) (are : AreHeld program (objects ++ held.Text t ∷ []) texts classes)
+module _ (program : List Class) (objects : List StoredObject) (texts new classes : List (List ℕ × ℕ)) (t : List ℕ) (are : AreStored program (objects ++ held.Text t ∷ []) texts classes)
     (taken : found texts t ≡ Some (length (objects ++ held.Text t ∷ [])) → (q : List ℕ) → found new q ≡ cond (same_text t q) None (found texts q))
     (other : found texts t ≢ Some (length (objects ++ held.Text t ∷ [])) → new ≡ texts) where
   abbrev before : List ℕ → Option ℕ
@@ -107,7 +107,7 @@ module _ (program : List Class) (objects : List HeldObject) (texts new classes :
       by true same = let it : before q ≡ Some r = ap before (sym (same_is t q same)) ∙ is in ap (λ o. option_or o (Some next)) it ∙ sym it
       by false same = or_none (before q)
 
-  still_held : AreHeld program objects new classes
+  still_held : AreStored program objects new classes
   still_held =
       record {
         kept = all_front (IsKept program) objects (held.Text t ∷ []) are.kept;
@@ -117,17 +117,17 @@ module _ (program : List Class) (objects : List HeldObject) (texts new classes :
             ∙ position_past (is_class_object name) 1 (map (shown program) objects) (text t) refl;
       }
 
-pub held_without : (program : List Class) (objects rest : List HeldObject) (texts new classes : List (List ℕ × ℕ)) (t : List ℕ) (n : ℕ) → objects ≡ rest ++ held.Text t ∷ [] → n ≡ length objects
-    → AreHeld program objects texts classes → (found texts t ≡ Some n → (q : List ℕ) → found new q ≡ cond (same_text t q) None (found texts q)) → (found texts t ≢ Some n → new ≡ texts)
-    → AreHeld program rest new classes
+pub held_without : (program : List Class) (objects rest : List StoredObject) (texts new classes : List (List ℕ × ℕ)) (t : List ℕ) (n : ℕ) → objects ≡ rest ++ held.Text t ∷ [] → n ≡ length objects
+    → AreStored program objects texts classes → (found texts t ≡ Some n → (q : List ℕ) → found new q ≡ cond (same_text t q) None (found texts q)) → (found texts t ≢ Some n → new ≡ texts)
+    → AreStored program rest new classes
 held_without program objects rest texts new classes t n ends many are taken other =
     let count : n ≡ length (rest ++ held.Text t ∷ []) = many ∙ ap length ends in
-    still_held program rest texts new classes t (subst (λ l. AreHeld program l texts classes) ends are) (λ there. taken (there ∙ ap (λ (k : ℕ). Some k) (sym count)))
+    still_held program rest texts new classes t (subst (λ l. AreStored program l texts classes) ends are) (λ there. taken (there ∙ ap (λ (k : ℕ). Some k) (sym count)))
     (λ apart. other (λ there. apart (there ∙ ap (λ (k : ℕ). Some k) count)))
 
 -- ---- The whole
 
-pub seen_without : (program : List Class) (objects rest : List HeldObject) (o : HeldObject) (elements : ℕ) (before : Heap) (x : Object) → objects ≡ rest ++ o ∷ []
+pub seen_without : (program : List Class) (objects rest : List StoredObject) (o : StoredObject) (elements : ℕ) (before : Heap) (x : Object) → objects ≡ rest ++ o ∷ []
     → record { program = program; objects = map (shown program) objects; elements = elements } ≡ with_new (x ∷ []) before
     → record { program = program; objects = map (shown program) rest; elements = elements } ≡ before
 seen_without program objects rest o elements before x ends is =

@@ -1,4 +1,4 @@
--- Strings that are made together, or taken back.
+-- Strings that are created together, or removed again.
 use Rattle.std.proofs.Common.{◌≡◌, ℕ, ◌+◌, ◌-◌, ◌<◌, ◌≤◌, ◌^◌, List, [], ◌∷◌, ◌++◌, length, take, map, get_or, slice_get, Some, sym, ap, ◌∙◌, append_assoc, arith}
 use Rattle.std.proofs.lemmas.List.{length-append, length-map, length-take, map-append, append-nil}
 use Rattle.std.proofs.lemmas.Option.{slice_get-get_or}
@@ -6,7 +6,7 @@ use Rattle.jvms_machine.specs.State.{text}
 use Rattle.heap.specs.Objects.{Heap, with_new}
 use Rattle.heap.proofs.Ends.{some_at, take_more, take_whole}
 
--- Strings are made one by one.
+-- Strings are created one after another.
 one_by_one : (before : Heap) (texts : List (List ℕ)) (i : ℕ) (units : List ℕ) → slice_get texts i ≡ Some units
     → with_new (map text (take (i + 1) texts)) before ≡ with_new (text units ∷ []) (with_new (map text (take i texts)) before)
 one_by_one before texts i units is =
@@ -18,9 +18,9 @@ one_by_one before texts i units is =
 no_new : (before : Heap) → with_new [] before ≡ before
 no_new before = ap (λ l. record before { objects = l }) (append-nil before.objects)
 
--- ---- Taken back
+-- ---- Removed again
 
--- Of the strings that a heap ended in so many are left.
+-- A number of the last strings of a heap are left.
 pub record AreLeft (heap now : Heap) (left count : ℕ) : Type 0 where
   pub within : left ≤ count
   pub show : (before : Heap) (texts : List (List ℕ)) → length texts ≡ count → heap ≡ with_new (map text texts) before → now ≡ with_new (map text (take left texts)) before
@@ -49,9 +49,9 @@ pub none_left : (heap now : Heap) (left count : ℕ) → AreLeft heap now left c
     → (before : Heap) (texts : List (List ℕ)) → length texts ≡ count → heap ≡ with_new (map text texts) before → now ≡ before
 none_left heap now left count are none before texts many ends = are.show before texts many ends ∙ ap (λ n. with_new (map text (take n texts)) before) none ∙ no_new before
 
--- ---- Made together
+-- ---- Created together
 
--- So many of the strings are made.
+-- The first i strings are created.
 pub record AreMade (heap now : Heap) (texts : List (List ℕ)) (i : ℕ) : Type 0 where
   pub within : i ≤ length texts
   pub show : now ≡ with_new (map text (take i texts)) heap
@@ -75,7 +75,7 @@ room_for_one heap now texts i are below room =
     let few = length-take i texts in
     omega arith
 
--- Those that were made are taken back.
+-- The created strings are removed again.
 pub made_removed : (heap now after : Heap) (texts : List (List ℕ)) (i : ℕ) → AreMade heap now texts i
     → ((before : Heap) (units : List (List ℕ)) → length units ≡ i → now ≡ with_new (map text units) before → after ≡ before) → after ≡ heap
 made_removed heap now after texts i are removes = let within = are.within in let few = length-take i texts in removes heap (take i texts) (omega arith) are.show

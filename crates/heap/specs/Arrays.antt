@@ -1,20 +1,20 @@
--- Arrays that are made together.
+-- Arrays that are created together (own).
 use Rattle.std.specs.Prelude.{◌≡◌, List, ◌++◌, map}
 use Rattle.std.specs.List.{AllByRecursion}
 use Rattle.jvms_program.specs.declared.program.Class.{Class}
 use Rattle.jvms_machine.specs.State.{Object}
-use Rattle.heap.specs.declared.held_object.HeldObject.{HeldObject}
+use Rattle.heap.specs.declared.held_object.StoredObject.{StoredObject}
 use Rattle.heap.specs.Held.{shown, IsKept, IsPlain}
 
--- What is held is this array, in every program.
-pub record IsArray (o : HeldObject) (x : Object) : Type 0 where
+-- The stored object is this array, in every program.
+pub record IsArray (o : StoredObject) (x : Object) : Type 0 where
   pub shows : (program : List Class) → shown program o ≡ x
   pub kept : (program : List Class) → IsKept program o
   pub plain : IsPlain o
 
--- These objects, which are arrays, are held behind those that were.
-pub record MadeFrom (before after : List HeldObject) (objects : List Object) : Type 0 where
-  pub new : List HeldObject
+-- These objects, which are arrays, are stored after those that were there.
+pub record AppendsArrays (before after : List StoredObject) (objects : List Object) : Type 0 where
+  pub new : List StoredObject
   pub put : after ≡ before ++ new
   pub show : (program : List Class) → map (shown program) new ≡ objects
   pub kept : (program : List Class) → AllByRecursion (IsKept program) new

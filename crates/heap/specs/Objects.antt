@@ -1,4 +1,4 @@
--- What is asked of objects, and what is put into them by a slot.
+-- The parts of objects, and stores into them by slots.
 use Rattle.std.specs.Prelude.{◌≡◌, ℕ, true, drop, zero, suc, List, [], ◌∷◌, ◌++◌, ◌+◌, length, Option, Some, None, IsSome, slice_get}
 use Rattle.std.specs.Option.{option_and_then, option_map}
 use Rattle.jvms_file.specs.declared.insn.ArrayKind.{ArrayKind}
@@ -16,11 +16,11 @@ use Rattle.array_elements.specs.Kinds.{kind_of, IsOfKind}
 abbrev pub class_at : List Object → ℕ → Option (List ℕ)
 class_at heap r = option_map class_of (object_at heap r)
 
--- What is asked of the object that a reference leads to.
+-- A part of the object of a reference.
 abbrev pub asked : {A : Type 0} → (Object → Option A) → List Object → ℕ → Option A
 asked {A} part heap r = option_and_then part (object_at heap r)
 
--- The reference leads to an object, of which this holds.
+-- The reference is that of an object, and this holds for it.
 abbrev pub IfThere : (Object → Type 0) → Option Object → Type 0
 IfThere P None = ⊥
 IfThere P (Some o) = P o
@@ -35,7 +35,7 @@ abbrev pub array_class : Object → Option (List ℕ)
 array_class (array class elements) = Some class
 array_class _ = None
 
--- How many elements an array has.
+-- The number of elements of an array.
 abbrev pub length_of : Object → Option ℕ
 length_of (array class elements) = Some (length elements)
 length_of _ = None
@@ -55,24 +55,24 @@ abbrev pub named_by : Object → Option (List ℕ)
 named_by (class_object name) = Some name
 named_by _ = None
 
--- A value can be put among the elements of an array.
+-- A value can be stored among the elements of an array.
 abbrev pub Suits : Value → Object → Type 0
 Suits v (array class elements) = IsOfKind (kind_of (component_type class)) v
 Suits v _ = Unit {0}
 
--- It is an array that an instruction of a kind serves, with this element.
+-- An object is an array that an instruction of a kind serves, with this element.
 abbrev pub Loads : ArrayKind → ℕ → Value → Object → Type 0
 Loads k index v (array class elements) = (serves k (component_type class) ≡ true) × (slice_get elements index ≡ Some v)
 Loads k index v _ = ⊥
 
--- It is an array that an instruction of a kind serves, with an element there, and of a value that is stored in one another
--- is kept.
+-- An object is an array that an instruction of a kind serves, with an element at this index. For a value that is stored
+-- there, `kept` is the stored one.
 abbrev pub Stores : ArrayKind → ℕ → Value → Value → Object → Type 0
 Stores k index v kept (array class elements) =
     (serves k (component_type class) ≡ true) × (IsSome (slice_get elements index) × (stored_as (component_type class) v ≡ kept))
 Stores k index v kept _ = ⊥
 
--- Arrays of so many dimensions: the components of all but the innermost are arrays.
+-- The class of an array allows these lengths: the components of all but the innermost arrays are arrays.
 abbrev pub HasDimensions : List ℕ → List ℕ → Type 0
 HasDimensions class [] = Unit {0}
 HasDimensions class (n ∷ []) = Unit {0}
@@ -80,7 +80,7 @@ HasDimensions class (n ∷ m ∷ lengths) = (kind_of (component_type class) ≡ 
 
 -- ---- Fields
 
--- An instance's field.
+-- The value of an instance's field.
 abbrev pub field_of : FieldKey → Object → Option Value
 field_of key (instance class fields) = value_of key fields
 field_of key _ = None
@@ -106,9 +106,9 @@ abbrev pub with_slot : ℕ → Value → Object → Object
 with_slot slot v (instance class fields) = instance class (with_value_in slot v fields)
 with_slot slot v o = o
 
--- ---- The whole
+-- ---- The heap
 
--- The objects of a program's machine, and how many elements its arrays have.
+-- The objects of a program's machine, and the number of elements of its arrays.
 pub record Heap : Type 0 where
   pub program : List Class
   pub objects : List Object
@@ -118,6 +118,6 @@ pub record Heap : Type 0 where
 abbrev pub with_new : List Object → Heap → Heap
 with_new new h = record h { objects = h.objects ++ new }
 
--- A heap with new arrays, which have so many elements.
+-- A heap with new arrays, which have `count` elements.
 abbrev pub with_arrays : List Object → ℕ → Heap → Heap
 with_arrays new count h = record h { objects = h.objects ++ new; elements = h.elements + count }

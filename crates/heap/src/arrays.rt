@@ -7,16 +7,16 @@ ghost use Rattle.jvms_machine.specs.Heap.{component_type, first_element, arrays_
 ghost use Rattle.array_elements.specs.declared.kind.Kind.TheVariants as kind;
 ghost use Rattle.array_elements.specs.Kinds.{kind_of};
 ghost use Rattle.heap.specs.Objects.{HasDimensions, with_arrays};
-ghost use Rattle.heap.specs.Arrays.{IsArray, MadeFrom};
+ghost use Rattle.heap.specs.Arrays.{IsArray, AppendsArrays};
 
 use crate::heap::Heap;
-use crate::held_object::HeldObject;
+use crate::held_object::StoredObject;
 use array_elements::{Elements, component, kind_of_array};
-use held::items::Items;
-use held::shared::{Shared, Text};
+use shared_data::items::Items;
+use shared_data::shared::{Shared, Text};
 use std::alloc::{AllocError, Global};
 
-/// How many arrays these lengths make, the outermost first.
+/// Returns the number of arrays in a nested array of these lengths, the outermost first.
 #[tactic(auto, using(crate::proofs::ArrayLaws::one_made, crate::proofs::ArrayLaws::none_made, crate::proofs::ArrayLaws::many_made, crate::proofs::ArrayLaws::part_fits_made))]
 fn arrays_made(lengths: &[u32]) -> usize
     requires { arrays_made lengths.now ≤ 2 ^ 32 }
@@ -34,7 +34,7 @@ fn arrays_made(lengths: &[u32]) -> usize
     }
 }
 
-/// How many elements these have together.
+/// Returns the number of elements in a nested array of these lengths, over all its arrays.
 #[tactic(auto, using(crate::proofs::ArrayLaws::own_elements, crate::proofs::ArrayLaws::no_elements, crate::proofs::ArrayLaws::many_elements, crate::proofs::ArrayLaws::part_fits_elements))]
 fn elements_made(lengths: &[u32]) -> u32
     requires { elements_made lengths.now < 2 ^ 32 }
@@ -52,7 +52,7 @@ fn elements_made(lengths: &[u32]) -> u32
     }
 }
 
-/// The references of so many parts, each of which takes so many.
+/// Returns the references of `count` parts, each of which takes `size` references.
 #[tactic(auto, using(crate::proofs::ArrayLaws::parts_start, crate::proofs::ArrayLaws::part_below, crate::proofs::ArrayLaws::parts_more))]
 fn part_references(
     alloc: Global,
@@ -73,18 +73,18 @@ fn part_references(
     Ok(references)
 }
 
-/// An array with the first value for each of its elements.
-fn first_array(alloc: Global, class: &Text, length: u32) -> Result<HeldObject, AllocError>
+/// Creates an array with the first value for each of its elements.
+fn first_array(alloc: Global, class: &Text, length: u32) -> Result<StoredObject, AllocError>
     requires { length < 2 ^ 31 }
     ensures { IfOk result (λ o. IsArray o (array class.now (replicate length (first_element class.now)))) }
 {
     let kind = kind_of_array(class.as_slice());
     let elements = Elements::new(alloc, kind, length)?;
     let class = class.share()?;
-    Ok(HeldObject::Array { class, elements })
+    Ok(StoredObject::Array { class, elements })
 }
 
-/// An array of parts.
+/// Creates an array of parts.
 #[tactic(auto, using(crate::proofs::ArrayLaws::references_shown))]
 fn array_of_parts(
     alloc: Global,
@@ -92,7 +92,7 @@ fn array_of_parts(
     first: usize,
     size: usize,
     count: u32,
-) -> Result<HeldObject, AllocError>
+) -> Result<StoredObject, AllocError>
     requires room { first + count * size ≤ 2 ^ 32 }
     requires some { 0 < size }
     requires over { 0 < first }
@@ -102,13 +102,13 @@ fn array_of_parts(
 {
     let references = part_references(alloc, first, size, count)?;
     let class = class.share()?;
-    Ok(HeldObject::Array {
+    Ok(StoredObject::Array {
         class,
         elements: Elements::References(references),
     })
 }
 
-/// The class of the components of an array.
+/// Returns the class of the components of an array.
 fn component_class(alloc: Global, class: &Text) -> Result<Text, AllocError>
     ensures { IfOk result (λ t. t ≡ drop 1 class.now) }
 {
@@ -116,11 +116,11 @@ fn component_class(alloc: Global, class: &Text) -> Result<Text, AllocError>
     Shared::new(alloc, Items::from_vec(units))
 }
 
-/// Puts an array of these lengths, whose reference is this one, behind what was made, and then its parts. Without
-/// memory some may have been put.
+/// Appends an array of these lengths with this reference, followed by its parts. On an error some may have been
+/// appended.
 fn make_arrays(
     alloc: Global,
-    made: &mut Vec<HeldObject>,
+    made: &mut Vec<StoredObject>,
     reference: usize,
     class: &Text,
     count: u32,
@@ -129,7 +129,7 @@ fn make_arrays(
     requires room { reference + arrays_made (count ∷ rest.now) ≤ 2 ^ 32 }
     requires few { elements_made (count ∷ rest.now) < 2 ^ 31 }
     requires dimensions { HasDimensions class.now (count ∷ rest.now) }
-    ensures { OnOk result (MadeFrom made.old.items made.new.items (new_arrays reference class.now (count ∷ rest.now))) }
+    ensures { OnOk result (AppendsArrays made.old.items made.new.items (new_arrays reference class.now (count ∷ rest.now))) }
 {
     let Some((next_count, more)) = rest.split_first() else {
         made.push(first_array(alloc, class, count)?)?;
@@ -150,18 +150,18 @@ fn make_arrays(
     Ok(())
 }
 
-/// An array of these lengths, whose reference is this one, and its parts behind it; none where there are no lengths.
+/// Creates an array of these lengths with this reference, followed by its parts. Without lengths there is none.
 #[tactic(auto, using(crate::proofs::ArrayLaws::none_of_none, crate::proofs::ArrayLaws::made_of_some))]
 fn made_arrays(
     alloc: Global,
     reference: usize,
     class: &Text,
     lengths: &[u32],
-) -> Result<Vec<HeldObject>, AllocError>
+) -> Result<Vec<StoredObject>, AllocError>
     requires room { reference + arrays_made lengths.now ≤ 2 ^ 32 }
     requires few { elements_made lengths.now < 2 ^ 31 }
     requires dimensions { HasDimensions class.now lengths.now }
-    ensures { IfOk result (λ v. MadeFrom [] v.items (new_arrays reference class.now lengths.now)) }
+    ensures { IfOk result (λ v. AppendsArrays [] v.items (new_arrays reference class.now lengths.now)) }
 {
     let mut made = Vec::new(alloc);
     let Some((count, rest)) = lengths.split_first() else {
@@ -172,7 +172,7 @@ fn made_arrays(
 }
 
 impl Heap<'_> {
-    /// A new array of these lengths, with its parts. Without memory nothing changes.
+    /// Creates an array of these lengths, with its parts. Without memory nothing changes.
     pub fn new_arrays(&mut self, class: &Text, lengths: &[u32]) -> Result<(), AllocError>
         requires objects { length self.old.objects + arrays_made lengths.now < 2 ^ 32 }
         requires elements { self.old.elements + elements_made lengths.now < 2 ^ 31 }

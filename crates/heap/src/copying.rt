@@ -1,21 +1,21 @@
-//! A heap with the same objects.
+//! Copies a heap.
 
 ghost use Rattle.std.specs.Prelude.{◌≡◌, ◌++◌, IfOk, OnOk, map};
 ghost use Rattle.std.specs.List.{AllByRecursion};
 ghost use Rattle.heap.specs.Held.{shown, IsKept};
 
 use crate::heap::Heap;
-use crate::held_object::HeldObject;
+use crate::held_object::StoredObject;
 use crate::primitive_arrays::PrimitiveArrays;
 use program::Program;
 use std::alloc::{AllocError, Global};
 
-/// Copies objects to the end of a list.
+/// Appends copies of objects.
 pub(crate) fn push_copies(
     alloc: Global,
     program: &Program,
-    objects: &[HeldObject],
-    copies: &mut Vec<HeldObject>,
+    objects: &[StoredObject],
+    copies: &mut Vec<StoredObject>,
 ) -> Result<(), AllocError>
     requires objects { AllByRecursion (IsKept program.now) objects.now }
     requires copies { AllByRecursion (IsKept program.now) copies.old.items }
@@ -34,8 +34,8 @@ pub(crate) fn push_copies(
 pub(crate) fn copied(
     alloc: Global,
     program: &Program,
-    objects: &[HeldObject],
-) -> Result<Vec<HeldObject>, AllocError>
+    objects: &[StoredObject],
+) -> Result<Vec<StoredObject>, AllocError>
     requires { AllByRecursion (IsKept program.now) objects.now }
     ensures shown { IfOk result (λ copies. map (shown program.now) copies.items ≡ map (shown program.now) objects.now) }
     ensures kept { IfOk result (λ copies. AllByRecursion (IsKept program.now) copies.items) }
@@ -46,7 +46,7 @@ pub(crate) fn copied(
 }
 
 impl<'p> Heap<'p> {
-    /// A heap with the same objects.
+    /// Copies the heap.
     pub fn copy(&self) -> Result<Heap<'p>, AllocError>
         ensures { IfOk result (λ heap. heap ≡ self.now) }
     {

@@ -13,10 +13,10 @@ use jvms_program::program::{Class, Field};
 use program::Program;
 use std::alloc::{AllocError, Global};
 
-/// How many classes up are followed by their numbers at most.
+/// The greatest number of superclasses that are followed by their numbers.
 const MOST_UP: usize = 64;
 
-/// The first value of a type that is no array's (JVMS 2.3, 2.4).
+/// Returns the first value of a type that is no array's (JVMS 2.3, 2.4).
 fn default_of_element(element: &Element) -> Value
     ensures { result ≡ default_of_element element.now }
 {
@@ -28,7 +28,7 @@ fn default_of_element(element: &Element) -> Value
     }
 }
 
-/// The first value of a type.
+/// Returns the first value of a type.
 pub(crate) fn default_value(field_type: &FieldType) -> Value
     ensures { result ≡ default_value field_type.now }
 {
@@ -39,8 +39,8 @@ pub(crate) fn default_value(field_type: &FieldType) -> Value
     }
 }
 
-/// Puts the first values of those of these fields that are not static, the last one's first. Without memory some
-/// may have been put.
+/// Appends the first values of these fields in reverse order, without the static ones. On an error some may have been
+/// appended.
 #[tactic(auto, using(crate::proofs::ChainLaws::none_put, crate::proofs::ChainLaws::static_passed, crate::proofs::ChainLaws::own_put, crate::proofs::ChainLaws::all_put))]
 fn push_values(fields: &[Field], values: &mut Vec<Value>) -> Result<(), AllocError>
     ensures { OnOk result (values.new.items ≡ values.old.items ++ reverse (own_values fields.now)) }
@@ -56,7 +56,7 @@ fn push_values(fields: &[Field], values: &mut Vec<Value>) -> Result<(), AllocErr
     Ok(())
 }
 
-/// The name of a class's superclass.
+/// Returns the name of a class's superclass.
 fn superclass_name(class: &Class) -> Option<&[u16]>
     ensures { option_copied result ≡ class.now.superclass }
 {
@@ -66,8 +66,8 @@ fn superclass_name(class: &Class) -> Option<&[u16]>
     }
 }
 
-/// Puts the first values of the fields of an instance of the class of a name, the last one's first. Without memory some
-/// may have been put.
+/// Appends the first values of the fields of an instance of the class of a name, in reverse order. On an error some may
+/// have been appended.
 fn put_by_name(program: &Program, name: &[u16], values: &mut Vec<Value>) -> Result<(), AllocError>
     ensures { OnOk result (values.new.items ≡ values.old.items ++ flat_map values_down (chain program.now name.now)) }
 {
@@ -87,7 +87,8 @@ fn put_by_name(program: &Program, name: &[u16], values: &mut Vec<Value>) -> Resu
     Ok(())
 }
 
-/// The same of the class of a number: up the classes by their numbers, as far as the program tells them.
+/// Appends the first values of the fields of an instance of the class of a number, in reverse order. It follows the
+/// numbers of superclasses as far as the program has them. On an error some may have been appended.
 fn put_by_number(program: &Program, class: usize, values: &mut Vec<Value>) -> Result<(), AllocError>
     ensures { OnOk result (values.new.items ≡ values.old.items ++ flat_map values_down (chain program.now (name_at program.now class))) }
 {
@@ -105,7 +106,7 @@ fn put_by_number(program: &Program, class: usize, values: &mut Vec<Value>) -> Re
     put_by_name(program, program.name_at(at), values)
 }
 
-/// The first values of the fields of an instance of the class of a number.
+/// Returns the first values of the fields of an instance of the class of a number.
 #[tactic(auto, using(crate::proofs::ChainLaws::turned))]
 pub(crate) fn first_values(
     alloc: Global,

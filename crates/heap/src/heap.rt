@@ -9,9 +9,9 @@ ghost use Rattle.jvms_machine.specs.Heap.{array_of_type, with_element, with_obje
 ghost use Rattle.heap.specs.Objects.{IfThere, Loads, Stores, Suits, class_at, asked, instance_class, array_class, length_of, element_of, units_of, named_by, value_in, with_slot};
 ghost use Rattle.heap.specs.Held.{name_at, shown, IsKept};
 
-use crate::held_object::HeldObject;
+use crate::held_object::StoredObject;
 use crate::primitive_arrays::PrimitiveArrays;
-use held::shared::Text;
+use shared_data::shared::Text;
 use jvms_file::insn::{ArrayKind, ArrayType};
 use jvms_machine::value::Value;
 use program::Program;
@@ -24,8 +24,8 @@ use text_index::Index;
 pub struct Heap<'p> {
     pub(crate) alloc: Global,
     pub(crate) program: &'p Program,
-    pub(crate) objects: Vec<HeldObject>,
-    /// How many elements the arrays have.
+    pub(crate) objects: Vec<StoredObject>,
+    /// The number of elements of all arrays.
     pub(crate) elements: u32,
     /// The references of strings.
     pub(crate) texts: Index,
@@ -37,38 +37,38 @@ pub struct Heap<'p> {
 impl<'p> Model for Heap<'p> {
     ghost use Rattle.std.specs.Prelude.{map};
     ghost use Rattle.heap.specs.Objects.{Heap as Seen};
-    ghost use Rattle.heap.specs.Held.{shown, AreHeld};
+    ghost use Rattle.heap.specs.Held.{shown, AreStored};
 
     ghost Value = { Seen };
 
     ghost view = { λ h. record { program = h.program.now; objects = map (shown h.program.now) h.objects.items; elements = h.elements } };
 
-    ghost invariant = { λ h. AreHeld h.program.now h.objects.items h.texts h.class_objects };
+    ghost invariant = { λ h. AreStored h.program.now h.objects.items h.texts h.class_objects };
 }
 
-/// The object at a place.
-fn object_at_place(objects: &[HeldObject], place: usize) -> Option<&HeldObject>
+/// Returns the object at a place.
+fn object_at_place(objects: &[StoredObject], place: usize) -> Option<&StoredObject>
     ensures { option_copied result ≡ slice_get objects.now place }
 {
     objects.get(place)
 }
 
 impl<'p> Heap<'p> {
-    /// The program whose classes the objects are of.
+    /// Returns the program of the objects' classes.
     pub fn program(&self) -> &'p Program
         ensures { result.now ≡ self.now.program }
     {
         self.program
     }
 
-    /// Each instance has the fields of its class. Nothing is done.
+    /// States that each instance has the fields of its class. It does nothing at run time.
     pub fn instances_have_their_fields(&self)
         ensures { (r : ℕ) (class : List ℕ) (fields : List (FieldKey × Held)) → object_at self.now.objects r ≡ Some (instance class fields) → keys fields ≡ keys (instance_fields self.now.program class) }
     {
         let _ = &self.objects;
     }
 
-    /// How many objects there are.
+    /// Returns the number of objects.
     #[tactic(auto, using(crate::proofs::HeldLaws::as_many_shown))]
     pub fn count(&self) -> usize
         ensures { result ≡ length self.now.objects }
@@ -76,17 +76,17 @@ impl<'p> Heap<'p> {
         self.objects.len()
     }
 
-    /// How many elements the arrays have together.
+    /// Returns the number of elements of all arrays together.
     pub fn elements(&self) -> u32
         ensures { result ≡ self.now.elements }
     {
         self.elements
     }
 
-    /// The object that a reference leads to.
+    /// Returns the object of a reference.
     #[inline(always)]
-    #[tactic(auto, using(crate::proofs::HeldLaws::shown_of, crate::proofs::HeldLaws::kept_of))]
-    pub(crate) fn object(&self, reference: u32) -> Option<&HeldObject>
+    #[tactic(auto, using(crate::proofs::HeldLaws::view_of_run, crate::proofs::HeldLaws::kept_of))]
+    pub(crate) fn object(&self, reference: u32) -> Option<&StoredObject>
         ensures shown { option_map (λ o. shown self.now.program o.now) result ≡ object_at self.now.objects reference }
         ensures kept { IfSome result (λ o. IsKept self.now.program o.now) }
     {
@@ -96,7 +96,7 @@ impl<'p> Heap<'p> {
         object_at_place(self.objects.as_slice(), reference as usize - 1)
     }
 
-    /// The class of the object of a reference.
+    /// Returns the class of the object of a reference.
     #[inline(always)]
     pub fn class_of(&self, reference: u32) -> Option<&[u16]>
         ensures { option_map (λ c. c.now) result ≡ class_at self.now.objects reference }
@@ -105,21 +105,21 @@ impl<'p> Heap<'p> {
         Some(object.class_name(self.program))
     }
 
-    /// The number of the class of an instance.
+    /// Returns the number of the class of an instance.
     pub fn instance_class(&self, reference: u32) -> Option<usize>
         ensures { option_map (name_at self.now.program) result ≡ asked instance_class self.now.objects reference }
     {
         self.object(reference)?.instance_class()
     }
 
-    /// The class of an array.
+    /// Returns the class of an array.
     pub fn array_class(&self, reference: u32) -> Option<&Text>
         ensures { option_map (λ c. c.now) result ≡ asked array_class self.now.objects reference }
     {
         self.object(reference)?.array_class()
     }
 
-    /// How many elements an array has.
+    /// Returns the number of elements of an array.
     #[inline(always)]
     pub fn array_length(&self, reference: u32) -> Option<usize>
         ensures count { result ≡ asked length_of self.now.objects reference }
@@ -129,7 +129,7 @@ impl<'p> Heap<'p> {
         self.object(reference)?.length()
     }
 
-    /// An element of an array.
+    /// Returns an element of an array.
     #[inline(always)]
     pub fn element(&self, reference: u32, index: usize) -> Option<Value>
         ensures { result ≡ asked (element_of index) self.now.objects reference }
@@ -137,7 +137,7 @@ impl<'p> Heap<'p> {
         self.object(reference)?.element(index)
     }
 
-    /// An element of an array that an instruction of a kind serves.
+    /// Returns an element of an array, if an instruction of this kind serves the array.
     #[inline(always)]
     pub fn loaded(&self, reference: u32, kind: ArrayKind, index: usize) -> Option<Value>
         ensures { IfSome result (λ v. IfThere (Loads kind index v) (object_at self.now.objects reference)) }
@@ -148,7 +148,8 @@ impl<'p> Heap<'p> {
         }
     }
 
-    /// What is kept of an int or a long that is stored in an array that an instruction of a kind serves.
+    /// Returns the value that is stored for an int or a long in an array, if an instruction of this kind serves the
+    /// array.
     #[inline(always)]
     pub fn stored(
         &self,
@@ -165,7 +166,7 @@ impl<'p> Heap<'p> {
         }
     }
 
-    /// The value of the field of a slot, of an instance.
+    /// Returns the value of an instance's field, by its slot.
     #[inline(always)]
     pub fn field(&self, reference: u32, slot: usize) -> Option<Value>
         ensures { result ≡ asked (value_in slot) self.now.objects reference }
@@ -173,21 +174,21 @@ impl<'p> Heap<'p> {
         self.object(reference)?.value(slot)
     }
 
-    /// The units of a string.
+    /// Returns the units of a string.
     pub fn units_of(&self, reference: u32) -> Option<&Text>
         ensures { option_map (λ units. units.now) result ≡ asked units_of self.now.objects reference }
     {
         self.object(reference)?.units()
     }
 
-    /// The name of the class of a class object.
+    /// Returns the name of the class of a class object.
     pub fn name_of(&self, reference: u32) -> Option<&Text>
         ensures { option_map (λ name. name.now) result ≡ asked named_by self.now.objects reference }
     {
         self.object(reference)?.name()
     }
 
-    /// The reference of a text's string.
+    /// Returns the reference of a text's string.
     #[tactic(auto, using(crate::proofs::HeldLaws::text_found))]
     pub fn text_reference(&self, units: &[u16]) -> Option<u32>
         ensures { result ≡ text_reference self.now.objects units.now }
@@ -195,7 +196,7 @@ impl<'p> Heap<'p> {
         self.texts.find(units)
     }
 
-    /// The reference of the object of the class of a name.
+    /// Returns the reference of the class object of the class of a name.
     #[tactic(auto, using(crate::proofs::HeldLaws::class_found))]
     pub fn class_reference(&self, name: &[u16]) -> Option<u32>
         ensures { result ≡ class_reference self.now.objects name.now }
@@ -203,14 +204,14 @@ impl<'p> Heap<'p> {
         self.class_objects.find(name)
     }
 
-    /// The class of an array of a primitive type.
+    /// Returns the class of an array of a primitive type.
     pub fn primitive_array_class(&self, array_type: ArrayType) -> &Text
         ensures { result.now ≡ array_of_type array_type }
     {
         self.primitive_arrays.get(array_type)
     }
 
-    /// Puts a value into the field of a slot, of an instance that has one.
+    /// Stores a value in the field of a slot, if the reference is that of an instance with such a slot.
     pub fn put_field(&mut self, reference: u32, slot: usize, value: Value)
         ensures { self.new ≡ record self.old { objects = with_object self.old.objects reference (with_slot slot value) (object_at self.old.objects reference) } }
     {
@@ -223,7 +224,7 @@ impl<'p> Heap<'p> {
         }
     }
 
-    /// Puts a value at an index of an array that has an element there.
+    /// Stores a value at an index, if the reference is that of an array with an element there.
     #[inline(always)]
     pub fn put_element(&mut self, reference: u32, index: usize, value: Value)
         requires { IfSome (object_at self.old.objects reference) (Suits value) }

@@ -6,10 +6,10 @@ ghost use Rattle.jvms_program.specs.declared.program.Class.{Class};
 ghost use Rattle.jvms_machine.specs.State.{class_of};
 ghost use Rattle.jvms_machine.specs.Heap.{with_element};
 ghost use Rattle.heap.specs.Objects.{Loads, Stores, array_class, instance_class, length_of, element_of, units_of, named_by, value_in, with_slot};
-ghost use Rattle.heap.specs.Held.{name_at, shown, AreAlike, IsKept, SuitsHeld, Becomes};
+ghost use Rattle.heap.specs.Held.{name_at, shown, AreAlike, IsKept, AcceptsStored, Becomes};
 
 use array_elements::Elements;
-use held::shared::Text;
+use shared_data::shared::Text;
 use jvms_file::insn::ArrayKind;
 use jvms_machine::value::Value;
 use program::Program;
@@ -27,8 +27,8 @@ const CLASS: [u16; 15] = [
 
 /// An object.
 #[derive(Debug, Drop)]
-pub enum HeldObject {
-    /// An object of the class of a number, with the values of its fields by their slots.
+pub enum StoredObject {
+    /// An instance of the class of a number, with the values of its fields by their slots.
     Instance { class: usize, values: Vec<Value> },
     /// An array of a class.
     Array { class: Text, elements: Elements },
@@ -38,188 +38,189 @@ pub enum HeldObject {
     ClassObject(Text),
 }
 
-/// The value at a place.
+/// Returns the value at a place.
 pub(crate) fn value_at(values: &[Value], place: usize) -> Option<Value>
     ensures { result ≡ slice_get values.now place }
 {
     Some(*values.get(place)?)
 }
 
-impl HeldObject {
-    /// The same object once more.
-    pub(crate) fn copy(&self, alloc: Global) -> Result<HeldObject, AllocError>
+impl StoredObject {
+    /// Copies the object.
+    pub(crate) fn copy(&self, alloc: Global) -> Result<StoredObject, AllocError>
         ensures shown { (program : List Class) → IfOk result (λ o. shown program o ≡ shown program self.now) }
         ensures kept { (program : List Class) → IsKept program self.now → IfOk result (IsKept program) }
     {
         match self {
-            HeldObject::Instance { class, values } => Ok(HeldObject::Instance {
+            StoredObject::Instance { class, values } => Ok(StoredObject::Instance {
                 class: *class,
                 values: Vec::from_slice(alloc, values.as_slice())?,
             }),
-            HeldObject::Array { class, elements } => Ok(HeldObject::Array {
+            StoredObject::Array { class, elements } => Ok(StoredObject::Array {
                 class: class.share()?,
                 elements: elements.copy(alloc)?,
             }),
-            HeldObject::Text(units) => Ok(HeldObject::Text(units.share()?)),
-            HeldObject::ClassObject(name) => Ok(HeldObject::ClassObject(name.share()?)),
+            StoredObject::Text(units) => Ok(StoredObject::Text(units.share()?)),
+            StoredObject::ClassObject(name) => Ok(StoredObject::ClassObject(name.share()?)),
         }
     }
 
-    /// Returns whether the other object is the same, in every program.
-    pub(crate) fn is_same(&self, other: &HeldObject) -> bool
+    /// Returns true only if the other object is the same, in every program.
+    pub(crate) fn is_same(&self, other: &StoredObject) -> bool
         ensures { result ≡ true → AreAlike self.now other.now }
     {
         match (self, other) {
             (
-                HeldObject::Instance { class, values },
-                HeldObject::Instance {
+                StoredObject::Instance { class, values },
+                StoredObject::Instance {
                     class: other_class,
                     values: other_values,
                 },
             ) => class == other_class && values == other_values,
             (
-                HeldObject::Array { class, elements },
-                HeldObject::Array {
+                StoredObject::Array { class, elements },
+                StoredObject::Array {
                     class: other_class,
                     elements: other_elements,
                 },
             ) => class == other_class && elements.is_same(other_elements),
-            (HeldObject::Text(units), HeldObject::Text(others)) => units == others,
-            (HeldObject::ClassObject(name), HeldObject::ClassObject(others)) => name == others,
+            (StoredObject::Text(units), StoredObject::Text(others)) => units == others,
+            (StoredObject::ClassObject(name), StoredObject::ClassObject(others)) => name == others,
             _ => false,
         }
     }
 
-    /// The name of its class.
+    /// Returns the name of the object's class.
     #[inline(always)]
     pub(crate) fn class_name<'a>(&'a self, program: &'a Program) -> &'a [u16]
         ensures { result.now ≡ class_of (shown program.now self.now) }
     {
         match self {
-            HeldObject::Instance { class, .. } => match program.class(*class) {
+            StoredObject::Instance { class, .. } => match program.class(*class) {
                 Some(class) => class.name.as_slice(),
                 None => &[],
             },
-            HeldObject::Array { class, .. } => class.as_slice(),
-            HeldObject::Text(_) => &STRING,
-            HeldObject::ClassObject(_) => &CLASS,
+            StoredObject::Array { class, .. } => class.as_slice(),
+            StoredObject::Text(_) => &STRING,
+            StoredObject::ClassObject(_) => &CLASS,
         }
     }
 
-    /// The class of an array.
+    /// Returns the class of an array.
     pub(crate) fn array_class(&self) -> Option<&Text>
         ensures { (program : List Class) → option_map (λ c. c.now) result ≡ array_class (shown program self.now) }
     {
         match self {
-            HeldObject::Array { class, .. } => Some(class),
+            StoredObject::Array { class, .. } => Some(class),
             _ => None,
         }
     }
 
-    /// How many elements an array has.
+    /// Returns the number of elements of an array.
     #[inline(always)]
     pub(crate) fn length(&self) -> Option<usize>
         ensures count { (program : List Class) → result ≡ length_of (shown program self.now) }
         ensures few { (program : List Class) → IsKept program self.now → IfSome result (λ length. length < 2 ^ 31) }
     {
         match self {
-            HeldObject::Array { elements, .. } => Some(elements.len()),
+            StoredObject::Array { elements, .. } => Some(elements.len()),
             _ => None,
         }
     }
 
-    /// An element of an array.
+    /// Returns an element of an array.
     #[inline(always)]
     pub(crate) fn element(&self, index: usize) -> Option<Value>
         ensures { (program : List Class) → result ≡ element_of index (shown program self.now) }
     {
         match self {
-            HeldObject::Array { elements, .. } => elements.get(index),
+            StoredObject::Array { elements, .. } => elements.get(index),
             _ => None,
         }
     }
 
-    /// An element of an array that an instruction of a kind serves.
+    /// Returns an element of an array, if an instruction of this kind serves the array.
     #[inline(always)]
     pub(crate) fn loaded(&self, kind: ArrayKind, index: usize) -> Option<Value>
         ensures { (program : List Class) → IsKept program self.now → IfSome result (λ v. Loads kind index v (shown program self.now)) }
     {
         match self {
-            HeldObject::Array { elements, .. } => elements.loaded(kind, index),
+            StoredObject::Array { elements, .. } => elements.loaded(kind, index),
             _ => None,
         }
     }
 
-    /// What is kept of an int or a long that is stored in an array that an instruction of a kind serves.
+    /// Returns the value that is stored for an int or a long in an array, if an instruction of this kind serves the
+    /// array.
     #[inline(always)]
     pub(crate) fn stored(&self, kind: ArrayKind, index: usize, value: Value) -> Option<Value>
         ensures { (program : List Class) → IsKept program self.now → IfSome result (λ kept. Stores kind index value kept (shown program self.now)) }
     {
         match self {
-            HeldObject::Array { elements, .. } => elements.stored(kind, index, value),
+            StoredObject::Array { elements, .. } => elements.stored(kind, index, value),
             _ => None,
         }
     }
 
-    /// The units of a string.
+    /// Returns the units of a string.
     pub(crate) fn units(&self) -> Option<&Text>
         ensures { (program : List Class) → option_map (λ units. units.now) result ≡ units_of (shown program self.now) }
     {
         match self {
-            HeldObject::Text(units) => Some(units),
+            StoredObject::Text(units) => Some(units),
             _ => None,
         }
     }
 
-    /// The name of the class of a class object.
+    /// Returns the name of the class of a class object.
     pub(crate) fn name(&self) -> Option<&Text>
         ensures { (program : List Class) → option_map (λ name. name.now) result ≡ named_by (shown program self.now) }
     {
         match self {
-            HeldObject::ClassObject(name) => Some(name),
+            StoredObject::ClassObject(name) => Some(name),
             _ => None,
         }
     }
 
-    /// The value of the field of a slot.
+    /// Returns the value of the field of a slot.
     pub(crate) fn value(&self, slot: usize) -> Option<Value>
         ensures { (program : List Class) → IsKept program self.now → result ≡ value_in slot (shown program self.now) }
     {
         match self {
-            HeldObject::Instance { values, .. } => value_at(values.as_slice(), slot),
+            StoredObject::Instance { values, .. } => value_at(values.as_slice(), slot),
             _ => None,
         }
     }
 
-    /// The number of the class of an instance.
+    /// Returns the number of the class of an instance.
     pub(crate) fn instance_class(&self) -> Option<usize>
         ensures { (program : List Class) → option_map (name_at program) result ≡ instance_class (shown program self.now) }
     {
         match self {
-            HeldObject::Instance { class, .. } => Some(*class),
+            StoredObject::Instance { class, .. } => Some(*class),
             _ => None,
         }
     }
 
-    /// Puts a value into the field of a slot, if it is an instance and has one.
+    /// Stores a value in the field of a slot, if it is an instance with such a slot.
     #[tactic(auto, using(crate::proofs::SlotLaws::slot_put, crate::proofs::SlotLaws::no_slot_put))]
     pub(crate) fn put_value(&mut self, slot: usize, value: Value)
         ensures { (program : List Class) → IsKept program self.old → Becomes (with_slot slot value) program self.old self.new }
     {
-        if let HeldObject::Instance { values, .. } = self {
+        if let StoredObject::Instance { values, .. } = self {
             if slot < values.len() {
                 values[slot] = value;
             }
         }
     }
 
-    /// Puts a value at an index of an array, if it is one and has an element there.
+    /// Stores a value at an index, if it is an array with an element there.
     #[inline(always)]
     pub(crate) fn put_element(&mut self, index: usize, value: Value)
-        requires { SuitsHeld value self.old }
+        requires { AcceptsStored value self.old }
         ensures { (program : List Class) → IsKept program self.old → Becomes (with_element index value) program self.old self.new }
     {
-        if let HeldObject::Array { elements, .. } = self {
+        if let StoredObject::Array { elements, .. } = self {
             elements.put(index, value);
         }
     }

@@ -1,5 +1,5 @@
-//! The heap of a machine (JVMS 2.4, 2.7): its objects, held so that a field is found by its slot, an element in its
-//! array's own kind, and a string by its text.
+//! The heap of a machine (JVMS 2.4, 2.7). Its objects are stored so that a field is found by its slot, an element by
+//! its array's own kind, and a string by its text.
 #![tactic(auto)]
 
 mod arrays;

@@ -1,4 +1,4 @@
-//! Objects that are made.
+//! Creates objects.
 
 ghost use Rattle.std.specs.Prelude.{◌≡◌, ◌+◌, ◌<◌, ◌^◌, ◌∷◌, [], OnOk, OnErr, length, replicate};
 ghost use Rattle.jvms_machine.specs.State.{array, text, class_object, first_instance};
@@ -8,13 +8,13 @@ ghost use Rattle.heap.specs.Held.{name_at, shown, IsKept, IsPlain};
 
 use crate::first_values::first_values;
 use crate::heap::Heap;
-use crate::held_object::HeldObject;
+use crate::held_object::StoredObject;
 use array_elements::{Elements, kind_of_array};
-use held::shared::Text;
+use shared_data::shared::Text;
 use program::Program;
 use std::alloc::AllocError;
 
-/// The name of the class of a number.
+/// Returns the name of the class of a number.
 pub(crate) fn name_at(program: &Program, class: usize) -> &[u16]
     ensures { result.now ≡ name_at program.now class }
 {
@@ -25,8 +25,8 @@ pub(crate) fn name_at(program: &Program, class: usize) -> &[u16]
 }
 
 impl Heap<'_> {
-    /// Puts an instance or an array behind the others. Without memory nothing changes.
-    fn push_plain(&mut self, plain: HeldObject) -> Result<(), AllocError>
+    /// Appends an instance or an array. Without memory nothing changes.
+    fn push_plain(&mut self, plain: StoredObject) -> Result<(), AllocError>
         requires kept { IsKept self.old.program plain }
         requires plain { IsPlain plain }
         ensures ok { OnOk result (self.new ≡ with_new (shown self.old.program plain ∷ []) self.old) }
@@ -36,17 +36,17 @@ impl Heap<'_> {
         Ok(())
     }
 
-    /// A new instance of the class of a number. Without memory nothing changes.
+    /// Creates an instance of the class of a number. Without memory nothing changes.
     pub fn new_instance(&mut self, class: usize) -> Result<(), AllocError>
         ensures ok { OnOk result (self.new ≡ with_new (first_instance self.old.program (name_at self.old.program class) ∷ []) self.old) }
         ensures err { OnErr result (self.new ≡ self.old) }
     {
         let program = self.program();
         let values = first_values(self.alloc, program, class)?;
-        self.push_plain(HeldObject::Instance { class, values })
+        self.push_plain(StoredObject::Instance { class, values })
     }
 
-    /// A new array of a class. Without memory nothing changes.
+    /// Creates an array of a class. Without memory nothing changes.
     pub fn new_array(&mut self, class: &Text, length: u32) -> Result<(), AllocError>
         requires { self.old.elements + length < 2 ^ 31 }
         ensures ok { OnOk result (self.new ≡ with_arrays (array class.now (replicate length (first_element class.now)) ∷ []) length self.old) }
@@ -55,19 +55,19 @@ impl Heap<'_> {
         let kind = kind_of_array(class.as_slice());
         let elements = Elements::new(self.alloc, kind, length)?;
         let class = class.share()?;
-        self.push_plain(HeldObject::Array { class, elements })?;
+        self.push_plain(StoredObject::Array { class, elements })?;
         self.elements += length;
         Ok(())
     }
 
-    /// A new string. Where its text has one, that stays the one that is found. Without memory nothing changes.
+    /// Creates a string. If its text has one already, look-ups keep finding that one. Without memory nothing changes.
     pub fn new_text(&mut self, units: &Text) -> Result<(), AllocError>
         requires { length self.old.objects + 1 < 2 ^ 32 }
         ensures ok { OnOk result (self.new ≡ with_new (text units.now ∷ []) self.old) }
         ensures err { OnErr result (self.new ≡ self.old) }
     {
         let reference = self.objects.as_slice().len() as u32 + 1;
-        let object = HeldObject::Text(units.share()?);
+        let object = StoredObject::Text(units.share()?);
         self.objects.push(object)?;
         match self.texts.put(self.alloc, units.as_slice(), reference) {
             Ok(()) => Ok(()),
@@ -78,15 +78,15 @@ impl Heap<'_> {
         }
     }
 
-    /// A new class object, of the class of a name. Where that has one, it stays the one that is found. Without memory
-    /// nothing changes.
+    /// Creates the class object of the class of a name. If the class has one already, look-ups keep finding that one.
+    /// Without memory nothing changes.
     pub fn new_class_object(&mut self, name: &Text) -> Result<(), AllocError>
         requires { length self.old.objects + 1 < 2 ^ 32 }
         ensures ok { OnOk result (self.new ≡ with_new (class_object name.now ∷ []) self.old) }
         ensures err { OnErr result (self.new ≡ self.old) }
     {
         let reference = self.objects.as_slice().len() as u32 + 1;
-        let object = HeldObject::ClassObject(name.share()?);
+        let object = StoredObject::ClassObject(name.share()?);
         self.objects.push(object)?;
         match self
             .class_objects

@@ -11,7 +11,7 @@ use classes::{FieldName, Slot};
 use jvms_machine::value::Value;
 
 impl Heap<'_> {
-    /// The slot of an instance's field.
+    /// Returns the slot of an instance's field.
     #[tactic(auto, using(crate::proofs::NamedLaws::no_slot_named, crate::proofs::NamedLaws::slot_named))]
     fn slot_named(&self, reference: u32, field: &FieldName) -> Option<Slot>
         ensures { result ≡ asked (slot_in self.now.program field.now) self.now.objects reference }
@@ -21,8 +21,8 @@ impl Heap<'_> {
         program.slot(name_at(program, class), field)
     }
 
-    /// The value of an instance's field. There is none where the reference leads to no instance, or to one that has no
-    /// such field.
+    /// Returns the value of an instance's field. Returns `None` if the reference is that of no instance, or of one that
+    /// has no such field.
     #[tactic(auto, using(crate::proofs::NamedLaws::named_read, crate::proofs::NamedLaws::not_named))]
     pub fn field_named(&self, reference: u32, field: &FieldName) -> Option<Value>
         ensures { result ≡ asked (field_of field.now) self.now.objects reference }
@@ -32,7 +32,7 @@ impl Heap<'_> {
         self.field(reference, slot)
     }
 
-    /// Puts a value into the field of a key of an instance that has one.
+    /// Stores a value in the field of a key, if the instance has one.
     #[tactic(auto, using(crate::proofs::NamedLaws::named_put, crate::proofs::NamedLaws::none_named_put))]
     pub fn put_field_named(&mut self, reference: u32, field: &FieldName, value: Value)
         ensures { self.new ≡ record self.old { objects = with_object self.old.objects reference (with_field field.now value) (object_at self.old.objects reference) } }

@@ -5,8 +5,8 @@ ghost use Rattle.jvms_machine.specs.Opening.{opening_heap};
 
 use crate::heap::Heap;
 use crate::primitive_arrays::PrimitiveArrays;
-use held::items::Items;
-use held::shared::{Shared, Text};
+use shared_data::items::Items;
+use shared_data::shared::{Shared, Text};
 use program::Program;
 use std::alloc::{AllocError, Global};
 use text_index::Index;
@@ -25,7 +25,7 @@ const STRINGS: [u16; 19] = [
     91, 76, 106, 97, 118, 97, 47, 108, 97, 110, 103, 47, 83, 116, 114, 105, 110, 103, 59,
 ];
 
-/// The class of main's argument.
+/// Returns the class of main's argument.
 fn strings(alloc: Global) -> Result<Text, AllocError>
     ensures { IfOk result (λ t. t ≡ codes "[Ljava/lang/String;") }
 {
@@ -34,7 +34,7 @@ fn strings(alloc: Global) -> Result<Text, AllocError>
 }
 
 impl<'p> Heap<'p> {
-    /// Makes a heap with no objects.
+    /// Creates a heap without objects.
     pub fn empty(alloc: Global, program: &'p Program) -> Result<Heap<'p>, AllocError>
         ensures { IfOk result (λ h. h ≡ record { program = program.now; objects = []; elements = 0 }) }
     {
@@ -49,12 +49,12 @@ impl<'p> Heap<'p> {
         })
     }
 
-    /// Puts the two errors of the limits, System.out, and main's argument.
+    /// Appends the two errors of the limits, System.out, and main's argument to an empty heap.
     fn put_first_objects(&mut self) -> Result<(), AllocError>
         requires { self.old ≡ record { program = self.old.program; objects = []; elements = 0 } }
         ensures { OnOk result (self.new ≡ record { program = self.old.program; objects = opening_heap self.old.program; elements = 0 }) }
     {
-        self.program().is_program();
+        self.program().program_invariant();
         self.new_instance(OUT_OF_MEMORY)?;
         self.new_instance(STACK_OVERFLOW)?;
         self.new_instance(PRINT_STREAM)?;
@@ -63,7 +63,7 @@ impl<'p> Heap<'p> {
         Ok(())
     }
 
-    /// The heap at the opening: the two errors of the limits, System.out, and main's argument.
+    /// Creates the heap at the opening: the two errors of the limits, System.out, and main's argument.
     pub fn opening(alloc: Global, program: &'p Program) -> Result<Heap<'p>, AllocError>
         ensures { IfOk result (λ h. h ≡ record { program = program.now; objects = opening_heap program.now; elements = 0 }) }
     {

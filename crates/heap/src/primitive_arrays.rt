@@ -3,13 +3,13 @@
 ghost use Rattle.std.specs.Prelude.{◌≡◌, ◌∷◌, [], IfOk};
 ghost use Rattle.jvms_machine.specs.Heap.{array_of_type};
 
-use held::items::Items;
-use held::shared::{Shared, Text};
+use shared_data::items::Items;
+use shared_data::shared::{Shared, Text};
 use jvms_file::insn::ArrayType;
 use std::alloc::{AllocError, Global};
 use std::marker::Model;
 
-/// The classes of the arrays of primitive types. Contracts see nothing of them.
+/// The classes of the arrays of primitive types. Contracts see no value of them.
 #[derive(Drop)]
 pub(crate) struct PrimitiveArrays {
     booleans: Text,
@@ -33,7 +33,7 @@ impl Model for PrimitiveArrays {
     ghost invariant = { λ a. ArePrimitiveArrays a.booleans a.chars a.floats a.doubles a.bytes a.shorts a.ints a.longs };
 }
 
-/// The class of an array of one dimension, by the letter of its type.
+/// Returns the class of an array of one dimension, by the letter of its type.
 fn array_of(alloc: Global, letter: u8) -> Result<Text, AllocError>
     ensures { IfOk result (λ t. t ≡ 91 ∷ letter ∷ []) }
 {
@@ -55,7 +55,7 @@ impl PrimitiveArrays {
         })
     }
 
-    /// The class of an array of a type.
+    /// Returns the class of an array of a type.
     pub(crate) fn get(&self, array_type: ArrayType) -> &Text
         ensures { result.now ≡ array_of_type array_type }
     {

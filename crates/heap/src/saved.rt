@@ -1,4 +1,4 @@
-//! Heaps that are saved. They share the objects that did not change from one to the next.
+//! Saves heaps. They share the objects that did not change from one to the next.
 
 ghost use Rattle.std.specs.Prelude.{◌≡◌, true, IfOk, map};
 ghost use Rattle.std.specs.List.{AllByRecursion, flat_map};
@@ -6,10 +6,10 @@ ghost use Rattle.heap.specs.Held.{shown, AllAlike, IsKept};
 
 use crate::copying::{copied, push_copies};
 use crate::heap::Heap;
-use crate::held_object::HeldObject;
+use crate::held_object::StoredObject;
 use crate::primitive_arrays::PrimitiveArrays;
-use held::items::Items;
-use held::shared::Shared;
+use shared_data::items::Items;
+use shared_data::shared::Shared;
 use program::Program;
 use std::alloc::{AllocError, Global};
 use std::marker::Model;
@@ -19,7 +19,7 @@ use text_index::Index;
 const GROUP_SIZE: usize = 16;
 
 /// Objects with consecutive references. Several saved heaps can share them.
-type Group = Shared<Items<HeldObject>>;
+type Group = Shared<Items<StoredObject>>;
 
 /// The objects of a heap at one moment. Heaps saved one after another share the objects that did not change
 /// between them. Contracts see the heap itself.
@@ -37,17 +37,17 @@ impl<'p> Model for SavedHeap<'p> {
     ghost use Rattle.std.specs.Prelude.{map};
     ghost use Rattle.std.specs.List.{flat_map};
     ghost use Rattle.heap.specs.Objects.{Heap as Seen};
-    ghost use Rattle.heap.specs.Held.{shown, AreHeld};
+    ghost use Rattle.heap.specs.Held.{shown, AreStored};
 
     ghost Value = { Seen };
 
     ghost view = { λ h. record { program = h.program.now; objects = map (shown h.program.now) (flat_map (λ g. g) h.groups.items); elements = h.elements } };
 
-    ghost invariant = { λ h. AreHeld h.program.now (flat_map (λ g. g) h.groups.items) h.texts h.class_objects };
+    ghost invariant = { λ h. AreStored h.program.now (flat_map (λ g. g) h.groups.items) h.texts h.class_objects };
 }
 
-/// Returns whether two lists have the same objects, in the same order.
-fn are_same(objects: &[HeldObject], others: &[HeldObject]) -> bool
+/// Returns true only if two lists have the same objects, in the same order.
+fn are_same(objects: &[StoredObject], others: &[StoredObject]) -> bool
     ensures { result ≡ true → AllAlike objects.now others.now }
 {
     match (objects.split_first(), others.split_first()) {
@@ -63,7 +63,7 @@ fn are_same(objects: &[HeldObject], others: &[HeldObject]) -> bool
 fn saved_group(
     alloc: Global,
     program: &Program,
-    objects: &[HeldObject],
+    objects: &[StoredObject],
     before: Option<&Group>,
 ) -> Result<Group, AllocError>
     requires { AllByRecursion (IsKept program.now) objects.now }
@@ -84,7 +84,7 @@ fn saved_group(
 fn saved_groups(
     alloc: Global,
     program: &Program,
-    objects: &[HeldObject],
+    objects: &[StoredObject],
     before: &[Group],
 ) -> Result<Vec<Group>, AllocError>
     requires { AllByRecursion (IsKept program.now) objects.now }
@@ -106,7 +106,7 @@ fn restored(
     alloc: Global,
     program: &Program,
     groups: &[Group],
-) -> Result<Vec<HeldObject>, AllocError>
+) -> Result<Vec<StoredObject>, AllocError>
     requires { AllByRecursion (IsKept program.now) (flat_map (λ g. g) groups.now) }
     ensures shown { IfOk result (λ objects. map (shown program.now) objects.items ≡ map (shown program.now) (flat_map (λ g. g) groups.now)) }
     ensures kept { IfOk result (λ objects. AllByRecursion (IsKept program.now) objects.items) }
@@ -144,7 +144,7 @@ impl<'p> Heap<'p> {
 }
 
 impl<'p> SavedHeap<'p> {
-    /// Makes a heap with the saved objects.
+    /// Creates a heap with the saved objects.
     pub fn restore(&self) -> Result<Heap<'p>, AllocError>
         ensures { IfOk result (λ heap. heap ≡ self.now) }
     {

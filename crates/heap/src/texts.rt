@@ -1,4 +1,4 @@
-//! Strings that are made together.
+//! Creates several strings.
 
 ghost use Rattle.std.specs.Prelude.{◌≡◌, ◌+◌, ◌-◌, ◌<◌, ◌^◌, ◌∷◌, [], ℕ, List, OnOk, OnErr, length, map, slice_get};
 ghost use Rattle.std.specs.Option.{option_and_then, option_map};
@@ -8,30 +8,30 @@ ghost use Rattle.heap.specs.Held.{shown};
 ghost use Rattle.heap.specs.Objects.{Heap as Seen, units_of, with_new};
 
 use crate::heap::Heap;
-use crate::held_object::HeldObject;
-use held::shared::Text;
+use crate::held_object::StoredObject;
+use shared_data::shared::Text;
 use std::alloc::AllocError;
 
-/// The units of the last object, if it is a string.
-fn last_units(objects: &[HeldObject]) -> Option<&Text>
+/// Returns the units of the last object, if it is a string.
+fn last_units(objects: &[StoredObject]) -> Option<&Text>
     ensures { (program : List Class) → option_map (λ units. units.now) result ≡ option_and_then (λ o. units_of (shown program o)) (slice_get objects.now (length objects.now - 1)) }
 {
     objects.last()?.units()
 }
 
 impl Heap<'_> {
-    /// Takes the last object away again, where it is a string.
+    /// Removes the last object, if it is a string.
     fn remove_last_text(&mut self)
         ensures { (before : Seen) (units : List ℕ) → self.old ≡ with_new (text units ∷ []) before → self.new ≡ before }
     {
         let Some(units) = last_units(self.objects.as_slice()) else {
             return;
         };
-        self.texts.take_back(units.as_slice(), self.objects.len());
+        self.texts.remove_matching(units.as_slice(), self.objects.len());
         self.objects.pop();
     }
 
-    /// Takes so many of the last objects away again, where they are strings.
+    /// Removes the last `count` objects, if they are strings.
     #[tactic(auto, using(crate::proofs::TextLaws::all_left, crate::proofs::TextLaws::none_left))]
     fn remove_last_texts(&mut self, count: usize)
         ensures { (before : Seen) (texts : List (List ℕ)) → length texts ≡ count → self.old ≡ with_new (map text texts) before → self.new ≡ before }
@@ -43,7 +43,7 @@ impl Heap<'_> {
         }
     }
 
-    /// New strings, in order. Without memory for all of them nothing changes.
+    /// Creates strings, in order. Without memory for all of them nothing changes.
     #[tactic(auto, using(crate::proofs::TextLaws::none_made, crate::proofs::TextLaws::one_more_made, crate::proofs::TextLaws::all_made, crate::proofs::TextLaws::room_for_one, crate::proofs::TextLaws::made_removed))]
     pub fn new_texts(&mut self, texts: &[Text]) -> Result<(), AllocError>
         requires room { length self.old.objects + length texts.now < 2 ^ 32 }

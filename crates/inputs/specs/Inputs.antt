@@ -1,4 +1,4 @@
--- The class that a FILE is: that which its bytes spell, or which its text is assembled to.
+-- Defines the class of a FILE: the one that its bytes spell, or that its text is assembled to.
 use Rattle.std.specs.Prelude.{◌≡◌, ℕ, Bool, true, false, List, Result, Ok, Err, string_bytes}
 use Rattle.jvms_file.specs.declared.class_file.ClassFile.{ClassFile}
 use Rattle.jvms_file.specs.declared.fault.ClassFault.{ClassFault}
@@ -16,7 +16,8 @@ use Rattle.inputs.specs.declared.input.Input.TheVariants as input
 use Rattle.inputs.specs.declared.fault.InputFault.{InputFault}
 use Rattle.inputs.specs.declared.fault.InputFault.TheVariants as fault
 
--- Why a FILE is no class: its bytes spell none, a line of its text has a flaw, or its source can't be assembled.
+-- A fault of a FILE that is no class. Its bytes spell none, a line of its text has a flaw, or its source can't be
+-- assembled.
 pub data NoClass : Type 0 where
   not_spelled : (fault : ClassFault) → NoClass
   flawed : (place : ℕ × Flaw) → NoClass
@@ -38,9 +39,10 @@ abbrev pub class_in : Input → Result ClassFile NoClass
 class_in (input.ClassFile bytes) = class_of_bytes bytes.items
 class_in (input.Source text) = class_of_text (string_bytes text)
 
--- ---- Answers
+-- ---- Results
 
--- A fault is why there is no class, in the words of the caller, unless memory ran out.
+-- The fault is that of the definition, mapped to the caller's faults. If memory ran out, it states nothing about the
+-- definition.
 abbrev pub IsFault : {A E : Type 0} → (NoClass → E) → InputFault → Result A E → Type 0
 IsFault why (fault.Class read_error.Memory) said = Unit {0}
 IsFault why (fault.Class (read_error.Fault f)) said = said ≡ Err (why (not_spelled f))
@@ -53,22 +55,22 @@ abbrev pub Becomes : Result ClassFile InputFault → Result ClassFile NoClass �
 Becomes (Ok c) said = said ≡ Ok c
 Becomes (Err f) said = IsFault (λ why. why) f said
 
--- A fault of the bytes of a class file, that of memory too.
+-- The fault is one of the bytes of a class file. It may be that of memory.
 abbrev pub IsOfBytes : InputFault → Type 0
 IsOfBytes (fault.Class error) = Unit {0}
 IsOfBytes _ = ⊥
 
--- A fault of a text or of its assembly, that of memory too.
+-- The fault is one of a text or of its assembly. It may be that of memory.
 abbrev pub IsOfText : InputFault → Type 0
 IsOfText (fault.Class error) = ⊥
 IsOfText _ = Unit {0}
 
--- A fault is of what the FILE is.
+-- The fault is one of this sort of FILE.
 abbrev pub IsOfSort : Input → InputFault → Type 0
 IsOfSort (input.ClassFile bytes) = IsOfBytes
 IsOfSort (input.Source text) = IsOfText
 
--- Whether a fault says that there was no memory.
+-- Decides whether the fault is that memory ran out.
 abbrev pub is_memory : InputFault → Bool
 is_memory (fault.Class read_error.Memory) = true
 is_memory (fault.Source source_fault.Memory) = true

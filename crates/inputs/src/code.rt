@@ -1,9 +1,9 @@
-//! The numbers and names of what is wrong with class files.
+//! The numbers and names of the faults of class files.
 
 use class_file::{ClassFault, ReadError};
 use std::fmt;
 
-/// A number and name of C01 to C18, with the place where there is one.
+/// The number and the name of a fault, C01 to C18, with its place if it has one.
 #[derive(Clone, Copy)]
 pub(crate) struct ClassCode(pub(crate) ReadError);
 

@@ -1,4 +1,4 @@
-//! Why a FILE is no class.
+//! The faults of a FILE that is no class.
 
 ghost use Rattle.std.specs.Prelude.{◌≡◌};
 ghost use Rattle.inputs.specs.declared.fault.InputFault.TheVariants as fault;
@@ -10,14 +10,14 @@ use class_file::ReadError;
 use jasmin_reader::SourceFault;
 use std::fmt;
 
-/// Why a FILE is no class.
+/// A fault of a FILE that is no class.
 #[derive(Clone, Copy, Debug, PartialEq, Eq)]
 pub enum InputFault {
-    /// C01 to C17: its bytes spell no class file. C18: there was no memory for it.
+    /// C01 to C17: the bytes spell no class file. C18: memory ran out.
     Class(ReadError),
-    /// J01 to J11: its text is no source. J12: there was no memory for it.
+    /// J01 to J11: the text is no source. J12: memory ran out.
     Source(SourceFault),
-    /// A01 to A05, A07, A08: the source can't be assembled. A06: there was no memory for its class.
+    /// A01 to A05, A07, A08: the source can't be assembled. A06: memory ran out.
     Assembly(AsmFault),
 }
 
@@ -46,7 +46,7 @@ impl From<AsmFault> for InputFault {
 }
 
 impl InputFault {
-    /// Whether there was no memory.
+    /// Decides whether the fault is that memory ran out.
     pub fn is_memory(&self) -> bool
         ensures { result ≡ is_memory self.now }
     {

@@ -1,4 +1,4 @@
-//! A class file or a source, and the class that it is.
+//! Reads a class file or a source as a class.
 
 ghost use Rattle.std.specs.Prelude.{◌≡◌, IfErr};
 ghost use Rattle.jvms_file.specs.ClassFile.{read as file_read};
@@ -10,7 +10,7 @@ use class_file::ClassFile;
 use jasmin_reader::read as read_source;
 use std::alloc::Global;
 
-/// What a FILE holds.
+/// The content of a FILE.
 #[derive(Debug, Drop)]
 pub enum Input {
     /// The bytes of a class file (JVMS 4).
@@ -19,7 +19,7 @@ pub enum Input {
     Source(String),
 }
 
-/// The class that bytes spell.
+/// Returns the class that bytes spell.
 fn class_of_file(alloc: Global, bytes: &[u8]) -> Result<ClassFile, InputFault>
     ensures exact { Becomes result (class_of_bytes bytes.now) }
     ensures sort { IfErr result IsOfBytes }
@@ -27,7 +27,7 @@ fn class_of_file(alloc: Global, bytes: &[u8]) -> Result<ClassFile, InputFault>
     Ok(class_file::read(alloc, bytes)?)
 }
 
-/// The class that a text is assembled to.
+/// Returns the class that a text is assembled to.
 #[tactic(auto, unfolding(crate::specs::Inputs::class_of_text))]
 fn class_of_source(alloc: Global, text: &str) -> Result<ClassFile, InputFault>
     ensures exact { Becomes result (class_of_text text.now) }
@@ -37,15 +37,16 @@ fn class_of_source(alloc: Global, text: &str) -> Result<ClassFile, InputFault>
     Ok(assemble(alloc, &source)?)
 }
 
-/// The class that a FILE is.
+/// Returns the class of a FILE.
 ///
 /// # Errors
 ///
-/// C01 to C18 of a class file; J01 to J12 and A01 to A08 of a source.
+/// Returns C01 to C18 for a class file, and J01 to J12 or A01 to A08 for a source.
 pub fn class_of(alloc: Global, input: &Input) -> Result<ClassFile, InputFault>
-    // The class that the bytes spell, or that the text is assembled to, or the first fault, unless memory runs out.
+    // The result is the class that the bytes spell or that the text is assembled to, or the first fault, unless memory
+    // runs out.
     ensures exact { Becomes result (class_in input.now) }
-    // A fault is of what the FILE is, that of memory too.
+    // A fault, that of memory too, is one of this sort of FILE.
     ensures sort { IfErr result (IsOfSort input.now) }
 {
     match input {

@@ -1,4 +1,4 @@
-//! What a FILE of a command holds, a class file or a source in Jasmin, and the class that it is.
+//! Reads the FILE of a command, a class file or a source in Jasmin, as a class.
 #![tactic(auto)]
 
 mod code;

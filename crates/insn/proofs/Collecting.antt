@@ -1,4 +1,4 @@
--- What each of a list gives, collected by a loop; and targets as places, one look-up after the other.
+-- The results of the items of a list, collected by a loop, and targets as places, looked up one after another.
 use Rattle.std.proofs.Common.{◌≡◌, ℕ, ◌+◌, ◌≤◌, ◌<◌, List, [], ◌∷◌, ◌++◌, length, drop, get_or, Option, Some, None, Result, Ok, Err, refl, sym, ap, ◌∙◌, append_assoc, add-one, drop-cons}
 use Rattle.std.specs.Option.{option_and_then, option_map}
 use Rattle.std.proofs.Math.ListN.{drop_of_length-le}
@@ -14,9 +14,9 @@ use Rattle.jvms_file.specs.declared.insn.LookupSwitch.{LookupSwitch}
 use Rattle.jvms_file.specs.Results.{◌>>=◌, present, collected}
 use Rattle.jvms_file.specs.Reading.{Fails}
 use Rattle.jvms_file.specs.Code.{place_of, places_of, case_places, table_places, lookup_places, with_places}
-use Rattle.insn.specs.Places.{place_found, case_found, table_found, lookup_found, insn_found}
+use Rattle.insn.specs.Places.{place_or_fault, case_or_fault, table_or_fault, lookup_or_fault, insn_or_fault}
 
--- What was given before, and what is still given.
+-- The results before, followed by those of a reading.
 abbrev pub with_items : {X : Type 0} → List X → Result (List X) ClassFault → Result (List X) ClassFault
 with_items front read = read >>= λ xs. Ok (front ++ xs)
 
@@ -68,28 +68,28 @@ one_found : {X Y : Type 0} (cut : ClassFault) (o : Option X) (f : X → Y) → (
 one_found cut None f = refl
 one_found cut (Some x) f = refl
 
-places_found : (pcs : List ℕ) (cut : ClassFault) (ts : List ℕ) → collected (place_found pcs cut) ts ≡ present (places_of pcs ts) cut
+places_found : (pcs : List ℕ) (cut : ClassFault) (ts : List ℕ) → collected (place_or_fault pcs cut) ts ≡ present (places_of pcs ts) cut
 places_found pcs cut [] = refl
 places_found pcs cut (t ∷ ts) = rw (places_found pcs cut ts) (two_found cut (place_of pcs t) (places_of pcs ts) (λ p ps. p ∷ ps))
 
-cases_found : (pcs : List ℕ) (cut : ClassFault) (cs : List SwitchCase) → collected (case_found pcs cut) cs ≡ present (case_places pcs cs) cut
+cases_found : (pcs : List ℕ) (cut : ClassFault) (cs : List SwitchCase) → collected (case_or_fault pcs cut) cs ≡ present (case_places pcs cs) cut
 cases_found pcs cut [] = refl
 cases_found pcs cut (c ∷ cs) =
     let made : ℕ → SwitchCase = λ p. record { value = c.value; target = p } in
     rw (cases_found pcs cut cs) (made_found cut (place_of pcs c.target) (case_places pcs cs) made (λ x xs. x ∷ xs))
 
-table_is : (pcs : List ℕ) (cut : ClassFault) (s : TableSwitch) → table_found pcs cut s ≡ present (table_places pcs s) cut
+table_is : (pcs : List ℕ) (cut : ClassFault) (s : TableSwitch) → table_or_fault pcs cut s ≡ present (table_places pcs s) cut
 table_is pcs cut s =
     let made : ℕ → List ℕ → TableSwitch = λ d ts. record { default = d; low = s.low; targets = ts } in
     rw (places_found pcs cut s.targets) (two_found cut (place_of pcs s.default) (places_of pcs s.targets) made)
 
-lookup_is : (pcs : List ℕ) (cut : ClassFault) (s : LookupSwitch) → lookup_found pcs cut s ≡ present (lookup_places pcs s) cut
+lookup_is : (pcs : List ℕ) (cut : ClassFault) (s : LookupSwitch) → lookup_or_fault pcs cut s ≡ present (lookup_places pcs s) cut
 lookup_is pcs cut s =
     let made : ℕ → List SwitchCase → LookupSwitch = λ d cs. record { default = d; cases = cs } in
     rw (cases_found pcs cut s.cases) (two_found cut (place_of pcs s.default) (case_places pcs s.cases) made)
 
--- The look-ups give the instruction whose targets are places.
-pub insn_is : (pcs : List ℕ) (cut : ClassFault) (i : Insn) → insn_found pcs cut i ≡ present (with_places pcs i) cut
+-- The look-ups give the instruction with places for targets.
+pub insn_is : (pcs : List ℕ) (cut : ClassFault) (i : Insn) → insn_or_fault pcs cut i ≡ present (with_places pcs i) cut
 unfolding with_places
 insn_is pcs cut (insn.Branch how target) = one_found cut (place_of pcs target) (λ p. insn.Branch how p)
 insn_is pcs cut (insn.Table s) = rw (table_is pcs cut s) (one_found cut (table_places pcs s) (λ t. insn.Table t))

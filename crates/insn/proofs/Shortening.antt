@@ -1,4 +1,4 @@
--- An instruction takes a byte at least.
+-- An instruction takes at least one byte.
 use Rattle.std.proofs.Common.{◌≡◌, ℕ, zero, suc, ◌≤◌, ◌<◌, Bool, true, false, cond, List, length, drop, Option, Some, None, Result, Ok, Err, ℤ, refl, length-drop, arith}
 use Rattle.std.specs.Prelude.{slice_get, nat_lt, ◌==◌, ◌&&◌}
 use Rattle.std.proofs.Common.{subst}
@@ -14,9 +14,9 @@ use Rattle.jvms_file.specs.declared.insn.Invoke.{Invoke}
 use Rattle.jvms_file.specs.declared.insn.Invoke.TheVariants as invoke
 use Rattle.jvms_file.specs.Results.{◌>>=◌, want, present}
 use Rattle.jvms_file.specs.Bytes.{number, u1_at, u2_at, u4_at, bytes_at}
-use Rattle.jvms_file.specs.Instructions.{interface_count, interface_operands, behind_invoke, targets_at, table_switch_insn, cases_at, lookup_switch_insn, wide_form, wide_insn, operands_at, insn_at}
+use Rattle.jvms_file.specs.Instructions.{interface_count, interface_operands, after_invoke, targets_at, table_switch_insn, cases_at, lookup_switch_insn, wide_form, wide_insn, operands_at, insn_at}
 
--- What is behind a value is no longer than the bytes.
+-- The bytes after a value are no more than all bytes.
 abbrev IsShorter : {X : Type 0} → List ℕ → Result (X × List ℕ) ClassFault → Type 0
 IsShorter bytes (Ok x) = length x.1 ≤ length bytes
 IsShorter bytes (Err e) = Unit {0}
@@ -84,7 +84,7 @@ one_byte cut bytes f = then bytes _ _ (u1 cut bytes) (λ n. here _ n.1)
 two_bytes : {X : Type 0} (cut : ClassFault) (bytes : List ℕ) (f : ℕ × List ℕ → X) → Shortens bytes (u2_at cut bytes >>= λ n. Ok (f n, n.1))
 two_bytes cut bytes f = then bytes _ _ (u2 cut bytes) (λ n. here _ n.1)
 
--- What is behind an invoke has no value of its own.
+-- The operands after the number of a call give no value of their own.
 interface_rest : {X : Type 0} (cut : ClassFault) (count : Option ℕ) (bytes : List ℕ) (x : X) → Shortens bytes (interface_operands cut count bytes >>= λ rest. Ok (x, rest))
 interface_rest cut None bytes x = record { is = tt }
 interface_rest {X} cut (Some units) bytes x = counted (u1_at cut bytes) (u1 cut bytes)
@@ -101,7 +101,7 @@ interface_rest {X} cut (Some units) bytes x = counted (u1_at cut bytes) (u1 cut 
     counted (Ok found) s = weaker bytes found.1 _ s.is (ended found.0 found.1 (u1_at cut found.1) (u1 cut found.1))
     counted (Err e) s = record { is = tt }
 
-behind : {X : Type 0} (cut : ClassFault) (how : Invoke) (method : Option (List ℕ × List ℕ)) (bytes : List ℕ) (x : X) → Shortens bytes (behind_invoke cut how method bytes >>= λ rest. Ok (x, rest))
+behind : {X : Type 0} (cut : ClassFault) (how : Invoke) (method : Option (List ℕ × List ℕ)) (bytes : List ℕ) (x : X) → Shortens bytes (after_invoke cut how method bytes >>= λ rest. Ok (x, rest))
 behind cut invoke.Interface method bytes x = interface_rest cut (interface_count method) bytes x
 behind cut invoke.Virtual method bytes x = here x bytes
 behind cut invoke.Special method bytes x = here x bytes
@@ -142,7 +142,7 @@ operands pool major pc opcode.Wide bytes = wide _ bytes
 operands pool major pc opcode.MultiNewArray bytes = then bytes _ _ (u2 _ bytes) (λ n. then n.1 _ _ (u1 _ n.1) (λ m. constant m.1 _ _))
 operands pool major pc opcode.Reserved bytes = record { is = tt }
 
--- Behind the opcode there is a byte less.
+-- After the opcode there is one byte less.
 abbrev IsBelow : List ℕ → Result (Insn × List ℕ) ClassFault → Type 0
 IsBelow bytes (Ok x) = length x.1 < length bytes
 IsBelow bytes (Err e) = Unit {0}
@@ -166,7 +166,7 @@ one_less bytes e =
     let k : 0 < length bytes = omega (arith, ltb-false _ _ e) in
     omega (arith, length-drop 1 bytes)
 
--- What is behind an instruction has a byte less at least.
+-- After an instruction there is at least one byte less.
 pub insn_below : (pool : List Constant) (major pc : ℕ) (bytes : List ℕ) (x : Insn) (rest : List ℕ) → insn_at pool major pc bytes ≡ Ok (x, rest) → length rest < length bytes
 unfolding insn_at
 insn_below pool major pc bytes x rest h =

@@ -1,4 +1,4 @@
--- The targets and the cases of switches, one after the other, as a loop reads them.
+-- The targets and the cases of switches, one after another, as a loop reads them.
 use Rattle.std.proofs.Common.{◌≡◌, ℕ, zero, suc, ◌-◌, ◌+◌, ◌≤◌, ◌<◌, Bool, List, [], ◌∷◌, ◌++◌, Option, Some, Result, Ok, Err, ℤ, refl, sym, ap, ◌∙◌, append_assoc, arith}
 use Rattle.std.specs.Int.{w32}
 use Rattle.std.proofs.lemmas.List.{append-nil}
@@ -6,17 +6,17 @@ use Rattle.jvms_file.specs.declared.fault.ClassFault.{ClassFault}
 use Rattle.jvms_file.specs.declared.fault.ReadError.{ReadError}
 use Rattle.jvms_file.specs.declared.fault.ReadError.TheVariants as error
 use Rattle.jvms_file.specs.declared.insn.SwitchCase.{SwitchCase}
-use Rattle.jvms_file.specs.Results.{◌>>=◌, want, counted_onto, counted}
+use Rattle.jvms_file.specs.Results.{◌>>=◌, want, part_list_onto, counted}
 use Rattle.jvms_file.specs.Reading.{Fails}
 use Rattle.jvms_file.specs.Bytes.{u4_at, signed}
 use Rattle.jvms_file.specs.Instructions.{targets_at, cases_at, target_of, is_above}
 use Rattle.insn.specs.Operands.{target_at, case_at}
 
--- What was read before, and what is still read.
+-- The items that were read before, followed by those of a reading.
 abbrev pub with_front : {X : Type 0} → List X → Result (List X × List ℕ) ClassFault → Result (List X × List ℕ) ClassFault
 with_front front read = read >>= λ x. Ok (front ++ x.0, x.1)
 
--- One more, and then the others.
+-- One item, followed by the others.
 abbrev pub and_then : {X : Type 0} → Result (X × List ℕ) ClassFault → (X × List ℕ → Result (List X × List ℕ) ClassFault) → Result (List X × List ℕ) ClassFault
 and_then one others = one >>= λ x. (others x >>= λ y. Ok (x.0 ∷ y.0, y.1))
 
@@ -42,13 +42,13 @@ targets_split cut pc left bytes = split (u4_at cut bytes)
     split (Err f) = refl
 
 behind_first : (cut : ClassFault) (pc : ℕ) (front : List ℕ) (left : ℕ) (r : Result (ℕ × List ℕ) ClassFault)
-    → ((front : List ℕ) (bytes : List ℕ) → counted_onto (λ seen. target_at cut pc) front left bytes ≡ with_front front (targets_at cut pc left bytes))
-    → (r >>= λ x. counted_onto (λ seen. target_at cut pc) (front ++ x.0 ∷ []) left x.1) ≡ with_front front (and_then r (λ x. targets_at cut pc left x.1))
+    → ((front : List ℕ) (bytes : List ℕ) → part_list_onto (λ seen. target_at cut pc) front left bytes ≡ with_front front (targets_at cut pc left bytes))
+    → (r >>= λ x. part_list_onto (λ seen. target_at cut pc) (front ++ x.0 ∷ []) left x.1) ≡ with_front front (and_then r (λ x. targets_at cut pc left x.1))
 behind_first cut pc front left (Ok x) others = others (front ++ x.0 ∷ []) x.1 ∙ sym (regroup front x.0 (targets_at cut pc left x.1))
 behind_first cut pc front left (Err f) others = refl
 
-counted_behind : (cut : ClassFault) (pc count : ℕ) (front bytes : List ℕ) → counted_onto (λ seen. target_at cut pc) front count bytes ≡ with_front front (targets_at cut pc count bytes)
-unfolding counted_onto targets_at
+counted_behind : (cut : ClassFault) (pc count : ℕ) (front bytes : List ℕ) → part_list_onto (λ seen. target_at cut pc) front count bytes ≡ with_front front (targets_at cut pc count bytes)
+unfolding part_list_onto targets_at
 counted_behind cut pc zero front bytes = ap (λ (xs : List ℕ). Ok (xs, bytes)) (sym (append-nil front))
 counted_behind cut pc (suc left) front bytes =
     behind_first cut pc front left (target_at cut pc bytes) (λ others rest. counted_behind cut pc left others rest)
@@ -58,7 +58,7 @@ front_of_none : {X : Type 0} (r : Result (List X × List ℕ) ClassFault) → wi
 front_of_none (Ok x) = refl
 front_of_none (Err f) = refl
 
--- So many targets, one behind the other.
+-- As many targets as a count says, one after another.
 pub counted_targets : (cut : ClassFault) (pc count : ℕ) (bytes : List ℕ) → counted (target_at cut pc) count bytes ≡ targets_at cut pc count bytes
 counted_targets cut pc count bytes = counted_behind cut pc count [] bytes ∙ front_of_none (targets_at cut pc count bytes)
 

@@ -1,4 +1,4 @@
-//! The instructions that make arrays (JVMS 6.5 newarray, multianewarray).
+//! The instructions that create arrays (JVMS 6.5 newarray, multianewarray).
 
 ghost use Rattle.std.specs.Prelude.{◌≡◌};
 ghost use Rattle.std.specs.Option.{option_map};
@@ -11,7 +11,7 @@ use file_bytes::{u1_at, u2_at, want};
 use jvms_file::fault::{ClassFault, ReadError};
 use jvms_file::insn::{ArrayInsn, ArrayType, Insn, Simple};
 
-/// The component type of a code (JVMS table 6.5.newarray-A).
+/// Returns the component type of a code (JVMS table 6.5.newarray-A).
 fn array_type_of(code: u8) -> Option<ArrayType>
     ensures { result ≡ type_of_code code }
 {
@@ -28,7 +28,7 @@ fn array_type_of(code: u8) -> Option<ArrayType>
     }
 }
 
-/// JVMS 6.5 newarray.
+/// Reads the operand of newarray, and returns the instruction with the bytes after it (JVMS 6.5 newarray).
 pub(crate) fn new_array(cut: ClassFault, bytes: &[u8]) -> Result<(Insn, &[u8]), ReadError>
     ensures { Gives (λ x. (x.0, x.1.now)) result (new_array_insn cut bytes.now) }
 {
@@ -39,7 +39,7 @@ pub(crate) fn new_array(cut: ClassFault, bytes: &[u8]) -> Result<(Insn, &[u8]), 
     }
 }
 
-/// Whether a class has so many dimensions (JVMS 6.5 multianewarray).
+/// Decides whether a class has at least `count` dimensions, and `count` isn't 0 (JVMS 6.5 multianewarray).
 fn is_dimensions(count: u8, class: Option<&[u16]>) -> bool
     ensures { result ≡ dimensions_fit count (option_map (λ t. t.now) class.entry) }
 {
@@ -49,7 +49,7 @@ fn is_dimensions(count: u8, class: Option<&[u16]>) -> bool
     }
 }
 
-/// JVMS 6.5 multianewarray.
+/// Reads the operands of multianewarray, and returns the instruction with the bytes after it (JVMS 6.5 multianewarray).
 pub(crate) fn multi_new_array<'a>(
     cut: ClassFault,
     pool: &Pool,

@@ -9,7 +9,7 @@ use file_bytes::{u2_at, u4_at};
 use jvms_file::fault::{ClassFault, ReadError};
 use jvms_file::insn::{Branch, Insn};
 
-/// A branch with an offset of two bytes.
+/// Reads the offset of two bytes of a branch, and returns the instruction with the bytes after it.
 pub(crate) fn branch(
     cut: ClassFault,
     pc: usize,
@@ -23,7 +23,7 @@ pub(crate) fn branch(
     Ok((Insn::Branch(how, target_of(pc, offset)), rest))
 }
 
-/// A branch with an offset of four bytes.
+/// Reads the offset of four bytes of a branch, and returns the instruction with the bytes after it.
 pub(crate) fn branch_wide(
     cut: ClassFault,
     pc: usize,

@@ -1,4 +1,5 @@
-//! The instructions of a method (JVMS 4.7.3): first each with its byte, then each target as a place.
+//! The instructions of a method (JVMS 4.7.3). A first pass reads each with its byte, and a second one turns each target
+//! into a place.
 
 ghost use Rattle.std.specs.Prelude.{◌≡◌, ◌≤◌, ◌<◌, length, map, IfOk, Err};
 ghost use Rattle.jvms_file.specs.declared.fault.ClassFault.TheVariants.{CodeLength};
@@ -8,13 +9,13 @@ ghost use Rattle.jvms_file.specs.Reading.{Gives};
 ghost use Rattle.insn.specs.Places.{IsStarts};
 ghost use Rattle.insn.specs.Locating.{placed_of, all_placed, resolved_one};
 
-use crate::located::Located;
+use crate::located::InsnAt;
 use crate::operands::insn_at;
 use crate::places::with_places;
-use crate::room::with_room;
+use crate::room::list_with_capacity;
 use crate::starts::Starts;
 use const_pool::ScannedPool;
-use held::items::Items;
+use shared_data::items::Items;
 use jvms_file::fault::{ClassFault, ReadError};
 use jvms_file::insn::Insn;
 use std::alloc::{AllocError, Global};
@@ -28,13 +29,13 @@ pub struct Decoded {
     pub insns: Items<Insn>,
 }
 
-/// The instructions of bytes, each with its byte.
+/// Reads the instructions of bytes, each with its byte.
 fn placed(
     alloc: Global,
     pool: &ScannedPool,
     major: u16,
     bytes: &[u8],
-) -> Result<Vec<Located>, ReadError>
+) -> Result<Vec<InsnAt>, ReadError>
     requires { length bytes.now ≤ 65535 }
     ensures { Gives (λ v. all_placed v.items) result (placed_bytes pool.now major bytes.now) }
 {
@@ -43,7 +44,7 @@ fn placed(
     while !rest.is_empty() {
         let pc = bytes.len() - rest.len();
         let (insn, behind) = insn_at(alloc, pool, major, pc, rest)?;
-        let one = Located {
+        let one = InsnAt {
             pc: pc as u32,
             insn,
         };
@@ -53,8 +54,8 @@ fn placed(
     Ok(found)
 }
 
-/// Their bytes.
-fn pcs_of(alloc: Global, located: &[Located]) -> Result<Vec<u32>, AllocError>
+/// Returns the bytes of instructions.
+fn bytes_of_insns(alloc: Global, located: &[InsnAt]) -> Result<Vec<u32>, AllocError>
     ensures { IfOk result (λ v. v.items ≡ map (λ l. l.pc) located.now) }
 {
     let mut pcs = Vec::with_capacity(alloc, located.len())?;
@@ -64,17 +65,17 @@ fn pcs_of(alloc: Global, located: &[Located]) -> Result<Vec<u32>, AllocError>
     Ok(pcs)
 }
 
-/// The bytes at which they start.
-fn starts_of(alloc: Global, located: &[Located]) -> Result<Starts, AllocError>
+/// Returns the bytes at which instructions start.
+fn starts_of(alloc: Global, located: &[InsnAt]) -> Result<Starts, AllocError>
     requires { IsStarts (starts (all_placed located.now)) }
     ensures { IfOk result (λ s. s ≡ starts (all_placed located.now)) }
 {
-    let pcs = pcs_of(alloc, located)?;
+    let pcs = bytes_of_insns(alloc, located)?;
     Ok(Starts::of(pcs))
 }
 
-/// One instruction with places for targets.
-fn resolved_insn(alloc: Global, starts: &Starts, one: &Located) -> Result<Insn, ReadError>
+/// Returns one instruction with places for targets.
+fn resolved_insn(alloc: Global, starts: &Starts, one: &InsnAt) -> Result<Insn, ReadError>
     ensures { Gives (λ x. x) result (resolved_one starts.now (placed_of one.now)) }
 {
     let fault = ClassFault::Target {
@@ -83,11 +84,11 @@ fn resolved_insn(alloc: Global, starts: &Starts, one: &Located) -> Result<Insn, 
     with_places(alloc, starts, fault, &one.insn)
 }
 
-/// The instructions with places for targets. Room is made for as many as were read, and no more: they are kept.
-fn resolved(alloc: Global, starts: &Starts, located: &[Located]) -> Result<Items<Insn>, ReadError>
+/// Returns the instructions with places for targets. The list is kept, so it gets no more capacity than it needs.
+fn resolved(alloc: Global, starts: &Starts, located: &[InsnAt]) -> Result<Items<Insn>, ReadError>
     ensures { Gives (λ x. x) result (all_resolved starts.now (all_placed located.now)) }
 {
-    let mut insns = with_room(alloc, located.len())?;
+    let mut insns = list_with_capacity(alloc, located.len())?;
     for one in located {
         let insn = resolved_insn(alloc, starts, one)?;
         insns.push(insn)?;
@@ -95,11 +96,11 @@ fn resolved(alloc: Global, starts: &Starts, located: &[Located]) -> Result<Items
     Ok(insns)
 }
 
-/// The most bytes that code has (JVMS 4.7.3).
+/// The greatest number of bytes of code (JVMS 4.7.3).
 const MOST_CODE: usize = 65535;
 
-/// The instructions that the bytes of a method spell. The opcodes and operands of all come before the
-/// targets of any. More bytes than a method has are C15.
+/// Reads the instructions that the bytes of a method spell. All opcodes and operands are tested before any target. More
+/// than 65,535 bytes are refused with C15.
 #[tactic(auto, unfolding(jvms_file::specs::Code::insns_of))]
 pub fn decode(
     alloc: Global,

@@ -15,7 +15,7 @@ use jvms_file::insn::{Insn, Push, Simple};
 /// The first version whose `ldc` pushes classes (JVMS 4.9.1).
 const CLASS_VERSION: u16 = 49;
 
-/// JVMS 6.5 bipush.
+/// Reads the operand of bipush, and returns the instruction with the bytes after it (JVMS 6.5 bipush).
 pub(crate) fn push_byte(cut: ClassFault, bytes: &[u8]) -> Result<(Insn, &[u8]), ReadError>
     ensures { Gives (λ x. (x.0, x.1.now)) result (push_byte_insn cut bytes.now) }
 {
@@ -24,7 +24,7 @@ pub(crate) fn push_byte(cut: ClassFault, bytes: &[u8]) -> Result<(Insn, &[u8]), 
     Ok((Insn::Simple(Simple::Push(Push::Int(value))), rest))
 }
 
-/// JVMS 6.5 sipush.
+/// Reads the operand of sipush, and returns the instruction with the bytes after it (JVMS 6.5 sipush).
 pub(crate) fn push_short(cut: ClassFault, bytes: &[u8]) -> Result<(Insn, &[u8]), ReadError>
     ensures { Gives (λ x. (x.0, x.1.now)) result (push_short_insn cut bytes.now) }
 {
@@ -33,7 +33,7 @@ pub(crate) fn push_short(cut: ClassFault, bytes: &[u8]) -> Result<(Insn, &[u8]),
     Ok((Insn::Simple(Simple::Push(Push::Int(value))), rest))
 }
 
-/// Whether `ldc` may push what is found (JVMS 6.5 ldc).
+/// Decides whether `ldc` may push an entry (JVMS 6.5 ldc).
 fn is_loadable(major: u16, found: Option<&Constant>) -> bool
     ensures { result ≡ passes (loadable major) (option_copied found.entry) }
 {
@@ -44,14 +44,14 @@ fn is_loadable(major: u16, found: Option<&Constant>) -> bool
     }
 }
 
-/// Whether `ldc2_w` may push what is found (JVMS 6.5 ldc2_w).
+/// Decides whether `ldc2_w` may push an entry (JVMS 6.5 ldc2_w).
 fn is_wide_loadable(found: Option<&Constant>) -> bool
     ensures { result ≡ passes wide_loadable (option_copied found.entry) }
 {
     matches!(found, Some(Constant::Long(_) | Constant::Double(_)))
 }
 
-/// JVMS 6.5 ldc.
+/// Reads the operand of ldc, and returns the instruction with the bytes after it (JVMS 6.5 ldc).
 pub(crate) fn constant<'a>(
     cut: ClassFault,
     pool: &Pool,
@@ -66,7 +66,7 @@ pub(crate) fn constant<'a>(
     Ok((Insn::Constant(number), rest))
 }
 
-/// JVMS 6.5 ldc_w.
+/// Reads the operand of ldc_w, and returns the instruction with the bytes after it (JVMS 6.5 ldc_w).
 pub(crate) fn constant_wide<'a>(
     cut: ClassFault,
     pool: &Pool,
@@ -80,7 +80,7 @@ pub(crate) fn constant_wide<'a>(
     Ok((Insn::Constant(number), rest))
 }
 
-/// JVMS 6.5 ldc2_w.
+/// Reads the operand of ldc2_w, and returns the instruction with the bytes after it (JVMS 6.5 ldc2_w).
 pub(crate) fn constant_long<'a>(
     cut: ClassFault,
     pool: &Pool,

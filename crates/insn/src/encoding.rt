@@ -5,9 +5,8 @@ ghost use Rattle.std.specs.Prelude.{◌≡◌, ◌++◌, OnOk, OnErr};
 use jvms_file::class_file::Layout;
 use std::alloc::AllocError;
 
-/// Puts the bytes that spell a method's instructions behind others, as its layout has them. They spell the
-/// instructions of the code that the layout was made of: `layout_spells` in the crate spelling.
-/// Without memory for all of them nothing changes.
+/// Appends the bytes of a method's instructions, as its layout has them. That these bytes spell the instructions of the
+/// layout's code is `layout_spells` in the crate spelling. Without memory for all of them nothing changes.
 pub fn encode(out: &mut Vec<u8>, layout: &Layout) -> Result<(), AllocError>
     ensures ok { OnOk result (out.new.items ≡ out.old.items ++ layout.now.bytes) }
     ensures kept { OnErr result (out.new.items ≡ out.old.items) }

@@ -6,7 +6,7 @@ ghost use Rattle.jvms_file.specs.Code.{end_place_of as end_place, handler_places
 use crate::starts::Starts;
 use jvms_file::class_file::Handler;
 
-/// The place of a range's end: of an instruction, or behind the last.
+/// Returns the place of a range's end: that of an instruction, or the place after the last.
 fn end_place_of(starts: &Starts, code_length: usize, pc: u32) -> Option<u32>
     ensures { result ≡ end_place starts.now code_length pc }
 {
@@ -17,8 +17,9 @@ fn end_place_of(starts: &Starts, code_length: usize, pc: u32) -> Option<u32>
     }
 }
 
-/// A handler whose bounds and target are bytes, with places for them: where its range isn't empty, and its
-/// start and its target are instructions' starts, and its end is one or the code's end.
+/// Returns a handler with places for the bytes of its bounds and its target. Returns `None` if the range is empty, or
+/// if no instruction starts at its start or at its target. Its end has to be the start of an instruction or the end of
+/// the code, else the result is `None` too.
 pub fn handler(starts: &Starts, code_length: usize, h: Handler) -> Option<Handler>
     ensures { result ≡ handler_places starts.now code_length h }
 {

@@ -1,4 +1,4 @@
-//! The code of a method (JVMS 4.7.3, 6.5): from bytes to instructions whose targets are places.
+//! Reads the code of a method (JVMS 4.7.3, 6.5) from bytes, as instructions whose targets are places.
 #![tactic(auto)]
 
 mod arrays;

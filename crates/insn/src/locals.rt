@@ -10,7 +10,8 @@ use file_bytes::{u1_at, u2_at};
 use jvms_file::fault::{ClassFault, ReadError};
 use jvms_file::insn::{Insn, LocalUse, Opcode, Simple};
 
-/// A load, a store or ret, with a local's number of one byte.
+/// Reads the operand of a load, a store or ret, a local's number of one byte, and returns the instruction with the
+/// bytes after it.
 pub(crate) fn local(
     cut: ClassFault,
     how: LocalUse,
@@ -23,7 +24,7 @@ pub(crate) fn local(
     Ok((Insn::Simple(Simple::Local(how, local)), rest))
 }
 
-/// JVMS 6.5 iinc.
+/// Reads the operands of iinc, and returns the instruction with the bytes after it (JVMS 6.5 iinc).
 pub(crate) fn increment(cut: ClassFault, bytes: &[u8]) -> Result<(Insn, &[u8]), ReadError>
     ensures { Gives (λ x. (x.0, x.1.now)) result (increment_insn cut bytes.now) }
 {
@@ -34,7 +35,7 @@ pub(crate) fn increment(cut: ClassFault, bytes: &[u8]) -> Result<(Insn, &[u8]), 
     Ok((Insn::Simple(Simple::Increment(local, summand)), behind))
 }
 
-/// Behind `wide` and an opcode.
+/// Reads the operands after `wide` and an opcode, and returns the instruction with the bytes after it.
 fn wide_form(
     cut: ClassFault,
     form: Option<Opcode>,
@@ -57,7 +58,7 @@ fn wide_form(
     }
 }
 
-/// JVMS 6.5 wide.
+/// Reads the opcode and operands after `wide`, and returns the instruction with the bytes after it (JVMS 6.5 wide).
 #[tactic(auto, unfolding(jvms_file::specs::Instructions::wide_insn))]
 pub(crate) fn wide(cut: ClassFault, bytes: &[u8]) -> Result<(Insn, &[u8]), ReadError>
     ensures { Gives (λ x. (x.0, x.1.now)) result (wide_insn cut bytes.now) }

@@ -4,7 +4,7 @@ use jvms_file::insn::Insn;
 
 /// An instruction with the byte at which it starts. Its targets are bytes.
 #[derive(Drop)]
-pub(crate) struct Located {
+pub(crate) struct InsnAt {
     pub(crate) pc: u32,
     pub(crate) insn: Insn,
 }

@@ -2,7 +2,7 @@
 
 ghost use Rattle.std.specs.Prelude.{◌≡◌};
 ghost use Rattle.std.specs.Option.{option_copied, option_map, option_and_then};
-ghost use Rattle.jvms_file.specs.Instructions.{passes, is_field as field_entry, field_insn, method_numbers as numbers_of, invoked as method_of, is_invocable_name as name_invocable, is_invocable as invocable, interface_count as units_with_object, interface_operands as interface_rest, behind_invoke as rest_behind, invoke_insn, is_usable_class as usable_class, names_usable as usable_name, class_insn};
+ghost use Rattle.jvms_file.specs.Instructions.{passes, is_field as field_entry, field_insn, method_numbers as numbers_of, invoked as method_of, is_invocable_name as name_invocable, is_invocable as invocable, interface_count as units_with_object, interface_operands as interface_rest, after_invoke as rest_behind, invoke_insn, is_usable_class as usable_class, names_usable as usable_name, class_insn};
 ghost use Rattle.jvms_file.specs.declared.insn.Invoke.TheVariants.{Interface};
 ghost use Rattle.jvms_file.specs.Names.{begins_with};
 ghost use Rattle.jvms_file.specs.Reading.{Gives};
@@ -14,7 +14,7 @@ use jvms_file::class_file::Constant;
 use jvms_file::fault::{ClassFault, ReadError};
 use jvms_file::insn::{ClassUse, FieldUse, Insn, Invoke};
 
-/// Whether what is found is a field's entry.
+/// Decides whether an entry is a field's.
 fn is_field(found: Option<&Constant>) -> bool
     ensures { result ≡ passes field_entry (option_copied found.entry) }
 {
@@ -27,7 +27,8 @@ fn is_field(found: Option<&Constant>) -> bool
     )
 }
 
-/// JVMS 6.5 getstatic, putstatic, getfield, putfield.
+/// Reads the operand of an instruction on a field, and returns the instruction with the bytes after it (JVMS 6.5
+/// getstatic, putstatic, getfield, putfield).
 pub(crate) fn field<'a>(
     cut: ClassFault,
     pool: &Pool,
@@ -41,7 +42,7 @@ pub(crate) fn field<'a>(
     Ok((Insn::Field(how, number), rest))
 }
 
-/// Whether a class of this name may be used so.
+/// Decides whether an instruction may use a class of this name.
 fn is_usable_class(how: ClassUse, name: &[u16]) -> bool
     ensures { result ≡ usable_class how name.now }
 {
@@ -52,7 +53,7 @@ fn is_usable_class(how: ClassUse, name: &[u16]) -> bool
     }
 }
 
-/// Whether there is a class, and it may be used so.
+/// Decides whether there is a class and an instruction may use it.
 fn names_usable(how: ClassUse, class: Option<&[u16]>) -> bool
     ensures { result ≡ usable_name how (option_map (λ t. t.now) class.entry) }
 {
@@ -62,7 +63,8 @@ fn names_usable(how: ClassUse, class: Option<&[u16]>) -> bool
     }
 }
 
-/// JVMS 6.5 new, anewarray, checkcast, instanceof.
+/// Reads the operand of an instruction on a class, and returns the instruction with the bytes after it (JVMS 6.5 new,
+/// anewarray, checkcast, instanceof).
 pub(crate) fn class<'a>(
     cut: ClassFault,
     pool: &Pool,
@@ -76,7 +78,7 @@ pub(crate) fn class<'a>(
     Ok((Insn::Class(how, number), rest))
 }
 
-/// The numbers of a method's entry of the kind that the instruction takes (JVMS 4.9.1).
+/// Returns the numbers in a method's entry of the kind that the instruction accepts (JVMS 4.9.1).
 fn method_numbers(how: Invoke, found: Option<&Constant>) -> Option<(u16, u16)>
     ensures { result ≡ option_and_then (numbers_of how) (option_copied found.entry) }
 {
@@ -103,7 +105,7 @@ fn method_numbers(how: Invoke, found: Option<&Constant>) -> Option<(u16, u16)>
     }
 }
 
-/// The name and the descriptor of the method that an instruction calls.
+/// Returns the name and the descriptor of the method that an instruction calls.
 fn invoked(pool: &Pool, how: Invoke, number: u16) -> Option<(&[u16], &[u16])>
     ensures { option_map (λ x. (x.0.now, x.1.now)) result ≡ method_of pool.now how number }
 {
@@ -113,17 +115,17 @@ fn invoked(pool: &Pool, how: Invoke, number: u16) -> Option<(&[u16], &[u16])>
     }
 }
 
-/// What `<init>` and `<clinit>` begin with (JVMS 2.9).
+/// The first unit of `<init>` and `<clinit>` (JVMS 2.9).
 const ANGLE: u16 = b'<' as u16;
 
-/// Whether a name begins with an angle bracket.
+/// Decides whether a name begins with `<`.
 fn is_special_name(text: &[u16]) -> bool
     ensures { result ≡ begins_with 60 text.now }
 {
     matches!(text, [ANGLE, ..])
 }
 
-/// Whether a method of this name may be called so (JVMS 4.9.1).
+/// Decides whether an instruction may call a method of this name (JVMS 4.9.1).
 fn is_invocable_name(how: Invoke, name: &[u16]) -> bool
     ensures { result ≡ name_invocable how name.now }
 {
@@ -133,7 +135,7 @@ fn is_invocable_name(how: Invoke, name: &[u16]) -> bool
     }
 }
 
-/// Whether there is a method, and it may be called so.
+/// Decides whether there is a method and an instruction may call it.
 fn is_invocable(how: Invoke, method: Option<(&[u16], &[u16])>) -> bool
     ensures { result ≡ invocable how (option_map (λ x. (x.0.now, x.1.now)) method.entry) }
 {
@@ -143,7 +145,7 @@ fn is_invocable(how: Invoke, method: Option<(&[u16], &[u16])>) -> bool
     }
 }
 
-/// The units of an interface method's arguments, with the object.
+/// Returns the units of the arguments of an interface's method, including the object.
 fn interface_units(pool: &ScannedPool, number: u16) -> Option<usize>
     ensures { result ≡ units_with_object (method_of pool.now Interface number) }
 {
@@ -153,7 +155,7 @@ fn interface_units(pool: &ScannedPool, number: u16) -> Option<usize>
     Some(usize::from(units) + 1)
 }
 
-/// Behind an invokeinterface: the count of argument units, and a 0.
+/// Reads the count of argument units and the 0 that end an invokeinterface, and returns the bytes after them.
 fn interface_operands(
     cut: ClassFault,
     count: Option<usize>,
@@ -172,8 +174,8 @@ fn interface_operands(
     }
 }
 
-/// What stands behind the pool number of an invoke.
-fn behind_invoke<'a>(
+/// Reads the operands after the pool number of a call, and returns the bytes after them.
+fn after_invoke<'a>(
     cut: ClassFault,
     pool: &ScannedPool,
     how: Invoke,
@@ -188,7 +190,8 @@ fn behind_invoke<'a>(
     }
 }
 
-/// JVMS 6.5 invokevirtual, invokespecial, invokestatic, invokeinterface.
+/// Reads the operands of a call, and returns the instruction with the bytes after it (JVMS 6.5 invokevirtual,
+/// invokespecial, invokestatic, invokeinterface).
 pub(crate) fn invoke<'a>(
     cut: ClassFault,
     pool: &ScannedPool,
@@ -199,6 +202,6 @@ pub(crate) fn invoke<'a>(
 {
     let (number, rest) = u2_at(cut, bytes)?;
     want(is_invocable(how, invoked(pool.pool(), how, number)), cut)?;
-    let behind = behind_invoke(cut, pool, how, number, rest)?;
+    let behind = after_invoke(cut, pool, how, number, rest)?;
     Ok((Insn::Invoke(how, number), behind))
 }

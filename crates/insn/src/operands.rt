@@ -1,4 +1,4 @@
-//! One instruction from bytes.
+//! Reads one instruction from bytes.
 
 ghost use Rattle.std.specs.Prelude.{◌≡◌};
 ghost use Rattle.jvms_file.specs.Instructions.{operands_at as operands_read, insn_at as insn_read};
@@ -17,7 +17,7 @@ use jvms_file::fault::{ClassFault, ReadError};
 use jvms_file::insn::{Insn, Opcode};
 use std::alloc::Global;
 
-/// The instruction of an opcode, by the operands behind it.
+/// Reads the operands of an opcode, and returns the instruction with the bytes after it.
 #[tactic(auto, unfolding(jvms_file::specs::Instructions::operands_at))]
 fn operands_at<'a>(
     alloc: Global,
@@ -53,8 +53,8 @@ fn operands_at<'a>(
     }
 }
 
-/// The instruction at byte `pc` of a method, from its bytes from there on, and the bytes behind it. Its
-/// targets are bytes of the method.
+/// Reads the instruction at byte `pc` of a method from the bytes from there on, and returns it with the bytes after it.
+/// Its targets are bytes of the method.
 #[tactic(auto, unfolding(jvms_file::specs::Instructions::insn_at))]
 pub fn insn_at<'a>(
     alloc: Global,

@@ -1,5 +1,5 @@
-//! How a method's code is spelled (JVMS 4.7.3): its bytes, in which pads are 0, and the byte at which each
-//! instruction starts.
+//! The layout of a method's code (JVMS 4.7.3): its bytes, with pads set to 0, and the byte at which each instruction
+//! starts.
 
 ghost use Rattle.std.specs.Prelude.{◌≡◌, ◌+◌, ◌≤◌, IfOk, slice_set, suc, if◌then◌else◌};
 ghost use Rattle.jvms_file.specs.Code.{is_switch as is_switch_insn, zeroed, with_zero_pads, layout_of};
@@ -7,12 +7,12 @@ ghost use Rattle.jvms_file.specs.Instructions.{pad_length as pads_at};
 
 use crate::starts::Starts;
 use crate::switches::pad_length;
-use held::items::Items;
+use shared_data::items::Items;
 use jvms_file::class_file::Layout;
 use jvms_file::insn::Insn;
 use std::alloc::{AllocError, Global};
 
-/// Sets the byte at a place to 0. Outside the bytes nothing happens.
+/// Sets the byte at a place to 0. Outside the bytes nothing changes.
 fn set_zero(bytes: &mut [u8], place: usize)
     ensures { bytes.new ≡ slice_set bytes.old place 0 }
 {
@@ -21,7 +21,7 @@ fn set_zero(bytes: &mut [u8], place: usize)
     }
 }
 
-/// Sets so many bytes from a place on to 0.
+/// Sets `count` bytes from a place on to 0.
 #[tactic(auto, unfolding(jvms_file::specs::Code::zeroed))]
 fn zero(bytes: &mut [u8], count: usize, place: usize)
     requires { place + count ≤ usize.MAX }
@@ -36,7 +36,7 @@ fn zero(bytes: &mut [u8], count: usize, place: usize)
     }
 }
 
-/// Whether an instruction has pads (JVMS 6.5 tableswitch, lookupswitch).
+/// Decides whether an instruction has pads (JVMS 6.5 tableswitch, lookupswitch).
 fn is_switch(insn: &Insn) -> bool
     ensures { result ≡ is_switch_insn insn.now }
 {
@@ -53,7 +53,7 @@ fn zero_pads_of(bytes: &mut [u8], pc: u32, insn: &Insn)
     }
 }
 
-/// Sets the pads of all instructions to 0; `starts` are the bytes at which they start.
+/// Sets the pads of all instructions to 0. `starts` are the bytes at which they start.
 #[tactic(auto, unfolding(jvms_file::specs::Code::with_zero_pads))]
 fn zero_pads(bytes: &mut [u8], starts: &[u32], insns: &[Insn])
     ensures { bytes.new ≡ with_zero_pads starts.now insns.now bytes.old }
@@ -70,8 +70,7 @@ fn zero_pads(bytes: &mut [u8], starts: &[u32], insns: &[Insn])
     }
 }
 
-/// The layout of code: the bytes that spell these instructions, but that pads are 0, and the bytes at which
-/// they start.
+/// Returns the layout of code: its bytes with pads set to 0, and the bytes at which its instructions start.
 pub fn layout(
     alloc: Global,
     starts: Starts,

@@ -1,21 +1,21 @@
-//! Targets as places.
+//! Turns targets into places.
 
 ghost use Rattle.std.specs.Prelude.{◌≡◌};
 ghost use Rattle.jvms_file.specs.Results.{collected};
 ghost use Rattle.jvms_file.specs.Reading.{Gives};
-ghost use Rattle.insn.specs.Places.{place_found, case_found, table_found, lookup_found, insn_found};
+ghost use Rattle.insn.specs.Places.{place_or_fault, case_or_fault, table_or_fault, lookup_or_fault, insn_or_fault};
 
-use crate::room::with_room;
+use crate::room::list_with_capacity;
 use crate::starts::Starts;
-use held::boxed::Boxed;
-use held::items::Items;
+use shared_data::boxed::Boxed;
+use shared_data::items::Items;
 use jvms_file::fault::{ClassFault, ReadError};
 use jvms_file::insn::{Insn, LookupSwitch, SwitchCase, TableSwitch};
 use std::alloc::Global;
 
-/// The place of a target.
+/// Returns the place of a target.
 fn place(starts: &Starts, fault: ClassFault, target: u32) -> Result<u32, ReadError>
-    ensures { Gives (λ x. x) result (place_found starts.now fault target) }
+    ensures { Gives (λ x. x) result (place_or_fault starts.now fault target) }
 {
     match starts.place_of(target) {
         Some(found) => Ok(found),
@@ -23,13 +23,13 @@ fn place(starts: &Starts, fault: ClassFault, target: u32) -> Result<u32, ReadErr
     }
 }
 
-/// A case whose target is a place.
+/// Returns a case with a place for its target.
 fn case(
     starts: &Starts,
     fault: ClassFault,
     switch_case: SwitchCase,
 ) -> Result<SwitchCase, ReadError>
-    ensures { Gives (λ x. x) result (case_found starts.now fault switch_case) }
+    ensures { Gives (λ x. x) result (case_or_fault starts.now fault switch_case) }
 {
     let target = place(starts, fault, switch_case.target)?;
     Ok(SwitchCase {
@@ -38,16 +38,16 @@ fn case(
     })
 }
 
-/// The places of targets.
+/// Returns the places of targets.
 fn places(
     alloc: Global,
     starts: &Starts,
     fault: ClassFault,
     targets: &[u32],
 ) -> Result<Items<u32>, ReadError>
-    ensures { Gives (λ x. x) result (collected (place_found starts.now fault) targets.now) }
+    ensures { Gives (λ x. x) result (collected (place_or_fault starts.now fault) targets.now) }
 {
-    let mut found = with_room(alloc, targets.len())?;
+    let mut found = list_with_capacity(alloc, targets.len())?;
     for target in targets {
         let one = place(starts, fault, *target)?;
         found.push(one)?;
@@ -55,16 +55,16 @@ fn places(
     Ok(found)
 }
 
-/// Cases whose targets are places.
+/// Returns cases with places for their targets.
 fn cases(
     alloc: Global,
     starts: &Starts,
     fault: ClassFault,
     switch_cases: &[SwitchCase],
 ) -> Result<Items<SwitchCase>, ReadError>
-    ensures { Gives (λ x. x) result (collected (case_found starts.now fault) switch_cases.now) }
+    ensures { Gives (λ x. x) result (collected (case_or_fault starts.now fault) switch_cases.now) }
 {
-    let mut found = with_room(alloc, switch_cases.len())?;
+    let mut found = list_with_capacity(alloc, switch_cases.len())?;
     for switch_case in switch_cases {
         let one = case(starts, fault, *switch_case)?;
         found.push(one)?;
@@ -72,14 +72,14 @@ fn cases(
     Ok(found)
 }
 
-/// A tableswitch whose targets are places.
+/// Returns a tableswitch with places for its targets.
 fn table(
     alloc: Global,
     starts: &Starts,
     fault: ClassFault,
     switch: &TableSwitch,
 ) -> Result<TableSwitch, ReadError>
-    ensures { Gives (λ x. x) result (table_found starts.now fault switch.now) }
+    ensures { Gives (λ x. x) result (table_or_fault starts.now fault switch.now) }
 {
     let default = place(starts, fault, switch.default)?;
     let targets = places(alloc, starts, fault, switch.targets.as_slice())?;
@@ -90,14 +90,14 @@ fn table(
     })
 }
 
-/// A lookupswitch whose targets are places.
+/// Returns a lookupswitch with places for its targets.
 fn lookup(
     alloc: Global,
     starts: &Starts,
     fault: ClassFault,
     switch: &LookupSwitch,
 ) -> Result<LookupSwitch, ReadError>
-    ensures { Gives (λ x. x) result (lookup_found starts.now fault switch.now) }
+    ensures { Gives (λ x. x) result (lookup_or_fault starts.now fault switch.now) }
 {
     let default = place(starts, fault, switch.default)?;
     let found = cases(alloc, starts, fault, switch.cases.as_slice())?;
@@ -107,14 +107,14 @@ fn lookup(
     })
 }
 
-/// An instruction whose targets are places.
+/// Returns an instruction with places for its targets.
 pub(crate) fn with_places(
     alloc: Global,
     starts: &Starts,
     fault: ClassFault,
     insn: &Insn,
 ) -> Result<Insn, ReadError>
-    ensures { Gives (λ x. x) result (insn_found starts.now fault insn.now) }
+    ensures { Gives (λ x. x) result (insn_or_fault starts.now fault insn.now) }
 {
     match insn {
         Insn::Branch(how, target) => {

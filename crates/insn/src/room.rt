@@ -1,13 +1,13 @@
-//! Room for lists that are kept.
+//! Capacity of lists that are kept.
 
 ghost use Rattle.std.specs.Prelude.{◌≡◌, [], IfOk};
 
-use held::items::Items;
+use shared_data::items::Items;
 use std::alloc::{AllocError, Global};
 
-/// A list with no items and with room for so many: a list that is filled and then kept takes no more memory
+/// Creates an empty list with the capacity for `count` items. So a list that is filled and kept takes no more memory
 /// than its items.
-pub(crate) fn with_room<T>(alloc: Global, count: usize) -> Result<Items<T>, AllocError>
+pub(crate) fn list_with_capacity<T>(alloc: Global, count: usize) -> Result<Items<T>, AllocError>
     ensures { IfOk result (λ items. items ≡ []) }
 {
     Ok(Items::from_vec(Vec::with_capacity(alloc, count)?))

@@ -4,10 +4,10 @@ ghost use Rattle.std.specs.Prelude.{◌≡◌, length};
 ghost use Rattle.jvms_file.specs.Code.{place_of as place_in};
 ghost use Rattle.insn.specs.Places.{IsStarts};
 
-use held::items::Items;
+use shared_data::items::Items;
 use std::marker::Model;
 
-/// The bytes at which the instructions of a method start, rising. Contracts see the list of them.
+/// The bytes at which the instructions of a method start, in rising order. Contracts see the list of them.
 #[derive(Debug, Drop)]
 pub struct Starts {
     pcs: Vec<u32>,
@@ -24,8 +24,8 @@ impl Model for Starts {
     ghost invariant = { λ s. IsStarts s.pcs.items };
 }
 
-/// Where a number stands among rising ones. By binary search: a method of 65,535 bytes has no time for
-/// more.
+/// Returns the place of a number among rising ones, by binary search. A linear search would be too slow for a method of
+/// 65,535 bytes.
 fn place_among(pcs: &[u32], pc: u32) -> Option<usize>
     requires { IsStarts pcs.now }
     ensures { result ≡ place_in pcs.now pc }
@@ -37,7 +37,7 @@ fn place_among(pcs: &[u32], pc: u32) -> Option<usize>
 }
 
 impl Starts {
-    /// These bytes.
+    /// Creates the starts from these bytes.
     pub(crate) fn of(pcs: Vec<u32>) -> Self
         requires { IsStarts pcs.items }
         ensures { result ≡ pcs.items }
@@ -45,7 +45,7 @@ impl Starts {
         Starts { pcs }
     }
 
-    /// The bytes in order.
+    /// Returns the bytes in order.
     pub fn as_slice(&self) -> &[u32]
         ensures value { result.now ≡ self.now }
         ensures starts { IsStarts result.now }
@@ -53,21 +53,21 @@ impl Starts {
         self.pcs.as_slice()
     }
 
-    /// The bytes in order, by value.
+    /// Returns the bytes in order, by value.
     pub(crate) fn into_items(self) -> Items<u32>
         ensures { result ≡ self }
     {
         Items::from_vec(self.pcs)
     }
 
-    /// How many instructions there are.
+    /// Returns the number of instructions.
     pub fn count(&self) -> u32
         ensures { result ≡ length self.now }
     {
         self.as_slice().len() as u32
     }
 
-    /// The place of the instruction that starts at a byte, if one does.
+    /// Returns the place of the instruction that starts at a byte, if one does.
     pub fn place_of(&self, pc: u32) -> Option<u32>
         ensures { result ≡ place_in self.now pc }
     {

@@ -7,20 +7,20 @@ ghost use Rattle.insn.specs.Operands.{target_at as target_from, case_at as case_
 
 use crate::targets::target_of;
 use file_bytes::{Part, bytes_at, parts_of, u4_at, want};
-use held::boxed::Boxed;
-use held::items::Items;
+use shared_data::boxed::Boxed;
+use shared_data::items::Items;
 use jvms_file::fault::{ClassFault, ReadError};
 use jvms_file::insn::{Insn, LookupSwitch, SwitchCase, TableSwitch};
 use std::alloc::Global;
 
-/// How many bytes stand before the next multiple of 4.
+/// Returns the number of pads of a switch: the bytes between its opcode and the next multiple of 4.
 pub(crate) fn pad_length(pc: usize) -> usize
     ensures { result ≡ pads_at pc }
 {
     3 - pc % 4
 }
 
-/// Targets of the switch at byte `pc`; `cut` is the fault of bytes that aren't there.
+/// The reader of targets of the switch at byte `pc`. `cut` is the fault of missing bytes.
 #[derive(Clone, Copy)]
 struct Targets {
     cut: ClassFault,
@@ -42,7 +42,8 @@ impl Part<u32> for Targets {
     }
 }
 
-/// So many targets. No room is made before their bytes are seen.
+/// Reads `count` targets, and returns them with the bytes after them. Capacity is reserved only as their bytes are
+/// read.
 fn targets_at(
     alloc: Global,
     cut: ClassFault,
@@ -55,7 +56,7 @@ fn targets_at(
     parts_of(alloc, &Targets { cut, pc }, count, bytes)
 }
 
-/// How many values there are from one to another.
+/// Returns the count of values from `low` to `high`.
 fn count_of(low: i32, high: i32) -> usize
     requires { low ≤ℤ high }
     ensures { result ≡ unsigned_abs (high -ℤ low) + 1 }
@@ -63,7 +64,7 @@ fn count_of(low: i32, high: i32) -> usize
     (i64::from(high) - i64::from(low)).unsigned_abs() as usize + 1
 }
 
-/// JVMS 6.5 tableswitch.
+/// Reads the operands of tableswitch, and returns the instruction with the bytes after it (JVMS 6.5 tableswitch).
 #[tactic(auto, unfolding(jvms_file::specs::Instructions::table_switch_insn))]
 pub(crate) fn table_switch(
     alloc: Global,
@@ -92,7 +93,7 @@ pub(crate) fn table_switch(
     Ok((Insn::Table(Boxed::new(alloc, switch)?), rest))
 }
 
-/// Whether a value lies above the one before it, if there is one.
+/// Decides whether a value is above the one before it, if there is one.
 fn is_above(last: Option<i32>, value: i32) -> bool
     ensures { result ≡ lies_above last value }
 {
@@ -102,7 +103,7 @@ fn is_above(last: Option<i32>, value: i32) -> bool
     }
 }
 
-/// One case, of a value above the one before it.
+/// Reads one case, whose value has to be above the one before it, and returns it with the bytes after it.
 #[tactic(auto, unfolding(crate::specs::Operands::case_at))]
 fn case_at(
     cut: ClassFault,
@@ -120,14 +121,15 @@ fn case_at(
     Ok((SwitchCase { value, target }, rest))
 }
 
-/// The value that the next case's lies above.
+/// Returns the value that the next case has to be above.
 fn value_of(case: SwitchCase) -> Option<i32>
     ensures { result ≡ Some case.value }
 {
     Some(case.value)
 }
 
-/// So many cases, by strictly rising value. No room is made before their bytes are seen.
+/// Reads `count` cases in strictly rising order of their values, and returns them with the bytes after them. Capacity
+/// is reserved only as their bytes are read.
 fn cases_at(
     alloc: Global,
     cut: ClassFault,
@@ -149,7 +151,7 @@ fn cases_at(
     Ok((cases, rest))
 }
 
-/// JVMS 6.5 lookupswitch.
+/// Reads the operands of lookupswitch, and returns the instruction with the bytes after it (JVMS 6.5 lookupswitch).
 #[tactic(auto, unfolding(jvms_file::specs::Instructions::lookup_switch_insn))]
 pub(crate) fn lookup_switch(
     alloc: Global,

@@ -1,12 +1,12 @@
-//! Where offsets lead.
+//! The targets of offsets.
 
 ghost use Rattle.std.specs.Prelude.{◌≡◌};
 ghost use Rattle.jvms_file.specs.Instructions.{target_of as led_to};
 
-/// Targets are counted modulo this.
+/// The modulus of targets, 2^32.
 const BYTES: usize = 4_294_967_296;
 
-/// The byte that an offset leads to, from the opcode's byte.
+/// Returns the byte to which an offset leads, counted from the opcode's byte.
 pub(crate) fn target_of(pc: usize, offset: i32) -> u32
     ensures { result ≡ led_to pc offset }
 {

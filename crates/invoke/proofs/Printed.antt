@@ -1,4 +1,4 @@
--- The object that is printed is a string, or of a wrong kind.
+-- The printed object is a string, or of a wrong kind.
 use Rattle.std.proofs.Common.{◌≡◌, ℕ, Bool, List, Option, Some, None, refl}
 use Rattle.std.specs.Option.{option_and_then}
 use Rattle.jvms_machine.specs.declared.action.Printed.TheVariants as printed

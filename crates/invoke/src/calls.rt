@@ -1,5 +1,5 @@
-//! Calls (JVMS 2.6.1, 2.6.4): how a method is entered, and the first call of a thread: of thread 0 the entry's, of another
-//! `run` of its Thread object.
+//! Calls (JVMS 2.6.1, 2.6.4): entering a method, and the first call of a thread. Thread 0 calls the entry's method, and
+//! any other thread calls `run` of its Thread object.
 
 ghost use Rattle.std.specs.Prelude.{◌≡◌, Some};
 ghost use Rattle.jvms_program.specs.declared.program.Body.{Body as Code};
@@ -24,26 +24,26 @@ use jvms_program::thrown::Thrown;
 use machine_parts::{Decided, Locking, Parts, bad, never_seen};
 use machine_thread::Thread;
 
-/// What the call of a method comes to.
+/// The decision on the call of a method.
 #[derive(Clone, Copy)]
 pub(crate) enum Called<'p> {
-    /// This code is entered, with what is locked.
+    /// The call enters this code, and locks this.
     Enters(&'p Body, Lock),
-    /// The method is native, and has none.
+    /// The method is native, and has no code.
     IsNative,
-    /// The turn comes to this before.
+    /// The turn does this instead.
     Stops(Decided<'p>),
 }
 
-/// Of what a method is called: the receiver, if it has one, and how many arguments there are, the receiver among them.
+/// The receiver of a call, if it has one, and the number of its argument slots, those of the receiver included.
 #[derive(Clone, Copy)]
 pub(crate) struct Given {
     pub(crate) receiver: Option<u32>,
     pub(crate) arguments: usize,
 }
 
-/// A method's code is entered, if there is room for one frame more, the locals have room for the arguments, and, of a
-/// synchronized method, the monitor can be entered.
+/// Decides to enter a method's code. It tests the room for one more frame, then that the local variables fit the
+/// arguments, then the monitor of a synchronized method.
 fn enter_decision<'p>(
     parts: &Parts<'p>,
     t: usize,
@@ -67,7 +67,7 @@ fn enter_decision<'p>(
     }
 }
 
-/// A method, which was selected, is called.
+/// Decides the call of a selected method.
 fn called_decision<'p>(
     parts: &Parts<'p>,
     t: usize,
@@ -90,7 +90,7 @@ fn called_decision<'p>(
     }
 }
 
-/// A method is the first that a thread calls.
+/// Decides the first call of a thread, of this method.
 fn first_call<'p>(
     parts: &Parts<'p>,
     t: usize,
@@ -112,7 +112,7 @@ fn first_call<'p>(
     }
 }
 
-/// The entry's method is called, once its class is initialised.
+/// Decides the call of the entry's method, once its class is initialised.
 fn entry_decision<'p>(
     parts: &Parts<'p>,
     t: usize,
@@ -134,7 +134,7 @@ fn entry_decision<'p>(
     first_call(parts, t, thread, parts.method, method, given)
 }
 
-/// The first call of a thread.
+/// Decides the first call of a thread.
 pub fn first_call_decision<'p>(parts: &Parts<'p>, t: usize, thread: &Thread) -> Decided<'p>
     ensures { seen result ≡ calls_at_first parts.now.program parts.now.limits parts.now.start parts.now.state t thread.now }
 {

@@ -21,14 +21,14 @@ const INITIALIZER: [u16; 8] = [60, 99, 108, 105, 110, 105, 116, 62];
 /// Its descriptor, `()V`.
 const INITIALIZER_DESCRIPTOR: [u16; 3] = [40, 41, 86];
 
-/// The number of a class's `<clinit>()V` among its methods.
+/// Returns the index of a class's `<clinit>()V` among its methods.
 fn initializer_of(class: &Class) -> Option<usize>
     ensures { result ≡ initializer class.now }
 {
     declared_number(class, &INITIALIZER, &INITIALIZER_DESCRIPTOR)
 }
 
-/// The number of the superclass that initialisation asks for: an interface asks for none.
+/// Returns the number of the superclass that initialisation requires. An interface requires none.
 fn asked_superclass(program: &Program, class: &Class) -> Option<usize>
     ensures { result ≡ asked program.now class.now }
 {
@@ -39,8 +39,7 @@ fn asked_superclass(program: &Program, class: &Class) -> Option<usize>
     program.class_number(superclass.as_slice())
 }
 
-/// The `<clinit>` of a class, which is its method of a number, is called, where there is room for a frame. Its flags
-/// aren't asked.
+/// Decides the call of a class's `<clinit>`, if there is room for a frame. The flags of the method aren't tested.
 fn initializer_call<'p>(
     parts: &Parts<'p>,
     thread: &Thread,
@@ -68,8 +67,8 @@ fn initializer_call<'p>(
     })
 }
 
-/// Where no superclass is left to wait for: the `<clinit>` of the class is called, or, where there is none, the class
-/// is done.
+/// Decides the initialisation of a class that waits for no superclass. It calls the `<clinit>`, or finishes if there is
+/// none.
 fn initializer_decision<'p>(
     parts: &Parts<'p>,
     thread: &Thread,
@@ -84,7 +83,7 @@ fn initializer_decision<'p>(
     }
 }
 
-/// The superclass, if there is one, is asked for first.
+/// Decides the initialisation of the superclass, if there is one. Returns `None` if the subclass continues.
 fn superclass_decision<'p>(
     parts: &Parts<'p>,
     t: usize,
@@ -99,7 +98,7 @@ fn superclass_decision<'p>(
     }
 }
 
-/// A turn with an initialisation frame on top.
+/// Decides a turn with an initialisation on top.
 pub fn initialisation_decision<'p>(
     parts: &Parts<'p>,
     t: usize,

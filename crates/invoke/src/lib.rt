@@ -1,5 +1,5 @@
-//! Calls and returns, natives, the first calls of threads, initialisation and monitors (JVMS 2.6, 2.11, 5.5): what the
-//! turn of each comes to, with nothing changed, and what its action makes of the parts of a machine.
+//! Calls and returns, native methods, the first calls of threads, class initialisation and monitors (JVMS 2.6, 2.11,
+//! 5.5): the decision on each turn, with nothing changed, and the application of its action to the parts of a machine.
 #![tactic(auto)]
 
 mod calls;
@@ -13,12 +13,12 @@ mod waiting;
 
 pub use calls::first_call_decision;
 pub use calls::invoke::invoke_decision;
-pub use calls::told::{PlainCall, call_told};
+pub use calls::told::{PlainCall, fast_call};
 pub use initialisation::initialisation_decision;
-pub use locking::told::{monitor_enter_told, monitor_exit_told};
+pub use locking::told::{fast_monitor_enter, fast_monitor_exit};
 pub use locking::{monitor_enter_decision, monitor_exit_decision};
 pub use making::calls::{call, end, enter, return_below};
 pub use making::initialisation::{begin, finish, initialise, mark};
 pub use returns::method_return_decision;
-pub use returns::told::{PlainReturn, return_told};
+pub use returns::told::{PlainReturn, fast_return};
 pub use waiting::{retake, wait, waiting_decision};

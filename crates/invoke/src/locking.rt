@@ -1,4 +1,4 @@
-//! monitorenter and monitorexit (JVMS 6.5).
+//! The monitor instructions (JVMS 6.5 `monitorenter`, `monitorexit`).
 
 ghost use Rattle.std.specs.Prelude.{◌≡◌, ◌+◌, ◌<◌, ◌^◌};
 ghost use Rattle.jvms_machine.specs.declared.value.Value.TheVariants as value;
@@ -16,7 +16,7 @@ use jvms_program::thrown::Thrown;
 use machine_parts::{Decided, Entering, Parts, bad, has_depth, never_seen, reaches, taking};
 use machine_thread::Thread;
 
-/// The monitor of the object of a reference is entered.
+/// Decides the entry of an object's monitor.
 fn enter_object<'p>(
     parts: &Parts<'p>,
     t: usize,
@@ -36,7 +36,7 @@ fn enter_object<'p>(
     }
 }
 
-/// The monitor of the object of a reference is left.
+/// Decides the exit from an object's monitor.
 fn exit_object<'p>(
     parts: &Parts<'p>,
     t: usize,
@@ -56,7 +56,7 @@ fn exit_object<'p>(
     }
 }
 
-/// JVMS 6.5 monitorenter. In this order: the depth; the kind; null; the monitor.
+/// Decides JVMS 6.5 `monitorenter`. It tests the depth, the kind and null, then the monitor.
 #[tactic(auto, unfolding(jvms_machine::specs::Locking::monitor_enter_decision))]
 pub fn monitor_enter_decision<'p>(
     parts: &Parts<'p>,
@@ -78,7 +78,7 @@ pub fn monitor_enter_decision<'p>(
     }
 }
 
-/// JVMS 6.5 monitorexit. In this order: the depth; the kind; null; the owner.
+/// Decides JVMS 6.5 `monitorexit`. It tests the depth, the kind and null, then the owner.
 #[tactic(auto, unfolding(jvms_machine::specs::Locking::monitor_exit_decision))]
 pub fn monitor_exit_decision<'p>(
     parts: &Parts<'p>,

@@ -1,4 +1,4 @@
-//! What calls, returns and initialisations make of the parts of a machine.
+//! The actions of calls, returns and initialisations, applied to the parts of a machine.
 
 pub(crate) mod calls;
 pub(crate) mod initialisation;

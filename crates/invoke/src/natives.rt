@@ -1,5 +1,5 @@
-//! The native methods of built-in classes: what `System.out` prints, starts and joins of threads, and waits and
-//! notifications. Each is done in the turn of its call.
+//! The native methods of built-in classes: prints to `System.out`, starts and joins of threads, waits and
+//! notifications. Each completes in the turn of its call.
 
 ghost use Rattle.std.specs.Prelude.{◌≡◌, ◌+◌, ◌<◌, ◌^◌, slice_get};
 ghost use Rattle.jvms_machine.specs.Natives.{prints as printing, object_printed as prints_object, value_printed as prints_value, print_decision as prints_as, native_of_class};
@@ -38,10 +38,11 @@ const OBJECT: [u16; 16] = [
 /// `println`
 const PRINTLN: [u16; 7] = [112, 114, 105, 110, 116, 108, 110];
 
-/// `()V`, the descriptor of a method that takes and gives nothing.
+/// `()V`, the descriptor of a method without parameters and result.
 const NOTHING: [u16; 3] = [40, 41, 86];
 
-/// A print takes all operands of its call: the receiver, and what is printed, if anything is.
+/// Returns the decision to print. It takes all operands of the call: the receiver, and the printed value, if there is
+/// one.
 fn prints<'p>(frame: &Frame, takes: u16, what: Printed, ends_line: bool) -> Decided<'p>
     requires { frame.now.activation.place + 1 < 2 ^ 64 }
     ensures { seen result ≡ printing frame.now.activation takes what ends_line }
@@ -49,7 +50,7 @@ fn prints<'p>(frame: &Frame, takes: u16, what: Printed, ends_line: bool) -> Deci
     reaches(Effect::Prints { what, ends_line }, taking(takes, frame))
 }
 
-/// A string prints; an object that is none is of a wrong kind.
+/// Decides the print of an object. Stops with `Kind` if it is no string.
 #[tactic(auto, using(crate::proofs::Printed::text_printed, crate::proofs::Printed::no_text_printed))]
 fn object_printed<'p>(
     parts: &Parts<'p>,
@@ -67,7 +68,8 @@ fn object_printed<'p>(
     }
 }
 
-/// The value on top, whole: a second place is none without its long.
+/// Returns the topmost value, where a long has two slots. Returns `None` if the operands are empty, or end in one half
+/// of a long.
 fn whole_top(frame: &Frame) -> Option<Value>
     ensures { result ≡ whole_on_top frame.now.activation.operands }
 {
@@ -85,7 +87,7 @@ fn whole_top(frame: &Frame) -> Option<Value>
     }
 }
 
-/// The value on top is printed.
+/// Decides the print of the topmost value.
 fn value_printed<'p>(parts: &Parts<'p>, frame: &Frame, takes: u16, ends_line: bool) -> Decided<'p>
     requires { frame.now.activation.place + 1 < 2 ^ 64 }
     ensures { seen result ≡ prints_value parts.now.state frame.now.activation takes ends_line (whole_on_top frame.now.activation.operands) }
@@ -101,7 +103,7 @@ fn value_printed<'p>(parts: &Parts<'p>, frame: &Frame, takes: u16, ends_line: bo
     }
 }
 
-/// `print` and `println`.
+/// Decides a call of `print` or `println`.
 fn print_decision<'p>(parts: &Parts<'p>, frame: &Frame, takes: u16, method: &Method) -> Decided<'p>
     requires { frame.now.activation.place + 1 < 2 ^ 64 }
     ensures { seen result ≡ prints_as parts.now.state frame.now.activation takes method.now }
@@ -114,8 +116,8 @@ fn print_decision<'p>(parts: &Parts<'p>, frame: &Frame, takes: u16, method: &Met
     }
 }
 
-/// A native method of the class of a number is called by the frame on top: it is `PrintStream`'s, `Thread`'s or `Object`'s;
-/// any other has no body.
+/// Decides the call of a native method of a class by the top frame: `PrintStream`'s, `Thread`'s or `Object`'s. Throws
+/// `UnsatisfiedLinkError` for any other class.
 pub(crate) fn native_decision<'p>(
     parts: &Parts<'p>,
     t: usize,

@@ -1,4 +1,4 @@
-//! Returns (JVMS 2.6.4, 6.5 ireturn, lreturn, areturn, return).
+//! Return instructions (JVMS 2.6.4, 6.5 `ireturn`, `lreturn`, `areturn`, `return`).
 
 ghost use Rattle.std.specs.Prelude.{◌≡◌, drop};
 ghost use Rattle.jvms_program.specs.Program.{method_at};
@@ -17,7 +17,7 @@ use jvms_machine::value::Value;
 use machine_parts::{Decided, Parts, Unlocking, bad, kind_of_type, never_seen};
 use machine_thread::Thread;
 
-/// Whether a method gives such a value.
+/// Decides whether a method has a result of this kind.
 #[inline(always)]
 pub(super) fn gives_kind(given: &ResultType, kind: Kind) -> bool
     ensures { result ≡ gives given.now kind }
@@ -28,7 +28,7 @@ pub(super) fn gives_kind(given: &ResultType, kind: Kind) -> bool
     }
 }
 
-/// Whether a method gives no value.
+/// Decides whether a method has no result.
 #[inline(always)]
 pub(super) fn gives_nothing(given: &ResultType) -> bool
     ensures { result ≡ nothing given.now }
@@ -36,7 +36,8 @@ pub(super) fn gives_nothing(given: &ResultType) -> bool
     matches!(given, ResultType::Void)
 }
 
-/// The call on top returns this: the first call ends the thread, another goes back to the frame below.
+/// Returns the decision that the top call returns. The first call ends the thread, and any other continues the frame
+/// below.
 fn returns_to<'p>(
     thread: &Thread,
     frame: &Frame,
@@ -62,7 +63,7 @@ fn returns_to<'p>(
     Decision::Makes(action)
 }
 
-/// The call of this frame, which is on top, returns this, and leaves its monitor.
+/// Decides that the top call, of this frame, returns and leaves its monitor.
 fn returned_decision<'p>(
     parts: &Parts<'p>,
     t: usize,
@@ -78,7 +79,7 @@ fn returned_decision<'p>(
     }
 }
 
-/// A return of a value of this kind, which is the top of the operands.
+/// Decides a return of the topmost value, of this kind.
 fn return_top_decision<'p>(
     parts: &Parts<'p>,
     t: usize,
@@ -100,7 +101,7 @@ fn return_top_decision<'p>(
     }
 }
 
-/// A return of a method that gives this.
+/// Decides a return from a method with this result.
 fn return_decision<'p>(
     parts: &Parts<'p>,
     t: usize,
@@ -126,7 +127,7 @@ fn return_decision<'p>(
     }
 }
 
-/// The call of this frame, which is on top, returns.
+/// Decides that the top call, of this frame, returns.
 pub fn method_return_decision<'p>(
     parts: &Parts<'p>,
     t: usize,

@@ -1,4 +1,4 @@
-//! The threads that programs start (Java SE API, `Thread.start` and `Thread.join`).
+//! The threads that a program starts (Java SE API, `Thread.start` and `Thread.join`).
 
 ghost use Rattle.std.specs.Prelude.{◌≡◌, ◌+◌, ◌<◌, ◌^◌};
 ghost use Rattle.jvms_machine.specs.Threads.{thread_of, start_decision as starts, join_decision as joins, thread_native_decision as threads_native};
@@ -19,7 +19,8 @@ use machine_thread::Thread;
 /// `start`
 const START: [u16; 5] = [115, 116, 97, 114, 116];
 
-/// A Thread object is started. In this order: it wasn't before; there is room for one thread more.
+/// Decides the start of a Thread object. It tests that the object wasn't started before, then the room for one more
+/// thread.
 fn start_decision<'p>(
     parts: &Parts<'p>,
     thread: &Thread,
@@ -43,7 +44,8 @@ fn start_decision<'p>(
     reaches(effect, taking(1, frame))
 }
 
-/// A thread's end is waited for. One that wasn't started isn't.
+/// Decides a join. The turn is blocked until the joined thread has ended. A thread that wasn't started isn't waited
+/// for.
 fn join_decision<'p>(parts: &Parts<'p>, frame: &Frame, joined: Option<usize>) -> Decided<'p>
     requires place { frame.now.activation.place + 1 < 2 ^ 64 }
     requires numbered { AreNumbered parts.now.state }
@@ -64,7 +66,7 @@ fn join_decision<'p>(parts: &Parts<'p>, frame: &Frame, joined: Option<usize>) ->
     }
 }
 
-/// `start` and `join` of the Thread object on top.
+/// Decides a call of `start` or `join` for the Thread object on top.
 pub(crate) fn thread_native_decision<'p>(
     parts: &Parts<'p>,
     thread: &Thread,

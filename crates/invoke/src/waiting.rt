@@ -1,4 +1,4 @@
-//! Threads that wait (JLS 17.2; Java SE API, `Object.wait`, `Object.notify` and `Object.notifyAll`).
+//! Waiting threads (JLS 17.2, Java SE API, `Object.wait`, `Object.notify` and `Object.notifyAll`).
 
 ghost use Rattle.std.specs.Prelude.{◌≡◌, ◌+◌, ◌<◌, ◌^◌, OnErr, OnOk};
 ghost use Rattle.jvms_machine.specs.declared.action.Action.TheVariants as action;
@@ -29,7 +29,7 @@ const WAIT: [u16; 4] = [119, 97, 105, 116];
 /// `notifyAll`
 const NOTIFY_ALL: [u16; 9] = [110, 111, 116, 105, 102, 121, 65, 108, 108];
 
-/// The owner waits for an object whose monitor it has entered so often, or notifies those that do.
+/// Decides the wait of the monitor's owner, with its entry count, or a notification.
 fn waits_or_notifies<'p>(frame: &Frame, method: &Method, wait: Wait) -> Decided<'p>
     requires { frame.now.activation.place + 1 < 2 ^ 64 }
     ensures { seen result ≡ waits frame.now.activation method.now wait.reference wait.count }
@@ -44,7 +44,8 @@ fn waits_or_notifies<'p>(frame: &Frame, method: &Method, wait: Wait) -> Decided<
     reaches(effect, taking(1, frame))
 }
 
-/// Only the owner of the monitor may wait and notify.
+/// Decides a wait or a notification. Throws `IllegalMonitorStateException` if the thread isn't the owner of the
+/// monitor.
 fn owned_decision<'p>(
     parts: &Parts<'p>,
     t: usize,
@@ -70,7 +71,7 @@ fn owned_decision<'p>(
     waits_or_notifies(frame, method, wait)
 }
 
-/// `wait`, `notify` and `notifyAll` of the object on top.
+/// Decides a call of `wait`, `notify` or `notifyAll` for the object on top.
 pub(crate) fn object_native_decision<'p>(
     parts: &Parts<'p>,
     t: usize,
@@ -91,7 +92,7 @@ pub(crate) fn object_native_decision<'p>(
     owned_decision(parts, t, thread, frame, method, reference, hold)
 }
 
-/// A thread that was notified takes the monitor again, once it is free.
+/// Decides that a notified thread retakes the monitor. The turn is blocked until the monitor is free.
 fn retaking<'p>(wait: Wait, hold: Option<Hold>) -> Decided<'p>
     ensures { seen result ≡ retakes wait hold }
 {
@@ -107,7 +108,7 @@ fn retaking<'p>(wait: Wait, hold: Option<Hold>) -> Decided<'p>
     }
 }
 
-/// The turn of a thread that waits: it is blocked until it is notified.
+/// Decides the turn of a waiting thread. The turn is blocked until the thread is notified and the monitor is free.
 #[tactic(auto, unfolding(jvms_machine::specs::Waiting::waiting_decision))]
 pub fn waiting_decision<'p>(parts: &Parts<'p>, t: usize, wait: Wait) -> Decided<'p>
     ensures { seen result ≡ waits_on parts.now.state t wait }
@@ -121,7 +122,7 @@ pub fn waiting_decision<'p>(parts: &Parts<'p>, t: usize, wait: Wait) -> Decided<
     retaking(wait, parts.monitor(wait.reference))
 }
 
-/// The call on top frees a monitor, and its thread waits. Without memory nothing changes.
+/// Frees a monitor for the top call, whose thread begins to wait. If there is no memory, nothing changes.
 #[tactic(auto, unfolding(jvms_machine::specs::Actions::applied_to, jvms_machine::specs::Actions::items_of))]
 pub fn wait(
     parts: &mut Parts,
@@ -140,7 +141,8 @@ pub fn wait(
     Ok(())
 }
 
-/// A thread that was notified takes the monitor again, and its call of `wait` is done. Without memory nothing changes.
+/// Gives the monitor back to a notified thread, whose call of `wait` then completes. If there is no memory, nothing
+/// changes.
 #[tactic(auto, unfolding(jvms_machine::specs::Actions::applied_to, jvms_machine::specs::Actions::items_of))]
 pub fn retake(
     parts: &mut Parts,
@@ -156,6 +158,6 @@ pub fn retake(
     ensures no_items { OnErr result (trace.new ≡ trace.old) }
 {
     parts.retake_monitor(t, wait, trace)?;
-    parts.threads[t as usize].go_on_from_wait();
+    parts.threads[t as usize].end_wait();
     Ok(())
 }

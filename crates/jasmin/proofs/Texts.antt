@@ -1,4 +1,4 @@
--- The texts between quotes: what is read is spelled so, and what is spelled so is read.
+-- Proves that the texts between quotes that are read are spelled so, and that those that are spelled are read.
 use Rattle.std.proofs.Common.{◌≡◌, ℕ, zero, suc, ◌<◌, ◌≤◌, ◌+◌, ◌||◌, Bool, true, false, not, cond, eqb, List, [], ◌∷◌, ◌++◌, length, Option, Some, None, refl, sym, ap, subst, ◌∙◌, append_assoc, arith, inl, inr}
 use Rattle.std.proofs.lemmas.Bool.{eqb-true}
 use Rattle.std.proofs.lemmas.List.{length-append}
@@ -7,13 +7,13 @@ use Rattle.std.specs.Option.{option_map, unwrap_or}
 use Rattle.jasmin.specs.Lexing.{escaped, four_digits, digits_from, escape_from, unit_from, units_from, closed, text_from, SpellsUnit, SpellsUnits}
 use Rattle.jasmin.proofs.Steps.{choose, mapped}
 
--- A unit that stands at the front, and what stands behind it.
+-- A unit is spelled at the front, before the rest.
 pub record Found (us : List ℕ) (v : ℕ) (behind : List ℕ) : Type 0 where
   pub first : List ℕ
   pub parts : us ≡ first ++ behind
   pub spells : SpellsUnit first v
 
--- Four digits that were read.
+-- Four digits that were read spell a unit.
 digits_found : (us : List ℕ) (v : ℕ) (behind : List ℕ) → digits_from us ≡ Some (v, behind) → Found (92 ∷ 117 ∷ us) v behind
 digits_found [] v behind e = absurd (none-some _ e)
 digits_found (a ∷ []) v behind e = absurd (none-some _ e)
@@ -29,7 +29,7 @@ digits_found (a ∷ b ∷ c ∷ d ∷ rest) v behind e =
       spells = inr (inr (a, b, c, d, refl, is ∙ ap (λ (n : ℕ). Some n) unit));
     })
 
--- An escape that was read.
+-- An escape that was read spells a unit.
 escape_found : (us : List ℕ) (v : ℕ) (behind : List ℕ) → escape_from us ≡ Some (v, behind) → Found (92 ∷ us) v behind
 escape_found [] v behind e = absurd (none-some _ e)
 escape_found (u ∷ us) v behind e =
@@ -42,7 +42,7 @@ escape_found (u ∷ us) v behind e =
       spells = inr (inl (u, refl, is ∙ ap (λ (p : ℕ × List ℕ). Some p.0) same));
     }))
 
--- A unit that was read.
+-- A unit that was read is spelled at the front.
 unit_found : (us : List ℕ) (v : ℕ) (behind : List ℕ) → unit_from us ≡ Some (v, behind) → Found us v behind
 unfolding unit_from
 unit_found [] v behind e = absurd (none-some _ e)
@@ -60,15 +60,15 @@ unit_found (u ∷ us) v behind e =
       spells = inl (refl, subst (λ (n : ℕ). not (eqb n 34 || eqb n 92) ≡ true) unit (rw (no_quote, no_escape) refl));
     }))
 
--- ---- Units in a row
+-- ---- Consecutive units
 
--- The units that were read stand in front of what is left.
+-- The units that were read are spelled before the rest.
 pub record AllFound (us : List ℕ) (read : List ℕ × List ℕ) : Type 0 where
   pub inside : List ℕ
   pub parts : us ≡ inside ++ read.1
   pub spells : SpellsUnits inside read.0
 
--- One unit and those behind it.
+-- One unit is read before the others.
 one_more : (most : ℕ) (us : List ℕ) (o : Option (ℕ × List ℕ)) → unit_from us ≡ o → ((behind : List ℕ) → AllFound behind (units_from most behind))
     → AllFound us (unwrap_or (option_map (λ v. (v.0 ∷ (units_from most v.1).0, (units_from most v.1).1)) o) ([], us))
 one_more most us None e later = record { inside = []; parts = refl; spells = refl }
@@ -86,7 +86,7 @@ unfolding units_from
 units_found zero us = record { inside = []; parts = refl; spells = refl }
 units_found (suc most) us = one_more most us (unit_from us) refl (units_found most)
 
--- A unit that is spelled is read.
+-- An escape that is spelled is read.
 escape_again : (letter v : ℕ) (behind : List ℕ) → escaped letter ≡ Some v → escape_from (letter ∷ behind) ≡ Some (v, behind)
 escape_again letter v behind e =
     let no_digits : (b : Bool) → eqb letter 117 ≡ b → cond b (digits_from behind) (option_map (λ n. (n, behind)) (escaped letter)) ≡ Some (v, behind) = λ b is. letter_again b is in
@@ -113,7 +113,7 @@ some_units first v (inl (is, plain)) = rw is (omega arith)
 some_units first v (inr (inl (letter, is, e))) = rw is (omega arith)
 some_units first v (inr (inr (a, b, c, d, is, e))) = rw is (omega arith)
 
--- What stands behind a unit is shorter.
+-- The rest after a unit is shorter.
 pub shorter_behind : (us : List ℕ) (v : ℕ) (behind : List ℕ) → unit_from us ≡ Some (v, behind) → length behind < length us
 shorter_behind us v behind e =
     let f = unit_found us v behind e in
@@ -121,7 +121,7 @@ shorter_behind us v behind e =
     let size : length us ≡ length f.first + length behind = ap length f.parts ∙ length-append f.first behind in
     omega arith
 
--- At the closing quote no unit stands.
+-- No unit is read at the closing quote.
 units_end : (most : ℕ) (behind : List ℕ) → units_from most (34 ∷ behind) ≡ ([], 34 ∷ behind)
 unfolding units_from unit_from
 units_end zero behind = refl
@@ -145,7 +145,7 @@ units_again (v ∷ vs) (suc most) inside behind (first, later, is, spells, more)
 
 -- ---- Texts
 
--- A text that was read, with its closing quote.
+-- A text that was read is spelled before its closing quote and the rest.
 pub record TextFound (us vs behind : List ℕ) : Type 0 where
   pub inside : List ℕ
   pub parts : us ≡ inside ++ 34 ∷ behind

@@ -1,4 +1,4 @@
--- Tokens of a line: what is read is spelled so, and what is spelled so is read.
+-- Proves that the tokens that are read from a line spell it, and that tokens that spell a line are read from it.
 use Rattle.std.proofs.Common.{◌≡◌, ◌⊎◌, ℕ, zero, suc, ◌<◌, ◌≤◌, ◌+◌, ◌-◌, ◌&&◌, ◌||◌, Bool, true, false, not, cond, eqb, List, [], ◌∷◌, ◌++◌, length, Some, refl, sym, ap, subst, ◌∙◌, append_assoc, arith, inl, inr}
 use Rattle.std.proofs.lemmas.Bool.{eqb-true, not-true, and_parts}
 use Rattle.std.proofs.lemmas.List.{length-append}
@@ -17,7 +17,7 @@ use Rattle.jasmin.proofs.Texts.{text_found, text_again}
 abbrev goes_on : ℕ → Bool
 goes_on u = not (ends_word u)
 
--- A word that was read, and what stands behind it.
+-- A word that was read, and the rest after it.
 record WordFound (us : List ℕ) (read : List ℕ × List ℕ) : Type 0 where
   pub parts : us ≡ read.0 ++ read.1
   pub units : list_all goes_on read.0 ≡ true
@@ -50,7 +50,7 @@ abbrev pub begins_space : List ℕ → Bool
 begins_space [] = false
 begins_space (u ∷ us) = is_space u
 
--- What was read, and what stands behind it.
+-- A token that was read is spelled by the units before the rest.
 record LexemeFound (us : List ℕ) (l : Lexeme) (behind : List ℕ) : Type 0 where
   pub spelled : List ℕ
   pub parts : us ≡ spelled ++ behind
@@ -91,7 +91,7 @@ lexeme_found (u ∷ us) l behind apart e =
     (record { spelled = 61 ∷ []; parts = ap (λ (n : ℕ). n ∷ us) (eqb-true u 61 equals); spells = refl; some = refl }))
     (λ no_equals is. word_lexeme u us behind l (word_from (u ∷ us)) (word_found (u ∷ us)) (no_end u apart no_quote no_colon no_equals) (same_Some _ _ is))))
 
--- What stands behind is no longer.
+-- The rest after a token is no longer than the line.
 pub lexeme_fits : (us : List ℕ) (l : Lexeme) (behind : List ℕ) → lexeme_from us ≡ Some (l, behind) → length behind ≤ length us
 unfolding lexeme_from
 lexeme_fits [] l behind e = absurd (none-some _ e)
@@ -116,7 +116,7 @@ lexeme_fits (u ∷ us) l behind e =
     let left : length (word_from (u ∷ us)).1 ≡ length behind = ap (λ (p : Lexeme × List ℕ). length p.1) (same_Some _ _ is) in
     omega arith)))
 
--- What is spelled is read.
+-- A word that is spelled is read.
 word_read : (us behind : List ℕ) → not (is_empty us) ≡ true → list_all goes_on us ≡ true → is_word_end behind ≡ true → lexeme_from (us ++ behind) ≡ Some (lexeme.Word us, behind)
 unfolding lexeme_from
 word_read [] behind some units ends = absurd cc
@@ -141,7 +141,7 @@ lexeme_again spelled behind (lexeme.Text us) (inside, is, spells) =
 lexeme_again spelled behind lexeme.Colon is = rw is refl
 lexeme_again spelled behind lexeme.Equals is = rw is refl
 
--- A token's spelling isn't empty, and begins with no white space.
+-- The spelling of a token isn't empty, and doesn't begin with white space.
 record Starts (spelled : List ℕ) : Type 0 where
   pub some : is_empty spelled ≡ false
   pub apart : begins_space spelled ≡ false
@@ -164,7 +164,7 @@ token_starts spelled behind lexeme.Equals is = rw is (record { some = refl; apar
 
 -- ---- A token at its place
 
--- What was read, and where it stands.
+-- A token that was read, with its place.
 record TokenRead (size : ℕ) (us : List ℕ) (t : Token) (behind : List ℕ) : Type 0 where
   pub is : lexeme_from us ≡ Some (t.lexeme, behind)
   pub starts : t.start ≡ size - length us
@@ -187,7 +187,7 @@ token_again size spelled behind t spells starts ends = rw (lexeme_again spelled 
 
 -- ---- Where a token begins
 
--- The white space at the front, and that a token begins behind it or none does.
+-- A line consists of white space, followed by a token, a comment or nothing.
 record Begun (at_start : Bool) (line begin : List ℕ) : Type 0 where
   pub space : List ℕ
   pub behind : List ℕ
@@ -196,7 +196,7 @@ record Begun (at_start : Bool) (line begin : List ℕ) : Type 0 where
   pub is : ((begin ≡ []) × ((is_empty behind || begins_comment at_start space behind) ≡ true))
       ⊎ ((begin ≡ behind) × (begins_comment at_start space behind ≡ false) × (begins_space behind ≡ false) × (is_empty behind ≡ false))
 
--- Behind white space it doesn't matter where the line started.
+-- After white space, a comment may begin even if the line doesn't start here.
 anywhere : (at_start : Bool) (u : ℕ) (space behind : List ℕ) → begins_comment at_start (u ∷ space) behind ≡ begins_comment true space behind
 anywhere true u space behind = refl
 anywhere false u space behind = refl
@@ -230,7 +230,7 @@ unfolding begin_from
 begin_found at_start [] = record { space = []; behind = []; parts = refl; spaces = refl; is = inl (refl, refl) }
 begin_found at_start (u ∷ us) = by_space at_start u us (is_space u) refl (begin_found true us)
 
--- A token begins with no white space.
+-- Where a token begins, there is no white space.
 pub begin_apart : (at_start : Bool) (line : List ℕ) → begins_space (begin_from at_start line) ≡ false
 begin_apart at_start line =
     let b = begin_found at_start line in
@@ -249,7 +249,7 @@ some_length : (us : List ℕ) → is_empty us ≡ false → 0 < length us
 some_length [] some = absurd cc
 some_length (u ∷ us) some = omega arith
 
--- What stands behind a token is shorter.
+-- The rest after a token is shorter.
 pub token_shorter : (size : ℕ) (us : List ℕ) (t : Token) (behind : List ℕ) → begins_space us ≡ false → token_from size us ≡ Some (t, behind) → length behind < length us
 token_shorter size us t behind apart e =
     let r = token_read size us t behind e in
@@ -258,7 +258,7 @@ token_shorter size us t behind apart e =
     let whole : length us ≡ length f.spelled + length behind = ap length f.parts ∙ length-append f.spelled behind in
     omega arith
 
--- White space and a comment, or white space alone, are left out.
+-- White space at the end is skipped, with a comment or without one.
 begin_end : (space behind : List ℕ) (at_start : Bool) → list_all is_space space ≡ true → (is_empty behind || begins_comment at_start space behind) ≡ true → begin_from at_start (space ++ behind) ≡ []
 unfolding begin_from
 begin_end [] [] at_start spaces e = refl
@@ -268,7 +268,7 @@ begin_end (s ∷ space) behind at_start spaces e =
     let both = and_parts (is_space s) (list_all is_space space) spaces in
     rw both.0 (begin_end space behind true both.1 (ap (λ (b : Bool). is_empty behind || b) (sym (anywhere at_start s space behind)) ∙ e))
 
--- White space in front of a token is left out.
+-- White space before a token is skipped.
 begin_again : (space us : List ℕ) (at_start : Bool) → list_all is_space space ≡ true → begins_comment at_start space us ≡ false → begins_space us ≡ false → begin_from at_start (space ++ us) ≡ us
 unfolding begin_from
 begin_again [] [] at_start spaces e apart = refl
@@ -280,7 +280,7 @@ begin_again (s ∷ space) us at_start spaces e apart =
 
 -- ---- Lines
 
--- What stands at the front of a token's spelling stands at the front of it with what follows.
+-- What follows the spelling of a token doesn't change its first units.
 same_front : (at_start : Bool) (space spelled behind : List ℕ) → is_empty spelled ≡ false → begins_comment at_start space (spelled ++ behind) ≡ begins_comment at_start space spelled
 same_front at_start space [] behind some = absurd cc
 same_front at_start space (u ∷ us) behind some = refl
@@ -324,7 +324,7 @@ token_step size most at_start place line space (u ∷ us) ts all parts spaces no
         let inside : length begun ≡ length spelled + length behind = ap length inner ∙ length-append spelled behind in
         (omega arith, omega arith, omega arith)
 
--- What is read as tokens is spelled so.
+-- Tokens that are read from a line spell it.
 tokens_found : (size most : ℕ) (at_start : Bool) (place : ℕ) (line : List ℕ) (ts : List Token) → size ≡ place + length line → tokens_from size most (begin_from at_start line) ≡ Some ts → Lexes at_start place line ts
 tokens_found size zero at_start place line ts all e =
     let b = begin_found at_start line in
@@ -339,7 +339,7 @@ tokens_found size (suc most) at_start place line ts all e =
       | inr (same, no_comment, apart, some) ↦ token_step size most at_start place line b.space b.behind ts all b.parts b.spaces no_comment apart some (tokens_found size most false) (rw (sym same) e)
     ]
 
--- One token, and those behind it.
+-- One token is read before the others.
 token_more : (size : ℕ) (t : Token) (ts : List Token) (most : ℕ) (spelled behind : List ℕ) → is_empty spelled ≡ false → token_from size (spelled ++ behind) ≡ Some (t, behind) → length spelled + length behind ≤ most
     → ((m : ℕ) → length behind ≤ m → tokens_from size m (begin_from false behind) ≡ Some ts) → tokens_from size most (spelled ++ behind) ≡ Some (t ∷ ts)
 unfolding tokens_from
@@ -347,7 +347,7 @@ token_more size t ts most [] behind some here fits later = absurd cc
 token_more size t ts zero (u ∷ us) behind some here fits later = absurd (omega arith)
 token_more size t ts (suc most) (u ∷ us) behind some here fits later = rw (here, later most (omega arith)) refl
 
--- What is spelled as tokens is read so.
+-- Tokens that spell a line are read from it.
 tokens_again : (size : ℕ) (ts : List Token) (most : ℕ) (at_start : Bool) (place : ℕ) (line : List ℕ) → Lexes at_start place line ts → size ≡ place + length line → length line ≤ most → tokens_from size most (begin_from at_start line) ≡ Some ts
 unfolding tokens_from
 tokens_again size [] zero at_start place line (space, behind, parts, spaces, end) all fits = rw (parts, begin_end space behind at_start spaces end) refl

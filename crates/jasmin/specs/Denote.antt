@@ -1,4 +1,4 @@
--- What a source means: a class of a program, in which a label stands for the number of instructions before it.
+-- Defines the meaning of a source: a class of a program, in which a label is the number of instructions before it.
 use Rattle.std.specs.Prelude.{ℕ, suc, Bool, true, false, not, ◌||◌, if◌then◌else◌, List, [], ◌∷◌, map, Option, Some, None, slice_get}
 use Rattle.std.specs.Option.{option_map, unwrap_or}
 use Rattle.jvms_file.specs.Names.{same_text, is_initializer_name}
@@ -44,17 +44,17 @@ use Rattle.jasmin.specs.declared.source.Source.{Source}
 
 -- ---- Labels
 
--- The number of instructions before a label, if it is defined.
+-- Returns the number of instructions before a label, if it is defined.
 abbrev pub label_place : List CodeItem → List ℕ → Option ℕ
 label_place [] label = None
 label_place (item.Label name ∷ items) label = if same_text name label then Some 0 else label_place items label
 label_place (item.Operation o ∷ items) label = option_map suc (label_place items label)
 
--- Where a label leads; what stands here for one that isn't defined is never seen.
+-- Returns the place of a label, or 0 for an undefined one, which no assembled source refers to.
 abbrev pub target : List CodeItem → List ℕ → ℕ
 target items label = unwrap_or (label_place items label) 0
 
--- The instructions of code, without its labels.
+-- Returns the instructions of code, without its labels.
 abbrev pub operations : List CodeItem → List Operation
 operations [] = []
 operations (item.Label name ∷ items) = operations items
@@ -62,7 +62,7 @@ operations (item.Operation o ∷ items) = o ∷ operations items
 
 -- ---- Instructions
 
--- The instruction that an opcode is alone; what stands here for another opcode is never seen.
+-- Returns the instruction of an opcode without operands. The value for any other opcode isn't used.
 abbrev pub simple_of : ℕ → Simple
 simple_of code = of_form (slice_get OPCODES code)
   where
@@ -75,7 +75,7 @@ loaded_constant (loaded.Integer n) = loadable.Integer n
 loaded_constant (loaded.String text) = loadable.String text
 loaded_constant (loaded.Class name) = loadable.Class name
 
--- An invokeinterface names a method of an interface, each other invoke one of a class.
+-- Decides whether an invoke instruction names a method of an interface. Only invokeinterface does.
 abbrev pub names_interface : Invoke → Bool
 names_interface invoke.Interface = true
 names_interface _ = false
@@ -114,7 +114,8 @@ abbrev pub handler_of : List CodeItem → CatchLine → ExceptionHandler
 handler_of items line =
     record { start = target items line.from; end = target items line.to; target = target items line.using; catch = catch_of line.caught }
 
--- A method that is native or abstract has no code, whatever stands in it; <clinit> has code whatever its flags.
+-- Decides whether a method has code. A native or abstract method has none, whatever its lines contain. `<clinit>` has
+-- code whatever its flags.
 abbrev pub has_code : List ℕ → ℕ → Bool
 has_code name access = is_initializer_name name || not (is_native access || is_abstract access)
 
@@ -140,7 +141,7 @@ constant_of (constant.Integer n) = loadable.Integer n
 constant_of (constant.Long n) = loadable.Long n
 constant_of (constant.String text) = loadable.String text
 
--- The fields of an interface count as static.
+-- Returns the field that a line declares. The fields of an interface count as static.
 abbrev pub field_of : Bool → FieldLine → Field
 field_of interface f =
     record {
@@ -152,7 +153,7 @@ field_of interface f =
       constant = option_map constant_of f.constant;
     }
 
--- The class of a program that a source means.
+-- Returns the class that a source denotes.
 unfoldable pub denote : Source → Class
 denote s =
     record {

@@ -1,9 +1,9 @@
--- What the parts of a line come to together: what they say, or the least of their faults.
+-- Defines how the judgements of the parts of a line are combined: their values, or the fault of the least number.
 use Rattle.std.specs.Prelude.{ℕ, Bool, nat_le, if◌then◌else◌, Result, Ok, Err}
 use Rattle.jasmin.specs.declared.statement.Flaw.{Flaw}
 use Rattle.jasmin.specs.declared.statement.Flaw.TheVariants as flaw
 
--- The number of a fault.
+-- Returns the number of a fault.
 abbrev pub number : Flaw → ℕ
 number flaw.Lexeme = 1
 number flaw.UnknownDirective = 2
@@ -20,26 +20,26 @@ number flaw.Missing = 11
 abbrev pub lesser : Flaw → Flaw → Flaw
 lesser f g = if nat_le (number f) (number g) then f else g
 
--- What a part says, or its fault.
+-- The judgement of a part of a line: its value, or its fault.
 abbrev pub Judged : Type 0 → Type 0
 Judged A = Result A Flaw
 
--- What two parts say, or the lesser of their faults.
+-- Returns the values of two judgements, or the fault of the lesser number.
 abbrev pub both : {A B : Type 0} → Judged A → Judged B → Judged (A × B)
 both (Ok a) (Ok b) = Ok (a, b)
 both (Ok a) (Err g) = Err g
 both (Err f) (Ok b) = Err f
 both (Err f) (Err g) = Err (lesser f g)
 
--- What is made of what a part says.
+-- Applies a function to the value of a judgement.
 abbrev pub said : {A B : Type 0} → (A → B) → Judged A → Judged B
 said make (Ok a) = Ok (make a)
 said make (Err f) = Err f
 
--- What a part says, to which nothing is added but the faults of another.
+-- Returns the value of the first judgement, or the fault of the lesser number of both.
 abbrev pub unless : {A : Type 0} → Judged A → Judged (Unit {0}) → Judged A
 unless a b = said (λ p. p.0) (both a b)
 
--- Nothing, or a fault.
+-- Returns no value if the test holds, or else the fault.
 abbrev pub asked : Bool → Flaw → Judged (Unit {0})
 asked test f = if test then Ok tt else Err f

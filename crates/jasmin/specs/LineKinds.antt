@@ -1,4 +1,4 @@
--- What a line is, by its first tokens.
+-- Defines the kind of a line, by its first tokens.
 use Rattle.std.specs.Prelude.{ℕ, Bool, true, false, not, ◌&&◌, if◌then◌else◌, List, [], ◌∷◌, Option, Some, None, position, Ok, Err, codes}
 use Rattle.jvms_file.specs.Names.{same_text, begins_with}
 use Rattle.jasmin.specs.declared.token.Lexeme.{Lexeme}
@@ -13,7 +13,7 @@ use Rattle.jasmin.specs.declared.statement.OpenSwitch.{OpenSwitch}
 use Rattle.jasmin.specs.declared.statement.OpenSwitch.TheVariants as open_switch
 use Rattle.jasmin.specs.Judgements.{Judged}
 
--- The directive of a word that begins with a dot.
+-- Returns the directive of this name, which begins with a dot.
 abbrev pub directive_named : List ℕ → Option Directive
 directive_named w =
     if same_text (codes ".bytecode") w then Some directive.Bytecode
@@ -32,7 +32,7 @@ directive_named w =
     else (if same_text (codes ".var") w then Some directive.Var
     else None)))))))))))))
 
--- The opcode of an instruction's name; `invokenonvirtual` is another name of invokespecial.
+-- Returns the opcode of a mnemonic. `invokenonvirtual` is another name of invokespecial.
 abbrev pub opcode_named : List ℕ → Option ℕ
 opcode_named w =
     if same_text (codes "invokenonvirtual") w then Some 183 else position (λ name. same_text name.now w) MNEMONICS
@@ -41,7 +41,7 @@ abbrev pub directive_kind : Option Directive → Judged LineKind
 directive_kind (Some d) = Ok (kind.Directive d)
 directive_kind None = Err flaw.UnknownDirective
 
--- What stands in an instruction's place.
+-- Returns the kind of a line whose instruction is this token.
 abbrev pub instruction_kind : (ℕ → LineKind) → Lexeme → Judged LineKind
 instruction_kind make (lexeme.Word w) = named (opcode_named w)
   where
@@ -50,14 +50,14 @@ instruction_kind make (lexeme.Word w) = named (opcode_named w)
     named None = Err flaw.UnknownInstruction
 instruction_kind make _ = Err flaw.UnknownInstruction
 
--- A line of code: a label, a label and an instruction, or an instruction.
+-- Returns the kind of a line of code: a label, a label and an instruction, or an instruction.
 abbrev pub code_kind : List Lexeme → Judged LineKind
 code_kind [] = Ok kind.Blank
 code_kind (lexeme.Word w ∷ lexeme.Colon ∷ []) = Ok kind.Label
 code_kind (lexeme.Word w ∷ lexeme.Colon ∷ t ∷ ts) = instruction_kind (λ code. kind.LabelledInstruction code) t
 code_kind (t ∷ ts) = instruction_kind (λ code. kind.Instruction code) t
 
--- Whether a line's first token is the word `default`.
+-- Decides whether a line's first token is the word `default`.
 abbrev pub is_default : List Lexeme → Bool
 is_default (lexeme.Word w ∷ ts) = same_text (codes "default") w
 is_default _ = false
@@ -66,19 +66,20 @@ abbrev pub is_alone : List Lexeme → Bool
 is_alone (t ∷ []) = true
 is_alone _ = false
 
--- The last line of a switch begins with `default`; in a tableswitch that word alone is a label.
+-- Returns the kind of a line of a switch. Its last line begins with `default`. In a tableswitch, that word and nothing
+-- else is a label.
 abbrev pub switch_kind : OpenSwitch → List Lexeme → LineKind
 switch_kind (open_switch.Table next) ts = if is_default ts && not (is_alone ts) then kind.Default else kind.Case
 switch_kind _ ts = if is_default ts then kind.Default else kind.Case
 
--- A line behind no directive.
+-- Returns the kind of a line without a directive.
 abbrev pub other_kind : OpenSwitch → List Lexeme → Judged LineKind
 other_kind open_switch.None ts = code_kind ts
 other_kind switch [] = Ok kind.Blank
 other_kind switch (t ∷ ts) = Ok (switch_kind switch (t ∷ ts))
 
--- The kind of a line, or the fault of its name. A line whose first token is a word that begins with a dot is a
--- directive's, wherever it stands.
+-- Returns the kind of a line, or the fault of its name. A line whose first token is a word that begins with a dot is a
+-- directive's, at any place.
 unfoldable pub kind_of : OpenSwitch → List Lexeme → Judged LineKind
 kind_of switch (lexeme.Word w ∷ ts) =
     if begins_with 46 w then directive_kind (directive_named w) else other_kind switch (lexeme.Word w ∷ ts)

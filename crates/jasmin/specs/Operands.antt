@@ -1,5 +1,4 @@
--- The operands of a line, each judged by its place, as many as are there. One that is missing, or is one too many, is
--- a fault of the operands.
+-- Judges the operands of a line, each by its place. A missing or superfluous operand is the fault Operand.
 use Rattle.std.specs.Prelude.{ℕ, ◌-◌, ◌^◌, Bool, false, not, ◌==◌, ◌&&◌, ◌||◌, nat_le, if◌then◌else◌, List, [], ◌∷◌, length, drop, Option, Some, None, is_some, Ok, Err, ℤ, pos, neg_ℤ, unsigned_abs, codes, bit_or}
 use Rattle.std.specs.Option.{option_and_then}
 use Rattle.std.specs.List.{list_any, before_first, before_last, after_last, position_or_len}
@@ -17,41 +16,41 @@ use Rattle.jasmin.specs.declared.statement.Flaw.TheVariants as flaw
 use Rattle.jasmin.specs.Numerals.{number_of, between}
 use Rattle.jasmin.specs.Judgements.{Judged, said, asked, unless}
 
--- So many operands, and no more.
+-- Judges the number of operands: exactly `n` are required.
 abbrev pub exactly : ℕ → List Lexeme → Judged (Unit {0})
 exactly n ts = asked (length ts == n) flaw.Operand
 
 -- ---- Words
 
--- A word's place takes no other token.
+-- Judges a place that requires a word, and returns the word.
 abbrev pub word_at : Option Lexeme → Judged (List ℕ)
 word_at (Some (lexeme.Word w)) = Ok w
 word_at _ = Err flaw.Operand
 
--- A word that passes a test, or a fault.
+-- Returns the word if it passes a test, or else the fault.
 abbrev pub tested : (List ℕ → Bool) → Flaw → Judged (List ℕ) → Judged (List ℕ)
 tested test f (Ok w) = if test w then Ok w else Err f
 tested test f (Err g) = Err g
 
--- The place of a word that is given.
+-- Judges a place that requires this word.
 abbrev pub keyword_at : List ℕ → Option Lexeme → Judged (Unit {0})
 keyword_at text t = said (λ w. tt) (tested (same_text text) flaw.Operand (word_at t))
 
 abbrev pub name_at : Option Lexeme → Judged (List ℕ)
 name_at t = tested is_name flaw.Name (word_at t)
 
--- A class's name, which is no array's.
+-- Judges a place that requires a class's name, which is no array's.
 abbrev pub class_name_at : Option Lexeme → Judged (List ℕ)
 class_name_at t = tested is_class_name flaw.Name (word_at t)
 
--- A class's name or an array's descriptor.
+-- Judges a place that requires a class's name or an array's descriptor.
 abbrev pub class_at : Option Lexeme → Judged (List ℕ)
 class_at t = tested is_class_entry_name flaw.Name (word_at t)
 
 abbrev pub field_descriptor_at : Option Lexeme → Judged (List ℕ)
 field_descriptor_at t = tested (λ w. is_some (field_type_of w)) flaw.Descriptor (word_at t)
 
--- A label begins with none of a digit, `+`, `-` and `.`.
+-- Decides whether a word is a label: it isn't empty and doesn't begin with a digit, `+`, `-` or `.`.
 abbrev pub is_label : List ℕ → Bool
 is_label [] = false
 is_label (u ∷ us) = not ((nat_le 48 u && nat_le u 57) || (u == 43 || (u == 45 || u == 46)))
@@ -61,7 +60,7 @@ label_at t = tested is_label flaw.Name (word_at t)
 
 -- ---- Numbers
 
--- The number that a word spells, if it stands from one to another; all else is a fault of the number.
+-- Returns the number that a word spells, if it is within the bounds. Any other word is the fault Number.
 abbrev pub judged_number : ℤ → ℤ → List ℕ → Judged ℤ
 judged_number least most w = given (option_and_then (between least most) (number_of w))
   where
@@ -69,13 +68,13 @@ judged_number least most w = given (option_and_then (between least most) (number
     given (Some n) = Ok n
     given None = Err flaw.Number
 
--- A number's place: any token that is none is a fault of the number.
+-- Judges a place that requires a number within the bounds. A token other than a word is the fault Number.
 abbrev pub number_at : ℤ → ℤ → Option Lexeme → Judged ℤ
 number_at least most (Some (lexeme.Word w)) = judged_number least most w
 number_at least most (Some _) = Err flaw.Number
 number_at least most None = Err flaw.Operand
 
--- Numbers of 8, 16, 32 and 64 bits with a sign.
+-- Judge places that require a signed number of 8, 16, 32 or 64 bits.
 abbrev pub i8_at : Option Lexeme → Judged ℤ
 i8_at t = number_at (neg_ℤ (pos (2 ^ 7))) (pos (2 ^ 7 - 1)) t
 
@@ -88,7 +87,7 @@ i32_at t = number_at (neg_ℤ (pos (2 ^ 31))) (pos (2 ^ 31 - 1)) t
 abbrev pub i64_at : Option Lexeme → Judged ℤ
 i64_at t = number_at (neg_ℤ (pos (2 ^ 63))) (pos (2 ^ 63 - 1)) t
 
--- Numbers of 8 and 16 bits without one.
+-- Judge places that require an unsigned number of 8 or 16 bits.
 abbrev pub u8_at : Option Lexeme → Judged ℕ
 u8_at t = said unsigned_abs (number_at (pos 0) (pos 255) t)
 
@@ -97,7 +96,7 @@ u16_at t = said unsigned_abs (number_at (pos 0) (pos 65535) t)
 
 -- ---- Members
 
--- `class/name` is cut at the last slash, before which the class stands.
+-- Split `class/name` at the last slash.
 abbrev pub is_slash : ℕ → Bool
 is_slash u = u == 47
 
@@ -107,11 +106,12 @@ class_of w = before_last is_slash w
 abbrev pub name_of : List ℕ → List ℕ
 name_of w = after_last is_slash w
 
--- Names as `class/name` gives them: a class or an array's, and a member's that passes a test.
+-- Decides whether a word is `class/name`, with the name of a class or an array's descriptor, and a member's name that
+-- passes a test.
 abbrev pub is_member : (List ℕ → Bool) → List ℕ → Bool
 is_member test w = list_any is_slash w && is_class_entry_name (class_of w) && test (name_of w)
 
--- `name(..)r` is cut before the first parenthesis.
+-- Split `name(..)r` before the first parenthesis.
 abbrev pub is_parenthesis : ℕ → Bool
 is_parenthesis u = u == 40
 
@@ -126,7 +126,7 @@ descriptor_of w = drop (position_or_len is_parenthesis w) w
 abbrev pub Access : Type 0
 Access = List (List ℕ × ℕ)
 
--- Of classes, fields and methods (JVMS tables 4.1-A, 4.5-A, 4.6-A).
+-- The access words of classes, fields and methods with their flags (JVMS tables 4.1-A, 4.5-A, 4.6-A).
 abbrev pub class_words : Access
 class_words = (codes "public", 1) ∷ (codes "final", 16) ∷ (codes "abstract", 1024) ∷ (codes "interface", 512) ∷ (codes "super", 32) ∷ []
 
@@ -140,7 +140,7 @@ field_words = member_words ((codes "volatile", 64) ∷ (codes "transient", 128) 
 abbrev pub method_words : Access
 method_words = member_words ((codes "synchronized", 32) ∷ (codes "native", 256) ∷ (codes "abstract", 1024) ∷ [])
 
--- The flag of a word, if it is one of these.
+-- Returns the flag of a word, if it is one of the access words.
 abbrev pub flag_of : Access → List ℕ → Option ℕ
 flag_of [] w = None
 flag_of ((word, flag) ∷ others) w = if same_text word w then Some flag else flag_of others w
@@ -149,7 +149,7 @@ abbrev pub flag_at : Access → Lexeme → Option ℕ
 flag_at words (lexeme.Word w) = flag_of words w
 flag_at words _ = None
 
--- The flags of all words that are some, with those before.
+-- Returns the flags so far, with those of all access words among the tokens.
 abbrev pub flags_with : Access → ℕ → List Lexeme → ℕ
 flags_with words before [] = before
 flags_with words before (t ∷ ts) = flags_with words (with_flag (flag_at words t)) ts
@@ -161,7 +161,7 @@ flags_with words before (t ∷ ts) = flags_with words (with_flag (flag_at words 
 abbrev pub flags_in : Access → List Lexeme → ℕ
 flags_in words ts = flags_with words 0 ts
 
--- A word's place: one of these words, which doesn't stand before.
+-- Judges a place that requires one of the access words, whose flag isn't set yet.
 abbrev pub access_word : Access → ℕ → Lexeme → Judged (Unit {0})
 access_word words before (lexeme.Word w) = asked (is_new (flag_of words w)) flaw.Flags
   where
@@ -170,25 +170,25 @@ access_word words before (lexeme.Word w) = asked (is_new (flag_of words w)) flaw
     is_new (Some flag) = not (has_flag flag before)
 access_word words before _ = Err flaw.Operand
 
--- Each is an access word, and none comes twice.
-abbrev pub access_words_behind : Access → ℕ → List Lexeme → Judged (Unit {0})
-access_words_behind words before [] = Ok tt
-access_words_behind words before (t ∷ ts) =
-    unless (access_word words before t) (access_words_behind words (flags_with words before (t ∷ [])) ts)
+-- Judges tokens that have to be access words. None repeats a flag that is set.
+abbrev pub access_words_after : Access → ℕ → List Lexeme → Judged (Unit {0})
+access_words_after words before [] = Ok tt
+access_words_after words before (t ∷ ts) =
+    unless (access_word words before t) (access_words_after words (flags_with words before (t ∷ [])) ts)
 
 abbrev pub access_words : Access → List Lexeme → Judged (Unit {0})
-access_words words ts = access_words_behind words 0 ts
+access_words words ts = access_words_after words 0 ts
 
 -- ---- Classes that a handler names
 
--- `all`, or a class's name or an array's descriptor.
+-- Judges a place that requires `all`, a class's name or an array's descriptor.
 abbrev pub caught_at : Option Lexeme → Judged Caught
 caught_at t = said caught_of (tested (λ w. same_text (codes "all") w || is_class_entry_name w) flaw.Name (word_at t))
   where
     caught_of : List ℕ → Caught
     caught_of w = if same_text (codes "all") w then caught.All else caught.Class w
 
--- The component type of a newarray (JVMS table 6.5.newarray-A), by its word.
+-- Returns the component type of a newarray by its word (JVMS table 6.5.newarray-A).
 abbrev pub array_type_of : List ℕ → Option ArrayType
 array_type_of w =
     if same_text (codes "boolean") w then Some array_type.Boolean

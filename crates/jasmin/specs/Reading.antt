@@ -1,5 +1,5 @@
--- A source, line by line: which statements stand where, and what they make together. Each line is judged by what the
--- lines before it have said; the first faulty line is answered, with the least number of its faults.
+-- Defines how a source is read line by line: where a statement is allowed, and what it adds. Each line is judged by the
+-- lines before it. The first faulty line is reported, with the fault of the least number.
 use Rattle.std.specs.Prelude.{ℕ, suc, Bool, true, false, not, ◌&&◌, ◌||◌, nat_le, if◌then◌else◌, List, [], ◌∷◌, ◌++◌, length, Option, Some, None, is_some, Result, Ok, Err, ℤ, pos, ◌+ℤ◌, codes}
 use Rattle.std.specs.Option.{option_map, unwrap_or}
 use Rattle.std.specs.List.{list_any}
@@ -46,13 +46,13 @@ use Rattle.jasmin.specs.Denote.{has_code}
 
 -- ---- What the lines before leave open
 
--- The value of the last match.
+-- Returns the value of the last match.
 abbrev pub last_value : List MatchLine → Option ℤ
 last_value [] = None
 last_value (m ∷ []) = Some m.value
 last_value (m ∷ n ∷ ms) = last_value (n ∷ ms)
 
--- A tableswitch with the value of its next label, a lookupswitch with its last value.
+-- Returns the open switch: a tableswitch with the value of its next label, or a lookupswitch with its last value.
 abbrev pub switch_of_lines : Option SwitchLines → OpenSwitch
 switch_of_lines None = open_switch.None
 switch_of_lines (Some (switch_lines.Table low labels)) = open_switch.Table (low +ℤ pos (length labels))
@@ -77,7 +77,7 @@ rank part.Super = 2
 rank part.Implements = 3
 rank part.Members = 4
 
--- The part that a directive outside of methods belongs to.
+-- Returns the part that a directive outside of methods belongs to.
 abbrev pub part_of : Directive → Option Part
 part_of directive.Bytecode = Some part.Beginning
 part_of directive.Source = Some part.Beginning
@@ -89,25 +89,26 @@ part_of directive.Field = Some part.Members
 part_of directive.Method = Some part.Members
 part_of _ = None
 
--- No statement of a later part has come, and behind the class stands what needs it.
+-- Decides whether a statement of a part is allowed: no later part has a statement, and all parts after the class follow
+-- the class.
 abbrev pub is_in_order : Part → Part → Bool
 is_in_order latest part = nat_le (rank latest) (rank part) && (nat_le (rank part) 1 || nat_le 1 (rank latest))
 
--- A directive of a part stands outside of methods, each other inside of one.
+-- Decides whether a directive is allowed at this place: one of a part outside of methods, any other inside a method.
 abbrev pub is_placed : Part → Bool → Option Part → Bool
 is_placed latest in_method (Some part) = not in_method && is_in_order latest part
 is_placed latest in_method None = in_method
 
--- A method that is native or abstract takes no instruction.
-abbrev pub takes_instructions : Option OpenMethod → Bool
-takes_instructions None = false
-takes_instructions (Some m) = has_code m.name m.access
+-- Decides whether the open method may have instructions. A native or abstract one may not, unless it is `<clinit>`.
+abbrev pub may_have_instructions : Option OpenMethod → Bool
+may_have_instructions None = false
+may_have_instructions (Some m) = has_code m.name m.access
 
 abbrev pub has_no_switch : OpenSwitch → Bool
 has_no_switch open_switch.None = true
 has_no_switch _ = false
 
--- The default of a tableswitch stands behind a label.
+-- Decides whether the open switch may have its default. That of a tableswitch follows at least one label.
 abbrev pub has_labels : Option OpenMethod → Bool
 has_labels (Some m) = of_lines m.switch
   where
@@ -116,15 +117,15 @@ has_labels (Some m) = of_lines m.switch
     of_lines _ = true
 has_labels None = true
 
--- Whether a line of a kind may stand here.
+-- Decides whether a line of a kind is allowed at this place.
 unfoldable pub is_in_place : Reading → LineKind → Bool
 is_in_place r kind.Blank = true
 is_in_place r (kind.Directive d) = has_no_switch (switch_of r) && is_placed r.part (is_some r.method) (part_of d)
 is_in_place r kind.Case = true
 is_in_place r kind.Default = has_labels r.method
 is_in_place r kind.Label = is_some r.method
-is_in_place r (kind.Instruction code) = takes_instructions r.method
-is_in_place r (kind.LabelledInstruction code) = takes_instructions r.method
+is_in_place r (kind.Instruction code) = may_have_instructions r.method
+is_in_place r (kind.LabelledInstruction code) = may_have_instructions r.method
 
 -- ---- What comes once
 
@@ -142,7 +143,7 @@ abbrev pub has_locals : Option OpenMethod → Bool
 has_locals None = false
 has_locals (Some m) = is_some m.max_locals
 
--- Whether a statement that may come once has come, or a member with this name and descriptor.
+-- Decides whether a statement that is allowed once is repeated, or a member with this name and descriptor exists.
 unfoldable pub is_repeated : Reading → Statement → Bool
 is_repeated r statement.Bytecode = r.has_bytecode
 is_repeated r statement.SourceFile = r.has_source
@@ -181,7 +182,7 @@ abbrev pub with_match : MatchLine → Option SwitchLines → Option SwitchLines
 with_match m (Some (switch_lines.Lookup matches)) = Some (switch_lines.Lookup (matches ++ m ∷ []))
 with_match m other = other
 
--- The switch that a default closes.
+-- Adds the switch that a default closes to the code.
 abbrev pub closed_switch : Option SwitchLines → List ℕ → OpenMethod → OpenMethod
 closed_switch (Some (switch_lines.Table low labels)) default m =
     record (with_item (item.Operation (operation.Table (record { low = low; labels = labels; default = default }))) m) { switch = None }
@@ -193,7 +194,7 @@ abbrev pub opened : ℕ → List ℕ → List ℕ → OpenMethod
 opened access name descriptor =
     record { access = access; name = name; descriptor = descriptor; throws = []; max_stack = None; max_locals = None; catches = []; code = []; switch = None }
 
--- Each limit is 1 where none has come.
+-- Returns the closed method. A limit that no line gives is 1.
 abbrev pub ended : OpenMethod → MethodLines
 ended m =
     record { access = m.access; name = m.name; descriptor = m.descriptor; throws = m.throws; max_stack = unwrap_or m.max_stack 1; max_locals = unwrap_or m.max_locals 1; catches = m.catches; code = m.code }
@@ -202,7 +203,7 @@ abbrev pub with_method : Option OpenMethod → Reading → Reading
 with_method None r = r
 with_method (Some m) r = record r { methods = r.methods ++ ended m ∷ []; method = None }
 
--- What the lines have said together with this one.
+-- Returns the state of the reader after this statement.
 unfoldable pub with_statement : Reading → Statement → Reading
 with_statement r statement.Blank = r
 with_statement r statement.Bytecode = record r { has_bytecode = true }
@@ -229,11 +230,11 @@ with_statement r (statement.LabelledInstruction label i) =
 
 -- ---- Lines
 
--- A statement that doesn't repeat another is added.
+-- Adds a statement that doesn't repeat another.
 abbrev pub added : Reading → Statement → Judged Reading
 added r s = if is_repeated r s then Err flaw.Repeated else Ok (with_statement r s)
 
--- A line of a kind that may stand here.
+-- Judges a line of a kind, and adds its statement.
 abbrev pub placed : Reading → LineKind → List Lexeme → Judged Reading
 placed r k ts = do
   _ ← asked (is_in_place r k) flaw.OutOfPlace
@@ -245,7 +246,7 @@ with_lexemes r ts = do
   k ← kind_of (switch_of r) ts
   placed r k ts
 
--- What the lines have said together with a line that is these units.
+-- Returns the state of the reader after a line of these units, or the line's fault.
 unfoldable pub with_line : Reading → List ℕ → Judged Reading
 with_line r line = lexed (tokens_of line)
   where
@@ -253,29 +254,30 @@ with_line r line = lexed (tokens_of line)
     lexed None = Err flaw.Lexeme
     lexed (Some ts) = with_lexemes r (lexemes ts)
 
--- Before the first line.
-abbrev pub nothing_read : Reading
-nothing_read =
+-- The state of the reader before the first line.
+abbrev pub empty_reading : Reading
+empty_reading =
     record { part = part.Beginning; has_bytecode = false; has_source = false; access = 0; name = None; superclass = None; interfaces = []; fields = []; methods = []; method = None }
 
--- The fault of a line with its number.
+-- Returns a line's fault with the line's number.
 abbrev pub at_line : {A : Type 0} → ℕ → Judged A → Result A (ℕ × Flaw)
 at_line n (Ok a) = Ok a
 at_line n (Err f) = Err (n, f)
 
--- The first fault, with the number of its line; `n` is that of the line before.
+-- Returns the state of the reader after these lines, or the first fault with the number of its line. `n` is the number
+-- of the line before them.
 unfoldable pub with_lines : ℕ → Reading → List (List ℕ) → Result Reading (ℕ × Flaw)
 with_lines n r [] = Ok r
 with_lines n r (line ∷ others) = do
   s ← at_line (suc n) (with_line r (units_of line))
   with_lines (suc n) s others
 
--- What is missing is missing from the last line, the first of a text without lines.
+-- Returns the number of the last line, and 1 for a text without lines. It is reported if something is missing.
 abbrev pub last_line : List (List ℕ) → ℕ
 last_line [] = 1
 last_line (line ∷ others) = length (line ∷ others)
 
--- A class has come, and no method is open.
+-- Returns the source, if it has a class and no method is open.
 abbrev pub finished : ℕ → Reading → Result Source (ℕ × Flaw)
 finished last r = of_parts r.name r.method
   where
@@ -284,8 +286,9 @@ finished last r = of_parts r.name r.method
         Ok (record { access = r.access; name = name; superclass = unwrap_or r.superclass (codes "java/lang/Object"); interfaces = r.interfaces; fields = r.fields; methods = r.methods })
     of_parts _ _ = Err (last, flaw.Missing)
 
--- The tree of a text, or the first faulty line, from 1, with the least number of its faults. Lines end at LF or CR LF.
+-- Returns the syntax tree of a text, or the number of the first faulty line, from 1, with the least number of its
+-- faults. Lines end at LF or CR LF.
 unfoldable pub source_of : List ℕ → Result Source (ℕ × Flaw)
 source_of text = do
-  r ← with_lines 0 nothing_read (lines text)
+  r ← with_lines 0 empty_reading (lines text)
   finished (last_line (lines text)) r

@@ -1,4 +1,5 @@
--- What a line says, by its operands. Each place is judged by itself, and the least fault is the line's.
+-- Defines the statement of a line by its operands. Each place is judged by itself, and the line's fault is the one of
+-- the least number.
 use Rattle.std.specs.Prelude.{not, ℕ, suc, ◌-◌, Bool, true, false, ◌==◌, ◌||◌, nat_le, if◌then◌else◌, List, [], ◌∷◌, length, take, drop, Option, Some, None, slice_get, Ok, Err, ℤ, pos, int_le, codes, bit_or}
 use Rattle.jvms_file.specs.Names.{same_text, is_name, is_method_name, is_initializer_name}
 use Rattle.jvms_file.specs.Descriptors.{is_class_entry_name}
@@ -44,7 +45,7 @@ use Rattle.jasmin.specs.Operands.{exactly, word_at, tested, keyword_at, name_at,
 
 -- ---- Directives outside of methods
 
--- `.bytecode M.N`, which is dropped.
+-- Judges the version of `.bytecode M.N`, which is dropped.
 abbrev pub version_at : Option Lexeme → Judged (Unit {0})
 version_at None = Err flaw.Operand
 version_at (Some (lexeme.Word w)) = asked (is_version w) flaw.Number
@@ -53,7 +54,7 @@ version_at (Some _) = Err flaw.Number
 unfoldable pub bytecode_line : List Lexeme → Judged Statement
 bytecode_line ts = said (λ _. statement.Bytecode) (both (version_at (slice_get ts 0)) (exactly 1 ts))
 
--- `.source` with one word or one text, which is dropped.
+-- Judges the operand of `.source`, a word or a text, which is dropped.
 abbrev pub file_at : Option Lexeme → Judged (Unit {0})
 file_at (Some (lexeme.Word w)) = Ok tt
 file_at (Some (lexeme.Text t)) = Ok tt
@@ -62,14 +63,14 @@ file_at _ = Err flaw.Operand
 unfoldable pub source_line : List Lexeme → Judged Statement
 source_line ts = said (λ _. statement.SourceFile) (both (file_at (slice_get ts 0)) (exactly 1 ts))
 
--- All but the last token, and the last.
+-- Returns all tokens but the last.
 abbrev pub but_last : List Lexeme → List Lexeme
 but_last ts = take (length ts - 1) ts
 
 abbrev pub last_of : List Lexeme → Option Lexeme
 last_of ts = slice_get ts (length ts - 1)
 
--- `.class` and `.interface`: access words, and the name; each adds flags.
+-- Judges `.class` or `.interface`, with access words and a name. The directive adds flags of its own.
 unfoldable pub class_line : ℕ → List Lexeme → Judged Statement
 class_line added ts =
     said
@@ -88,21 +89,21 @@ abbrev pub is_equals : Lexeme → Bool
 is_equals lexeme.Equals = true
 is_equals _ = false
 
--- What stands before the first `=`.
+-- Returns the tokens before the first `=`.
 abbrev pub field_head : List Lexeme → List Lexeme
 field_head [] = []
 field_head (t ∷ ts) = if is_equals t then [] else t ∷ field_head ts
 
--- What stands behind it, if there is one.
+-- Returns the tokens after the first `=`, if there is one.
 abbrev pub field_tail : List Lexeme → Option (List Lexeme)
 field_tail [] = None
 field_tail (t ∷ ts) = if is_equals t then Some ts else field_tail ts
 
--- A number of a field of type long, of 64 bits.
+-- Decides whether a field's type is long. Its constant is a number of 64 bits.
 abbrev pub is_long : List ℕ → Bool
 is_long descriptor = same_text descriptor (codes "J")
 
--- Types whose constants are ints.
+-- Decides whether a field's constant is an int.
 abbrev pub is_int_type : List ℕ → Bool
 is_int_type d =
     same_text d (codes "I") || (same_text d (codes "B") || (same_text d (codes "C") || (same_text d (codes "S") || same_text d (codes "Z"))))
@@ -110,7 +111,7 @@ is_int_type d =
 abbrev pub is_string_type : List ℕ → Bool
 is_string_type d = same_text d (codes "Ljava/lang/String;")
 
--- A number of 32 bits, of an int's field.
+-- Judges a number of 32 bits, the constant of a field of such a type.
 abbrev pub int_constant : List ℕ → Judged ℤ → Judged FieldConstant
 int_constant descriptor (Ok n) = if is_int_type descriptor then Ok (constant.Integer n) else Err flaw.Operand
 int_constant descriptor (Err f) = Err f
@@ -123,17 +124,17 @@ constant_at descriptor (Some (lexeme.Text t)) =
     if is_string_type descriptor then Ok (constant.String t) else Err flaw.Operand
 constant_at descriptor _ = Err flaw.Operand
 
--- Behind `=`: one value.
+-- Judges what follows `=`, which is exactly one value.
 abbrev pub constant_in : List ℕ → Option (List Lexeme) → Judged (Option FieldConstant)
 constant_in descriptor None = Ok None
 constant_in descriptor (Some ts) = said (λ c. Some c) (unless (constant_at descriptor (slice_get ts 0)) (exactly 1 ts))
 
--- The units of a word, or none.
+-- Returns the units of a word, or none for another token.
 abbrev pub word_or_none : Option Lexeme → List ℕ
 word_or_none (Some (lexeme.Word w)) = w
 word_or_none _ = []
 
--- The head ends with a name and a descriptor; before them stand access words.
+-- Returns the access words of a field. A name and a descriptor follow them in the field's head.
 abbrev pub field_access : List Lexeme → List Lexeme
 field_access head = take (length head - 2) head
 
@@ -151,12 +152,12 @@ field_line ts =
 
 -- ---- Methods
 
--- A method of an interface is abstract, but for <clinit>.
+-- Decides whether the flags of a method are allowed. A method of an interface is abstract, except `<clinit>`.
 abbrev pub is_permitted : ClassSort → ℕ → List ℕ → Bool
 is_permitted sort.Class access name = true
 is_permitted sort.Interface access name = is_abstract access || is_initializer_name name
 
--- `name(..)r`; `this` counts unless the method is static or <clinit>.
+-- Judges `name(..)r`. The arguments include `this` unless the method is static or `<clinit>`.
 abbrev pub method_head_at : ClassSort → ℕ → Judged (List ℕ) → Judged (List ℕ × List ℕ)
 method_head_at sort access (Err f) = Err f
 method_head_at sort access (Ok w) =
@@ -176,7 +177,7 @@ method_line sort ts =
 unfoldable pub end_line : List Lexeme → Judged Statement
 end_line ts = said (λ _. statement.EndMethod) (both (keyword_at (codes "method") (slice_get ts 0)) (exactly 1 ts))
 
--- `.limit stack n` and `.limit locals n`.
+-- Judges the first operand of `.limit`, `stack` or `locals`, and decides whether it is `stack`.
 abbrev pub limit_at : Option Lexeme → Judged Bool
 limit_at t = said (λ w. same_text (codes "stack") w) (tested (λ w. same_text (codes "stack") w || same_text (codes "locals") w) flaw.Operand (word_at t))
 
@@ -186,27 +187,27 @@ limit_line ts =
     (λ p. if p.0 then statement.MaxStack p.1 else statement.MaxLocals p.1)
     (unless (both (limit_at (slice_get ts 0)) (u16_at (slice_get ts 1))) (exactly 2 ts))
 
--- A label behind a word that is given.
-abbrev pub label_behind : List ℕ → List Lexeme → ℕ → Judged (List ℕ)
-label_behind text ts n = unless (label_at (slice_get ts (suc n))) (keyword_at text (slice_get ts n))
+-- Judges a given word and the label that follows it.
+abbrev pub label_after : List ℕ → List Lexeme → ℕ → Judged (List ℕ)
+label_after text ts n = unless (label_at (slice_get ts (suc n))) (keyword_at text (slice_get ts n))
 
--- `.catch C from A to B using H`.
+-- Judges `.catch C from A to B using H`.
 unfoldable pub catch_line : List Lexeme → Judged Statement
 catch_line ts =
     said
     (λ p. statement.Catch (record { caught = p.0; from = p.1.0; to = p.1.1.0; using = p.1.1.1 }))
     (unless
-    (both (caught_at (slice_get ts 0)) (both (label_behind (codes "from") ts 1) (both (label_behind (codes "to") ts 3) (label_behind (codes "using") ts 5))))
+    (both (caught_at (slice_get ts 0)) (both (label_after (codes "from") ts 1) (both (label_after (codes "to") ts 3) (label_after (codes "using") ts 5))))
     (exactly 7 ts))
 
 unfoldable pub throws_line : List Lexeme → Judged Statement
 throws_line ts = said (λ name. statement.Throws name) (unless (class_at (slice_get ts 0)) (exactly 1 ts))
 
--- `.line n`, which is dropped.
+-- Judges `.line n`, which is dropped.
 unfoldable pub line_line : List Lexeme → Judged Statement
 line_line ts = said (λ _. statement.Dropped) (both (u16_at (slice_get ts 0)) (exactly 1 ts))
 
--- `.var n is name descriptor from A to B`, which is dropped.
+-- Judges `.var n is name descriptor from A to B`, which is dropped.
 unfoldable pub var_line : List Lexeme → Judged Statement
 var_line ts =
     said
@@ -214,7 +215,7 @@ var_line ts =
     (unless
     (both (both (u16_at (slice_get ts 0)) (keyword_at (codes "is") (slice_get ts 1)))
     (both (both (name_at (slice_get ts 2)) (field_descriptor_at (slice_get ts 3)))
-    (both (label_behind (codes "from") ts 4) (label_behind (codes "to") ts 6))))
+    (both (label_after (codes "from") ts 4) (label_after (codes "to") ts 6))))
     (exactly 8 ts))
 
 abbrev pub directive_line : Directive → ClassSort → List Lexeme → Judged Statement
@@ -238,11 +239,11 @@ directive_line directive.Var sort ts = var_line ts
 abbrev pub whole : Judged Operation → Judged Instruction
 whole o = said (λ o. instruction.Whole o) o
 
--- One operand, and no more.
+-- Judges a line with a single operand.
 abbrev pub alone : {A : Type 0} → (Option Lexeme → Judged A) → List Lexeme → Judged A
 alone at ts = unless (at (slice_get ts 0)) (exactly 1 ts)
 
--- `ldc`: a text, a word that is a number, or else a class.
+-- Judges the constant of `ldc`: a text, a word that is a number, or else a class.
 abbrev pub loaded_word : List ℕ → Option ℤ → Judged LoadedConstant
 loaded_word w (Some n) = said (λ n. loaded.Integer n) (i32_at (Some (lexeme.Word w)))
 loaded_word w None = said (λ name. loaded.Class name) (class_at (Some (lexeme.Word w)))
@@ -262,7 +263,7 @@ increment_operation ts =
 unfoldable pub branch_operation : BranchWidth → Branch → List Lexeme → Judged Operation
 branch_operation width how ts = said (λ label. operation.Branch width how label) (alone label_at ts)
 
--- `class/name` and a descriptor.
+-- Judges `class/name` and a descriptor.
 unfoldable pub field_operation : FieldUse → List Lexeme → Judged Operation
 field_operation how ts =
     said
@@ -271,7 +272,8 @@ field_operation how ts =
     (both (tested (is_member is_name) flaw.Name (word_at (slice_get ts 0))) (field_descriptor_at (slice_get ts 1)))
     (exactly 2 ts))
 
--- A method's name in an invoke may begin with an angle bracket in <init> alone, called by invokespecial (JVMS 4.9.1).
+-- Judges the method of an invoke instruction. Of the names with an angle bracket, only `<init>` is allowed, and only
+-- for invokespecial (JVMS 4.9.1).
 abbrev pub named_method : Invoke → List ℕ → Judged (List ℕ × List ℕ)
 named_method how w =
     unless
@@ -280,12 +282,13 @@ named_method how w =
     (tested (is_method_descriptor_for true) flaw.Descriptor (Ok (descriptor_of w))))
     (asked (is_invocable_name how (name_of (before_descriptor w))) flaw.Operand)
 
--- `class/name(..)r`
+-- Judges a place that requires `class/name(..)r`.
 abbrev pub method_at : Invoke → Option Lexeme → Judged (List ℕ × List ℕ)
 method_at how (Some (lexeme.Word w)) = named_method how w
 method_at how _ = Err flaw.Operand
 
--- Behind an invokeinterface: the units of the arguments with the object, where the descriptor is one.
+-- Decides whether the count of an invokeinterface is the number of units of its arguments with the object (JVMS 4.3.3).
+-- Any count passes if the descriptor is malformed.
 abbrev pub is_count : ℕ → Option ℕ → Bool
 is_count n None = true
 is_count n (Some units) = n == units
@@ -294,18 +297,19 @@ abbrev pub counted_at : List ℕ → Judged ℕ → Judged (Unit {0})
 counted_at descriptor (Ok n) = asked (is_count n (interface_count (Some ([], descriptor)))) flaw.Operand
 counted_at descriptor (Err f) = Err f
 
-abbrev pub behind_method : Invoke → List Lexeme → Judged (Unit {0})
-behind_method invoke.Interface ts =
+abbrev pub operands_after_method : Invoke → List Lexeme → Judged (Unit {0})
+operands_after_method invoke.Interface ts =
     unless (counted_at (descriptor_of (word_or_none (slice_get ts 0))) (u8_at (slice_get ts 1))) (exactly 2 ts)
-behind_method _ ts = exactly 1 ts
+operands_after_method _ ts = exactly 1 ts
 
 unfoldable pub invoke_operation : Invoke → List Lexeme → Judged Operation
 invoke_operation how ts =
     said
     (λ p. operation.Invoke how (record { class = class_of p.0; name = name_of p.0; descriptor = p.1 }))
-    (unless (method_at how (slice_get ts 0)) (behind_method how ts))
+    (unless (method_at how (slice_get ts 0)) (operands_after_method how ts))
 
--- No array for new, whether or not the word is a class's name; at most 254 dimensions for anewarray (JVMS 6.5).
+-- Decides whether a word names a class that the instruction takes: new takes no array, and anewarray at most 254
+-- dimensions (JVMS 6.5). A malformed name passes for all but new.
 abbrev pub is_usable_word : ClassUse → List ℕ → Bool
 is_usable_word class_use.New w = is_usable_class class_use.New w
 is_usable_word how w = not (is_class_entry_name w) || is_usable_class how w
@@ -321,7 +325,7 @@ class_operation how ts =
 unfoldable pub new_array_operation : List Lexeme → Judged Operation
 new_array_operation ts = said (λ type. operation.NewArray type) (alone array_type_at ts)
 
--- At least one dimension, and no more than the word has (JVMS 6.5).
+-- Judges a number of dimensions: at least one, and at most those of the class (JVMS 6.5).
 abbrev pub dimensions_at : List ℕ → Judged ℕ → Judged ℕ
 dimensions_at name (Ok n) = if is_dimensions n (Some name) then Ok n else Err flaw.Operand
 dimensions_at name (Err f) = Err f
@@ -334,7 +338,7 @@ multi_new_array_operation ts =
     (both (class_at (slice_get ts 0)) (dimensions_at (word_or_none (slice_get ts 0)) (u8_at (slice_get ts 1))))
     (exactly 2 ts))
 
--- The instruction of an opcode with such operands. No name leads to `wide` or to the opcode that these versions lack.
+-- Judges the operands of an instruction. No mnemonic names `wide`, or the opcode 186 that these versions lack.
 abbrev pub instruction_with : ℕ → Opcode → List Lexeme → Judged Instruction
 instruction_with code (opcode.Alone s) ts = whole (said (λ _. operation.Alone code) (exactly 0 ts))
 instruction_with code opcode.PushByte ts = whole (said (λ n. operation.PushByte n) (alone i8_at ts))
@@ -356,7 +360,7 @@ instruction_with code opcode.MultiNewArray ts = whole (multi_new_array_operation
 instruction_with code opcode.Wide ts = Err flaw.UnknownInstruction
 instruction_with code opcode.Reserved ts = Err flaw.UnknownInstruction
 
--- The instruction of an opcode's number.
+-- Judges the operands of the instruction of an opcode.
 unfoldable pub instruction_line : ℕ → List Lexeme → Judged Instruction
 instruction_line code ts = of_form (slice_get OPCODES code)
   where
@@ -366,7 +370,7 @@ instruction_line code ts = of_form (slice_get OPCODES code)
 
 -- ---- Lines of a switch
 
--- The greatest value of a tableswitch is an int's.
+-- Judges a line of a tableswitch, which is a label. The value of the label fits an int.
 unfoldable pub table_line : ℤ → List Lexeme → Judged Statement
 table_line next ts =
     said
@@ -377,11 +381,11 @@ abbrev pub colon_at : Option Lexeme → Judged (Unit {0})
 colon_at (Some lexeme.Colon) = Ok tt
 colon_at _ = Err flaw.Operand
 
--- A label behind a colon, from a place on, and nothing behind it.
-abbrev pub label_behind_colon : List Lexeme → Judged (List ℕ)
-label_behind_colon ts = unless (unless (label_at (slice_get ts 2)) (colon_at (slice_get ts 1))) (exactly 3 ts)
+-- Judges a colon and a label, the second and third of exactly three tokens.
+abbrev pub label_after_colon : List Lexeme → Judged (List ℕ)
+label_after_colon ts = unless (unless (label_at (slice_get ts 2)) (colon_at (slice_get ts 1))) (exactly 3 ts)
 
--- Strictly above the line before.
+-- Judges a value that has to be above that of the line before.
 abbrev pub rising_at : Option ℤ → Judged ℤ → Judged ℤ
 rising_at last (Ok n) = if is_above last n then Ok n else Err flaw.Operand
 rising_at last (Err f) = Err f
@@ -390,24 +394,25 @@ unfoldable pub match_line : Option ℤ → List Lexeme → Judged Statement
 match_line last ts =
     said
     (λ p. statement.Match (record { value = p.0; label = p.1 }))
-    (both (rising_at last (i32_at (slice_get ts 0))) (label_behind_colon ts))
+    (both (rising_at last (i32_at (slice_get ts 0))) (label_after_colon ts))
 
 abbrev pub case_line : OpenSwitch → List Lexeme → Judged Statement
 case_line open_switch.None ts = Err flaw.OutOfPlace
 case_line (open_switch.Table next) ts = table_line next ts
 case_line (open_switch.Lookup last) ts = match_line last ts
 
--- Its first token is the word.
+-- Judges the default of a switch, whose first token is the word `default`.
 unfoldable pub default_line : List Lexeme → Judged Statement
-default_line ts = said (λ label. statement.Default label) (label_behind_colon ts)
+default_line ts = said (λ label. statement.Default label) (label_after_colon ts)
 
 -- ---- A line
 
--- The label before an instruction.
+-- Judges the label before an instruction.
 abbrev pub label_line : List Lexeme → Judged (List ℕ)
 label_line ts = label_at (slice_get ts 0)
 
--- What a line of a kind says, where the lines before have begun a class of a sort and left a switch open or none.
+-- Returns the statement of a line of a kind, or its fault. The lines before it have begun a class of this sort, and may
+-- have left a switch open.
 unfoldable pub statement_of : ClassSort → OpenSwitch → LineKind → List Lexeme → Judged Statement
 statement_of sort switch kind.Blank ts = Ok statement.Blank
 statement_of sort switch (kind.Directive d) ts = directive_line d sort (drop 1 ts)

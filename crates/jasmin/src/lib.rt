@@ -1,5 +1,6 @@
-//! Jasmin's own terms: plain data that the crates of sources share, and in `specs/` the definitions that their
-//! contracts cite. What is Jasmin here is this project's profile; where another assembler differs, this decides.
+//! The syntax of Jasmin sources: plain data that the crates of the assembler share. `specs/` has the definitions that
+//! their contracts cite. The language is this project's own profile of Jasmin. Where another assembler differs, the
+//! definitions here decide.
 #![tactic(auto)]
 
 pub mod laws;

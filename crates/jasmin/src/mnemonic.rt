@@ -1,7 +1,7 @@
 //! The names of instructions (JVMS 6.5).
 
-/// The names by opcode, from 0, as `jvms_file::insn::OPCODES` numbers them. Opcode 186 has none; `wide` is no instruction by
-/// itself, and its name stands in no source.
+/// The mnemonics by opcode, from 0, in the order of `jvms_file::insn::OPCODES`. Opcode 186 has none. Neither has `wide`
+/// (196), which no source names.
 pub const MNEMONICS: [&str; 202] = [
     "nop",
     "aconst_null",

@@ -1,10 +1,10 @@
-//! What the lines of a source have said so far.
+//! The state of the reader of a source, after some of its lines.
 
 use crate::source::{CatchLine, CodeItem, FieldLine, MatchLine, MethodLines};
-use held::items::Items;
-use held::shared::Text;
+use shared_data::items::Items;
+use shared_data::shared::Text;
 
-/// The parts of a source, in their order: the statements of one don't stand behind those of a later one.
+/// A part of a source. No statement of a part follows one of a later part.
 #[derive(Clone, Copy, Debug, PartialEq, Eq)]
 pub enum Part {
     /// `.bytecode` and `.source`.
@@ -24,37 +24,37 @@ pub enum SwitchLines {
     Lookup { matches: Items<MatchLine> },
 }
 
-/// A method whose end hasn't come.
+/// A method before its `.end method`.
 #[derive(Drop)]
 pub struct OpenMethod {
     pub access: u16,
     pub name: Text,
     pub descriptor: Text,
     pub throws: Items<Text>,
-    /// Once `.limit stack` has come.
+    /// The limit of the operand stack, if `.limit stack` gives it.
     pub max_stack: Option<u16>,
-    /// Once `.limit locals` has come.
+    /// The number of local variables, if `.limit locals` gives it.
     pub max_locals: Option<u16>,
     pub catches: Items<CatchLine>,
     pub code: Items<CodeItem>,
     pub switch: Option<SwitchLines>,
 }
 
-/// What the lines so far have said.
+/// The state of the reader: what the lines so far have stated.
 #[derive(Drop)]
 pub struct Reading {
-    /// The latest part of which a statement has come.
+    /// The latest part that has a statement.
     pub part: Part,
     pub has_bytecode: bool,
     pub has_source: bool,
-    /// The flags of the class; 0 until it has come.
+    /// The access flags of the class, or 0 before the line of the class.
     pub access: u16,
-    /// The class's name, once it has come.
+    /// The class's name, present after the line of the class.
     pub name: Option<Text>,
     pub superclass: Option<Text>,
     pub interfaces: Items<Text>,
     pub fields: Items<FieldLine>,
-    /// The methods whose end has come.
+    /// The methods that `.end method` has closed.
     pub methods: Items<MethodLines>,
     pub method: Option<OpenMethod>,
 }

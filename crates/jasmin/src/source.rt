@@ -1,9 +1,9 @@
-//! A source as a tree: one class, whose instructions are kept as they are spelled. A text is the list of its 16-bit
-//! units.
+//! The syntax tree of a source: one class, with its instructions as they are spelled. A text is the list of its UTF-16
+//! code units.
 
-use held::boxed::Boxed;
-use held::items::Items;
-use held::shared::Text;
+use shared_data::boxed::Boxed;
+use shared_data::items::Items;
+use shared_data::shared::Text;
 use jvms_file::insn::{ArrayType, Branch, ClassUse, FieldUse, Invoke, LocalUse};
 
 /// A field that an instruction names.
@@ -22,7 +22,7 @@ pub struct MethodName {
     pub descriptor: Text,
 }
 
-/// What `ldc` and `ldc_w` load.
+/// A constant that `ldc` or `ldc_w` loads.
 #[derive(Debug, Drop)]
 pub enum LoadedConstant {
     Integer(i32),
@@ -30,16 +30,16 @@ pub enum LoadedConstant {
     Class(Text),
 }
 
-/// Which of the two is written.
+/// The choice between `ldc` and `ldc_w`.
 #[derive(Clone, Copy, Debug, PartialEq, Eq)]
 pub enum ConstantWidth {
-    /// `ldc`: becomes `ldc_w` where its entry's number is above 255.
+    /// `ldc`: assembled as `ldc_w` if the index of its pool entry is above 255.
     AsNeeded,
     /// `ldc_w`.
     Wide,
 }
 
-/// Which offset a branch is written with.
+/// The width of a branch's offset.
 #[derive(Clone, Copy, Debug, PartialEq, Eq)]
 pub enum BranchWidth {
     /// Two bytes.
@@ -48,7 +48,7 @@ pub enum BranchWidth {
     Wide,
 }
 
-/// The lines of a `tableswitch`: the value `low + k` leads to the label number k.
+/// The lines of a `tableswitch`. The value `low + k` jumps to label k of `labels`, from 0.
 #[derive(Debug, Drop)]
 pub struct TableLines {
     pub low: i32,
@@ -63,17 +63,17 @@ pub struct MatchLine {
     pub label: Text,
 }
 
-/// The lines of a `lookupswitch`, by rising value.
+/// The lines of a `lookupswitch`, by increasing value.
 #[derive(Debug, Drop)]
 pub struct LookupLines {
     pub matches: Items<MatchLine>,
     pub default: Text,
 }
 
-/// An instruction as it is spelled, by the operands of its opcode.
+/// An instruction as it is spelled, with the operands of its opcode.
 #[derive(Drop)]
 pub enum Operation {
-    /// An instruction without operands, by its opcode.
+    /// An instruction without operands, with its opcode.
     Alone(u8),
     /// `bipush`.
     PushByte(i8),
@@ -81,11 +81,12 @@ pub enum Operation {
     PushShort(i16),
     /// `ldc`, `ldc_w`.
     Constant(ConstantWidth, Boxed<LoadedConstant>),
-    /// `ldc2_w`.
+    /// `ldc2_w` with a number of type long.
     ConstantLong(i64),
-    /// A load, a store or `ret` with a local's number; `wide` is added where that is above 255.
+    /// A load, a store or `ret`, with the number of a local variable. `wide` is added if the number is above 255.
     Local(LocalUse, u16),
-    /// `iinc`; `wide` is added where the local's number is above 255 or the other one takes more than a byte.
+    /// `iinc` with a local variable's number and an increment. `wide` is added if the number is above 255 or the
+    /// increment doesn't fit a signed byte.
     Increment(u16, i16),
     Branch(BranchWidth, Branch, Text),
     Table(Boxed<TableLines>),
@@ -99,22 +100,22 @@ pub enum Operation {
     MultiNewArray(Text, u8),
 }
 
-/// What stands in a method's code.
+/// An item of a method's code.
 #[derive(Drop)]
 pub enum CodeItem {
-    /// Names the place of the operation that follows, or of the code's end.
+    /// The name of the place of the next operation, or of the code's end.
     Label(Text),
     Operation(Operation),
 }
 
-/// What a `.catch` names.
+/// The exceptions that a `.catch` names.
 #[derive(Debug, Drop)]
 pub enum Caught {
     All,
     Class(Text),
 }
 
-/// A `.catch`: from one label to another, handled at a third.
+/// A `.catch`: the labels of its range and of its handler.
 #[derive(Debug, Drop)]
 pub struct CatchLine {
     pub caught: Caught,
@@ -123,18 +124,18 @@ pub struct CatchLine {
     pub using: Text,
 }
 
-/// The value of a field.
+/// The constant value of a field.
 #[derive(Debug, Drop)]
 pub enum FieldConstant {
-    /// Of a field of type int, byte, char, short or boolean, in which range is not judged.
+    /// The value of a field of type int, byte, char, short or boolean. It may be outside the range of the field's type.
     Integer(i32),
-    /// Of a field of type long.
+    /// The value of a field of type long.
     Long(i64),
-    /// Of a field of type String.
+    /// The value of a field of type String.
     String(Text),
 }
 
-/// A `.field`.
+/// A `.field` line.
 #[derive(Debug, Drop)]
 pub struct FieldLine {
     pub access: u16,
@@ -143,7 +144,7 @@ pub struct FieldLine {
     pub constant: Option<FieldConstant>,
 }
 
-/// A `.method` up to its `.end method`.
+/// A method, from `.method` to `.end method`.
 #[derive(Drop)]
 pub struct MethodLines {
     pub access: u16,

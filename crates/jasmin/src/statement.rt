@@ -1,13 +1,13 @@
-//! What one line of a source says, and the faults that a line may have.
+//! The kinds and statements of the lines of a source, and the faults that a line may have.
 
 use crate::source::{CatchLine, FieldLine, MatchLine, Operation};
-use held::shared::Text;
+use shared_data::shared::Text;
 use thiserror::Error;
 
-/// What is wrong with a source, by number: a line that has several faults is given that of the least number.
+/// A fault of a source, by number. A line with several faults reports the one of the least number.
 #[derive(Clone, Copy, Debug, PartialEq, Eq, Error)]
 pub enum Flaw {
-    /// A text isn't closed on its line, or a backslash in one begins no escape.
+    /// A text isn't closed on its line, or a backslash in a text begins no escape.
     #[error("J01 Lexeme")]
     Lexeme,
     /// No directive has this name.
@@ -16,25 +16,25 @@ pub enum Flaw {
     /// No instruction has this name.
     #[error("J03 UnknownInstruction")]
     UnknownInstruction,
-    /// The statement may not stand here.
+    /// The statement isn't allowed at this place.
     #[error("J04 OutOfPlace")]
     OutOfPlace,
-    /// No number stands where one has to, or it is out of range.
+    /// A token isn't a number where one is required, or the number is out of range.
     #[error("J05 Number")]
     Number,
-    /// An operand is missing, is one too many, or has a wrong form.
+    /// An operand is missing, superfluous or malformed.
     #[error("J06 Operand")]
     Operand,
-    /// A name or a label is out of its form.
+    /// A name or a label is malformed.
     #[error("J07 Name")]
     Name,
-    /// A descriptor is out of its form.
+    /// A descriptor is malformed.
     #[error("J08 Descriptor")]
     Descriptor,
-    /// An access word isn't one of its kind or comes twice, or a method of an interface isn't abstract.
+    /// An access word isn't one of its kind or is repeated, or a method of an interface isn't abstract.
     #[error("J09 Flags")]
     Flags,
-    /// A statement that may come once comes again, or a member with this name and descriptor is there.
+    /// A statement that is allowed once is repeated, or a member with this name and descriptor exists.
     #[error("J10 Repeated")]
     Repeated,
     /// The class, the end of a method or the default of a switch is missing.
@@ -53,7 +53,7 @@ pub enum Directive {
     Implements,
     Field,
     Method,
-    /// `.end`, behind which `method` has to stand.
+    /// `.end`, which `method` has to follow.
     End,
     Limit,
     Catch,
@@ -62,23 +62,23 @@ pub enum Directive {
     Var,
 }
 
-/// What a line is, before its operands are judged. An instruction is given by its opcode.
+/// The kind of a line, before its operands are judged. An instruction has its opcode.
 #[derive(Clone, Copy, Debug, PartialEq, Eq)]
 pub enum LineKind {
-    /// White space and comments alone.
+    /// White space and comments only.
     Blank,
     Directive(Directive),
-    /// Within a switch: a line but that of the default.
+    /// A line of a switch other than its default.
     Case,
-    /// Within a switch.
+    /// The default of a switch.
     Default,
-    /// `Name :` alone.
+    /// `Name :` and nothing else.
     Label,
     Instruction(u8),
     LabelledInstruction(u8),
 }
 
-/// What the lines before leave open, as far as the operands of a line depend on it.
+/// The switch that the lines before leave open, as far as the operands of a line depend on it.
 #[derive(Clone, Copy, Debug, PartialEq, Eq)]
 pub enum OpenSwitch {
     /// No switch is open.
@@ -89,15 +89,15 @@ pub enum OpenSwitch {
     Lookup { last: Option<i32> },
 }
 
-/// Which sort of class the lines before have begun.
+/// The sort of class that the lines before have begun.
 #[derive(Clone, Copy, Debug, PartialEq, Eq)]
 pub enum ClassSort {
     Class,
-    /// Its methods have to be abstract.
+    /// An interface: its methods have to be abstract, except `<clinit>`.
     Interface,
 }
 
-/// What an instruction's line says: a switch goes on in the lines that follow.
+/// The statement of an instruction's line. A switch continues in the lines that follow.
 #[derive(Drop)]
 pub enum Instruction {
     Whole(Operation),
@@ -106,15 +106,15 @@ pub enum Instruction {
     Lookup,
 }
 
-/// What a line says.
+/// The statement of a line.
 #[derive(Drop)]
 pub enum Statement {
     Blank,
-    /// `.bytecode`: dropped.
+    /// `.bytecode`, which is dropped.
     Bytecode,
-    /// `.source`: dropped.
+    /// `.source`, which is dropped.
     SourceFile,
-    /// `.class` or `.interface`, with the flags that it adds.
+    /// `.class` or `.interface`, with all its access flags.
     Class {
         access: u16,
         name: Text,
@@ -132,7 +132,7 @@ pub enum Statement {
     MaxLocals(u16),
     Catch(CatchLine),
     Throws(Text),
-    /// `.line` and `.var`: dropped.
+    /// `.line` or `.var`, which is dropped.
     Dropped,
     /// A line of a `tableswitch`.
     TableLabel(Text),

@@ -1,24 +1,24 @@
-//! What a line of a source is made of.
+//! The tokens of a line of a source.
 
-use held::items::Items;
+use shared_data::items::Items;
 
-/// What a token is.
+/// The kind of a token, with the UTF-16 code units of a word or a text.
 #[derive(Debug, PartialEq, Eq, Drop)]
 pub enum Lexeme {
-    /// A run without white space, quotes, colons and equals signs.
+    /// A run of units without white space, quotes, colons and equals signs.
     Word(Items<u16>),
-    /// What stands between quotes, each escape as the unit that it stands for.
+    /// The units between quotes. Each escape is replaced by the unit that it denotes.
     Text(Items<u16>),
     Colon,
     Equals,
 }
 
-/// A token of a line, and where it stands in it, in 16-bit units from the line's first.
+/// A token of a line, and its place: numbers of UTF-16 code units from the line's start.
 #[derive(Debug, PartialEq, Eq, Drop)]
 pub struct Token {
     pub lexeme: Lexeme,
-    /// Its first unit.
+    /// The place of its first unit.
     pub start: usize,
-    /// The unit behind its last.
+    /// The place after its last unit.
     pub end: usize,
 }

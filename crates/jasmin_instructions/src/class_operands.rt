@@ -1,4 +1,4 @@
-//! The operands that name classes (JVMS 6.5 new, anewarray, checkcast, instanceof, multianewarray).
+//! Judges the operands that name classes (JVMS 6.5 `new`, `anewarray`, `checkcast`, `instanceof`, `multianewarray`).
 
 ghost use Rattle.std.specs.Prelude.{◌≡◌, Some, slice_get};
 ghost use Rattle.jvms_file.specs.Instructions.{is_usable_class, is_dimensions};
@@ -21,10 +21,10 @@ use jasmin_operands::{
 use jvms_file::insn::ClassUse;
 use std::alloc::Global;
 
-/// The most dimensions of an array whose class `anewarray` takes (JVMS 6.5 anewarray).
+/// The most dimensions of a class that `anewarray` takes (JVMS 6.5 `anewarray`).
 const MOST_DIMENSIONS: usize = 254;
 
-/// Whether a class of this name may be used so.
+/// Decides whether an instruction takes a class of this name.
 fn is_usable_class(how: ClassUse, name: &[u16]) -> bool
     ensures { result ≡ is_usable_class how name.now }
 {
@@ -35,7 +35,7 @@ fn is_usable_class(how: ClassUse, name: &[u16]) -> bool
     }
 }
 
-/// Whether a word may be used so: no array for `new`, and no name of a class that may not be for the others.
+/// Decides whether a word may name a class that the instruction takes. A malformed name passes for all but `new`.
 fn is_usable_word(how: ClassUse, word: &[u16]) -> bool
     ensures { result ≡ is_usable_word how word.now }
 {
@@ -47,7 +47,7 @@ fn is_usable_word(how: ClassUse, word: &[u16]) -> bool
     }
 }
 
-/// A class that may be used so.
+/// Judges the class of an instruction, its only operand.
 fn class_parts(how: ClassUse, tokens: &[Token]) -> Judged<&[u16]>
     ensures { let ts = lexemes tokens.now in
         said (λ w. w.now) result
@@ -61,7 +61,11 @@ fn class_parts(how: ClassUse, tokens: &[Token]) -> Judged<&[u16]>
     word_unless(class, exactly(1, tokens))
 }
 
-/// JVMS 6.5 new, anewarray, checkcast, instanceof.
+/// Judges the operand of JVMS 6.5 `new`, `anewarray`, `checkcast`, `instanceof`.
+///
+/// # Errors
+///
+/// Returns the fault of the least number, or `Memory` if memory ran out.
 #[tactic(auto, unfolding(jasmin::specs::Statements::class_operation))]
 pub(crate) fn class_operation(
     alloc: Global,
@@ -74,14 +78,15 @@ pub(crate) fn class_operation(
     Ok(Operation::Class(how, text(alloc, name)?))
 }
 
-/// Whether a class of this name has so many dimensions, of which there is one at least (JVMS 6.5 multianewarray).
+/// Decides whether `count` dimensions are allowed for a class of this name: at least one, and at most those of the
+/// class (JVMS 6.5 `multianewarray`).
 fn is_dimensions(count: u8, name: &[u16]) -> bool
     ensures { result ≡ is_dimensions count (Some name.now) }
 {
     count > 0 && usize::from(count) <= dimensions_of(name)
 }
 
-/// The dimensions of a `multianewarray`.
+/// Judges the dimensions of a `multianewarray`.
 fn dimensions_at(name: &[u16], count: Judged<u8>) -> Judged<u8>
     ensures { result ≡ dimensions_at name.now count }
 {
@@ -93,7 +98,7 @@ fn dimensions_at(name: &[u16], count: Judged<u8>) -> Judged<u8>
     }
 }
 
-/// The second operand of a `multianewarray`: no more dimensions than the first has.
+/// Judges the second operand of a `multianewarray`, the number of dimensions.
 fn dimensions(tokens: &[Token]) -> Judged<u8>
     ensures { let ts = lexemes tokens.now in
         result ≡ dimensions_at (word_or_none (slice_get ts 0)) (u8_at (slice_get ts 1)) }
@@ -101,7 +106,7 @@ fn dimensions(tokens: &[Token]) -> Judged<u8>
     dimensions_at(word_or_none(operand(tokens, 0)), u8_at(operand(tokens, 1)))
 }
 
-/// The class and the dimensions of a `multianewarray`.
+/// Judges the class and the dimensions of a `multianewarray`.
 #[tactic(auto, using(jasmin_operands::proofs::Judgements::said_both))]
 fn multi_at(tokens: &[Token]) -> Judged<(&[u16], u8)>
     ensures { let ts = lexemes tokens.now in
@@ -111,7 +116,7 @@ fn multi_at(tokens: &[Token]) -> Judged<(&[u16], u8)>
     both(class_at(operand(tokens, 0)), dimensions(tokens))
 }
 
-/// The class and the dimensions of a `multianewarray`, and no more.
+/// Judges the class and the dimensions of a `multianewarray`, its only operands.
 #[tactic(auto, using(jasmin_operands::proofs::Judgements::said_unless))]
 fn multi_parts(tokens: &[Token]) -> Judged<(&[u16], u8)>
     ensures { let ts = lexemes tokens.now in
@@ -121,7 +126,11 @@ fn multi_parts(tokens: &[Token]) -> Judged<(&[u16], u8)>
     unless(multi_at(tokens), exactly(2, tokens))
 }
 
-/// JVMS 6.5 multianewarray.
+/// Judges the operands of JVMS 6.5 `multianewarray`.
+///
+/// # Errors
+///
+/// Returns the fault of the least number, or `Memory` if memory ran out.
 #[tactic(auto, unfolding(jasmin::specs::Statements::multi_new_array_operation))]
 pub(crate) fn multi_new_array_operation(
     alloc: Global,

@@ -1,4 +1,4 @@
-//! The operands of `ldc` and `ldc_w`.
+//! Judges the operands of `ldc` and `ldc_w`.
 
 ghost use Rattle.std.specs.Prelude.{◌≡◌, IfOk};
 ghost use Rattle.std.specs.Option.{option_map};
@@ -11,41 +11,41 @@ ghost use Rattle.jasmin_instructions.specs.Views.{loaded_of};
 
 use crate::fault::LineFault;
 use crate::texts::text;
-use held::boxed::Boxed;
+use shared_data::boxed::Boxed;
 use jasmin::source::{ConstantWidth, LoadedConstant, Operation};
 use jasmin::statement::Flaw;
 use jasmin::token::{Lexeme, Token};
 use jasmin_operands::{Judged, class_at, exactly, i32_at, operand, spells_number, unless};
 use std::alloc::{AllocError, Global};
 
-/// What is loaded, as its line lends it.
+/// A constant that is loaded, borrowed from its line.
 #[derive(Clone, Copy, Drop)]
-pub(crate) enum LentOperand<'a> {
+pub(crate) enum BorrowedConstant<'a> {
     Integer(i32),
     String(&'a [u16]),
     Class(&'a [u16]),
 }
 
-/// A number that is loaded.
-fn loaded_number(lexeme: Option<&Lexeme>) -> Judged<LentOperand<'_>>
+/// Judges the number that is loaded.
+fn loaded_number(lexeme: Option<&Lexeme>) -> Judged<BorrowedConstant<'_>>
     ensures { said loaded_of result ≡ said (λ n. LoadedConstant.Integer n) (i32_at (option_map (λ l. l.now) lexeme.entry)) }
 {
-    Ok(LentOperand::Integer(i32_at(lexeme)?))
+    Ok(BorrowedConstant::Integer(i32_at(lexeme)?))
 }
 
-/// A class that is loaded.
-fn loaded_class(lexeme: Option<&Lexeme>) -> Judged<LentOperand<'_>>
+/// Judges the class that is loaded.
+fn loaded_class(lexeme: Option<&Lexeme>) -> Judged<BorrowedConstant<'_>>
     ensures { said loaded_of result ≡ said (λ name. LoadedConstant.Class name) (class_at (option_map (λ l. l.now) lexeme.entry)) }
 {
-    Ok(LentOperand::Class(class_at(lexeme)?))
+    Ok(BorrowedConstant::Class(class_at(lexeme)?))
 }
 
-/// What is loaded: a text, a word that is a number, or else a class.
-fn loaded_at(lexeme: Option<&Lexeme>) -> Judged<LentOperand<'_>>
+/// Judges the constant that is loaded: a text, a word that is a number, or else a class.
+fn loaded_at(lexeme: Option<&Lexeme>) -> Judged<BorrowedConstant<'_>>
     ensures { said loaded_of result ≡ loaded_at (option_map (λ l. l.now) lexeme.entry) }
 {
     match lexeme {
-        Some(Lexeme::Text(units)) => Ok(LentOperand::String(units.as_slice())),
+        Some(Lexeme::Text(units)) => Ok(BorrowedConstant::String(units.as_slice())),
         Some(Lexeme::Word(word)) => {
             if spells_number(word.as_slice()) {
                 loaded_number(lexeme)
@@ -57,26 +57,30 @@ fn loaded_at(lexeme: Option<&Lexeme>) -> Judged<LentOperand<'_>>
     }
 }
 
-/// The only operand of a load.
+/// Judges the only operand of a load.
 #[tactic(auto, using(jasmin_operands::proofs::Judgements::said_unless))]
-fn loaded(tokens: &[Token]) -> Judged<LentOperand<'_>>
+fn loaded(tokens: &[Token]) -> Judged<BorrowedConstant<'_>>
     ensures { said loaded_of result ≡ alone loaded_at (lexemes tokens.now) }
 {
     unless(loaded_at(operand(tokens, 0)), exactly(1, tokens))
 }
 
-/// What is loaded, as a value of its own.
-fn loaded_of(alloc: Global, operand: LentOperand<'_>) -> Result<LoadedConstant, AllocError>
+/// Returns the constant that is loaded, with its own memory.
+fn loaded_of(alloc: Global, operand: BorrowedConstant<'_>) -> Result<LoadedConstant, AllocError>
     ensures { IfOk result (λ c. c ≡ loaded_of operand.entry) }
 {
     match operand {
-        LentOperand::Integer(number) => Ok(LoadedConstant::Integer(number)),
-        LentOperand::String(units) => Ok(LoadedConstant::String(text(alloc, units)?)),
-        LentOperand::Class(name) => Ok(LoadedConstant::Class(text(alloc, name)?)),
+        BorrowedConstant::Integer(number) => Ok(LoadedConstant::Integer(number)),
+        BorrowedConstant::String(units) => Ok(LoadedConstant::String(text(alloc, units)?)),
+        BorrowedConstant::Class(name) => Ok(LoadedConstant::Class(text(alloc, name)?)),
     }
 }
 
-/// JVMS 6.5 ldc, ldc_w.
+/// Judges the operand of JVMS 6.5 `ldc`, `ldc_w`.
+///
+/// # Errors
+///
+/// Returns the fault of the least number, or `Memory` if memory ran out.
 #[tactic(auto, unfolding(jasmin::specs::Statements::constant_operation))]
 pub(crate) fn constant_operation(
     alloc: Global,

@@ -1,4 +1,4 @@
-//! Why a line says nothing.
+//! The faults of a line that has no statement.
 
 ghost use Rattle.std.specs.Prelude.{◌≡◌};
 ghost use Rattle.jasmin_instructions.specs.declared.fault.LineFault.TheVariants as fault;
@@ -6,12 +6,12 @@ ghost use Rattle.jasmin_instructions.specs.declared.fault.LineFault.TheVariants 
 use jasmin::statement::Flaw;
 use std::alloc::AllocError;
 
-/// Why a line says nothing.
+/// A fault of a line that has no statement.
 #[derive(Clone, Copy, Debug, Drop)]
 pub enum LineFault {
-    /// The least of its faults.
+    /// The fault of the least number.
     Flaw(Flaw),
-    /// There was no memory for what it says.
+    /// Memory ran out.
     Memory,
 }
 

@@ -1,4 +1,4 @@
-//! The operands that name fields (JVMS 6.5 getstatic, putstatic, getfield, putfield).
+//! Judges the operands that name fields (JVMS 6.5 `getstatic`, `putstatic`, `getfield`, `putfield`).
 
 ghost use Rattle.std.specs.Prelude.{◌≡◌, slice_get};
 ghost use Rattle.std.specs.Option.{option_map};
@@ -13,7 +13,7 @@ ghost use Rattle.jasmin_instructions.specs.Views.{two_texts};
 use crate::fault::LineFault;
 use crate::parts::{two_words, two_words_unless};
 use crate::texts::text;
-use held::boxed::Boxed;
+use shared_data::boxed::Boxed;
 use jasmin::source::{FieldName, Operation};
 use jasmin::statement::Flaw;
 use jasmin::token::{Lexeme, Token};
@@ -24,7 +24,7 @@ use jasmin_operands::{
 use jvms_file::insn::FieldUse;
 use std::alloc::Global;
 
-/// `class/name` of a field.
+/// Judges a place that requires `class/name` of a field.
 fn member_at(lexeme: Option<&Lexeme>) -> Judged<&[u16]>
     ensures { said (λ w. w.now) result ≡ tested (is_member is_name) Flaw.Name (word_at (option_map (λ l. l.now) lexeme.entry)) }
 {
@@ -33,7 +33,7 @@ fn member_at(lexeme: Option<&Lexeme>) -> Judged<&[u16]>
     Ok(word)
 }
 
-/// `class/name` of a field, and behind it its descriptor.
+/// Judges `class/name` of a field, and the descriptor that follows it.
 fn field_at(tokens: &[Token]) -> Judged<(&[u16], &[u16])>
     ensures { let ts = lexemes tokens.now in
         said two_texts result
@@ -45,7 +45,7 @@ fn field_at(tokens: &[Token]) -> Judged<(&[u16], &[u16])>
     )
 }
 
-/// `class/name` of a field and its descriptor, and no more.
+/// Judges `class/name` of a field and its descriptor, the only operands.
 fn field_parts(tokens: &[Token]) -> Judged<(&[u16], &[u16])>
     ensures { let ts = lexemes tokens.now in
         said two_texts result
@@ -54,7 +54,11 @@ fn field_parts(tokens: &[Token]) -> Judged<(&[u16], &[u16])>
     two_words_unless(field_at(tokens), exactly(2, tokens))
 }
 
-/// JVMS 6.5 getstatic, putstatic, getfield, putfield.
+/// Judges the operands of JVMS 6.5 `getstatic`, `putstatic`, `getfield`, `putfield`.
+///
+/// # Errors
+///
+/// Returns the fault of the least number, or `Memory` if memory ran out.
 #[tactic(auto, unfolding(jasmin::specs::Statements::field_operation))]
 pub(crate) fn field_operation(
     alloc: Global,

@@ -1,4 +1,4 @@
-//! Instructions, by the operands that their opcodes take.
+//! Judges the operands of instructions, by the form of their opcodes.
 
 ghost use Rattle.std.specs.Prelude.{◌≡◌};
 ghost use Rattle.jasmin.specs.Lexing.{lexemes};
@@ -25,7 +25,7 @@ use jasmin_operands::{
 use jvms_file::insn::{Branch, Opcode};
 use std::alloc::Global;
 
-/// JVMS 6.5 iinc.
+/// Judges the operands of JVMS 6.5 `iinc`.
 #[tactic(auto, unfolding(jasmin::specs::Statements::increment_operation))]
 fn increment_operation(tokens: &[Token]) -> Judged<Operation>
     ensures { result ≡ increment_operation (lexemes tokens.now) }
@@ -35,7 +35,8 @@ fn increment_operation(tokens: &[Token]) -> Judged<Operation>
     Ok(Operation::Increment(local, by))
 }
 
-/// JVMS 6.5 if_acmp<cond>, if_icmp<cond>, if<cond>, ifnonnull, ifnull, goto, jsr, goto_w, jsr_w.
+/// Judges the operand of JVMS 6.5 `if_acmp<cond>`, `if_icmp<cond>`, `if<cond>`, `ifnonnull`, `ifnull`, `goto`, `jsr`,
+/// `goto_w`, `jsr_w`.
 #[tactic(auto, unfolding(jasmin::specs::Statements::branch_operation))]
 fn branch_operation(
     alloc: Global,
@@ -49,7 +50,7 @@ fn branch_operation(
     Ok(Operation::Branch(width, how, text(alloc, label)?))
 }
 
-/// JVMS 6.5 newarray.
+/// Judges the operand of JVMS 6.5 `newarray`.
 #[tactic(auto, unfolding(jasmin::specs::Statements::new_array_operation))]
 fn new_array_operation(tokens: &[Token]) -> Judged<Operation>
     ensures { result ≡ new_array_operation (lexemes tokens.now) }
@@ -58,7 +59,7 @@ fn new_array_operation(tokens: &[Token]) -> Judged<Operation>
     Ok(Operation::NewArray(component))
 }
 
-/// The instruction of an opcode with such operands.
+/// Judges the operands of an opcode of this form.
 fn instruction_with(
     alloc: Global,
     code: u8,
@@ -98,12 +99,12 @@ fn instruction_with(
     Ok(Instruction::Whole(operation))
 }
 
-/// The instruction of an opcode's number, by its operands, or the least of their faults.
+/// Judges the operands of an opcode, and returns its instruction.
 ///
 /// # Errors
 ///
-/// `Flaw` where the operands aren't those of the opcode, with `UnknownInstruction` where the number is no opcode's;
-/// `Memory` where there is no memory for the instruction.
+/// Returns the `Flaw` of the least number if the operands aren't those of the opcode. It is `UnknownInstruction` if the
+/// number is no opcode's. Returns `Memory` if memory ran out.
 #[tactic(auto, unfolding(jasmin::specs::Statements::instruction_line))]
 pub fn instruction_line(alloc: Global, code: u8, tokens: &[Token]) -> Result<Instruction, LineFault>
     ensures { Says result (instruction_line code (lexemes tokens.now)) }

@@ -1,4 +1,5 @@
-//! The operands that name methods (JVMS 6.5 invokevirtual, invokespecial, invokestatic, invokeinterface).
+//! Judges the operands that name methods (JVMS 6.5 `invokevirtual`, `invokespecial`, `invokestatic`,
+//! `invokeinterface`).
 
 ghost use Rattle.std.specs.Prelude.{◌≡◌, true, [], Ok, Some, slice_get};
 ghost use Rattle.std.specs.Option.{option_map};
@@ -8,7 +9,7 @@ ghost use Rattle.jvms_file.specs.Instructions.{is_invocable_name, interface_coun
 ghost use Rattle.jasmin.specs.Lexing.{lexemes};
 ghost use Rattle.jasmin.specs.Judgements.{said, unless};
 ghost use Rattle.jasmin.specs.Operands.{tested, is_member, before_descriptor, descriptor_of};
-ghost use Rattle.jasmin.specs.Statements.{named_method, method_at, is_count, counted_at, behind_method, invoke_operation};
+ghost use Rattle.jasmin.specs.Statements.{named_method, method_at, is_count, counted_at, operands_after_method, invoke_operation};
 ghost use Rattle.jasmin_instructions.specs.Saying.{Says};
 ghost use Rattle.jasmin_instructions.specs.Views.{two_texts};
 
@@ -17,7 +18,7 @@ use crate::fault::LineFault;
 use crate::parts::{two_words, two_words_unless};
 use crate::texts::text;
 use descriptor::{is_constructor_name, method_units};
-use held::boxed::Boxed;
+use shared_data::boxed::Boxed;
 use jasmin::source::{MethodName, Operation};
 use jasmin::statement::Flaw;
 use jasmin::token::{Lexeme, Token};
@@ -28,17 +29,17 @@ use jasmin_operands::{
 use jvms_file::insn::Invoke;
 use std::alloc::Global;
 
-/// What `<init>` and `<clinit>` begin with (JVMS 2.9).
+/// The first unit of `<init>` and `<clinit>` (JVMS 2.9).
 const ANGLE: u16 = b'<' as u16;
 
-/// Whether a name begins with an angle bracket.
+/// Decides whether a name begins with an angle bracket.
 fn is_special_name(name: &[u16]) -> bool
     ensures { result ≡ begins_with 60 name.now }
 {
     matches!(name, [ANGLE, ..])
 }
 
-/// Whether a method of this name may be called so (JVMS 4.9.1).
+/// Decides whether an instruction may invoke a method of this name (JVMS 4.9.1).
 fn is_invocable_name(how: Invoke, name: &[u16]) -> bool
     ensures { result ≡ is_invocable_name how name.now }
 {
@@ -48,7 +49,7 @@ fn is_invocable_name(how: Invoke, name: &[u16]) -> bool
     }
 }
 
-/// `class/name` of a method, by the word that has its descriptor too.
+/// Judges `class/name` in the word of a method.
 fn method_member(word: &[u16]) -> Judged<&[u16]>
     ensures { said (λ w. w.now) result ≡ tested (is_member is_method_name) Flaw.Name (Ok (before_descriptor word.now)) }
 {
@@ -57,7 +58,7 @@ fn method_member(word: &[u16]) -> Judged<&[u16]>
     Ok(member)
 }
 
-/// A method's descriptor, by the word that has `class/name` too.
+/// Judges the descriptor in the word of a method.
 fn method_descriptor(word: &[u16]) -> Judged<&[u16]>
     ensures { said (λ w. w.now) result ≡ tested (is_method_descriptor_for true) Flaw.Descriptor (Ok (descriptor_of word.now)) }
 {
@@ -66,7 +67,7 @@ fn method_descriptor(word: &[u16]) -> Judged<&[u16]>
     Ok(descriptor)
 }
 
-/// `class/name` of a method, and its descriptor, by the word that has both, where it may be called so.
+/// Judges `class/name` and the descriptor in the word of a method that the instruction may invoke.
 fn named_method(how: Invoke, word: &[u16]) -> Judged<(&[u16], &[u16])>
     ensures { said two_texts result ≡ named_method how word.now }
 {
@@ -77,14 +78,15 @@ fn named_method(how: Invoke, word: &[u16]) -> Judged<(&[u16], &[u16])>
     )
 }
 
-/// `class/name` of a method, and its descriptor.
+/// Judges a place that requires `class/name` of a method, directly followed by its descriptor.
 fn method_at(how: Invoke, lexeme: Option<&Lexeme>) -> Judged<(&[u16], &[u16])>
     ensures { said two_texts result ≡ method_at how (option_map (λ l. l.now) lexeme.entry) }
 {
     named_method(how, word_at(lexeme)?)
 }
 
-/// Whether a count is that of the units of the arguments with the object, where the descriptor is one.
+/// Decides whether a count is the number of units of the arguments with the object (JVMS 4.3.3). Any count passes if
+/// the descriptor is malformed.
 fn is_count(count: u8, descriptor: &[u16]) -> bool
     ensures { result ≡ is_count count (interface_count (Some ([], descriptor.now))) }
 {
@@ -94,16 +96,16 @@ fn is_count(count: u8, descriptor: &[u16]) -> bool
     }
 }
 
-/// The count of an `invokeinterface`, which is that of its descriptor.
+/// Judges the count of an `invokeinterface`, which is that of its descriptor.
 fn counted_at(descriptor: &[u16], count: Judged<u8>) -> Judged<()>
     ensures { result ≡ counted_at descriptor.now count }
 {
     asked(is_count(count?, descriptor), Flaw::Operand)
 }
 
-/// What stands behind the method of an invoke: the count of an `invokeinterface`, or nothing.
-fn behind_method(how: Invoke, tokens: &[Token]) -> Judged<()>
-    ensures { result ≡ behind_method how (lexemes tokens.now) }
+/// Judges what follows the method: the count of an `invokeinterface`, or nothing.
+fn operands_after_method(how: Invoke, tokens: &[Token]) -> Judged<()>
+    ensures { result ≡ operands_after_method how (lexemes tokens.now) }
 {
     match how {
         Invoke::Interface => {
@@ -117,17 +119,21 @@ fn behind_method(how: Invoke, tokens: &[Token]) -> Judged<()>
     }
 }
 
-/// `class/name` of a method, and its descriptor, where the other operands are what they have to be.
+/// Judges all operands of an invoke instruction, and returns `class/name` and the descriptor.
 fn method_parts(how: Invoke, tokens: &[Token]) -> Judged<(&[u16], &[u16])>
-    ensures { said two_texts result ≡ unless (method_at how (slice_get (lexemes tokens.now) 0)) (behind_method how (lexemes tokens.now)) }
+    ensures { said two_texts result ≡ unless (method_at how (slice_get (lexemes tokens.now) 0)) (operands_after_method how (lexemes tokens.now)) }
 {
     two_words_unless(
         method_at(how, operand(tokens, 0)),
-        behind_method(how, tokens),
+        operands_after_method(how, tokens),
     )
 }
 
-/// JVMS 6.5 invokevirtual, invokespecial, invokestatic, invokeinterface.
+/// Judges the operands of JVMS 6.5 `invokevirtual`, `invokespecial`, `invokestatic`, `invokeinterface`.
+///
+/// # Errors
+///
+/// Returns the fault of the least number, or `Memory` if memory ran out.
 #[tactic(auto, unfolding(jasmin::specs::Statements::invoke_operation))]
 pub(crate) fn invoke_operation(
     alloc: Global,

@@ -1,5 +1,5 @@
-//! What the line of an instruction says: by its opcode the operands that it takes. Each place is judged by itself, and
-//! the least fault is the line's. Beside it stands what the lines of directives and switches are judged with too.
+//! Judges the line of an instruction by the operands that its opcode takes. Each place is judged by itself, and the
+//! line's fault is the one of the least number. The functions that judge directives and switches too are public.
 #![tactic(auto)]
 
 mod class_operands;

@@ -1,18 +1,18 @@
-//! What an opcode's operands are.
+//! Finds the form of an opcode's operands.
 
 ghost use Rattle.std.specs.Prelude.{◌≡◌, slice_get};
 ghost use Rattle.jvms_file.specs.declared.insn.TheConstants.{OPCODES as table};
 
 use jvms_file::insn::{OPCODES, Opcode};
 
-/// The entry of a code, if there is one.
+/// Returns the entry of an opcode, if there is one.
 fn entry_of(entries: &[Opcode], code: u8) -> Option<Opcode>
     ensures { result ≡ slice_get entries.now code }
 {
     entries.get(usize::from(code)).copied()
 }
 
-/// What the operands of an opcode are, if the code is an opcode.
+/// Returns the form of an opcode's operands, if the code is an opcode.
 pub(crate) fn form_of(code: u8) -> Option<Opcode>
     ensures { result ≡ slice_get table code }
 {

@@ -1,4 +1,4 @@
-//! Words of a line that the tokens lend, judged together.
+//! Combines the judgements of words that are borrowed from the tokens.
 
 ghost use Rattle.std.specs.Prelude.{◌≡◌};
 ghost use Rattle.jasmin.specs.Lexing.{lexemes};
@@ -9,21 +9,21 @@ ghost use Rattle.jasmin_instructions.specs.Views.{two_texts};
 use jasmin::token::Token;
 use jasmin_operands::{Judged, both, exactly, unless};
 
-/// A word, to which nothing is added but the faults of another part.
+/// Returns the word, or the fault of the lesser number of both judgements.
 pub fn word_unless(word: Judged<&[u16]>, other: Judged<()>) -> Judged<&[u16]>
     ensures { said (λ w. w.now) result ≡ unless (said (λ w. w.now) word.entry) other }
 {
     unless(word, other)
 }
 
-/// A word that is the only operand.
+/// Judges a word that has to be the only operand.
 pub fn alone<'a>(word: Judged<&'a [u16]>, tokens: &[Token]) -> Judged<&'a [u16]>
     ensures { said (λ w. w.now) result ≡ unless (said (λ w. w.now) word.entry) (exactly 1 (lexemes tokens.now)) }
 {
     word_unless(word, exactly(1, tokens))
 }
 
-/// Two words.
+/// Returns two words, or the fault of the lesser number.
 pub fn two_words<'a>(
     first: Judged<&'a [u16]>,
     second: Judged<&'a [u16]>,
@@ -33,7 +33,7 @@ pub fn two_words<'a>(
     both(first, second)
 }
 
-/// Two words, to which nothing is added but the faults of another part.
+/// Returns the two words, or the fault of the lesser number of both judgements.
 #[tactic(auto, using(jasmin_operands::proofs::Judgements::said_unless))]
 pub fn two_words_unless<'a>(
     words: Judged<(&'a [u16], &'a [u16])>,

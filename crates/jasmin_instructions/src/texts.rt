@@ -1,12 +1,12 @@
-//! Texts of their own.
+//! Copies the units of a text.
 
 ghost use Rattle.std.specs.Prelude.{◌≡◌, IfOk};
 
-use held::items::Items;
-use held::shared::{Shared, Text};
+use shared_data::items::Items;
+use shared_data::shared::{Shared, Text};
 use std::alloc::{AllocError, Global};
 
-/// A text of these units.
+/// Returns a new text of these units.
 pub fn text(alloc: Global, units: &[u16]) -> Result<Text, AllocError>
     ensures { IfOk result (λ t. t ≡ units.now) }
 {

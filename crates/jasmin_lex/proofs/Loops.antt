@@ -1,4 +1,4 @@
--- Units and tokens that are read one behind the other, as loops do.
+-- Proves that loops read units and tokens one at a time.
 use Rattle.std.proofs.Common.{◌≡◌, ℕ, zero, suc, ◌+◌, ◌-◌, ◌<◌, ◌≤◌, false, List, [], ◌∷◌, ◌++◌, length, Option, Some, None, Err, refl, sym, ap, ◌∙◌, append_assoc, arith}
 use Rattle.std.proofs.lemmas.List.{append-nil, length-append}
 use Rattle.std.specs.Option.{option_map}
@@ -11,7 +11,7 @@ use Rattle.jasmin_lex.specs.Lexed.{IsLexed}
 
 -- ---- Units
 
--- Of `size` units of a spelling, the text that was read before what is left, and what is still to be read.
+-- Returns the text of `size` units: what was read before the rest, with what is still to be read.
 abbrev pub units_still : ℕ → List ℕ → List ℕ → List ℕ × List ℕ
 units_still size front rest = (front ++ (units_from (size - length front) rest).0, (units_from (size - length front) rest).1)
 
@@ -43,7 +43,7 @@ units_done size front rest total e so_far =
 
 -- ---- Tokens
 
--- The tokens that were read before what is left, and those that are still to be read.
+-- Returns the tokens that were read before the rest, with those that are still to be read.
 abbrev pub tokens_still : ℕ → List Token → List ℕ → Option (List Token)
 tokens_still size front rest = option_map (λ ts. front ++ ts) (tokens_from size (size - length front) rest)
 
@@ -83,7 +83,7 @@ pub tokens_done : (size : ℕ) (front : List Token) (rest : List ℕ) (total : O
 tokens_done size front rest total e so_far =
     sym so_far ∙ ap (λ (w : List ℕ). tokens_still size front w) e ∙ ap (option_map (λ ts. front ++ ts)) (nothing_left size (size - length front)) ∙ ap (λ (ts : List Token). Some ts) (append-nil front)
 
--- A token that wasn't read, for whichever reason.
+-- If a token isn't read, for either reason, the fault is that of the whole line.
 pub token_failed : {X Y : Type 0} (one : X → Token × List ℕ) (all : Y → List Token) (fault : LexFault) (size : ℕ) (front : List Token) (rest : List ℕ) (total : Option (List Token)) → 0 < length rest → IsLexed one (Err fault) (token_from size rest)
     → tokens_still size front rest ≡ total → IsLexed all (Err fault) total
 token_failed one all Lexeme size front rest total some e so_far = tokens_fail size front rest total some e so_far
@@ -93,7 +93,7 @@ without_front : (o : Option (List Token)) → option_map (λ ts. [] ++ ts) o ≡
 without_front None = refl
 without_front (Some ts) = refl
 
--- Before the first token all are still to be read.
+-- Before the first token, all tokens are still to be read.
 pub all_still : (size : ℕ) (rest : List ℕ) → tokens_still size [] rest ≡ tokens_from size size rest
 all_still size rest =
     let whole : size - 0 ≡ size = omega arith in

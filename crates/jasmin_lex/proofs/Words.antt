@@ -1,4 +1,4 @@
--- Where a word ends.
+-- Proves where a word ends.
 use Rattle.std.proofs.Common.{◌≡◌, ℕ, suc, ◌+◌, ◌≤◌, Bool, true, false, not, cond, ltb, List, [], ◌∷◌, length, take, drop, Some, None, refl, sym, ap, ◌∙◌, arith}
 use Rattle.std.proofs.lemmas.Bool.{ltb-false}
 use Rattle.std.proofs.lemmas.List.{take_all}
@@ -26,7 +26,7 @@ unfolding word_from
 word_cut [] = refl
 word_cut (u ∷ us) = word_more u us (ends_word u) (word_cut us)
 
--- A word that ends at a place.
+-- The word ends at the first unit that ends words.
 pub word_ends : (us : List ℕ) (n : ℕ) → position ends_word us ≡ Some n → (take n us, drop n us) ≡ word_from us
 word_ends us n e =
     choose (ltb (prefix_len goes_on us) (length us)) (Some (prefix_len goes_on us)) None (Some n) e
@@ -36,7 +36,7 @@ word_ends us n e =
 cut_behind : (n : ℕ) (us : List ℕ) → length us ≤ n → cut n us ≡ (us, [])
 cut_behind n us few = rw (take_all n us few, drop_of_length-le us few) refl
 
--- A word that goes on to the end.
+-- The word continues to the end if no unit ends words.
 pub word_goes_on : (us : List ℕ) → position ends_word us ≡ None → (us, []) ≡ word_from us
 word_goes_on us e = goes (ltb (prefix_len goes_on us) (length us)) refl e
   where

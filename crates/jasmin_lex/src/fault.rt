@@ -1,4 +1,4 @@
-//! Why a line has no tokens.
+//! The faults of a line that has no tokens.
 
 ghost use Rattle.std.specs.Prelude.{◌≡◌};
 ghost use Rattle.jasmin_lex.specs.declared.fault.LexFault.TheVariants.{Memory};
@@ -6,13 +6,13 @@ ghost use Rattle.jasmin_lex.specs.declared.fault.LexFault.TheVariants.{Memory};
 use std::alloc::{AllocError, AllocFailed};
 use thiserror::Error;
 
-/// Why a line has no tokens.
+/// A fault of a line that has no tokens.
 #[derive(Clone, Copy, Debug, PartialEq, Eq, Error)]
 pub enum LexFault {
-    /// J01: a text isn't closed on its line, or a backslash in one begins no escape.
+    /// J01: a text isn't closed on its line, or a backslash in a text begins no escape.
     #[error("J01 Lexeme")]
     Lexeme,
-    /// There was no memory for the tokens.
+    /// Memory ran out.
     #[error("Memory")]
     Memory,
 }

@@ -1,4 +1,4 @@
-//! A line of a source as tokens.
+//! Reads a line of a source as tokens.
 #![tactic(auto)]
 
 mod fault;

@@ -5,15 +5,15 @@ ghost use Rattle.jasmin.specs.Lexing.{is_space as is_space_unit, begin_from};
 
 const SEMICOLON: u16 = 59;
 
-/// Whether a unit is white space.
+/// Decides whether a unit is white space.
 pub(crate) fn is_space(unit: u16) -> bool
     ensures { result ≡ is_space_unit unit }
 {
     unit == 32 || unit == 9 || unit == 12 || unit == 13
 }
 
-/// From the next token on: behind white space, and nothing where a comment begins, which it may at a line's
-/// start and behind white space.
+/// Returns the rest of a line from its next token on. A comment begins at a line's start or after white space, and
+/// leaves nothing.
 #[tactic(auto, unfolding(jasmin::specs::Lexing::begin_from))]
 pub(crate) fn begin(may_comment: bool, units: &[u16]) -> &[u16]
     ensures { result.now ≡ begin_from may_comment units.now }

@@ -7,14 +7,14 @@ ghost use Rattle.jasmin_lex.specs.Lexed.{IsLexed};
 
 use crate::fault::LexFault;
 use crate::word::QUOTE;
-use held::items::Items;
+use shared_data::items::Items;
 use std::alloc::{AllocError, Global};
 
 const BACKSLASH: u16 = 92;
 
 const LOWER_U: u16 = 117;
 
-/// The value of a hexadecimal digit of either case.
+/// Returns the value of a hexadecimal digit of either case.
 fn digit_of(unit: u16) -> Option<u16>
     ensures digit { result ≡ digit unit }
     ensures few { IfSome result (λ d. d < 16) }
@@ -30,7 +30,7 @@ fn digit_of(unit: u16) -> Option<u16>
     }
 }
 
-/// The unit of four hexadecimal digits.
+/// Returns the unit of four hexadecimal digits.
 fn four_digits(a: u16, b: u16, c: u16, d: u16) -> Option<u16>
     ensures { result ≡ four_digit_unit a b c d }
 {
@@ -40,7 +40,7 @@ fn four_digits(a: u16, b: u16, c: u16, d: u16) -> Option<u16>
     Some(third * 16 + digit_of(d)?)
 }
 
-/// The unit of a letter behind a backslash.
+/// Returns the unit that a letter after a backslash denotes.
 fn letter(unit: u16) -> Option<u16>
     ensures { result ≡ escaped unit }
 {
@@ -61,7 +61,7 @@ fn letter(unit: u16) -> Option<u16>
     }
 }
 
-/// Behind a `u`: four digits.
+/// Reads four hexadecimal digits, which follow a `u`, and returns their unit and the rest.
 fn digits_at(units: &[u16]) -> Option<(u16, &[u16])>
     ensures { option_map (λ x. (x.0, x.1.now)) result ≡ digits_from units.now }
 {
@@ -71,7 +71,7 @@ fn digits_at(units: &[u16]) -> Option<(u16, &[u16])>
     Some((four_digits(*a, *b, *c, *d)?, behind))
 }
 
-/// Behind a backslash: a letter, or a `u` and four digits.
+/// Reads the rest of an escape after its backslash, a letter or a `u` and four digits. Returns its unit and the rest.
 fn escape_at(units: &[u16]) -> Option<(u16, &[u16])>
     ensures { option_map (λ x. (x.0, x.1.now)) result ≡ escape_from units.now }
 {
@@ -84,7 +84,7 @@ fn escape_at(units: &[u16]) -> Option<(u16, &[u16])>
     Some((letter(*unit)?, behind))
 }
 
-/// The unit at the front of a text, and what stands behind it; none stands at the closing quote.
+/// Reads one unit of a text, and returns it and the rest. The closing quote is none.
 #[tactic(auto, unfolding(jasmin::specs::Lexing::unit_from))]
 fn unit_at(units: &[u16]) -> Option<(u16, &[u16])>
     ensures { option_map (λ x. (x.0, x.1.now)) result ≡ unit_from units.now }
@@ -99,7 +99,8 @@ fn unit_at(units: &[u16]) -> Option<(u16, &[u16])>
     }
 }
 
-/// The units at the front, and what stands behind them.
+/// Reads the units of a text up to its closing quote, a malformed escape or the line's end, and returns them and the
+/// rest.
 fn units_at(alloc: Global, units: &[u16]) -> Result<(Items<u16>, &[u16]), AllocError>
     ensures { IfOk result (λ x. (x.0, x.1.now) ≡ units_from (length units.now) units.now) }
 {
@@ -112,7 +113,7 @@ fn units_at(alloc: Global, units: &[u16]) -> Result<(Items<u16>, &[u16]), AllocE
     Ok((text, rest))
 }
 
-/// Behind the opening quote: the text, and what stands behind its closing quote.
+/// Reads a text after its opening quote, and returns it and the rest after its closing quote.
 pub(crate) fn text_at(alloc: Global, units: &[u16]) -> Result<(Items<u16>, &[u16]), LexFault>
     ensures { IsLexed (λ x. (x.0, x.1.now)) result (text_from units.now) }
 {

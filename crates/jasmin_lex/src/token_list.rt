@@ -1,4 +1,4 @@
-//! The tokens of a line.
+//! Reads the tokens of a line.
 
 ghost use Rattle.std.specs.Prelude.{◌≡◌, ◌≤◌, List, length, true, Some, IfOk};
 ghost use Rattle.jasmin.specs.declared.token.Lexeme.{Lexeme as LexemeValue};
@@ -12,18 +12,18 @@ use crate::space::begin;
 use crate::text::text_at;
 use crate::units::units_of;
 use crate::word::{COLON, EQUALS, QUOTE, word_at};
-use held::items::Items;
+use shared_data::items::Items;
 use jasmin::token::{Lexeme, Token};
 use std::alloc::{AllocError, Global};
 
-/// A word of these units.
+/// Returns a word of these units.
 fn word(alloc: Global, units: &[u16]) -> Result<Lexeme, AllocError>
     ensures { IfOk result (λ l. l ≡ LexemeValue.Word units.now) }
 {
     Ok(Lexeme::Word(Items::from_vec(Vec::from_slice(alloc, units)?)))
 }
 
-/// What the token at the front is, and what stands behind it.
+/// Reads a token without its place, and returns it and the rest.
 #[tactic(auto, unfolding(jasmin::specs::Lexing::lexeme_from))]
 fn lexeme_at(alloc: Global, units: &[u16]) -> Result<(Lexeme, &[u16]), LexFault>
     ensures { IsLexed (λ x. (x.0, x.1.now)) result (lexeme_from units.now) }
@@ -45,7 +45,7 @@ fn lexeme_at(alloc: Global, units: &[u16]) -> Result<(Lexeme, &[u16]), LexFault>
     }
 }
 
-/// The token at the front of what is left of a line of `size` units, and what stands behind it.
+/// Reads a token from the rest of a line of `size` units, and returns it and what follows it.
 #[tactic(auto, using(jasmin::proofs::Tokens::lexeme_fits), unfolding(jasmin::specs::Lexing::token_from))]
 fn token_at(alloc: Global, size: usize, units: &[u16]) -> Result<(Token, &[u16]), LexFault>
     requires { length units.now ≤ size }
@@ -57,7 +57,7 @@ fn token_at(alloc: Global, size: usize, units: &[u16]) -> Result<(Token, &[u16])
     Ok((Token { lexeme, start, end }, behind))
 }
 
-/// The tokens of a line's units.
+/// Returns the tokens of a line's UTF-16 code units.
 fn tokens_in(alloc: Global, line: &[u16]) -> Result<Vec<Token>, LexFault>
     ensures { IsLexed (λ v. v.items) result (tokens_of line.now) }
 {
@@ -74,7 +74,7 @@ fn tokens_in(alloc: Global, line: &[u16]) -> Result<Vec<Token>, LexFault>
     Ok(tokens)
 }
 
-/// The tokens of a line's text.
+/// Returns the tokens of a line in UTF-8.
 fn tokens_of_text(alloc: Global, line: &str) -> Result<Vec<Token>, LexFault>
     ensures { IsLexed (λ v. v.items) result (tokens_of (line_units line.now)) }
 {
@@ -82,13 +82,13 @@ fn tokens_of_text(alloc: Global, line: &str) -> Result<Vec<Token>, LexFault>
     tokens_in(alloc, &units)
 }
 
-/// The tokens of a line, which is given without its end.
+/// Returns the tokens of a line. The line is given without its line end.
 pub fn tokens(alloc: Global, line: &str) -> Result<Vec<Token>, LexFault>
-    // The one list of tokens that the line is, or Lexeme where it is none.
+    // The result is the only list of tokens that spells the line, or `Lexeme` if there is none.
     ensures exact { IsLexed (λ v. v.items) result (tokens_of (line_units line.now)) }
-    // What is read is spelled so, each token at its place.
+    // The tokens that are read spell the line, each at its place.
     ensures found { IfOk result (λ v. Lexes true 0 (line_units line.now) v.items) }
-    // What is spelled so is read, unless memory runs out.
+    // Tokens that spell the line are read, unless memory runs out.
     ensures only { (ts : List TokenValue) → Lexes true 0 (line_units line.now) ts → IsLexed (λ v. v.items) result (Some ts) }
 {
     tokens_of_text(alloc, line)

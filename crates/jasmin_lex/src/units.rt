@@ -1,11 +1,11 @@
-//! The units of a line.
+//! Converts a line to UTF-16 code units.
 
 ghost use Rattle.std.specs.Prelude.{◌≡◌, IfOk};
 ghost use Rattle.jasmin.specs.Sources.{units_of};
 
 use std::alloc::{AllocError, Global};
 
-/// The 16-bit units of a text.
+/// Returns the UTF-16 code units of a text.
 pub(crate) fn units_of(alloc: Global, text: &str) -> Result<Vec<u16>, AllocError>
     ensures { IfOk result (λ units. units.items ≡ units_of text.now) }
 {

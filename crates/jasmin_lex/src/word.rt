@@ -1,4 +1,4 @@
-//! Words.
+//! Reads words.
 
 ghost use Rattle.std.specs.Prelude.{◌≡◌, position};
 ghost use Rattle.jasmin.specs.Lexing.{ends_word as ends_word_unit, word_from};
@@ -11,21 +11,21 @@ pub(crate) const COLON: u16 = 58;
 
 pub(crate) const EQUALS: u16 = 61;
 
-/// Whether no word holds a unit.
+/// Decides whether no word contains a unit.
 fn ends_word(unit: u16) -> bool
     ensures { result ≡ ends_word_unit unit }
 {
     is_space(unit) || unit == QUOTE || unit == COLON || unit == EQUALS
 }
 
-/// Where the word at the front ends, if something stands behind it.
+/// Returns the place of the first unit after the word at the front, if there is one.
 fn end_in(units: &[u16]) -> Option<usize>
     ensures { result ≡ position ends_word_unit units.now }
 {
     units.iter().position(|unit| ends_word(*unit))
 }
 
-/// The word at the front, and what stands behind it.
+/// Returns the word at the front, and the rest.
 #[tactic(auto, using(crate::proofs::Words::word_ends, crate::proofs::Words::word_goes_on))]
 pub(crate) fn word_at(units: &[u16]) -> (&[u16], &[u16])
     ensures { (result.0.now, result.1.now) ≡ word_from units.now }

@@ -1,10 +1,10 @@
--- How judgements come together.
+-- Proves how judgements are combined.
 use Rattle.std.proofs.Common.{◌≡◌, ◌<◌, ◌≤◌, Ok, Err, refl, ap, sym, ◌∙◌, ◌⊎◌, inl, inr, arith}
 use Rattle.std.proofs.lemmas.Bool.{le-leb, lt-leb, cases_lt}
 use Rattle.jasmin.specs.declared.statement.Flaw.{Flaw}
 use Rattle.jasmin.specs.Judgements.{Judged, number, lesser, both, said, unless}
 
--- ---- What is made of judgements
+-- ---- Mapped judgements
 
 pub said_both : {A B C D : Type 0} (f : A → C) (g : B → D) (a : Judged A) (b : Judged B) → said (λ p. (f p.0, g p.1)) (both a b) ≡ both (said f a) (said g b)
 said_both f g (Ok a) (Ok b) = refl
@@ -18,7 +18,7 @@ said_unless f (Ok a) (Err v) = refl
 said_unless f (Err u) (Ok o) = refl
 said_unless f (Err u) (Err v) = refl
 
--- ---- Judgements in a row
+-- ---- Consecutive judgements
 
 lesser_first : (f g : Flaw) → number f ≤ number g → lesser f g ≡ f
 lesser_first f g least = rw (le-leb (number f) (number g) least) refl

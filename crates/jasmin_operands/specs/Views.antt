@@ -1,4 +1,4 @@
--- What borrowed operands say, in the words of the definitions.
+-- Maps borrowed operands to the values of the definitions.
 use Rattle.jasmin.specs.declared.source.Caught.{Caught}
 use Rattle.jasmin.specs.declared.source.Caught.TheVariants as caught
 use Rattle.jasmin.specs.Operands.{Access, class_words, field_words, method_words}
@@ -7,12 +7,12 @@ use Rattle.jasmin_operands.specs.declared.access.AccessWords.TheVariants as word
 use Rattle.jasmin_operands.specs.declared.caught.CaughtName.{CaughtName}
 use Rattle.jasmin_operands.specs.declared.caught.CaughtName.TheVariants as name
 
--- What a handler names.
+-- Returns what a handler catches.
 abbrev pub caught_of : CaughtName → Caught
 caught_of name.All = caught.All
 caught_of (name.Class w) = caught.Class w.now
 
--- The words of a kind.
+-- Returns the access words of a kind.
 abbrev pub words_of : AccessWords → Access
 words_of words.Class = class_words
 words_of words.Field = field_words

@@ -10,7 +10,7 @@ use crate::words::same_word;
 use jasmin::statement::Flaw;
 use jasmin::token::{Lexeme, Token};
 
-/// Whose access words a line has.
+/// The kind of declaration whose access words a line has.
 #[derive(Clone, Copy)]
 pub enum AccessWords {
     Class,
@@ -18,7 +18,7 @@ pub enum AccessWords {
     Method,
 }
 
-/// The words of classes and interfaces.
+/// The access words of classes and interfaces.
 const CLASS_WORDS: [(&str, u16); 5] = [
     ("public", 0x0001),
     ("final", 0x0010),
@@ -27,7 +27,7 @@ const CLASS_WORDS: [(&str, u16); 5] = [
     ("super", 0x0020),
 ];
 
-/// The words of fields.
+/// The access words of fields.
 const FIELD_WORDS: [(&str, u16); 7] = [
     ("public", 0x0001),
     ("private", 0x0002),
@@ -38,7 +38,7 @@ const FIELD_WORDS: [(&str, u16); 7] = [
     ("transient", 0x0080),
 ];
 
-/// The words of methods.
+/// The access words of methods.
 const METHOD_WORDS: [(&str, u16); 8] = [
     ("public", 0x0001),
     ("private", 0x0002),
@@ -50,7 +50,7 @@ const METHOD_WORDS: [(&str, u16); 8] = [
     ("abstract", 0x0400),
 ];
 
-/// The words of a kind, and their flags.
+/// Returns the access words of a kind, with their flags.
 fn table_of(words: AccessWords) -> &'static [(&'static str, u16)]
     ensures { map (λ w. (w.0.now, w.1)) result.now ≡ words_of words }
 {
@@ -61,7 +61,7 @@ fn table_of(words: AccessWords) -> &'static [(&'static str, u16)]
     }
 }
 
-/// The flag of a word in a table.
+/// Returns the flag of a word in a table.
 fn flag_in(table: &[(&str, u16)], word: &[u16]) -> Option<u16>
     ensures { result ≡ flag_of (map (λ w. (w.0.now, w.1)) table.now) word.now }
 {
@@ -75,7 +75,7 @@ fn flag_in(table: &[(&str, u16)], word: &[u16]) -> Option<u16>
     None
 }
 
-/// The flag of a token, if it is one of these words.
+/// Returns the flag of a token, if it is one of these words.
 fn flag_at(words: AccessWords, lexeme: &Lexeme) -> Option<u16>
     ensures { result ≡ flag_at (words_of words) lexeme.now }
 {
@@ -85,7 +85,7 @@ fn flag_at(words: AccessWords, lexeme: &Lexeme) -> Option<u16>
     }
 }
 
-/// The flags before, with that of a token, if it is one of these words.
+/// Returns the flags so far, with that of a token, if it is one of these words.
 fn with_flag(words: AccessWords, before: u16, lexeme: &Lexeme) -> u16
     ensures { result ≡ flags_with (words_of words) before (lexeme.now ∷ []) }
 {
@@ -95,7 +95,7 @@ fn with_flag(words: AccessWords, before: u16, lexeme: &Lexeme) -> u16
     }
 }
 
-/// The flags of all tokens that are words of a kind.
+/// Returns the flags of all tokens that are access words of a kind.
 pub fn flags_in(words: AccessWords, tokens: &[Token]) -> u16
     ensures { result ≡ flags_in (words_of words) (lexemes tokens.now) }
 {
@@ -106,7 +106,7 @@ pub fn flags_in(words: AccessWords, tokens: &[Token]) -> u16
     flags
 }
 
-/// The place of a word of a kind, which doesn't stand before.
+/// Judges a token that has to be an access word of a kind, whose flag isn't set yet.
 fn access_word(words: AccessWords, before: u16, lexeme: &Lexeme) -> Judged<()>
     ensures { result ≡ access_word (words_of words) before lexeme.now }
 {
@@ -119,11 +119,11 @@ fn access_word(words: AccessWords, before: u16, lexeme: &Lexeme) -> Judged<()>
     }
 }
 
-/// Nothing, where each token is a word of a kind and none comes twice.
+/// Judges tokens that have to be access words of a kind, without repetition.
 ///
 /// # Errors
 ///
-/// `Operand` where another token stands, else `Flags` where a word is none of these or comes twice.
+/// Returns `Operand` if a token is no word, or else `Flags` if a word is none of these or is repeated.
 #[tactic(auto, using(crate::proofs::Judgements::unless_none, crate::proofs::Judgements::unless_alone, crate::proofs::Judgements::unless_again))]
 pub fn access_words(words: AccessWords, tokens: &[Token]) -> Judged<()>
     ensures { result ≡ access_words (words_of words) (lexemes tokens.now) }

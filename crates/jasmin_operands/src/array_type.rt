@@ -10,7 +10,7 @@ use jasmin::statement::Flaw;
 use jasmin::token::Lexeme;
 use jvms_file::insn::ArrayType;
 
-/// The component type of a word (JVMS table 6.5.newarray-A).
+/// Returns the component type of a word (JVMS table 6.5.newarray-A).
 fn array_type_of(word: &[u16]) -> Option<ArrayType>
     ensures { result ≡ array_type_of word.now }
 {
@@ -35,11 +35,11 @@ fn array_type_of(word: &[u16]) -> Option<ArrayType>
     }
 }
 
-/// The component type of a `newarray`.
+/// Judges a place that requires the component type of a `newarray`.
 ///
 /// # Errors
 ///
-/// `Operand` where anything else stands or nothing.
+/// Returns `Operand` if there is anything else or nothing.
 pub fn array_type_at(lexeme: Option<&Lexeme>) -> Judged<ArrayType>
     ensures { result ≡ array_type_at (option_map (λ l. l.now) lexeme.entry) }
 {

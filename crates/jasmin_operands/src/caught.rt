@@ -1,4 +1,4 @@
-//! What a handler names.
+//! The operand of `.catch` that names what a handler catches.
 
 ghost use Rattle.std.specs.Prelude.{◌≡◌};
 ghost use Rattle.std.specs.Option.{option_map};
@@ -12,7 +12,7 @@ use descriptor::is_class_entry_name;
 use jasmin::statement::Flaw;
 use jasmin::token::Lexeme;
 
-/// What a `.catch` names, as it stands in its line.
+/// The exceptions that a `.catch` names, borrowed from its line.
 #[derive(Clone, Copy)]
 pub enum CaughtName<'a> {
     /// `all`.
@@ -21,11 +21,11 @@ pub enum CaughtName<'a> {
     Class(&'a [u16]),
 }
 
-/// What a `.catch` names: `all`, or a class's name or an array's descriptor.
+/// Judges a place that requires `all`, a class's name or an array's descriptor.
 ///
 /// # Errors
 ///
-/// `Operand` where no word stands, `Name` where it is none of these.
+/// Returns `Operand` if there is no word, and `Name` if the word is none of these.
 pub fn caught_at(lexeme: Option<&Lexeme>) -> Judged<CaughtName<'_>>
     ensures { said caught_of result ≡ caught_at (option_map (λ l. l.now) lexeme.entry) }
 {

@@ -1,21 +1,21 @@
-//! What the parts of a line come to together.
+//! Combines the judgements of the parts of a line.
 
 ghost use Rattle.std.specs.Prelude.{◌≡◌};
 ghost use Rattle.jasmin.specs.Judgements.{number, lesser, both, unless, asked};
 
 use jasmin::statement::Flaw;
 
-/// What a part of a line says, or its fault.
+/// The judgement of a part of a line: its value, or its fault.
 pub type Judged<T> = Result<T, Flaw>;
 
-/// The number of a fault.
+/// Returns the number of a fault.
 fn number(flaw: Flaw) -> u8
     ensures { result ≡ number flaw }
 {
     flaw as u8 + 1
 }
 
-/// The fault of the lesser number.
+/// Returns the fault of the lesser number.
 pub fn lesser(first: Flaw, second: Flaw) -> Flaw
     ensures { result ≡ lesser first second }
 {
@@ -26,7 +26,7 @@ pub fn lesser(first: Flaw, second: Flaw) -> Flaw
     }
 }
 
-/// What two parts say, or the lesser of their faults.
+/// Returns the values of two judgements, or the fault of the lesser number.
 pub fn both<A: Drop, B: Drop>(first: Judged<A>, second: Judged<B>) -> Judged<(A, B)>
     ensures { result ≡ both first second }
 {
@@ -38,7 +38,7 @@ pub fn both<A: Drop, B: Drop>(first: Judged<A>, second: Judged<B>) -> Judged<(A,
     }
 }
 
-/// What a part says, to which nothing is added but the faults of another.
+/// Returns the value of the first judgement, or the fault of the lesser number of both.
 pub fn unless<A: Drop>(judged: Judged<A>, other: Judged<()>) -> Judged<A>
     ensures { result ≡ unless judged other }
 {
@@ -50,7 +50,7 @@ pub fn unless<A: Drop>(judged: Judged<A>, other: Judged<()>) -> Judged<A>
     }
 }
 
-/// Nothing, or a fault where a test fails.
+/// Returns no value if the test holds, or else the fault.
 pub fn asked(test: bool, flaw: Flaw) -> Judged<()>
     ensures { result ≡ asked test flaw }
 {

@@ -1,4 +1,4 @@
-//! The units that operands are made of.
+//! The UTF-16 code units that operands consist of.
 
 pub(crate) const PLUS: u16 = b'+' as u16;
 

@@ -1,4 +1,4 @@
-//! The operands of a line of a source, each judged by its place. Nothing here takes memory: what is found is lent by
+//! Judges the operands of a line of a source, each by its place. No function here takes memory. The results borrow from
 //! the tokens.
 #![tactic(auto)]
 

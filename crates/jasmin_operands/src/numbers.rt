@@ -1,4 +1,4 @@
-//! Operands that are numbers.
+//! Judges operands that are numbers.
 
 ghost use Rattle.std.specs.Prelude.{◌≡◌};
 ghost use Rattle.std.specs.Option.{option_map};
@@ -9,7 +9,7 @@ use crate::numerals::number_of;
 use jasmin::statement::Flaw;
 use jasmin::token::Lexeme;
 
-/// A number from one to another.
+/// Judges a place that requires a number within the bounds.
 fn number_at(least: i64, most: i64, lexeme: Option<&Lexeme>) -> Judged<i64>
     ensures { result ≡ number_at least most (option_map (λ l. l.now) lexeme.entry) }
 {
@@ -23,11 +23,11 @@ fn number_at(least: i64, most: i64, lexeme: Option<&Lexeme>) -> Judged<i64>
     }
 }
 
-/// A number of 8 bits with a sign.
+/// Judges a place that requires a signed number of 8 bits.
 ///
 /// # Errors
 ///
-/// `Operand` where nothing stands, `Number` where no number stands or it doesn't fit.
+/// Returns `Operand` if there is no token, and `Number` if the token is no number or doesn't fit.
 pub fn i8_at(lexeme: Option<&Lexeme>) -> Judged<i8>
     ensures { result ≡ i8_at (option_map (λ l. l.now) lexeme.entry) }
 {
@@ -35,11 +35,11 @@ pub fn i8_at(lexeme: Option<&Lexeme>) -> Judged<i8>
     Ok(number as i8)
 }
 
-/// A number of 16 bits with a sign.
+/// Judges a place that requires a signed number of 16 bits.
 ///
 /// # Errors
 ///
-/// `Operand` where nothing stands, `Number` where no number stands or it doesn't fit.
+/// Returns `Operand` if there is no token, and `Number` if the token is no number or doesn't fit.
 pub fn i16_at(lexeme: Option<&Lexeme>) -> Judged<i16>
     ensures { result ≡ i16_at (option_map (λ l. l.now) lexeme.entry) }
 {
@@ -47,11 +47,11 @@ pub fn i16_at(lexeme: Option<&Lexeme>) -> Judged<i16>
     Ok(number as i16)
 }
 
-/// A number of 32 bits with a sign.
+/// Judges a place that requires a signed number of 32 bits.
 ///
 /// # Errors
 ///
-/// `Operand` where nothing stands, `Number` where no number stands or it doesn't fit.
+/// Returns `Operand` if there is no token, and `Number` if the token is no number or doesn't fit.
 pub fn i32_at(lexeme: Option<&Lexeme>) -> Judged<i32>
     ensures { result ≡ i32_at (option_map (λ l. l.now) lexeme.entry) }
 {
@@ -59,22 +59,22 @@ pub fn i32_at(lexeme: Option<&Lexeme>) -> Judged<i32>
     Ok(number as i32)
 }
 
-/// A number of 64 bits with a sign.
+/// Judges a place that requires a signed number of 64 bits.
 ///
 /// # Errors
 ///
-/// `Operand` where nothing stands, `Number` where no number stands or it doesn't fit.
+/// Returns `Operand` if there is no token, and `Number` if the token is no number or doesn't fit.
 pub fn i64_at(lexeme: Option<&Lexeme>) -> Judged<i64>
     ensures { result ≡ i64_at (option_map (λ l. l.now) lexeme.entry) }
 {
     number_at(i64::MIN, i64::MAX, lexeme)
 }
 
-/// A number of 8 bits without a sign.
+/// Judges a place that requires an unsigned number of 8 bits.
 ///
 /// # Errors
 ///
-/// `Operand` where nothing stands, `Number` where no number stands or it doesn't fit.
+/// Returns `Operand` if there is no token, and `Number` if the token is no number or doesn't fit.
 pub fn u8_at(lexeme: Option<&Lexeme>) -> Judged<u8>
     ensures { result ≡ u8_at (option_map (λ l. l.now) lexeme.entry) }
 {
@@ -82,11 +82,11 @@ pub fn u8_at(lexeme: Option<&Lexeme>) -> Judged<u8>
     Ok(number as u8)
 }
 
-/// A number of 16 bits without a sign.
+/// Judges a place that requires an unsigned number of 16 bits.
 ///
 /// # Errors
 ///
-/// `Operand` where nothing stands, `Number` where no number stands or it doesn't fit.
+/// Returns `Operand` if there is no token, and `Number` if the token is no number or doesn't fit.
 pub fn u16_at(lexeme: Option<&Lexeme>) -> Judged<u16>
     ensures { result ≡ u16_at (option_map (λ l. l.now) lexeme.entry) }
 {

@@ -1,10 +1,10 @@
-//! Numbers as words spell them, and versions.
+//! Reads the numbers and versions that words spell.
 
 ghost use Rattle.std.specs.Prelude.{◌≡◌, ◌≤◌, ◌==◌, ◌+◌, ◌*◌, length, drop, is_some, pos, neg_ℤ};
 ghost use Rattle.std.specs.List.{list_all, position_or_len};
 ghost use Rattle.std.specs.Option.{option_and_then};
 ghost use Rattle.jasmin.specs.Lexing.{digit};
-ghost use Rattle.jasmin.specs.Numerals.{digit_below, digits_behind, natural, number_of, is_from_to, is_version};
+ghost use Rattle.jasmin.specs.Numerals.{digit_below, digits_after, natural, number_of, is_from_to, is_version};
 ghost use Rattle.jasmin_operands.specs.Numbers.{unsigned_64_bits, signed_64_bits};
 
 use crate::letters::{DOT, LOWER_A, LOWER_F, LOWER_X, MINUS, NINE, PLUS, UPPER_A, UPPER_F, ZERO};
@@ -13,7 +13,7 @@ const DECIMAL: u64 = 10;
 
 const HEXADECIMAL: u64 = 16;
 
-/// The value of a digit of either case.
+/// Returns the value of a hexadecimal digit of either case.
 fn digit(unit: u16) -> Option<u64>
     ensures { result ≡ digit unit }
 {
@@ -25,7 +25,7 @@ fn digit(unit: u16) -> Option<u64>
     }
 }
 
-/// The value of a digit below the radix.
+/// Returns the value of a digit that is below the radix.
 fn digit_below(radix: u64, unit: u16) -> Option<u64>
     ensures { result ≡ digit_below radix unit }
 {
@@ -33,7 +33,7 @@ fn digit_below(radix: u64, unit: u16) -> Option<u64>
     if value < radix { Some(value) } else { None }
 }
 
-/// The number that digits make with one more, if 64 bits hold it.
+/// Returns the number whose digits are those of `number` and this one, if it fits 64 bits.
 fn with_digit(radix: u64, number: u64, unit: u16) -> Option<u64>
     ensures { result ≡ option_and_then (λ d. unsigned_64_bits (number * radix + d)) (digit_below radix unit) }
 {
@@ -41,10 +41,10 @@ fn with_digit(radix: u64, number: u64, unit: u16) -> Option<u64>
     number.checked_mul(radix)?.checked_add(digit)
 }
 
-/// The number that digits make, if 64 bits hold it.
+/// Returns the number that digits spell, if it fits 64 bits.
 #[tactic(auto, using(crate::proofs::Digits::stops, crate::proofs::Digits::no_more))]
 fn digits(radix: u64, units: &[u16]) -> Option<u64>
-    ensures { result ≡ option_and_then unsigned_64_bits (digits_behind radix 0 units.now) }
+    ensures { result ≡ option_and_then unsigned_64_bits (digits_after radix 0 units.now) }
 {
     let mut number = 0;
     let mut rest = units;
@@ -55,7 +55,7 @@ fn digits(radix: u64, units: &[u16]) -> Option<u64>
     Some(number)
 }
 
-/// The number of digits, of which there is one at least, if 64 bits hold it.
+/// Returns the number that digits spell, if there is at least one and the number fits 64 bits.
 #[tactic(auto, using(crate::proofs::Digits::some_natural, crate::proofs::Digits::no_natural))]
 fn natural(radix: u64, units: &[u16]) -> Option<u64>
     ensures { result ≡ option_and_then unsigned_64_bits (natural radix units.now) }
@@ -67,7 +67,7 @@ fn natural(radix: u64, units: &[u16]) -> Option<u64>
     }
 }
 
-/// A number, if 64 bits with a sign hold it.
+/// Returns the number as a signed one, if it fits 64 bits.
 fn positive(number: u64) -> Option<i64>
     ensures { result ≡ signed_64_bits (pos number) }
 {
@@ -78,7 +78,7 @@ fn positive(number: u64) -> Option<i64>
     }
 }
 
-/// The negative of a number, if 64 bits with a sign hold it.
+/// Returns the negated number, if it fits 64 bits.
 fn negative(number: u64) -> Option<i64>
     ensures { result ≡ signed_64_bits (neg_ℤ (pos number)) }
 {
@@ -89,7 +89,7 @@ fn negative(number: u64) -> Option<i64>
     }
 }
 
-/// The number that a word spells, if it spells one that 64 bits with a sign hold.
+/// Returns the number that a word spells, if it spells one that fits 64 bits.
 #[tactic(auto, unfolding(jasmin::specs::Numerals::number_of))]
 pub fn number_of(word: &[u16]) -> Option<i64>
     ensures { result ≡ option_and_then signed_64_bits (number_of word.now) }
@@ -102,14 +102,14 @@ pub fn number_of(word: &[u16]) -> Option<i64>
     }
 }
 
-/// Whether all units are digits.
+/// Decides whether all units are digits.
 fn are_digits(radix: u64, units: &[u16]) -> bool
     ensures { result ≡ list_all (λ u. is_some (digit_below radix u)) units.now }
 {
     units.iter().all(|unit| digit_below(radix, *unit).is_some())
 }
 
-/// Whether units are digits, of which there is one at least.
+/// Decides whether all units are digits, and there is at least one.
 #[tactic(auto, using(crate::proofs::Digits::natural_digits, crate::proofs::Digits::no_natural))]
 fn is_natural(radix: u64, units: &[u16]) -> bool
     ensures { result ≡ is_some (natural radix units.now) }
@@ -117,7 +117,7 @@ fn is_natural(radix: u64, units: &[u16]) -> bool
     !units.is_empty() && are_digits(radix, units)
 }
 
-/// Whether a word spells a number, however large.
+/// Decides whether a word spells a number of any size.
 #[tactic(auto, unfolding(jasmin::specs::Numerals::number_of))]
 pub fn spells_number(word: &[u16]) -> bool
     ensures { result ≡ is_some (number_of word.now) }
@@ -130,7 +130,7 @@ pub fn spells_number(word: &[u16]) -> bool
     }
 }
 
-/// Whether decimal digits make a number from one to another.
+/// Decides whether decimal digits spell a number within the bounds.
 fn is_from_to(least: u64, most: u64, units: &[u16]) -> bool
     ensures { result ≡ is_from_to least most (natural 10 units.now) }
 {
@@ -140,7 +140,7 @@ fn is_from_to(least: u64, most: u64, units: &[u16]) -> bool
     }
 }
 
-/// How many units stand before the first dot; all where there is none.
+/// Returns the number of units before the first dot, or of all units if there is none.
 fn before_dot(word: &[u16]) -> usize
     ensures exact { result ≡ position_or_len (λ u. u == 46) word.now }
     ensures within { result ≤ length word.now }
@@ -148,7 +148,7 @@ fn before_dot(word: &[u16]) -> usize
     word.iter().take_while(|unit| **unit != DOT).count()
 }
 
-/// What stands behind a place.
+/// Returns the units after a place.
 fn behind(word: &[u16], place: usize) -> &[u16]
     ensures { result.now ≡ drop (place + 1) word.now }
 {
@@ -159,7 +159,7 @@ fn behind(word: &[u16], place: usize) -> &[u16]
     }
 }
 
-/// Whether a word spells a version: one from 45 to 50, a dot, and one from 0 to 65535, in decimal digits.
+/// Decides whether a word spells a version: a decimal number from 45 to 50, a dot, and one from 0 to 65535.
 pub fn is_version(word: &[u16]) -> bool
     ensures { result ≡ is_version word.now }
 {

@@ -1,4 +1,4 @@
-//! The places of a line's operands.
+//! Finds the operands of a line by place.
 
 ghost use Rattle.std.specs.Prelude.{◌≡◌, slice_get};
 ghost use Rattle.std.specs.Option.{option_map};
@@ -9,14 +9,18 @@ use crate::judgement::{Judged, asked};
 use jasmin::statement::Flaw;
 use jasmin::token::{Lexeme, Token};
 
-/// The operand at a place, if there is one.
+/// Returns the operand at a place, if there is one.
 pub fn operand(tokens: &[Token], place: usize) -> Option<&Lexeme>
     ensures { option_map (λ l. l.now) result ≡ slice_get (lexemes tokens.now) place }
 {
     tokens.get(place).map(|token| &token.lexeme)
 }
 
-/// Nothing, where there are so many operands and no more.
+/// Judges the number of operands.
+///
+/// # Errors
+///
+/// Returns `Operand` if there are fewer or more than `count`.
 pub fn exactly(count: usize, tokens: &[Token]) -> Judged<()>
     ensures { result ≡ exactly count (lexemes tokens.now) }
 {

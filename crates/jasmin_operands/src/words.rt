@@ -1,4 +1,4 @@
-//! Operands that are words.
+//! Judges operands that are words.
 
 ghost use Rattle.std.specs.Prelude.{◌≡◌};
 ghost use Rattle.std.specs.Option.{option_map};
@@ -13,7 +13,7 @@ use descriptor::{is_class_entry_name, is_class_name, is_field_descriptor, is_nam
 use jasmin::statement::Flaw;
 use jasmin::token::Lexeme;
 
-/// Whether bytes and units are the same text.
+/// Decides whether bytes and units are the same text.
 fn are_same(bytes: &[u8], units: &[u16]) -> bool
     ensures { result ≡ same_text bytes.now units.now }
 {
@@ -26,18 +26,18 @@ fn are_same(bytes: &[u8], units: &[u16]) -> bool
     }
 }
 
-/// Whether a word's units are those of an ASCII text.
+/// Decides whether a word's units are those of an ASCII text.
 pub fn same_word(text: &str, word: &[u16]) -> bool
     ensures { result ≡ same_text text.now word.now }
 {
     are_same(text.as_bytes(), word)
 }
 
-/// A word. No other token stands in a word's place.
+/// Judges a place that requires a word, and returns the word.
 ///
 /// # Errors
 ///
-/// `Operand` where another token stands or none.
+/// Returns `Operand` if there is another token or none.
 pub fn word_at(lexeme: Option<&Lexeme>) -> Judged<&[u16]>
     ensures { said (λ w. w.now) result ≡ word_at (option_map (λ l. l.now) lexeme.entry) }
 {
@@ -47,7 +47,7 @@ pub fn word_at(lexeme: Option<&Lexeme>) -> Judged<&[u16]>
     }
 }
 
-/// The units of a word, or none.
+/// Returns the units of a word, or none for another token.
 pub fn word_or_none(lexeme: Option<&Lexeme>) -> &[u16]
     ensures { result.now ≡ word_or_none (option_map (λ l. l.now) lexeme.entry) }
 {
@@ -57,11 +57,11 @@ pub fn word_or_none(lexeme: Option<&Lexeme>) -> &[u16]
     }
 }
 
-/// The place of a word that is given.
+/// Judges a place that requires a given word.
 ///
 /// # Errors
 ///
-/// `Operand` where anything else stands or nothing.
+/// Returns `Operand` if there is anything else or nothing.
 pub fn keyword_at(text: &str, lexeme: Option<&Lexeme>) -> Judged<()>
     ensures { result ≡ keyword_at text.now (option_map (λ l. l.now) lexeme.entry) }
 {
@@ -69,11 +69,11 @@ pub fn keyword_at(text: &str, lexeme: Option<&Lexeme>) -> Judged<()>
     asked(same_word(text, word), Flaw::Operand)
 }
 
-/// The name of a field, or of a local variable (JVMS 4.2.2).
+/// Judges a place that requires the name of a field or a local variable (JVMS 4.2.2).
 ///
 /// # Errors
 ///
-/// `Operand` where no word stands, `Name` where it is no name.
+/// Returns `Operand` if there is no word, and `Name` if the word is no name.
 pub fn name_at(lexeme: Option<&Lexeme>) -> Judged<&[u16]>
     ensures { said (λ w. w.now) result ≡ name_at (option_map (λ l. l.now) lexeme.entry) }
 {
@@ -82,11 +82,11 @@ pub fn name_at(lexeme: Option<&Lexeme>) -> Judged<&[u16]>
     Ok(word)
 }
 
-/// The name of a class, which is no array's (JVMS 4.2.1).
+/// Judges a place that requires the name of a class, which is no array's (JVMS 4.2.1).
 ///
 /// # Errors
 ///
-/// `Operand` where no word stands, `Name` where it is no class's name.
+/// Returns `Operand` if there is no word, and `Name` if the word is no class's name.
 pub fn class_name_at(lexeme: Option<&Lexeme>) -> Judged<&[u16]>
     ensures { said (λ w. w.now) result ≡ class_name_at (option_map (λ l. l.now) lexeme.entry) }
 {
@@ -95,11 +95,11 @@ pub fn class_name_at(lexeme: Option<&Lexeme>) -> Judged<&[u16]>
     Ok(word)
 }
 
-/// The name of a class or an array's descriptor (JVMS 4.4.1).
+/// Judges a place that requires the name of a class or an array's descriptor (JVMS 4.4.1).
 ///
 /// # Errors
 ///
-/// `Operand` where no word stands, `Name` where it is neither.
+/// Returns `Operand` if there is no word, and `Name` if the word is neither.
 pub fn class_at(lexeme: Option<&Lexeme>) -> Judged<&[u16]>
     ensures { said (λ w. w.now) result ≡ class_at (option_map (λ l. l.now) lexeme.entry) }
 {
@@ -108,11 +108,11 @@ pub fn class_at(lexeme: Option<&Lexeme>) -> Judged<&[u16]>
     Ok(word)
 }
 
-/// A field's descriptor (JVMS 4.3.2).
+/// Judges a place that requires a field's descriptor (JVMS 4.3.2).
 ///
 /// # Errors
 ///
-/// `Operand` where no word stands, `Descriptor` where it is no descriptor.
+/// Returns `Operand` if there is no word, and `Descriptor` if the word is no descriptor.
 pub fn field_descriptor_at(lexeme: Option<&Lexeme>) -> Judged<&[u16]>
     ensures { said (λ w. w.now) result ≡ field_descriptor_at (option_map (λ l. l.now) lexeme.entry) }
 {
@@ -121,7 +121,7 @@ pub fn field_descriptor_at(lexeme: Option<&Lexeme>) -> Judged<&[u16]>
     Ok(word)
 }
 
-/// Whether a word is a label: it begins with none of a digit, `+`, `-` and `.`.
+/// Decides whether a word is a label: it isn't empty and doesn't begin with a digit, `+`, `-` or `.`.
 fn is_label(word: &[u16]) -> bool
     ensures { result ≡ is_label word.now }
 {
@@ -131,11 +131,11 @@ fn is_label(word: &[u16]) -> bool
     }
 }
 
-/// A label.
+/// Judges a place that requires a label.
 ///
 /// # Errors
 ///
-/// `Operand` where no word stands, `Name` where it is no label.
+/// Returns `Operand` if there is no word, and `Name` if the word is no label.
 pub fn label_at(lexeme: Option<&Lexeme>) -> Judged<&[u16]>
     ensures { said (λ w. w.now) result ≡ label_at (option_map (λ l. l.now) lexeme.entry) }
 {

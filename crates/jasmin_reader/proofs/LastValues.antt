@@ -1,4 +1,4 @@
--- The last value of a switch's lines.
+-- Proves which value is the last of a switch's lines.
 use Rattle.std.proofs.Common.{◌≡◌, ◌-◌, suc, List, [], ◌∷◌, length, refl, arith, ◌∙◌, ap}
 use Rattle.std.specs.Prelude.{slice_get}
 use Rattle.std.specs.Option.{option_map}

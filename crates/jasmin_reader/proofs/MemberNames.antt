@@ -1,4 +1,4 @@
--- One more name with a descriptor, among others.
+-- Proves how a set of members changes with one more.
 use Rattle.std.proofs.Common.{◌≡◌, ℕ, Bool, true, false, cond, ◌&&◌, ◌||◌, List, Ordering, refl, sym, ap, ◌∙◌}
 use Rattle.std.specs.BTreeSet as sorted
 use Rattle.std.specs.Cmp.Lexicographic.{slice_cmp, texts_ties, nat_list_eq_equiv}

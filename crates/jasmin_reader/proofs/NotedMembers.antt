@@ -1,4 +1,4 @@
--- What statements do to the members of a class, and to their names.
+-- Proves how statements change the members of a class and the sets of their names.
 use Rattle.std.proofs.Common.{◌≡◌, ℕ, Bool, true, false, ◌&&◌, ◌||◌, List, [], ◌∷◌, ◌++◌, Option, Some, None, Result, Ok, Err, refl, sym, ap, ◌∙◌}
 use Rattle.std.specs.Prelude.{OnOk}
 use Rattle.std.specs.List.{list_any}
@@ -15,7 +15,7 @@ use Rattle.jasmin.specs.Reading.{is_field_like, is_method_like, ended, with_meth
 use Rattle.jasmin_reader.specs.declared.members.Members.{Members}
 use Rattle.jasmin_reader.specs.Members.{has_member, AreFields, AreMethods, FollowsFields, FollowsMethods}
 
--- The names with one more.
+-- The new set has one member more.
 abbrev pub OneMore : Members → Members → List ℕ → List ℕ → Type 0
 OneMore old new name descriptor =
     (m d : List ℕ) → has_member new m d ≡ ((same_text m name && same_text d descriptor) || has_member old m d)
@@ -38,7 +38,7 @@ field_follows : (old new : Members) (f : FieldLine) → OneMore old new f.name f
 unfolding with_statement
 field_follows old new f more = λ r are. field_more old new r.fields f are more
 
--- A field that was put to the others.
+-- A field is added to the set.
 pub field_noted : (result : Result (Unit {0}) AllocError) (old new : Members) (f : FieldLine) (s : Statement) → s ≡ statement.Field f → OnOk result (OneMore old new f.name f.descriptor) → OnOk result (FollowsFields old new s)
 field_noted (Ok done) old new f s is more = rw is (field_follows old new f more)
 field_noted (Err e) old new f s is more = tt
@@ -47,7 +47,7 @@ end_keeps_fields : (names : Members) (o : Option OpenMethod) (r : Reading) → A
 end_keeps_fields names None r are = are
 end_keeps_fields names (Some m) r are = are
 
--- Another statement adds none.
+-- Any other statement adds no field.
 pub no_field : (names : Members) (s : Statement) → ((f : FieldLine) → s ≡ statement.Field f → ⊥) → FollowsFields names names s
 unfolding with_statement
 no_field names statement.Blank other = λ r are. are
@@ -86,7 +86,7 @@ method_follows : (old new : Members) (m : OpenMethod) → OneMore old new m.name
 unfolding with_statement
 method_follows old new m more = λ r is are. rw is (method_ends old new m r more are)
 
--- A method that was put to the others as it ended.
+-- A method is added to the set when it ends.
 pub method_noted : (result : Result (Unit {0}) AllocError) (old new : Members) (m : OpenMethod) (o : Option OpenMethod) (s : Statement) → s ≡ statement.EndMethod → o ≡ Some m → OnOk result (OneMore old new m.name m.descriptor) → OnOk result (FollowsMethods old new o s)
 method_noted (Ok done) old new m o s ends is more = rw (ends, is) (method_follows old new m more)
 method_noted (Err e) old new m o s ends is more = tt
@@ -95,11 +95,11 @@ nothing_follows : (names : Members) → FollowsMethods names names None statemen
 unfolding with_statement
 nothing_follows names = λ r is are. rw is are
 
--- No method ends.
+-- No method is open that could end.
 pub nothing_ended : (names : Members) (o : Option OpenMethod) (s : Statement) → s ≡ statement.EndMethod → o ≡ None → FollowsMethods names names o s
 nothing_ended names o s ends is = rw (ends, is) (nothing_follows names)
 
--- Another statement adds none.
+-- Any other statement adds no method.
 pub no_method : (names : Members) (o : Option OpenMethod) (s : Statement) → (s ≡ statement.EndMethod → ⊥) → FollowsMethods names names o s
 unfolding with_statement
 no_method names o statement.Blank other = λ r is are. are

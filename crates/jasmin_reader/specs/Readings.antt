@@ -1,4 +1,4 @@
--- What functions that take memory answer, beside what is read.
+-- Defines the results of functions that read a source and allocate memory.
 use Rattle.std.specs.Prelude.{◌≡◌, ℕ, Result, Ok, Err}
 use Rattle.jasmin.specs.declared.source.Source.{Source}
 use Rattle.jasmin.specs.declared.statement.Flaw.{Flaw}
@@ -7,17 +7,19 @@ use Rattle.jasmin_instructions.specs.declared.fault.LineFault.TheVariants as lin
 use Rattle.jasmin_reader.specs.declared.fault.SourceFault.{SourceFault}
 use Rattle.jasmin_reader.specs.declared.fault.SourceFault.TheVariants as fault
 
--- The fault of a line with its number.
+-- Returns the fault of a line with its number.
 abbrev pub source_fault : ℕ → LineFault → SourceFault
 source_fault n (line_fault.Flaw f) = fault.Flawed f n
 source_fault n line_fault.Memory = fault.Memory
 
--- The answer, seen by view, is what is read. Where memory ran out it is neither.
+-- The result, mapped by `view`, is what is read, or its fault. If memory ran out, it states nothing about the
+-- definition.
 abbrev pub Reads : {X Y : Type 0} → (X → Y) → Result X SourceFault → Result Y (ℕ × Flaw) → Type 0
 Reads view (Ok x) read = read ≡ Ok (view x)
 Reads view (Err (fault.Flawed f n)) read = read ≡ Err (n, f)
 Reads view (Err fault.Memory) read = Unit {0}
 
--- The answer is the tree that is read, or the first faulty line with the least number of its faults.
+-- The result is the tree that is read, or the first faulty line with the least number of its faults. If memory ran out,
+-- it states nothing about the definition.
 abbrev pub IsRead : Result Source SourceFault → Result Source (ℕ × Flaw) → Type 0
 IsRead = Reads (λ s. s)

@@ -1,4 +1,4 @@
--- Trees of texts.
+-- Defines which trees texts spell.
 use Rattle.std.specs.Prelude.{◌≡◌, ℕ, List, Ok}
 use Rattle.jasmin.specs.declared.source.Source.{Source}
 use Rattle.jasmin.specs.Reading.{source_of}

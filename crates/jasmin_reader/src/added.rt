@@ -1,4 +1,4 @@
-//! What a statement adds to what the lines so far have said.
+//! Adds a statement to the state of the reader.
 
 ghost use Rattle.std.specs.Prelude.{◌≡◌, OnOk, Some, ◌++◌, ◌∷◌, []};
 ghost use Rattle.jasmin.specs.Reading.{ended as ended_method, with_method as reading_with_method, with_statement as reading_with_statement, opened as opened_method};
@@ -7,14 +7,14 @@ use crate::in_method::{
     with_catch, with_default, with_instruction, with_label, with_labelled_instruction, with_match,
     with_max_locals, with_max_stack, with_table_label, with_throws,
 };
-use held::items::Items;
-use held::shared::Text;
+use shared_data::items::Items;
+use shared_data::shared::Text;
 use jasmin::reading::{OpenMethod, Part, Reading};
 use jasmin::source::MethodLines;
 use jasmin::statement::Statement;
 use std::alloc::{AllocError, Global};
 
-/// A method of which nothing has come but its head.
+/// Returns a method after its head.
 fn opened(alloc: Global, access: u16, name: Text, descriptor: Text) -> OpenMethod
     ensures { result ≡ opened_method access name descriptor }
 {
@@ -31,7 +31,7 @@ fn opened(alloc: Global, access: u16, name: Text, descriptor: Text) -> OpenMetho
     }
 }
 
-/// A method whose end has come. Each limit is 1 where none has come.
+/// Returns the closed method. A limit that no line gives is 1.
 fn ended(method: OpenMethod) -> MethodLines
     ensures { result ≡ ended_method method }
 {
@@ -47,7 +47,7 @@ fn ended(method: OpenMethod) -> MethodLines
     }
 }
 
-/// The method ends, if one is open.
+/// Closes the open method, if there is one.
 fn with_end(reading: &mut Reading) -> Result<(), AllocError>
     ensures { OnOk result (reading.new ≡ reading_with_method reading.old.method reading.old) }
 {
@@ -57,7 +57,11 @@ fn with_end(reading: &mut Reading) -> Result<(), AllocError>
     }
 }
 
-/// Adds what a statement says.
+/// Adds a statement to the state of the reader.
+///
+/// # Errors
+///
+/// Returns `AllocError` if memory ran out.
 #[tactic(auto, unfolding(jasmin::specs::Reading::with_statement))]
 pub(crate) fn with_statement(
     alloc: Global,

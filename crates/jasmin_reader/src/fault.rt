@@ -1,4 +1,4 @@
-//! Why a text is no source.
+//! The faults of a text that is no source.
 
 ghost use Rattle.std.specs.Prelude.{◌≡◌};
 ghost use Rattle.jasmin_reader.specs.declared.fault.SourceFault.TheVariants as fault;
@@ -9,19 +9,19 @@ use jasmin_instructions::LineFault;
 use std::alloc::AllocError;
 use thiserror::Error;
 
-/// Why a text is no source.
+/// A fault of a text that is no source.
 #[derive(Clone, Copy, Debug, PartialEq, Eq, Error)]
 pub enum SourceFault {
-    /// J01 to J11: the first faulty line, from 1, with the least number of its faults.
+    /// J01 to J11: the number of the first faulty line, from 1, with the least number of its faults.
     #[error("{flaw} line {line}")]
     Flawed { flaw: Flaw, line: usize },
-    /// J12: there was no memory.
+    /// J12: memory ran out.
     #[error("J12 Memory")]
     Memory,
 }
 
 impl SourceFault {
-    /// The fault of a source of which a line has this one.
+    /// Returns the fault of a source whose line has this fault.
     pub(crate) fn at(line: usize, fault: LineFault) -> SourceFault
         ensures { result ≡ source_fault line fault }
     {

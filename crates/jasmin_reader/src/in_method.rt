@@ -1,4 +1,4 @@
-//! What a statement adds to the method that is open, if one is.
+//! Adds a statement to the open method. The functions do nothing if no method is open.
 
 ghost use Rattle.std.specs.Prelude.{◌≡◌, OnOk, Some};
 ghost use Rattle.std.specs.Option.{option_map};
@@ -6,15 +6,15 @@ ghost use Rattle.jasmin.specs.declared.reading.OpenMethod.{OpenMethod as MethodV
 ghost use Rattle.jasmin.specs.declared.source.CodeItem.TheVariants as item;
 ghost use Rattle.jasmin.specs.Reading.{with_throws as method_with_throws, with_catch as method_with_catch, with_item as method_with_item, with_instruction as method_with_instruction, with_table_label as switch_with_label, with_match as switch_with_match, closed_switch};
 
-use held::boxed::Boxed;
-use held::items::Items;
-use held::shared::Text;
+use shared_data::boxed::Boxed;
+use shared_data::items::Items;
+use shared_data::shared::Text;
 use jasmin::reading::{OpenMethod, SwitchLines};
 use jasmin::source::{CatchLine, CodeItem, LookupLines, MatchLine, Operation, TableLines};
 use jasmin::statement::Instruction;
 use std::alloc::{AllocError, Global};
 
-/// The greatest depth of operands.
+/// Sets the limit of the operand stack.
 pub(crate) fn with_max_stack(method: &mut Option<OpenMethod>, limit: u16)
     ensures { method.new ≡ option_map (λ (m : MethodValue). record m { max_stack = Some limit }) method.old }
 {
@@ -23,7 +23,7 @@ pub(crate) fn with_max_stack(method: &mut Option<OpenMethod>, limit: u16)
     }
 }
 
-/// The number of locals.
+/// Sets the number of local variables.
 pub(crate) fn with_max_locals(method: &mut Option<OpenMethod>, limit: u16)
     ensures { method.new ≡ option_map (λ (m : MethodValue). record m { max_locals = Some limit }) method.old }
 {
@@ -32,7 +32,7 @@ pub(crate) fn with_max_locals(method: &mut Option<OpenMethod>, limit: u16)
     }
 }
 
-/// A class that the method throws.
+/// Appends a class that the method throws.
 pub(crate) fn with_throws(method: &mut Option<OpenMethod>, name: Text) -> Result<(), AllocError>
     ensures { OnOk result (method.new ≡ option_map (method_with_throws name) method.old) }
 {
@@ -42,7 +42,7 @@ pub(crate) fn with_throws(method: &mut Option<OpenMethod>, name: Text) -> Result
     }
 }
 
-/// A catch.
+/// Appends a catch.
 pub(crate) fn with_catch(method: &mut Option<OpenMethod>, line: CatchLine) -> Result<(), AllocError>
     ensures { OnOk result (method.new ≡ option_map (method_with_catch line) method.old) }
 {
@@ -52,7 +52,7 @@ pub(crate) fn with_catch(method: &mut Option<OpenMethod>, line: CatchLine) -> Re
     }
 }
 
-/// A label.
+/// Appends a label to the code.
 pub(crate) fn with_label(method: &mut Option<OpenMethod>, label: Text) -> Result<(), AllocError>
     ensures { OnOk result (method.new ≡ option_map (method_with_item (item.Label label)) method.old) }
 {
@@ -62,14 +62,14 @@ pub(crate) fn with_label(method: &mut Option<OpenMethod>, label: Text) -> Result
     }
 }
 
-/// Puts an item behind a method's code.
+/// Appends an item to the method's code.
 fn with_item(method: &mut OpenMethod, item: CodeItem) -> Result<(), AllocError>
     ensures { OnOk result (method.new ≡ method_with_item item method.old) }
 {
     method.code.push(item)
 }
 
-/// Puts an instruction behind a method's code, or opens a switch.
+/// Appends an instruction to the method's code, or opens a switch.
 fn with_instruction_in(
     alloc: Global,
     method: &mut OpenMethod,
@@ -95,7 +95,7 @@ fn with_instruction_in(
     }
 }
 
-/// Puts a label behind those of a `tableswitch`.
+/// Appends a label to an open `tableswitch`.
 fn with_table_label_in(switch: &mut Option<SwitchLines>, label: Text) -> Result<(), AllocError>
     ensures { OnOk result (switch.new ≡ switch_with_label label switch.old) }
 {
@@ -105,7 +105,7 @@ fn with_table_label_in(switch: &mut Option<SwitchLines>, label: Text) -> Result<
     }
 }
 
-/// Puts a line behind those of a `lookupswitch`.
+/// Appends a match to an open `lookupswitch`.
 fn with_match_in(switch: &mut Option<SwitchLines>, line: MatchLine) -> Result<(), AllocError>
     ensures { OnOk result (switch.new ≡ switch_with_match line switch.old) }
 {
@@ -115,7 +115,7 @@ fn with_match_in(switch: &mut Option<SwitchLines>, line: MatchLine) -> Result<()
     }
 }
 
-/// Closes the open switch by its default.
+/// Closes the open switch with its default, and appends it to the method's code.
 fn with_default_in(alloc: Global, method: &mut OpenMethod, default: Text) -> Result<(), AllocError>
     ensures { OnOk result (method.new ≡ closed_switch method.old.switch default method.old) }
 {
@@ -138,7 +138,7 @@ fn with_default_in(alloc: Global, method: &mut OpenMethod, default: Text) -> Res
     }
 }
 
-/// An instruction, which may be a switch's first line.
+/// Appends an instruction to the code, or opens a switch.
 pub(crate) fn with_instruction(
     alloc: Global,
     method: &mut Option<OpenMethod>,
@@ -152,7 +152,7 @@ pub(crate) fn with_instruction(
     }
 }
 
-/// A label and the instruction that it names.
+/// Appends a label, and the instruction that it marks.
 pub(crate) fn with_labelled_instruction(
     alloc: Global,
     method: &mut Option<OpenMethod>,
@@ -170,7 +170,7 @@ pub(crate) fn with_labelled_instruction(
     }
 }
 
-/// A line of a `tableswitch`.
+/// Appends a label to an open `tableswitch`.
 pub(crate) fn with_table_label(
     method: &mut Option<OpenMethod>,
     label: Text,
@@ -183,7 +183,7 @@ pub(crate) fn with_table_label(
     }
 }
 
-/// A line of a `lookupswitch`.
+/// Appends a match to an open `lookupswitch`.
 pub(crate) fn with_match(method: &mut Option<OpenMethod>, line: MatchLine) -> Result<(), AllocError>
     ensures { OnOk result (method.new ≡ option_map (λ (m : MethodValue). record m { switch = switch_with_match line m.switch }) method.old) }
 {
@@ -193,7 +193,7 @@ pub(crate) fn with_match(method: &mut Option<OpenMethod>, line: MatchLine) -> Re
     }
 }
 
-/// The last line of a switch.
+/// Closes the open switch with its default, and appends it to the code.
 pub(crate) fn with_default(
     alloc: Global,
     method: &mut Option<OpenMethod>,

@@ -1,4 +1,4 @@
-//! A whole source in Jasmin, line by line: its tree, or its first faulty line.
+//! Reads a Jasmin source line by line, and returns its syntax tree or its first faulty line.
 #![tactic(auto)]
 
 mod added;

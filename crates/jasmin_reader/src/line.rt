@@ -1,4 +1,4 @@
-//! One line, behind those before it.
+//! Reads one line, given the lines before it.
 
 ghost use Rattle.jasmin.specs.Sources.{units_of};
 ghost use Rattle.jasmin.specs.Lexing.{lexemes};
@@ -15,7 +15,11 @@ use jasmin_lex::{LexFault, tokens};
 use jasmin_statements::{kind_of, statement_of};
 use std::alloc::Global;
 
-/// A statement that doesn't repeat another is added.
+/// Adds a statement that doesn't repeat another.
+///
+/// # Errors
+///
+/// Returns `Repeated` for any other, or `Memory` if memory ran out.
 fn added(alloc: Global, before: Open, statement: Statement) -> Result<Open, LineFault>
     ensures { Says result (statement_added before statement) }
 {
@@ -25,7 +29,11 @@ fn added(alloc: Global, before: Open, statement: Statement) -> Result<Open, Line
     Ok(before.with_statement(alloc, statement)?)
 }
 
-/// A line of a kind that may stand here is added.
+/// Judges a line of a kind, and adds its statement.
+///
+/// # Errors
+///
+/// Returns the line's fault, or `Memory` if memory ran out.
 fn placed(alloc: Global, before: Open, kind: LineKind, tokens: &[Token]) -> Result<Open, LineFault>
     ensures { Says result (line_placed before kind (lexemes tokens.now)) }
 {
@@ -38,7 +46,7 @@ fn placed(alloc: Global, before: Open, kind: LineKind, tokens: &[Token]) -> Resu
     added(alloc, before, statement?)
 }
 
-/// The line of these tokens is added.
+/// Judges the line of these tokens, and adds its statement.
 fn with_tokens(alloc: Global, before: Open, tokens: &[Token]) -> Result<Open, LineFault>
     ensures { Says result (with_lexemes before (lexemes tokens.now)) }
 {
@@ -46,7 +54,11 @@ fn with_tokens(alloc: Global, before: Open, tokens: &[Token]) -> Result<Open, Li
     placed(alloc, before, kind, tokens)
 }
 
-/// What the lines so far have said together with a line.
+/// Returns the state of the reader after a line.
+///
+/// # Errors
+///
+/// Returns the line's fault, or `Memory` if memory ran out.
 #[tactic(auto, unfolding(jasmin::specs::Reading::with_line))]
 pub(crate) fn with_line(alloc: Global, before: Open, line: &str) -> Result<Open, LineFault>
     ensures { Says result (line_read before (units_of line.now)) }

@@ -1,4 +1,4 @@
-//! A name and a descriptor, in the order of their units.
+//! Orders members by name, then by descriptor. Both are ordered by their units.
 
 ghost use Rattle.std.specs.Prelude.{◌≡◌, IfOk, nat_eq};
 ghost use Rattle.std.proofs.Common.{rules};
@@ -7,11 +7,11 @@ ghost use Rattle.std.specs.Cmp.Rules.{comparing};
 ghost use Rattle.std.specs.Cmp.Lexicographic.{slice_cmp, pointwise};
 ghost use Rattle.std.specs.Ordering.{nat_cmp, on, then_cmp, as_partial_cmp, eq_by_cmp};
 
-use held::shared::Text;
+use shared_data::shared::Text;
 use std::alloc::AllocError;
 use std::cmp::Ordering;
 
-/// A name and a descriptor.
+/// The name and the descriptor of a member.
 #[derive(Drop)]
 pub(crate) struct Member {
     name: Text,
@@ -19,7 +19,7 @@ pub(crate) struct Member {
 }
 
 impl Member {
-    /// One more owner of the two texts.
+    /// Returns a member that shares both texts.
     pub(crate) fn new(name: &Text, descriptor: &Text) -> Result<Self, AllocError>
         ensures { IfOk result (λ m. m ≡ record { name = name.now; descriptor = descriptor.now }) }
     {

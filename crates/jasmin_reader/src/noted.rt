@@ -1,4 +1,4 @@
-//! The names of members, as statements add to them.
+//! Adds the members of statements to the sets of members.
 
 ghost use Rattle.std.specs.Prelude.{OnOk};
 ghost use Rattle.jasmin_reader.specs.Members.{FollowsFields, FollowsMethods};
@@ -8,7 +8,7 @@ use jasmin::reading::OpenMethod;
 use jasmin::statement::Statement;
 use std::alloc::AllocError;
 
-/// Notes the field that a statement adds.
+/// Adds the field of a statement, if the statement is one.
 #[tactic(auto, using(crate::proofs::NotedMembers::no_field))]
 pub(crate) fn note_field(fields: &mut Members, statement: &Statement) -> Result<(), AllocError>
     ensures { OnOk result (FollowsFields fields.old fields.new statement.now) }
@@ -19,7 +19,7 @@ pub(crate) fn note_field(fields: &mut Members, statement: &Statement) -> Result<
     }
 }
 
-/// Notes the method that a statement ends, if one is open.
+/// Adds the open method if the statement ends it.
 #[tactic(auto, using(crate::proofs::NotedMembers::no_method, crate::proofs::NotedMembers::nothing_ended))]
 pub(crate) fn note_method(
     methods: &mut Members,

@@ -1,11 +1,11 @@
-//! Whether the limits of a method have come.
+//! Decides whether a method has its limits.
 
 ghost use Rattle.std.specs.Prelude.{◌≡◌};
 ghost use Rattle.jasmin.specs.Reading.{has_stack as method_has_stack, has_locals as method_has_locals};
 
 use jasmin::reading::OpenMethod;
 
-/// Whether `.limit stack` has come in the open method.
+/// Decides whether the open method has `.limit stack`.
 pub(crate) fn has_stack(method: &Option<OpenMethod>) -> bool
     ensures { result ≡ method_has_stack method.now }
 {
@@ -15,7 +15,7 @@ pub(crate) fn has_stack(method: &Option<OpenMethod>) -> bool
     }
 }
 
-/// Whether `.limit locals` has come in the open method.
+/// Decides whether the open method has `.limit locals`.
 pub(crate) fn has_locals(method: &Option<OpenMethod>) -> bool
     ensures { result ≡ method_has_locals method.now }
 {

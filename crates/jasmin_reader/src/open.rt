@@ -1,20 +1,20 @@
-//! A source that is being read.
+//! The state of the reader of a source.
 
 ghost use Rattle.std.specs.Prelude.{◌≡◌, IfOk, OnOk};
-ghost use Rattle.jasmin.specs.Reading.{nothing_read, is_repeated as statement_repeated, with_statement as reading_with_statement};
+ghost use Rattle.jasmin.specs.Reading.{empty_reading, is_repeated as statement_repeated, with_statement as reading_with_statement};
 ghost use Rattle.jasmin_reader.specs.Members.{FollowsFields, FollowsMethods};
 
 use crate::added::with_statement;
 use crate::members::Members;
 use crate::noted::{note_field, note_method};
 use crate::once::{has_locals, has_stack};
-use held::items::Items;
+use shared_data::items::Items;
 use jasmin::reading::{Part, Reading};
 use jasmin::statement::Statement;
 use std::alloc::{AllocError, Global};
 use std::marker::Model;
 
-/// What the lines so far have said, and the names of the members, so that none has to be sought among all.
+/// The state of the reader, with the sets of its members. The sets make it fast to decide whether a member is repeated.
 #[derive(Drop)]
 struct Parts {
     reading: Reading,
@@ -22,7 +22,7 @@ struct Parts {
     methods: Members,
 }
 
-/// The same, held apart, since it goes from line to line.
+/// The state of the reader, boxed because it moves from line to line. In contracts it is the state without the sets.
 #[derive(Drop)]
 pub(crate) struct Open {
     parts: Box<Parts>,
@@ -39,9 +39,9 @@ impl Model for Open {
     ghost invariant = { λ o. AreFields o.parts.value.fields o.parts.value.reading.fields × AreMethods o.parts.value.methods o.parts.value.reading.methods };
 }
 
-/// What no line has said.
+/// Returns the state before the first line.
 fn nothing(alloc: Global) -> Reading
-    ensures { result ≡ nothing_read }
+    ensures { result ≡ empty_reading }
 {
     Reading {
         part: Part::Beginning,
@@ -58,7 +58,7 @@ fn nothing(alloc: Global) -> Reading
 }
 
 impl Parts {
-    /// Adds what a statement says.
+    /// Adds a statement.
     fn add(&mut self, alloc: Global, statement: Statement) -> Result<(), AllocError>
         ensures reading { OnOk result (self.new.reading ≡ reading_with_statement self.old.reading statement) }
         ensures fields { OnOk result (FollowsFields self.old.fields self.new.fields statement) }
@@ -71,9 +71,9 @@ impl Parts {
 }
 
 impl Open {
-    /// Before the first line.
+    /// Returns the state before the first line.
     pub(crate) fn new(alloc: Global) -> Result<Self, AllocError>
-        ensures { IfOk result (λ o. o ≡ nothing_read) }
+        ensures { IfOk result (λ o. o ≡ empty_reading) }
     {
         let parts = Parts {
             reading: nothing(alloc),
@@ -85,14 +85,14 @@ impl Open {
         })
     }
 
-    /// What the lines so far have said.
+    /// Returns what the lines so far have stated.
     pub(crate) fn reading(&self) -> &Reading
         ensures { result.now ≡ self.now }
     {
         &self.parts.reading
     }
 
-    /// The same, where the names are no longer needed.
+    /// Returns what the lines so far have stated, and drops the sets of members.
     pub(crate) fn into_reading(self) -> Reading
         ensures { result ≡ self }
     {
@@ -104,7 +104,7 @@ impl Open {
         reading
     }
 
-    /// Whether a statement that may come once has come, or a member with this name and descriptor.
+    /// Decides whether a statement that is allowed once is repeated, or a member with this name and descriptor exists.
     #[tactic(auto, unfolding(jasmin::specs::Reading::is_repeated))]
     pub(crate) fn is_repeated(&self, statement: &Statement) -> Result<bool, AllocError>
         ensures { IfOk result (λ repeated. repeated ≡ statement_repeated self.now statement.now) }
@@ -137,7 +137,7 @@ impl Open {
         }
     }
 
-    /// Together with what a statement says.
+    /// Returns the state after a statement.
     pub(crate) fn with_statement(
         self,
         alloc: Global,

@@ -1,14 +1,14 @@
-//! Which lines may stand where.
+//! Decides which lines are allowed at a place.
 
 ghost use Rattle.std.specs.Prelude.{◌≡◌};
-ghost use Rattle.jasmin.specs.Reading.{rank as part_rank, part_of as directive_part, is_in_order as part_in_order, is_placed as part_placed, takes_instructions as method_takes_instructions, has_no_switch as is_no_switch, has_labels as method_has_labels, is_in_place as line_in_place};
+ghost use Rattle.jasmin.specs.Reading.{rank as part_rank, part_of as directive_part, is_in_order as part_in_order, is_placed as part_placed, may_have_instructions as method_takes_instructions, has_no_switch as is_no_switch, has_labels as method_has_labels, is_in_place as line_in_place};
 
 use crate::switch::switch_of;
 use descriptor::{Flags, is_initializer_name};
 use jasmin::reading::{OpenMethod, Part, Reading, SwitchLines};
 use jasmin::statement::{Directive, LineKind, OpenSwitch};
 
-/// Where a part stands among the others.
+/// Returns the position of a part among the others.
 fn rank(part: Part) -> u8
     ensures { result ≡ part_rank part }
 {
@@ -21,7 +21,7 @@ fn rank(part: Part) -> u8
     }
 }
 
-/// The part that a directive outside of methods belongs to.
+/// Returns the part that a directive outside of methods belongs to.
 fn part_of(directive: Directive) -> Option<Part>
     ensures { result ≡ directive_part directive }
 {
@@ -40,14 +40,15 @@ fn part_of(directive: Directive) -> Option<Part>
     }
 }
 
-/// Whether no statement of a later part has come, and the class has come where it has to.
+/// Decides whether a statement of a part is allowed: no later part has a statement, and all parts after the class
+/// follow the class.
 fn is_in_order(latest: Part, part: Part) -> bool
     ensures { result ≡ part_in_order latest part }
 {
     rank(latest) <= rank(part) && (rank(part) <= 1 || 1 <= rank(latest))
 }
 
-/// Whether a directive may stand here: one of a part outside of methods, each other inside of one.
+/// Decides whether a directive is allowed at this place: one of a part outside of methods, any other inside a method.
 fn is_placed(latest: Part, in_method: bool, part: Option<Part>) -> bool
     ensures { result ≡ part_placed latest in_method part }
 {
@@ -57,8 +58,8 @@ fn is_placed(latest: Part, in_method: bool, part: Option<Part>) -> bool
     }
 }
 
-/// Whether the open method takes instructions: it is neither native nor abstract, or is `<clinit>`.
-fn takes_instructions(method: &Option<OpenMethod>) -> bool
+/// Decides whether the open method may have instructions: it is neither native nor abstract, or is `<clinit>`.
+fn may_have_instructions(method: &Option<OpenMethod>) -> bool
     ensures { result ≡ method_takes_instructions method.now }
 {
     match method {
@@ -77,7 +78,7 @@ fn has_no_switch(switch: OpenSwitch) -> bool
     matches!(switch, OpenSwitch::None)
 }
 
-/// Whether a switch has what stands before its default: a `tableswitch` has a label.
+/// Decides whether the open switch may have its default. That of a `tableswitch` follows at least one label.
 fn has_labels(method: &Option<OpenMethod>) -> bool
     ensures { result ≡ method_has_labels method.now }
 {
@@ -90,7 +91,7 @@ fn has_labels(method: &Option<OpenMethod>) -> bool
     }
 }
 
-/// Whether a line of a kind may stand here.
+/// Decides whether a line of a kind is allowed at this place.
 #[tactic(auto, unfolding(jasmin::specs::Reading::is_in_place))]
 pub(crate) fn is_in_place(reading: &Reading, kind: LineKind) -> bool
     ensures { result ≡ line_in_place reading.now kind }
@@ -104,7 +105,7 @@ pub(crate) fn is_in_place(reading: &Reading, kind: LineKind) -> bool
         LineKind::Default => has_labels(&reading.method),
         LineKind::Label => reading.method.is_some(),
         LineKind::Instruction(_) | LineKind::LabelledInstruction(_) => {
-            takes_instructions(&reading.method)
+            may_have_instructions(&reading.method)
         }
     }
 }

@@ -1,24 +1,24 @@
-//! A source: what its lines say, one behind another, and what that is together.
+//! Reads the lines of a source in order, and returns its syntax tree.
 
 ghost use Rattle.std.specs.Prelude.{◌≡◌, ℕ, List, length, IfOk, codes};
 ghost use Rattle.std.specs.Option.{unwrap_or};
 ghost use Rattle.std.specs.Str.Lines.{lines};
-ghost use Rattle.jasmin.specs.Reading.{nothing_read, with_lines as lines_read, last_line as last_of_lines, finished as reading_finished, source_of};
+ghost use Rattle.jasmin.specs.Reading.{empty_reading, with_lines as lines_read, last_line as last_of_lines, finished as reading_finished, source_of};
 ghost use Rattle.jasmin_reader.specs.Readings.{Reads, IsRead};
 
 use crate::fault::SourceFault;
 use crate::line::with_line;
 use crate::open::Open;
 use crate::text::text as ascii_text;
-use held::shared::Text;
+use shared_data::shared::Text;
 use jasmin::reading::Reading;
 use jasmin::source::Source;
 use jasmin::statement::Flaw;
 use std::alloc::{AllocError, Global};
 
-/// What the lines of a text say, and how many there are.
+/// Returns the state of the reader after the lines of a text and the number of lines, or the first faulty line.
 fn with_lines(alloc: Global, text: &str) -> Result<(Open, usize), SourceFault>
-    ensures read { Reads (λ x. x.0) result (lines_read 0 nothing_read (lines text.now)) }
+    ensures read { Reads (λ x. x.0) result (lines_read 0 empty_reading (lines text.now)) }
     ensures count { IfOk result (λ x. x.1 ≡ length (lines text.now)) }
 {
     let mut read = Open::new(alloc)?;
@@ -33,7 +33,7 @@ fn with_lines(alloc: Global, text: &str) -> Result<(Open, usize), SourceFault>
     Ok((read, number))
 }
 
-/// The line that what is missing is missing from: the last one, or the first of a text without lines.
+/// Returns the number of the last line, and 1 for a text without lines. It is reported if something is missing.
 #[tactic(auto, using(crate::proofs::LinesRead::last_of_none, crate::proofs::LinesRead::last_of_some))]
 fn last_line(count: usize) -> usize
     ensures { (ls : List (List ℕ)) → count ≡ length ls → result ≡ last_of_lines ls }
@@ -41,7 +41,7 @@ fn last_line(count: usize) -> usize
     if count == 0 { 1 } else { count }
 }
 
-/// The superclass, which is `java/lang/Object` where none has come.
+/// Returns the superclass, which is `java/lang/Object` if no line gives it.
 fn superclass_of(alloc: Global, superclass: Option<Text>) -> Result<Text, AllocError>
     ensures { IfOk result (λ name. name ≡ unwrap_or superclass (codes "java/lang/Object")) }
 {
@@ -51,7 +51,11 @@ fn superclass_of(alloc: Global, superclass: Option<Text>) -> Result<Text, AllocE
     }
 }
 
-/// The tree, if the class has come and no method is open.
+/// Returns the syntax tree, if there is a class and no method is open.
+///
+/// # Errors
+///
+/// Returns `Missing` for any other, or `Memory` if memory ran out.
 fn finished(alloc: Global, last: usize, reading: Reading) -> Result<Source, SourceFault>
     ensures { IsRead result (reading_finished last reading) }
 {
@@ -71,7 +75,7 @@ fn finished(alloc: Global, last: usize, reading: Reading) -> Result<Source, Sour
     }
 }
 
-/// The tree of a text, or its first faulty line.
+/// Returns the syntax tree of a text, or its first faulty line.
 #[tactic(auto, unfolding(jasmin::specs::Reading::source_of))]
 pub(crate) fn read_tree(alloc: Global, text: &str) -> Result<Source, SourceFault>
     ensures exact { IsRead result (source_of text.now) }

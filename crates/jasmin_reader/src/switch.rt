@@ -1,4 +1,4 @@
-//! What the lines before leave open, as far as the operands of a line depend on it.
+//! Finds the open switch, as far as the operands of a line depend on it.
 
 ghost use Rattle.std.specs.Prelude.{◌≡◌};
 ghost use Rattle.jasmin.specs.Reading.{last_value as last_match_value, switch_of_lines as lines_switch, switch_of_method as method_switch, switch_of as reading_switch, sort_of as access_sort};
@@ -8,7 +8,7 @@ use jasmin::reading::{OpenMethod, Reading, SwitchLines};
 use jasmin::source::MatchLine;
 use jasmin::statement::{ClassSort, OpenSwitch};
 
-/// The last value of a `lookupswitch`, if it has one.
+/// Returns the last value of a `lookupswitch`, if it has one.
 #[tactic(auto, using(crate::proofs::LastValues::last_value_of))]
 fn last_value(matches: &[MatchLine]) -> Option<i32>
     ensures { result ≡ last_match_value matches.now }
@@ -19,7 +19,7 @@ fn last_value(matches: &[MatchLine]) -> Option<i32>
     }
 }
 
-/// The switch that these lines leave open.
+/// Returns the open switch of these lines.
 fn switch_of_lines(lines: &SwitchLines) -> OpenSwitch
     ensures { result ≡ lines_switch (Some lines.now) }
 {
@@ -33,7 +33,7 @@ fn switch_of_lines(lines: &SwitchLines) -> OpenSwitch
     }
 }
 
-/// The switch that a method leaves open.
+/// Returns the open switch of a method.
 fn switch_of_method(method: &OpenMethod) -> OpenSwitch
     ensures { result ≡ method_switch (Some method.now) }
 {
@@ -43,7 +43,7 @@ fn switch_of_method(method: &OpenMethod) -> OpenSwitch
     }
 }
 
-/// The switch that the lines so far leave open.
+/// Returns the open switch of the lines so far.
 pub(crate) fn switch_of(reading: &Reading) -> OpenSwitch
     ensures { result ≡ reading_switch reading.now }
 {
@@ -53,7 +53,7 @@ pub(crate) fn switch_of(reading: &Reading) -> OpenSwitch
     }
 }
 
-/// Which sort of class has these flags.
+/// Returns the sort of class that has these flags.
 pub(crate) fn sort_of(access: u16) -> ClassSort
     ensures { result ≡ access_sort access }
 {

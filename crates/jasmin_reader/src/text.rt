@@ -1,12 +1,12 @@
-//! Texts that a tree has where its source has none.
+//! Makes texts that a tree has but its source doesn't.
 
 ghost use Rattle.std.specs.Prelude.{◌≡◌, IfOk};
 
-use held::items::Items;
-use held::shared::{Shared, Text};
+use shared_data::items::Items;
+use shared_data::shared::{Shared, Text};
 use std::alloc::{AllocError, Global};
 
-/// The units of an ASCII text.
+/// Returns the units of an ASCII text.
 pub(crate) fn text(alloc: Global, ascii: &str) -> Result<Text, AllocError>
     ensures { IfOk result (λ units. units ≡ ascii.now) }
 {

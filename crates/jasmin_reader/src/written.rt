@@ -1,4 +1,4 @@
-//! Sources that texts spell.
+//! The public result of reading: a source that a text spells.
 
 ghost use Rattle.std.specs.Prelude.{◌≡◌};
 ghost use Rattle.jasmin.specs.Reading.{source_of};
@@ -11,7 +11,7 @@ use jasmin::source::Source as Tree;
 use std::alloc::Global;
 use std::marker::Model;
 
-/// A source that a text spells. Contracts see it as its tree.
+/// A source that a text spells. In contracts it is its syntax tree.
 #[derive(Drop)]
 pub struct Source {
     tree: Tree,
@@ -30,7 +30,7 @@ impl Model for Source {
 }
 
 impl Source {
-    /// The tree.
+    /// Returns the syntax tree.
     pub fn tree(&self) -> &Tree
         ensures same { result.now ≡ self.now }
         ensures written { IsWritten self.now }
@@ -39,13 +39,14 @@ impl Source {
     }
 }
 
-/// The source that a text in Jasmin is. Lines end at LF or CR LF.
+/// Returns the source that a text in Jasmin spells. Lines end at LF or CR LF.
 ///
 /// # Errors
 ///
-/// The first faulty line, from 1, with the least number of its faults; or Memory.
+/// Returns the number of the first faulty line, from 1, with the least number of its faults, or `Memory` if memory ran
+/// out.
 pub fn read(alloc: Global, text: &str) -> Result<Source, SourceFault>
-    // The tree that the text is, or its first faulty line, unless memory runs out.
+    // The result is the tree that the text spells, or its first faulty line, unless memory runs out.
     ensures exact { IsRead result (source_of text.now) }
 {
     let tree = read_tree(alloc, text)?;

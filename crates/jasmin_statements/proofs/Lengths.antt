@@ -1,4 +1,4 @@
--- Texts of different lengths differ.
+-- Proves that texts of different lengths differ.
 use Rattle.std.proofs.Common.{◌≡◌, ◌≢◌, ℕ, Bool, true, false, List, length, refl, ap}
 use Rattle.std.specs.Cmp.Lexicographic.{bytes_decides}
 use Rattle.jvms_file.specs.Names.{same_text}

@@ -1,4 +1,4 @@
--- What parts of a line's tokens are.
+-- Proves that lexemes of parts of a line are those parts of the lexemes.
 use Rattle.std.proofs.Common.{◌≡◌, ℕ, suc, ◌+◌, ◌-◌, ◌≤◌, Bool, true, false, not, cond, if◌then◌else◌, List, [], ◌∷◌, length, take, drop, refl, ap, sym, ◌∙◌, arith}
 use Rattle.std.specs.List.{position_or_len}
 use Rattle.std.proofs.lemmas.List.{take-map, drop-map, length-map, length-drop, take_all}
@@ -29,7 +29,7 @@ lexemes_access ts = ap (λ n. take (n - 2) (lexemes ts)) (lexemes_length ts) ∙
 abbrev pub has_equals : Token → Bool
 has_equals t = is_equals t.lexeme
 
--- What stands before the first equals sign.
+-- The lexemes before the first equals sign are those of the tokens before it.
 pub lexemes_head : (ts : List Token) → lexemes (take (position_or_len has_equals ts) ts) ≡ field_head (lexemes ts)
 lexemes_head [] = refl
 lexemes_head (t ∷ ts) = by_test (is_equals t.lexeme) (lexemes_head ts)

@@ -1,4 +1,4 @@
--- Lines of code, in parts.
+-- Defines parts of the kinds of lines.
 use Rattle.std.specs.Prelude.{List, [], ◌∷◌, Ok}
 use Rattle.jasmin.specs.declared.token.Lexeme.{Lexeme}
 use Rattle.jasmin.specs.declared.statement.LineKind.{LineKind}
@@ -6,7 +6,7 @@ use Rattle.jasmin.specs.declared.statement.LineKind.TheVariants as kind
 use Rattle.jasmin.specs.Judgements.{Judged}
 use Rattle.jasmin.specs.LineKinds.{instruction_kind}
 
--- The kind of a line that begins with a label, by what stands behind it.
+-- Returns the kind of a line that begins with a label, by the tokens after it.
 abbrev pub labelled_kind : List Lexeme → Judged LineKind
 labelled_kind [] = Ok kind.Label
 labelled_kind (t ∷ ts) = instruction_kind (λ code. kind.LabelledInstruction code) t

@@ -1,4 +1,4 @@
-//! The directives before the members: `.bytecode`, `.source`, `.class`, `.interface`, `.super`, `.implements`.
+//! Judges the directives before the members: `.bytecode`, `.source`, `.class`, `.interface`, `.super`, `.implements`.
 
 ghost use Rattle.std.specs.Prelude.{◌≡◌};
 ghost use Rattle.std.specs.Option.{option_map};
@@ -18,7 +18,7 @@ use jasmin_operands::{
 };
 use std::alloc::Global;
 
-/// The version of a `.bytecode`, which is dropped.
+/// Judges the version of a `.bytecode`, which is dropped.
 fn version_at(lexeme: Option<&Lexeme>) -> Judged<()>
     ensures { result ≡ version_at (option_map (λ l. l.now) lexeme.entry) }
 {
@@ -29,7 +29,7 @@ fn version_at(lexeme: Option<&Lexeme>) -> Judged<()>
     }
 }
 
-/// `.bytecode M.N`.
+/// Judges `.bytecode M.N`.
 #[tactic(auto, unfolding(jasmin::specs::Statements::bytecode_line))]
 pub(crate) fn bytecode_line(tokens: &[Token]) -> Judged<Statement>
     ensures { result ≡ bytecode_line (lexemes tokens.now) }
@@ -38,7 +38,7 @@ pub(crate) fn bytecode_line(tokens: &[Token]) -> Judged<Statement>
     Ok(Statement::Bytecode)
 }
 
-/// The file's name of a `.source`, a word or a text, which is dropped.
+/// Judges the file's name of a `.source`, a word or a text, which is dropped.
 fn file_at(lexeme: Option<&Lexeme>) -> Judged<()>
     ensures { result ≡ file_at (option_map (λ l. l.now) lexeme.entry) }
 {
@@ -48,7 +48,7 @@ fn file_at(lexeme: Option<&Lexeme>) -> Judged<()>
     }
 }
 
-/// `.source FILE`.
+/// Judges `.source FILE`.
 #[tactic(auto, unfolding(jasmin::specs::Statements::source_line))]
 pub(crate) fn source_line(tokens: &[Token]) -> Judged<Statement>
     ensures { result ≡ source_line (lexemes tokens.now) }
@@ -57,7 +57,7 @@ pub(crate) fn source_line(tokens: &[Token]) -> Judged<Statement>
     Ok(Statement::SourceFile)
 }
 
-/// The name of a class, behind its access words.
+/// Judges the access words and the name of a class, and returns the name.
 fn class_head(tokens: &[Token]) -> Judged<&[u16]>
     ensures { said (λ w. w.now) result ≡ unless (class_name_at (last_of (lexemes tokens.now))) (access_words class_words (but_last (lexemes tokens.now))) }
 {
@@ -67,7 +67,7 @@ fn class_head(tokens: &[Token]) -> Judged<&[u16]>
     )
 }
 
-/// `.class ACCESS NAME` or `.interface ACCESS NAME`, with the flags that it adds.
+/// Judges `.class ACCESS NAME` or `.interface ACCESS NAME`. The directive adds the flags `added`.
 #[tactic(auto, unfolding(jasmin::specs::Statements::class_line))]
 pub(crate) fn class_line(
     alloc: Global,
@@ -83,7 +83,7 @@ pub(crate) fn class_line(
     })
 }
 
-/// `.super NAME`.
+/// Judges `.super NAME`.
 #[tactic(auto, unfolding(jasmin::specs::Statements::super_line))]
 pub(crate) fn super_line(alloc: Global, tokens: &[Token]) -> Result<Statement, LineFault>
     ensures { Says result (super_line (lexemes tokens.now)) }
@@ -92,7 +92,7 @@ pub(crate) fn super_line(alloc: Global, tokens: &[Token]) -> Result<Statement, L
     Ok(Statement::Superclass(text(alloc, name)?))
 }
 
-/// `.implements NAME`.
+/// Judges `.implements NAME`.
 #[tactic(auto, unfolding(jasmin::specs::Statements::implements_line))]
 pub(crate) fn implements_line(alloc: Global, tokens: &[Token]) -> Result<Statement, LineFault>
     ensures { Says result (implements_line (lexemes tokens.now)) }

@@ -1,11 +1,11 @@
-//! The directives within a method: `.limit`, `.catch`, `.throws`, `.line`, `.var`.
+//! Judges the directives within a method: `.limit`, `.catch`, `.throws`, `.line`, `.var`.
 
 ghost use Rattle.std.specs.Prelude.{◌≡◌, IfOk, codes, slice_get};
 ghost use Rattle.std.specs.Option.{option_map};
 ghost use Rattle.jasmin.specs.Lexing.{lexemes};
 ghost use Rattle.jasmin.specs.Judgements.{both, said, unless};
 ghost use Rattle.jasmin.specs.Operands.{caught_at, exactly, keyword_at, label_at, name_at, field_descriptor_at, u16_at};
-ghost use Rattle.jasmin.specs.Statements.{limit_at, limit_line, label_behind, catch_line, throws_line, line_line, var_line};
+ghost use Rattle.jasmin.specs.Statements.{limit_at, limit_line, label_after, catch_line, throws_line, line_line, var_line};
 ghost use Rattle.jasmin_operands.specs.Views.{caught_of};
 ghost use Rattle.jasmin_instructions.specs.Saying.{Says};
 ghost use Rattle.jasmin_instructions.specs.Views.{two_texts};
@@ -20,7 +20,7 @@ use jasmin_operands::{
 };
 use std::alloc::{AllocError, Global};
 
-/// Whether a limit is the stack's, and not that of the locals.
+/// Judges the first operand of `.limit`, `stack` or `locals`, and decides whether it is `stack`.
 fn limit_at(lexeme: Option<&Lexeme>) -> Judged<bool>
     ensures { result ≡ limit_at (option_map (λ l. l.now) lexeme.entry) }
 {
@@ -34,7 +34,7 @@ fn limit_at(lexeme: Option<&Lexeme>) -> Judged<bool>
     }
 }
 
-/// `.limit stack N` or `.limit locals N`.
+/// Judges `.limit stack N` or `.limit locals N`.
 #[tactic(auto, unfolding(jasmin::specs::Statements::limit_line))]
 pub(crate) fn limit_line(tokens: &[Token]) -> Judged<Statement>
     ensures { result ≡ limit_line (lexemes tokens.now) }
@@ -48,8 +48,8 @@ pub(crate) fn limit_line(tokens: &[Token]) -> Judged<Statement>
     }
 }
 
-/// A label, and before it a word that is given.
-fn label_behind<'a>(
+/// Judges a given word and the label that follows it.
+fn label_after<'a>(
     word: &str,
     before: Option<&Lexeme>,
     label: Option<&'a Lexeme>,
@@ -59,45 +59,45 @@ fn label_behind<'a>(
     word_unless(label_at(label), keyword_at(word, before))
 }
 
-/// What a `.catch` says, as its line lends it: what it names, from where, to where, and the handler.
+/// The operands of a `.catch`, borrowed from its line: the class, the start, the end and the handler.
 type CatchParts<'a> = (CaughtName<'a>, (&'a [u16], (&'a [u16], &'a [u16])));
 
-/// The labels of a `.catch`.
+/// Judges the labels of a `.catch`.
 #[tactic(auto, using(jasmin_operands::proofs::Judgements::said_both))]
 fn catch_labels(tokens: &[Token]) -> Judged<(&[u16], (&[u16], &[u16]))>
     ensures { let ts = lexemes tokens.now in
         said (λ p. (p.0.now, (p.1.0.now, p.1.1.now))) result
-        ≡ both (label_behind (codes "from") ts 1) (both (label_behind (codes "to") ts 3) (label_behind (codes "using") ts 5)) }
+        ≡ both (label_after (codes "from") ts 1) (both (label_after (codes "to") ts 3) (label_after (codes "using") ts 5)) }
 {
-    let to = label_behind("to", operand(tokens, 3), operand(tokens, 4));
-    let handler = label_behind("using", operand(tokens, 5), operand(tokens, 6));
-    let from = label_behind("from", operand(tokens, 1), operand(tokens, 2));
+    let to = label_after("to", operand(tokens, 3), operand(tokens, 4));
+    let handler = label_after("using", operand(tokens, 5), operand(tokens, 6));
+    let from = label_after("from", operand(tokens, 1), operand(tokens, 2));
     both(from, two_words(to, handler))
 }
 
-/// What a `.catch` names, and its labels.
+/// Judges the class and the labels of a `.catch`.
 #[tactic(auto, using(jasmin_operands::proofs::Judgements::said_both))]
 fn catch_operands(tokens: &[Token]) -> Judged<CatchParts<'_>>
     ensures { let ts = lexemes tokens.now in
         said (λ p. (caught_of p.0, (p.1.0.now, (p.1.1.0.now, p.1.1.1.now)))) result
-        ≡ both (caught_at (slice_get ts 0)) (both (label_behind (codes "from") ts 1) (both (label_behind (codes "to") ts 3) (label_behind (codes "using") ts 5))) }
+        ≡ both (caught_at (slice_get ts 0)) (both (label_after (codes "from") ts 1) (both (label_after (codes "to") ts 3) (label_after (codes "using") ts 5))) }
 {
     both(caught_at(operand(tokens, 0)), catch_labels(tokens))
 }
 
-/// What a `.catch` says.
+/// Judges the class and the labels of a `.catch`, its only operands.
 #[tactic(auto, using(jasmin_operands::proofs::Judgements::said_unless))]
 fn catch_parts(tokens: &[Token]) -> Judged<CatchParts<'_>>
     ensures { let ts = lexemes tokens.now in
         said (λ p. (caught_of p.0, (p.1.0.now, (p.1.1.0.now, p.1.1.1.now)))) result
         ≡ unless
-        (both (caught_at (slice_get ts 0)) (both (label_behind (codes "from") ts 1) (both (label_behind (codes "to") ts 3) (label_behind (codes "using") ts 5))))
+        (both (caught_at (slice_get ts 0)) (both (label_after (codes "from") ts 1) (both (label_after (codes "to") ts 3) (label_after (codes "using") ts 5))))
         (exactly 7 ts) }
 {
     unless(catch_operands(tokens), exactly(7, tokens))
 }
 
-/// A caught class of its own.
+/// Returns what a handler catches, with its own memory.
 fn caught_of(alloc: Global, caught: CaughtName<'_>) -> Result<Caught, AllocError>
     ensures { IfOk result (λ c. c ≡ caught_of caught.entry) }
 {
@@ -107,7 +107,7 @@ fn caught_of(alloc: Global, caught: CaughtName<'_>) -> Result<Caught, AllocError
     }
 }
 
-/// `.catch CLASS from A to B using H`.
+/// Judges `.catch CLASS from A to B using H`.
 #[tactic(auto, unfolding(jasmin::specs::Statements::catch_line))]
 pub(crate) fn catch_line(alloc: Global, tokens: &[Token]) -> Result<Statement, LineFault>
     ensures { Says result (catch_line (lexemes tokens.now)) }
@@ -121,7 +121,7 @@ pub(crate) fn catch_line(alloc: Global, tokens: &[Token]) -> Result<Statement, L
     }))
 }
 
-/// `.throws CLASS`.
+/// Judges `.throws CLASS`.
 #[tactic(auto, unfolding(jasmin::specs::Statements::throws_line))]
 pub(crate) fn throws_line(alloc: Global, tokens: &[Token]) -> Result<Statement, LineFault>
     ensures { Says result (throws_line (lexemes tokens.now)) }
@@ -130,7 +130,7 @@ pub(crate) fn throws_line(alloc: Global, tokens: &[Token]) -> Result<Statement, 
     Ok(Statement::Throws(text(alloc, name)?))
 }
 
-/// `.line N`.
+/// Judges `.line N`.
 #[tactic(auto, unfolding(jasmin::specs::Statements::line_line))]
 pub(crate) fn line_line(tokens: &[Token]) -> Judged<Statement>
     ensures { result ≡ line_line (lexemes tokens.now) }
@@ -139,7 +139,7 @@ pub(crate) fn line_line(tokens: &[Token]) -> Judged<Statement>
     Ok(Statement::Dropped)
 }
 
-/// The number of a local variable, and behind it `is`.
+/// Judges the number of a local variable, and the word `is` that follows it.
 fn var_number(tokens: &[Token]) -> Judged<(u16, ())>
     ensures { result ≡ both (u16_at (slice_get (lexemes tokens.now) 0)) (keyword_at (codes "is") (slice_get (lexemes tokens.now) 1)) }
 {
@@ -149,7 +149,7 @@ fn var_number(tokens: &[Token]) -> Judged<(u16, ())>
     )
 }
 
-/// The name and the descriptor of a `.var`.
+/// Judges the name and the descriptor of a `.var`.
 fn var_name(tokens: &[Token]) -> Judged<(&[u16], &[u16])>
     ensures { said two_texts result ≡ both (name_at (slice_get (lexemes tokens.now) 2)) (field_descriptor_at (slice_get (lexemes tokens.now) 3)) }
 {
@@ -159,32 +159,33 @@ fn var_name(tokens: &[Token]) -> Judged<(&[u16], &[u16])>
     )
 }
 
-/// The labels of a `.var`.
+/// Judges the labels of a `.var`.
 fn var_labels(tokens: &[Token]) -> Judged<(&[u16], &[u16])>
-    ensures { said two_texts result ≡ both (label_behind (codes "from") (lexemes tokens.now) 4) (label_behind (codes "to") (lexemes tokens.now) 6) }
+    ensures { said two_texts result ≡ both (label_after (codes "from") (lexemes tokens.now) 4) (label_after (codes "to") (lexemes tokens.now) 6) }
 {
     two_words(
-        label_behind("from", operand(tokens, 4), operand(tokens, 5)),
-        label_behind("to", operand(tokens, 6), operand(tokens, 7)),
+        label_after("from", operand(tokens, 4), operand(tokens, 5)),
+        label_after("to", operand(tokens, 6), operand(tokens, 7)),
     )
 }
 
-/// What a `.var` says, as its line lends it: which local it names, its name and descriptor, and from where to where.
+/// The operands of a `.var`, borrowed from its line: the local variable, the name, the descriptor, the start and the
+/// end.
 type VarParts<'a> = ((u16, ()), ((&'a [u16], &'a [u16]), (&'a [u16], &'a [u16])));
 
-/// What a `.var` says behind its number.
+/// Judges what follows the number of a `.var`: the name, the descriptor and the labels.
 #[tactic(auto, using(jasmin_operands::proofs::Judgements::said_both))]
 fn behind_number(tokens: &[Token]) -> Judged<((&[u16], &[u16]), (&[u16], &[u16]))>
     ensures { let ts = lexemes tokens.now in
         said (λ p. (two_texts p.0, two_texts p.1)) result
         ≡ both
         (both (name_at (slice_get ts 2)) (field_descriptor_at (slice_get ts 3)))
-        (both (label_behind (codes "from") ts 4) (label_behind (codes "to") ts 6)) }
+        (both (label_after (codes "from") ts 4) (label_after (codes "to") ts 6)) }
 {
     both(var_name(tokens), var_labels(tokens))
 }
 
-/// What a `.var` says.
+/// Judges the operands of a `.var`.
 #[tactic(auto, using(jasmin_operands::proofs::Judgements::said_both))]
 fn var_operands(tokens: &[Token]) -> Judged<VarParts<'_>>
     ensures { let ts = lexemes tokens.now in
@@ -193,12 +194,12 @@ fn var_operands(tokens: &[Token]) -> Judged<VarParts<'_>>
         (both (u16_at (slice_get ts 0)) (keyword_at (codes "is") (slice_get ts 1)))
         (both
         (both (name_at (slice_get ts 2)) (field_descriptor_at (slice_get ts 3)))
-        (both (label_behind (codes "from") ts 4) (label_behind (codes "to") ts 6))) }
+        (both (label_after (codes "from") ts 4) (label_after (codes "to") ts 6))) }
 {
     both(var_number(tokens), behind_number(tokens))
 }
 
-/// What a `.var` says, and no more.
+/// Judges the operands of a `.var`, which has no others.
 #[tactic(auto, using(jasmin_operands::proofs::Judgements::said_unless))]
 fn var_parts(tokens: &[Token]) -> Judged<VarParts<'_>>
     ensures { let ts = lexemes tokens.now in
@@ -208,13 +209,13 @@ fn var_parts(tokens: &[Token]) -> Judged<VarParts<'_>>
         (both (u16_at (slice_get ts 0)) (keyword_at (codes "is") (slice_get ts 1)))
         (both
         (both (name_at (slice_get ts 2)) (field_descriptor_at (slice_get ts 3)))
-        (both (label_behind (codes "from") ts 4) (label_behind (codes "to") ts 6))))
+        (both (label_after (codes "from") ts 4) (label_after (codes "to") ts 6))))
         (exactly 8 ts) }
 {
     unless(var_operands(tokens), exactly(8, tokens))
 }
 
-/// `.var N is NAME DESCRIPTOR from A to B`.
+/// Judges `.var N is NAME DESCRIPTOR from A to B`.
 #[tactic(auto, unfolding(jasmin::specs::Statements::var_line))]
 pub(crate) fn var_line(tokens: &[Token]) -> Judged<Statement>
     ensures { result ≡ var_line (lexemes tokens.now) }

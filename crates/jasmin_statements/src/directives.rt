@@ -1,4 +1,4 @@
-//! The names of directives.
+//! Finds directives by name.
 
 ghost use Rattle.std.specs.Prelude.{◌≡◌};
 ghost use Rattle.jasmin.specs.LineKinds.{directive_named};
@@ -6,7 +6,7 @@ ghost use Rattle.jasmin.specs.LineKinds.{directive_named};
 use jasmin::statement::Directive;
 use jasmin_operands::same_word;
 
-/// The directive of a word that begins with a dot.
+/// Returns the directive of this name, which begins with a dot.
 pub(crate) fn directive_named(word: &[u16]) -> Option<Directive>
     ensures { result ≡ directive_named word.now }
 {

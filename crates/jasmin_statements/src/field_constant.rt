@@ -1,4 +1,4 @@
-//! The values of fields (JVMS table 4.7.2-A).
+//! Judges the constant values of fields (JVMS table 4.7.2-A).
 
 ghost use Rattle.std.specs.Prelude.{◌≡◌, IfOk};
 ghost use Rattle.std.specs.Option.{option_map};
@@ -15,7 +15,7 @@ use jasmin_instructions::text;
 use jasmin_operands::{Judged, exactly, i32_at, i64_at, operand, same_word, unless};
 use std::alloc::{AllocError, Global};
 
-/// The value of a field, as its line lends it.
+/// The constant of a field, borrowed from its line.
 #[derive(Clone, Copy, Drop)]
 pub(crate) enum LentConstant<'a> {
     Integer(i32),
@@ -23,21 +23,21 @@ pub(crate) enum LentConstant<'a> {
     String(&'a [u16]),
 }
 
-/// Whether a word is one that is given.
+/// Decides whether a word is a given one.
 fn is_word(word: &[u16], text: &str) -> bool
     ensures { result ≡ same_text word.now text.now }
 {
     same_word(text, word)
 }
 
-/// Whether a field's constant is a long.
+/// Decides whether a field's type is long.
 fn is_long(descriptor: &[u16]) -> bool
     ensures { result ≡ is_long descriptor.now }
 {
     is_word(descriptor, "J")
 }
 
-/// Whether a field's constant is an int.
+/// Decides whether a field's constant is an int.
 fn is_int_type(descriptor: &[u16]) -> bool
     ensures { result ≡ is_int_type descriptor.now }
 {
@@ -48,14 +48,14 @@ fn is_int_type(descriptor: &[u16]) -> bool
         || is_word(descriptor, "Z")
 }
 
-/// Whether a field's constant is a text.
+/// Decides whether a field's type is String.
 fn is_string_type(descriptor: &[u16]) -> bool
     ensures { result ≡ is_string_type descriptor.now }
 {
     is_word(descriptor, "Ljava/lang/String;")
 }
 
-/// A number of 32 bits, of an int's field.
+/// Judges a number of 32 bits, the constant of a field of such a type.
 fn int_constant<'a>(descriptor: &[u16], number: Judged<i32>) -> Judged<LentConstant<'a>>
     ensures { said constant_of result ≡ int_constant descriptor.now number }
 {
@@ -67,7 +67,7 @@ fn int_constant<'a>(descriptor: &[u16], number: Judged<i32>) -> Judged<LentConst
     }
 }
 
-/// The value of a field of this type.
+/// Judges the constant of a field of this type.
 fn constant_at<'a>(descriptor: &[u16], lexeme: Option<&'a Lexeme>) -> Judged<LentConstant<'a>>
     ensures { said constant_of result ≡ constant_at descriptor.now (option_map (λ l. l.now) lexeme.entry) }
 {
@@ -81,7 +81,7 @@ fn constant_at<'a>(descriptor: &[u16], lexeme: Option<&'a Lexeme>) -> Judged<Len
     }
 }
 
-/// Behind an equals sign: one value.
+/// Judges what follows an equals sign, which is exactly one value.
 #[tactic(auto, using(jasmin_operands::proofs::Judgements::said_unless))]
 pub(crate) fn constant_in<'a>(
     descriptor: &[u16],
@@ -101,7 +101,7 @@ pub(crate) fn constant_in<'a>(
     }
 }
 
-/// A constant of its own.
+/// Returns the constant with its own memory.
 fn constant_of(alloc: Global, constant: LentConstant<'_>) -> Result<FieldConstant, AllocError>
     ensures { IfOk result (λ c. c ≡ constant_of constant.entry) }
 {
@@ -112,7 +112,7 @@ fn constant_of(alloc: Global, constant: LentConstant<'_>) -> Result<FieldConstan
     })
 }
 
-/// A constant of its own, if there is one.
+/// Returns the constant with its own memory, if there is one.
 pub(crate) fn constant_if(
     alloc: Global,
     constant: Option<LentConstant<'_>>,

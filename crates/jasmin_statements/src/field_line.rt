@@ -1,4 +1,4 @@
-//! `.field`.
+//! Judges `.field`.
 
 ghost use Rattle.std.specs.Prelude.{◌≡◌, ◌≤◌, length};
 ghost use Rattle.std.specs.List.{position_or_len};
@@ -22,17 +22,17 @@ use jasmin_operands::{
 };
 use std::alloc::Global;
 
-/// What a field's line says behind its access words, as it lends it: the name, the descriptor and the value.
+/// The operands of a field after its access words, borrowed from its line: the name, the descriptor and the constant.
 type FieldParts<'a> = (&'a [u16], (&'a [u16], Option<LentConstant<'a>>));
 
-/// Whether a token is an equals sign.
+/// Decides whether a token is an equals sign.
 fn is_equals(token: &Token) -> bool
     ensures { result ≡ is_equals token.now.lexeme }
 {
     matches!(token.lexeme, Lexeme::Equals)
 }
 
-/// How many tokens stand before the first equals sign.
+/// Returns the number of tokens before the first equals sign.
 fn head_len(tokens: &[Token]) -> usize
     ensures exact { result ≡ position_or_len (λ t. is_equals t.lexeme) tokens.now }
     ensures within { result ≤ length tokens.now }
@@ -40,7 +40,7 @@ fn head_len(tokens: &[Token]) -> usize
     tokens.iter().take_while(|token| !is_equals(token)).count()
 }
 
-/// What stands before the first equals sign.
+/// Returns the tokens before the first equals sign.
 #[tactic(auto, using(crate::proofs::TokenLists::lexemes_head))]
 fn field_head(tokens: &[Token]) -> &[Token]
     ensures { lexemes result.now ≡ field_head (lexemes tokens.now) }
@@ -48,7 +48,7 @@ fn field_head(tokens: &[Token]) -> &[Token]
     &tokens[..head_len(tokens)]
 }
 
-/// What stands behind it, if there is one.
+/// Returns the tokens after the first equals sign, if there is one.
 fn field_tail(tokens: &[Token]) -> Option<&[Token]>
     ensures { option_map (λ ts. lexemes ts.now) result ≡ field_tail (lexemes tokens.now) }
 {
@@ -62,7 +62,7 @@ fn field_tail(tokens: &[Token]) -> Option<&[Token]>
     None
 }
 
-/// The access words of a field's head: all but its last two tokens.
+/// Returns the access words of a field's head: all but its last two tokens.
 #[tactic(auto, using(crate::proofs::TokenLists::lexemes_access))]
 fn field_access(head: &[Token]) -> &[Token]
     ensures { lexemes result.now ≡ field_access (lexemes head.now) }
@@ -70,7 +70,7 @@ fn field_access(head: &[Token]) -> &[Token]
     &head[..head.len().saturating_sub(2)]
 }
 
-/// The last but one token of a field's head.
+/// Returns the token before the last of a field's head.
 #[tactic(auto, using(crate::proofs::TokenLists::lexemes_length))]
 fn field_name_at(head: &[Token]) -> Option<&Lexeme>
     ensures { option_map (λ l. l.now) result ≡ field_name_at (lexemes head.now) }
@@ -82,14 +82,14 @@ fn field_name_at(head: &[Token]) -> Option<&Lexeme>
     }
 }
 
-/// The value of a field, whose descriptor stands last in the head of its line.
+/// Judges the constant of a field, whose descriptor is the last token of the head.
 fn field_constant<'a>(head: &[Token], tail: Option<&'a [Token]>) -> Judged<Option<LentConstant<'a>>>
     ensures { said (λ c. option_map constant_of c) result ≡ constant_in (word_or_none (last_of (lexemes head.now))) (option_map (λ ts. lexemes ts.now) tail.entry) }
 {
     constant_in(word_or_none(last_of(head)), tail)
 }
 
-/// The descriptor and the value of a field.
+/// Judges the descriptor and the constant of a field.
 #[tactic(auto, using(jasmin_operands::proofs::Judgements::said_both))]
 fn field_type<'a>(
     head: &'a [Token],
@@ -105,7 +105,7 @@ fn field_type<'a>(
     )
 }
 
-/// What a field's line says, whatever its access words are.
+/// Judges the name, the descriptor and the constant of a field.
 #[tactic(auto, using(jasmin_operands::proofs::Judgements::said_both))]
 fn field_operands<'a>(head: &'a [Token], tail: Option<&'a [Token]>) -> Judged<FieldParts<'a>>
     ensures { let last = last_of (lexemes head.now) in
@@ -117,7 +117,7 @@ fn field_operands<'a>(head: &'a [Token], tail: Option<&'a [Token]>) -> Judged<Fi
     both(name_at(field_name_at(head)), field_type(head, tail))
 }
 
-/// What a field's line says behind its access words.
+/// Judges all operands of a field, and returns those after its access words.
 #[tactic(auto, using(jasmin_operands::proofs::Judgements::said_unless))]
 fn field_parts<'a>(head: &'a [Token], tail: Option<&'a [Token]>) -> Judged<FieldParts<'a>>
     ensures { let last = last_of (lexemes head.now) in
@@ -134,7 +134,7 @@ fn field_parts<'a>(head: &'a [Token], tail: Option<&'a [Token]>) -> Judged<Field
     )
 }
 
-/// `.field ACCESS NAME DESCRIPTOR` with `= VALUE` or without.
+/// Judges `.field ACCESS NAME DESCRIPTOR` with an optional `= VALUE`.
 #[tactic(auto, unfolding(jasmin::specs::Statements::field_line))]
 pub(crate) fn field_line(alloc: Global, tokens: &[Token]) -> Result<Statement, LineFault>
     ensures { Says result (field_line (lexemes tokens.now)) }

@@ -1,4 +1,4 @@
-//! What a line is, by its first tokens.
+//! Finds the kind of a line by its first tokens.
 
 ghost use Rattle.std.specs.Prelude.{◌≡◌, ◌∷◌, ℕ};
 ghost use Rattle.jvms_file.specs.Names.{begins_with};
@@ -14,17 +14,17 @@ use jasmin::statement::{Flaw, LineKind, OpenSwitch};
 use jasmin::token::{Lexeme, Token};
 use jasmin_operands::{Judged, same_word};
 
-/// What a directive's name begins with.
+/// The first unit of a directive's name.
 const DOT: u16 = b'.' as u16;
 
-/// Whether a word begins with a dot.
+/// Decides whether a word begins with a dot.
 fn begins_with_dot(word: &[u16]) -> bool
     ensures { result ≡ begins_with 46 word.now }
 {
     matches!(word, [DOT, ..])
 }
 
-/// The kind of a line whose first token is a word that begins with a dot.
+/// Returns the kind of a line whose first token is a word that begins with a dot.
 fn directive_kind(word: &[u16]) -> Judged<LineKind>
     ensures { result ≡ directive_kind (directive_named word.now) }
 {
@@ -34,7 +34,7 @@ fn directive_kind(word: &[u16]) -> Judged<LineKind>
     }
 }
 
-/// The opcode of what stands in an instruction's place.
+/// Returns the opcode that a token names.
 fn opcode_at(token: &Token) -> Judged<u8>
     ensures { (make : ℕ → Kind) → said make result ≡ instruction_kind make token.now.lexeme }
 {
@@ -47,7 +47,7 @@ fn opcode_at(token: &Token) -> Judged<u8>
     }
 }
 
-/// What stands behind a label.
+/// Returns the kind of a line that begins with a label, by the tokens after it.
 fn labelled_kind(behind: &[Token]) -> Judged<LineKind>
     ensures { result ≡ labelled_kind (lexemes behind.now) }
 {
@@ -57,14 +57,15 @@ fn labelled_kind(behind: &[Token]) -> Judged<LineKind>
     }
 }
 
-/// An instruction.
+/// Returns the kind of a line whose instruction is this token.
 fn instruction(token: &Token) -> Judged<LineKind>
     ensures { result ≡ instruction_kind (λ code. Kind.Instruction code) token.now.lexeme }
 {
     Ok(LineKind::Instruction(opcode_at(token)?))
 }
 
-/// A line of code with a token at least: a label where the first is a word and the second a colon.
+/// Returns the kind of a line of code that isn't empty. It has a label if its first token is a word and its second a
+/// colon.
 fn begun_kind(first: &Token, behind: &[Token]) -> Judged<LineKind>
     ensures { result ≡ code_kind (first.now.lexeme ∷ lexemes behind.now) }
 {
@@ -80,7 +81,7 @@ fn begun_kind(first: &Token, behind: &[Token]) -> Judged<LineKind>
     }
 }
 
-/// A line of code: a label, a label and an instruction, or an instruction.
+/// Returns the kind of a line of code: a label, a label and an instruction, or an instruction.
 fn code_kind(tokens: &[Token]) -> Judged<LineKind>
     ensures { result ≡ code_kind (lexemes tokens.now) }
 {
@@ -90,7 +91,7 @@ fn code_kind(tokens: &[Token]) -> Judged<LineKind>
     }
 }
 
-/// Whether the first token is the word `default`.
+/// Decides whether the first token is the word `default`.
 fn is_default(tokens: &[Token]) -> bool
     ensures { result ≡ is_default (lexemes tokens.now) }
 {
@@ -106,7 +107,7 @@ fn is_default(tokens: &[Token]) -> bool
     }
 }
 
-/// The kind of a line of a switch. The word `default` alone is a label of a tableswitch.
+/// Returns the kind of a line of a switch. In a tableswitch, the word `default` and nothing else is a label.
 fn switch_kind(switch: OpenSwitch, tokens: &[Token]) -> LineKind
     ensures { result ≡ switch_kind switch (lexemes tokens.now) }
 {
@@ -118,7 +119,7 @@ fn switch_kind(switch: OpenSwitch, tokens: &[Token]) -> LineKind
     }
 }
 
-/// The kind of a line behind no directive.
+/// Returns the kind of a line without a directive.
 fn other_kind(switch: OpenSwitch, tokens: &[Token]) -> Judged<LineKind>
     ensures { result ≡ other_kind switch (lexemes tokens.now) }
 {
@@ -134,12 +135,12 @@ fn other_kind(switch: OpenSwitch, tokens: &[Token]) -> Judged<LineKind>
     }
 }
 
-/// What a line is, by its first tokens, or the fault of its name.
+/// Returns the kind of a line by its first tokens.
 ///
 /// # Errors
 ///
-/// `UnknownDirective` where the first token is a word that begins with a dot and no directive's name;
-/// `UnknownInstruction` where no name of an instruction stands in an instruction's place.
+/// Returns `UnknownDirective` if the first token is a word that begins with a dot but is no directive's name. Returns
+/// `UnknownInstruction` if the token in an instruction's place is no mnemonic.
 #[tactic(auto, unfolding(jasmin::specs::LineKinds::kind_of))]
 pub fn kind_of(switch: OpenSwitch, tokens: &[Token]) -> Judged<LineKind>
     ensures { result ≡ kind_of switch (lexemes tokens.now) }

@@ -1,5 +1,5 @@
-//! What one line of a source is, and what it says: by its first tokens its kind, by the kind its operands. Each place
-//! is judged by itself, and the least fault is the line's.
+//! Judges one line of a source: its first tokens give its kind, and its operands the statement. Each place is judged by
+//! itself, and the line's fault is the one of the least number.
 #![tactic(auto)]
 
 mod class_lines;

@@ -1,4 +1,4 @@
-//! `.method` and `.end method`.
+//! Judges `.method` and `.end method`.
 
 ghost use Rattle.std.specs.Prelude.{◌≡◌, ◌||◌, Ok};
 ghost use Rattle.jvms_file.specs.Names.{is_method_name, is_initializer_name};
@@ -21,7 +21,8 @@ use jasmin_operands::{
 };
 use std::alloc::Global;
 
-/// Whether a method of a class of this sort may have these flags: an interface's is abstract, but for `<clinit>`.
+/// Decides whether a method of a class of this sort may have these flags. A method of an interface is abstract, except
+/// `<clinit>`.
 fn is_permitted(sort: ClassSort, access: u16, name: &[u16]) -> bool
     ensures { result ≡ is_permitted sort access name.now }
 {
@@ -31,14 +32,14 @@ fn is_permitted(sort: ClassSort, access: u16, name: &[u16]) -> bool
     }
 }
 
-/// Whether a method with these flags and this name is called on no object: a static one, or `<clinit>`.
+/// Decides whether a method has no object: it is static or `<clinit>`.
 fn is_on_none(access: u16, name: &[u16]) -> bool
     ensures { result ≡ (is_static access || is_initializer_name name.now) }
 {
     Flags::of_access(access).is_static() || is_initializer_name(name)
 }
 
-/// The descriptor of a method with these flags and this name.
+/// Judges the descriptor of a method with these flags and this name.
 fn method_descriptor<'a>(access: u16, name: &[u16], descriptor: &'a [u16]) -> Judged<&'a [u16]>
     ensures { said (λ w. w.now) result ≡ tested (is_method_descriptor_for (is_static access || is_initializer_name name.now)) Flaw.Descriptor (Ok descriptor.now) }
 {
@@ -47,7 +48,7 @@ fn method_descriptor<'a>(access: u16, name: &[u16], descriptor: &'a [u16]) -> Ju
     Ok(descriptor)
 }
 
-/// The name of a method, by the word that has its descriptor too.
+/// Judges the name in the word of a method.
 fn method_name(word: &[u16]) -> Judged<&[u16]>
     ensures { said (λ w. w.now) result ≡ tested is_method_name Flaw.Name (Ok (before_descriptor word.now)) }
 {
@@ -56,7 +57,7 @@ fn method_name(word: &[u16]) -> Judged<&[u16]>
     Ok(name)
 }
 
-/// The name and the descriptor of a method with these flags, by the word that has both.
+/// Judges the name and the descriptor in the word of a method with these flags.
 fn named_method(access: u16, word: &[u16]) -> Judged<(&[u16], &[u16])>
     ensures { let name = before_descriptor word.now in
         said two_texts result
@@ -70,7 +71,7 @@ fn named_method(access: u16, word: &[u16]) -> Judged<(&[u16], &[u16])>
     )
 }
 
-/// The name and the descriptor of a method that a class of this sort may have.
+/// Judges the name and the descriptor in the word of a method that a class of this sort may have.
 fn permitted_method(sort: ClassSort, access: u16, word: &[u16]) -> Judged<(&[u16], &[u16])>
     ensures { said two_texts result ≡ method_head_at sort access (Ok word.now) }
 {
@@ -78,14 +79,14 @@ fn permitted_method(sort: ClassSort, access: u16, word: &[u16]) -> Judged<(&[u16
     two_words_unless(named_method(access, word), asked(is_permitted, Flaw::Flags))
 }
 
-/// The name and the descriptor of a method, where a word stands.
+/// Judges the name and the descriptor of a method, if there is a word.
 fn method_head_at(sort: ClassSort, access: u16, word: Judged<&[u16]>) -> Judged<(&[u16], &[u16])>
     ensures { said two_texts result ≡ method_head_at sort access (said (λ w. w.now) word.entry) }
 {
     permitted_method(sort, access, word?)
 }
 
-/// The name and the descriptor of a method, behind its access words.
+/// Judges the access words, the name and the descriptor of a method, and returns the last two.
 fn method_head(sort: ClassSort, access: u16, tokens: &[Token]) -> Judged<(&[u16], &[u16])>
     ensures { said two_texts result ≡ unless (method_head_at sort access (word_at (last_of (lexemes tokens.now)))) (access_words method_words (but_last (lexemes tokens.now))) }
 {
@@ -95,7 +96,7 @@ fn method_head(sort: ClassSort, access: u16, tokens: &[Token]) -> Judged<(&[u16]
     )
 }
 
-/// `.method ACCESS NAME(PARAMETERS)RESULT`.
+/// Judges `.method ACCESS NAME(PARAMETERS)RESULT`.
 #[tactic(auto, unfolding(jasmin::specs::Statements::method_line))]
 pub(crate) fn method_line(
     alloc: Global,
@@ -113,7 +114,7 @@ pub(crate) fn method_line(
     })
 }
 
-/// `.end method`.
+/// Judges `.end method`.
 #[tactic(auto, unfolding(jasmin::specs::Statements::end_line))]
 pub(crate) fn end_line(tokens: &[Token]) -> Judged<Statement>
     ensures { result ≡ end_line (lexemes tokens.now) }

@@ -1,4 +1,4 @@
-//! The names of instructions.
+//! Finds opcodes by mnemonic.
 
 ghost use Rattle.std.specs.Prelude.{◌≡◌, ◌≤◌, length, position};
 ghost use Rattle.jvms_file.specs.Names.{same_text};
@@ -8,10 +8,10 @@ ghost use Rattle.jasmin.specs.LineKinds.{opcode_named};
 use jasmin::mnemonic::MNEMONICS;
 use jasmin_operands::same_word;
 
-/// The opcode of invokespecial, which `invokenonvirtual` is another name of.
+/// The opcode of invokespecial. `invokenonvirtual` is another name of it.
 const INVOKESPECIAL: u8 = 183;
 
-/// Whether a word is a name. Lengths are compared first, since most names have another.
+/// Decides whether a word is this name. The lengths, which usually differ, are compared first.
 #[tactic(auto, using(crate::proofs::Lengths::not_same))]
 fn is_name(name: &str, word: &[u16]) -> bool
     ensures { result ≡ same_text name.now word.now }
@@ -19,14 +19,14 @@ fn is_name(name: &str, word: &[u16]) -> bool
     name.len() == word.len() && same_word(name, word)
 }
 
-/// The place of a word among names, if it is one of them.
+/// Returns the place of a word among names, if it is one of them.
 fn place_of(word: &[u16], names: &[&str]) -> Option<usize>
     ensures { result ≡ position (λ name. same_text name.now word.now) names.now }
 {
     names.iter().position(|name| is_name(name, word))
 }
 
-/// The code of a word, which is its place among the names.
+/// Returns the opcode of a word, which is its place among the names.
 fn code_of(word: &[u16], names: &[&str]) -> Option<u8>
     requires { length names.now ≤ 256 }
     ensures { result ≡ position (λ name. same_text name.now word.now) names.now }
@@ -37,14 +37,14 @@ fn code_of(word: &[u16], names: &[&str]) -> Option<u8>
     }
 }
 
-/// The opcode of a name that stands in the table.
+/// Returns the opcode of a word in the table of mnemonics.
 fn listed_opcode(word: &[u16]) -> Option<u8>
     ensures { result ≡ position (λ name. same_text name.now word.now) names }
 {
     code_of(word, &MNEMONICS)
 }
 
-/// The opcode of an instruction's name.
+/// Returns the opcode of a mnemonic.
 pub(crate) fn opcode_named(word: &[u16]) -> Option<u8>
     ensures { result ≡ opcode_named word.now }
 {

@@ -1,4 +1,4 @@
-//! The places of a line: before its last token, its last, and behind its first ones.
+//! Finds parts of a line's tokens.
 
 ghost use Rattle.std.specs.Prelude.{◌≡◌, drop};
 ghost use Rattle.std.specs.Option.{option_map};
@@ -8,7 +8,7 @@ ghost use Rattle.jasmin.specs.Statements.{but_last, last_of};
 use jasmin::token::{Lexeme, Token};
 use jasmin_operands::operand;
 
-/// All tokens but the last.
+/// Returns all tokens but the last.
 #[tactic(auto, using(crate::proofs::TokenLists::lexemes_but_last))]
 pub(crate) fn but_last(tokens: &[Token]) -> &[Token]
     ensures { lexemes result.now ≡ but_last (lexemes tokens.now) }
@@ -16,14 +16,14 @@ pub(crate) fn but_last(tokens: &[Token]) -> &[Token]
     &tokens[..tokens.len().saturating_sub(1)]
 }
 
-/// What the last token is.
+/// Returns the last token.
 pub(crate) fn last_of(tokens: &[Token]) -> Option<&Lexeme>
     ensures { option_map (λ l. l.now) result ≡ last_of (lexemes tokens.now) }
 {
     operand(tokens, tokens.len().saturating_sub(1))
 }
 
-/// What stands behind so many tokens.
+/// Returns the tokens after the first `count`.
 #[tactic(auto, using(crate::proofs::TokenLists::lexemes_behind, crate::proofs::TokenLists::lexemes_drop))]
 pub(crate) fn behind(count: usize, tokens: &[Token]) -> &[Token]
     ensures { lexemes result.now ≡ drop count (lexemes tokens.now) }

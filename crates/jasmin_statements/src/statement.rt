@@ -1,4 +1,4 @@
-//! What a line of a kind says.
+//! Judges a line of a kind.
 
 ghost use Rattle.std.specs.Prelude.{◌≡◌, IfOk, drop};
 ghost use Rattle.jasmin.specs.Lexing.{lexemes};
@@ -18,13 +18,13 @@ use jasmin_instructions::{LineFault, instruction_line, text};
 use jasmin_operands::{Judged, label_at, lesser, operand};
 use std::alloc::{AllocError, Global};
 
-/// The flags that `.class` adds: ACC_SUPER (JVMS table 4.1-A).
+/// The flag that `.class` adds: ACC_SUPER (JVMS table 4.1-A).
 const OF_A_CLASS: u16 = 0x0020;
 
 /// The flags that `.interface` adds: ACC_INTERFACE and ACC_ABSTRACT (JVMS table 4.1-A).
 const OF_AN_INTERFACE: u16 = 0x0600;
 
-/// What a directive's line says.
+/// Judges the operands of a directive.
 fn directive_line(
     alloc: Global,
     directive: Directive,
@@ -51,14 +51,14 @@ fn directive_line(
     }
 }
 
-/// The label at a line's start.
+/// Judges the label at a line's start.
 fn label_line(tokens: &[Token]) -> Judged<&[u16]>
     ensures { said (λ w. w.now) result ≡ label_line (lexemes tokens.now) }
 {
     label_at(operand(tokens, 0))
 }
 
-/// A label and an instruction, whose name is the third token.
+/// Judges a label and an instruction, whose mnemonic is the third token.
 fn labelled_line(alloc: Global, code: u8, tokens: &[Token]) -> Result<Statement, LineFault>
     ensures { Says result (said (λ p. Statement.LabelledInstruction p.0 p.1) (both (label_line (lexemes tokens.now)) (instruction_line code (drop 3 (lexemes tokens.now))))) }
 {
@@ -75,7 +75,7 @@ fn labelled_line(alloc: Global, code: u8, tokens: &[Token]) -> Result<Statement,
     }
 }
 
-/// What a line of a kind says, or why it says nothing.
+/// Judges a line of a kind.
 #[tactic(auto, unfolding(jasmin::specs::Statements::statement_of))]
 fn line_of(
     alloc: Global,
@@ -99,11 +99,11 @@ fn line_of(
     }
 }
 
-/// What a line of a kind says, by its operands, or the least of their faults.
+/// Judges a line of a kind, and returns its statement or the fault of the least number.
 ///
 /// # Errors
 ///
-/// `AllocError` where there is no memory for what it says.
+/// Returns `AllocError` if memory ran out.
 pub fn statement_of(
     alloc: Global,
     sort: ClassSort,

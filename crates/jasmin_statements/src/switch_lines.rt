@@ -1,4 +1,4 @@
-//! The lines of a switch.
+//! Judges the lines of a switch.
 
 ghost use Rattle.std.specs.Prelude.{◌≡◌, int_le, pos, slice_get};
 ghost use Rattle.std.specs.Option.{option_map};
@@ -6,7 +6,7 @@ ghost use Rattle.jvms_file.specs.Instructions.{is_above};
 ghost use Rattle.jasmin.specs.Lexing.{lexemes};
 ghost use Rattle.jasmin.specs.Judgements.{said, both, unless, asked};
 ghost use Rattle.jasmin.specs.Operands.{exactly, label_at, i32_at};
-ghost use Rattle.jasmin.specs.Statements.{table_line, colon_at, label_behind_colon, rising_at, match_line, case_line, default_line};
+ghost use Rattle.jasmin.specs.Statements.{table_line, colon_at, label_after_colon, rising_at, match_line, case_line, default_line};
 ghost use Rattle.jasmin_instructions.specs.Saying.{Says};
 
 use jasmin::source::MatchLine;
@@ -16,7 +16,7 @@ use jasmin_instructions::{LineFault, alone, text, word_unless};
 use jasmin_operands::{Judged, asked, both, exactly, i32_at, label_at, operand};
 use std::alloc::Global;
 
-/// The label of a line of a `tableswitch`, whose value is an int's.
+/// Judges the label of a line of a `tableswitch`. Its value `next` has to fit an int.
 fn table_label(next: i64, tokens: &[Token]) -> Judged<&[u16]>
     ensures { let ts = lexemes tokens.now in
         said (λ w. w.now) result ≡ unless (unless (label_at (slice_get ts 0)) (exactly 1 ts)) (asked (int_le next (pos 2147483647)) Flaw.Number) }
@@ -27,7 +27,7 @@ fn table_label(next: i64, tokens: &[Token]) -> Judged<&[u16]>
     )
 }
 
-/// A line of a `tableswitch`: a label.
+/// Judges a line of a `tableswitch`, which is a label.
 #[tactic(auto, unfolding(jasmin::specs::Statements::table_line))]
 fn table_line(alloc: Global, next: i64, tokens: &[Token]) -> Result<Statement, LineFault>
     ensures { Says result (table_line next (lexemes tokens.now)) }
@@ -36,7 +36,7 @@ fn table_line(alloc: Global, next: i64, tokens: &[Token]) -> Result<Statement, L
     Ok(Statement::TableLabel(text(alloc, label)?))
 }
 
-/// A colon.
+/// Judges a place that requires a colon.
 fn colon_at(lexeme: Option<&Lexeme>) -> Judged<()>
     ensures { result ≡ colon_at (option_map (λ l. l.now) lexeme.entry) }
 {
@@ -46,15 +46,15 @@ fn colon_at(lexeme: Option<&Lexeme>) -> Judged<()>
     }
 }
 
-/// A label behind a colon, which is the second token, and nothing behind it.
-fn label_behind_colon(tokens: &[Token]) -> Judged<&[u16]>
-    ensures { said (λ w. w.now) result ≡ label_behind_colon (lexemes tokens.now) }
+/// Judges a colon and a label, the second and third of exactly three tokens.
+fn label_after_colon(tokens: &[Token]) -> Judged<&[u16]>
+    ensures { said (λ w. w.now) result ≡ label_after_colon (lexemes tokens.now) }
 {
     let label = word_unless(label_at(operand(tokens, 2)), colon_at(operand(tokens, 1)));
     word_unless(label, exactly(3, tokens))
 }
 
-/// Whether a value lies above the last one, if there is one.
+/// Decides whether a value is above the last one, or there is no last one.
 fn is_above(last: Option<i32>, value: i32) -> bool
     ensures { result ≡ is_above last value }
 {
@@ -64,7 +64,7 @@ fn is_above(last: Option<i32>, value: i32) -> bool
     }
 }
 
-/// A value above that of the line before.
+/// Judges a value that has to be above that of the line before.
 fn rising_at(last: Option<i32>, value: Judged<i32>) -> Judged<i32>
     ensures { result ≡ rising_at last value }
 {
@@ -76,19 +76,19 @@ fn rising_at(last: Option<i32>, value: Judged<i32>) -> Judged<i32>
     }
 }
 
-/// The value and the label of a line of a `lookupswitch`.
+/// Judges the value and the label of a line of a `lookupswitch`.
 #[tactic(auto, using(jasmin_operands::proofs::Judgements::said_both))]
 fn match_parts(last: Option<i32>, tokens: &[Token]) -> Judged<(i32, &[u16])>
     ensures { let ts = lexemes tokens.now in
-        said (λ p. (p.0, p.1.now)) result ≡ both (rising_at last (i32_at (slice_get ts 0))) (label_behind_colon ts) }
+        said (λ p. (p.0, p.1.now)) result ≡ both (rising_at last (i32_at (slice_get ts 0))) (label_after_colon ts) }
 {
     both(
         rising_at(last, i32_at(operand(tokens, 0))),
-        label_behind_colon(tokens),
+        label_after_colon(tokens),
     )
 }
 
-/// A line of a `lookupswitch`: `VALUE : LABEL`.
+/// Judges a line of a `lookupswitch`: `VALUE : LABEL`.
 #[tactic(auto, unfolding(jasmin::specs::Statements::match_line))]
 fn match_line(alloc: Global, last: Option<i32>, tokens: &[Token]) -> Result<Statement, LineFault>
     ensures { Says result (match_line last (lexemes tokens.now)) }
@@ -100,7 +100,7 @@ fn match_line(alloc: Global, last: Option<i32>, tokens: &[Token]) -> Result<Stat
     }))
 }
 
-/// A line of the switch that is open, but its last.
+/// Judges a line of the open switch other than its default.
 pub(crate) fn case_line(
     alloc: Global,
     switch: OpenSwitch,
@@ -115,11 +115,11 @@ pub(crate) fn case_line(
     }
 }
 
-/// The last line of a switch: `default : LABEL`.
+/// Judges the last line of a switch: `default : LABEL`.
 #[tactic(auto, unfolding(jasmin::specs::Statements::default_line))]
 pub(crate) fn default_line(alloc: Global, tokens: &[Token]) -> Result<Statement, LineFault>
     ensures { Says result (default_line (lexemes tokens.now)) }
 {
-    let label = label_behind_colon(tokens)?;
+    let label = label_after_colon(tokens)?;
     Ok(Statement::Default(text(alloc, label)?))
 }

@@ -8,7 +8,7 @@ use Rattle.inputs.specs.declared.input.Input.{Input}
 use Rattle.inputs.specs.Inputs.{NoClass, class_in}
 use Rattle.judge.specs.Programs.{NotRun, no_class, classes_from}
 
--- The classes that were read, then those that are still to be read.
+-- Returns the classes that were read followed by the remaining ones.
 abbrev pub still : List ClassFile → Result (List ClassFile) NotRun → Result (List ClassFile) NotRun
 still seen (Ok classes) = Ok (seen ++ classes)
 still seen (Err why) = Err why

@@ -1,25 +1,25 @@
--- What the run of the program that inputs make shows, by the choices of a chooser.
+-- Defines what the run of the program of inputs shows, by the choices of a chooser.
 use Rattle.std.specs.Prelude.{ℕ, List, Result}
 use Rattle.jvms_file.specs.Results.{◌>>=◌}
 use Rattle.jvms_program.specs.declared.program.Class.{Class}
 use Rattle.jvms_machine.specs.declared.machine.Entry.{Entry}
 use Rattle.jvms_machine.specs.declared.machine.Limits.{Limits}
 use Rattle.schedule.specs.Choosers.{Chooser}
-use Rattle.program_runs.specs.Shown.{Shown, program_chooser_left, program_shown}
+use Rattle.program_runs.specs.Shown.{Shown, program_chooser_left, view_of_program}
 use Rattle.inputs.specs.declared.input.Input.{Input}
 use Rattle.judge.specs.Programs.{NotRun, not_made, program_in, refused}
 
--- From an entry on, or why there is no run.
+-- Returns what the run from an entry on shows, or why there is no run.
 abbrev pub program_judged : ℕ → Chooser → Limits → List Class → Entry → Result Shown NotRun
-program_judged most chooser limits program entry = refused not_made (program_shown most chooser limits program entry)
+program_judged most chooser limits program entry = refused not_made (view_of_program most chooser limits program entry)
 
--- The run of the program that inputs make, from an entry on, or why there is none.
+-- Returns what the run of the program of inputs shows from an entry on, or why there is none.
 unfoldable pub run_judged : ℕ → Chooser → Limits → List Input → Entry → Result Shown NotRun
 run_judged most chooser limits inputs entry = do
   program ← program_in inputs
   program_judged most chooser limits program entry
 
--- The chooser after the choices of the program that inputs make, if there is one.
+-- Returns the chooser after its choices for the program of inputs, or why there is none.
 unfoldable pub chooser_left : ℕ → Chooser → Limits → List Input → Entry → Result Chooser NotRun
 chooser_left most chooser limits inputs entry = do
   program ← program_in inputs

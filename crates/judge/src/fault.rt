@@ -1,4 +1,4 @@
-//! Why nothing was run and judged.
+//! The reasons why a program wasn't run and judged.
 
 ghost use Rattle.std.specs.Prelude.{◌≡◌};
 ghost use Rattle.judge.specs.Faults.{judge_fault_of};
@@ -11,19 +11,19 @@ use program_runs::ProgramFault;
 use std::alloc::{AllocError, AllocFailed};
 use thiserror::Error;
 
-/// Why a program wasn't run and judged.
+/// A reason why a program wasn't run and judged.
 #[derive(Clone, Copy, Debug, PartialEq, Eq, Error)]
 pub enum JudgeFault {
-    /// C01 to C18, J01 to J12, A01 to A08: the input of this place, from 0, is no class, or there was no memory for it.
+    /// C01 to C18, J01 to J12, A01 to A08: the input at this place, from 0, is no class, or memory ran out for it.
     #[error("file {file}: {fault}")]
     Input { file: usize, fault: InputFault },
-    /// K01 to K06: the classes make no program, or there was no memory for it.
+    /// K01 to K06: the classes make no program, or memory ran out for it.
     #[error("{0}")]
     Link(LinkFault),
-    /// M01 to M03: there is no machine for the entry.
+    /// M01 to M03: the entry has no machine.
     #[error("{0}")]
     Machine(MachineFault),
-    /// There was no memory for anything else.
+    /// Memory ran out for anything else.
     #[error("Memory")]
     Memory,
 }

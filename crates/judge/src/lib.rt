@@ -1,4 +1,4 @@
-//! A run of a program from class files and sources, by a chooser's choices, and its judgement.
+//! Runs a program of class files and sources by a chooser's choices, and judges the run.
 #![tactic(auto)]
 
 mod fault;

@@ -1,4 +1,4 @@
-//! From class files and sources to their program.
+//! Makes the program of class files and sources.
 
 ghost use Rattle.std.specs.Prelude.{◌≡◌, length, IfOk, IfErr};
 ghost use Rattle.inputs.specs.Inputs.{Becomes, class_in};
@@ -12,7 +12,7 @@ use linker::link;
 use program::Program;
 use std::alloc::Global;
 
-/// The class that an input is.
+/// Returns the class of an input.
 fn class_of_input(alloc: Global, input: &Input) -> Result<ClassFile, InputFault>
     ensures { Becomes result (class_in input.now) }
 {
@@ -20,7 +20,7 @@ fn class_of_input(alloc: Global, input: &Input) -> Result<ClassFile, InputFault>
     Ok(class.into_class())
 }
 
-/// Returns the classes that inputs are.
+/// Returns the classes of inputs.
 ///
 /// # Errors
 ///
@@ -40,15 +40,15 @@ pub fn classes_of(alloc: Global, inputs: &[Input]) -> Result<Vec<ClassFile>, Jud
     Ok(classes)
 }
 
-/// The program that class files and sources make with the built-in classes (JVMS 5.3).
+/// Returns the program of class files and sources with the built-in classes (JVMS 5.3).
 ///
 /// # Errors
 ///
-/// The fault of the first input that is no class; else why the classes can't be linked.
+/// The fault of the first input that is no class. Else the reason why the classes can't be linked.
 #[tactic(auto, unfolding(crate::specs::Programs::program_in))]
 pub fn program_of(alloc: Global, inputs: &[Input]) -> Result<Program, JudgeFault>
     ensures exact { IfOk result (λ program. program_in inputs.now ≡ Ok program) }
-    // A fault comes only where its condition stands, and that of an input names one of these.
+    // A fault is returned only if its condition holds. A fault of an input names one of these.
     ensures fault { IfErr result (λ fault. IsNoProgram fault (program_in inputs.now)) }
     ensures named { IfErr result (λ fault. NamesFile (length inputs.now) fault) }
 {

@@ -1,11 +1,11 @@
-//! A run of which only the end is kept, and whether it is atomic.
+//! Runs a program, keeps only the end, and judges the run.
 
 ghost use Rattle.std.specs.Prelude.{◌≡◌, length, IfOk, IfErr, OnOk, OnErr, Ok};
 ghost use Rattle.judge.specs.Faults.{IsFault, NamesFile};
 ghost use Rattle.judge.specs.Judgement.{IsJudgementOn};
 ghost use Rattle.judge.specs.Shown.{chooser_left, program_judged, run_judged};
 ghost use Rattle.program_runs.specs.Faults.{IsProgramFault};
-ghost use Rattle.program_runs.specs.Shown.{EndsAs, program_chooser_left, program_shown};
+ghost use Rattle.program_runs.specs.Shown.{HasEnding, program_chooser_left, view_of_program};
 
 use crate::fault::JudgeFault;
 use crate::reading::program_of;
@@ -19,14 +19,14 @@ use schedule::Chooser;
 use std::alloc::Global;
 use turn_limit::TurnLimit;
 
-/// How a run ended, and whether it is atomic, if a specification asks for it.
+/// The end of a run, and its judgement if there is a specification.
 #[derive(Debug, Drop)]
 pub struct RunSummary {
     pub ending: Ending,
     pub judgement: Option<Judgement>,
 }
 
-/// Runs a program, and judges the run if a specification asks for it.
+/// Runs a program, and judges the run if there is a specification.
 fn run_and_check(
     alloc: Global,
     program: &Program,
@@ -37,13 +37,13 @@ fn run_and_check(
     spec: Option<Spec>,
 ) -> Result<RunSummary, ProgramFault>
     ensures ending { IfOk result (λ run.
-        EndsAs (program_judged most chooser.old limits program.now entry.now) run.ending) }
+        HasEnding (program_judged most chooser.old limits program.now entry.now) run.ending) }
     ensures judged { IfOk result (λ run. IsJudgementOn spec
         (program_judged most chooser.old limits program.now entry.now) run.judgement) }
     ensures chooser { OnOk result
         (program_chooser_left most chooser.old limits program.now entry.now ≡ Ok chooser.new) }
     ensures fault { IfErr result (λ fault.
-        IsProgramFault fault (program_shown most chooser.old limits program.now entry.now)) }
+        IsProgramFault fault (view_of_program most chooser.old limits program.now entry.now)) }
 {
     let Some(spec) = spec else {
         let ending = run_program(alloc, program, limits, entry, chooser, most.turns())?;
@@ -59,7 +59,7 @@ fn run_and_check(
     })
 }
 
-/// Runs the program that class files and sources make. The chooser may have moved also at a refusal.
+/// Runs the program of class files and sources. The chooser may have moved even if the result is a fault.
 #[tactic(auto, using(crate::proofs::Faults::not_run), unfolding(crate::specs::Shown::run_judged, crate::specs::Shown::chooser_left))]
 fn run_inputs(
     alloc: Global,
@@ -71,7 +71,7 @@ fn run_inputs(
     spec: Option<Spec>,
 ) -> Result<RunSummary, JudgeFault>
     ensures ending { IfOk result (λ run.
-        EndsAs (run_judged most chooser.old limits inputs.now entry.now) run.ending) }
+        HasEnding (run_judged most chooser.old limits inputs.now entry.now) run.ending) }
     ensures judged { IfOk result (λ run. IsJudgementOn spec
         (run_judged most chooser.old limits inputs.now entry.now) run.judgement) }
     ensures chooser { OnOk result
@@ -85,12 +85,12 @@ fn run_inputs(
     Ok(run)
 }
 
-/// Runs the program that class files and sources make, from its entry on, and judges the run by the specification, if
-/// there is one. Choices, outcomes and items aren't kept: a run takes no memory for them, however long it is.
+/// Runs the program of class files and sources from its entry on, and judges the run by the specification, if there is
+/// one. It doesn't keep choices, outcomes and items, so they take no memory however long the run is.
 ///
 /// # Errors
 ///
-/// Those of `judge`. A refusal leaves the chooser as it was.
+/// Those of `judge`. A fault leaves the chooser unchanged.
 pub fn run(
     alloc: Global,
     inputs: &[Input],
@@ -100,17 +100,18 @@ pub fn run(
     most: TurnLimit,
     spec: Option<Spec>,
 ) -> Result<RunSummary, JudgeFault>
-    // The number of turns, result, output, status and uncaught exceptions are those of the run that `judge` returns.
+    // The number of turns, the result, output, status and uncaught exceptions are those of the run that `judge`
+    // returns.
     ensures ending { IfOk result (λ run.
-        EndsAs (run_judged most chooser.old limits inputs.now entry.now) run.ending) }
-    // The verdict on the items of that run, and their counts; none without a specification.
+        HasEnding (run_judged most chooser.old limits inputs.now entry.now) run.ending) }
+    // The judgement is the verdict on the items of that run with their counts, or `None` without a specification.
     ensures judged { IfOk result (λ run. IsJudgementOn spec
         (run_judged most chooser.old limits inputs.now entry.now) run.judgement) }
-    // The chooser is then the one after its choices. At a refusal it is as it was.
+    // The chooser is then the one after its choices. A fault leaves it unchanged.
     ensures chooser { OnOk result
         (chooser_left most chooser.old limits inputs.now entry.now ≡ Ok chooser.new) }
     ensures kept { OnErr result (chooser.new ≡ chooser.old) }
-    // A fault is returned only if its condition holds. If it is of an input, it names one of these.
+    // A fault is returned only if its condition holds. A fault of an input names one of these.
     ensures fault { IfErr result (λ fault.
         IsFault fault (run_judged most chooser.old limits inputs.now entry.now)) }
     ensures named { IfErr result (λ fault. NamesFile (length inputs.now) fault) }

@@ -1,4 +1,4 @@
-//! The judgement on a trace, if a specification asks for it.
+//! The judgement on a trace, if there is a specification.
 
 ghost use Rattle.std.specs.Prelude.{IfOk};
 ghost use Rattle.velodrome.specs.Specification.{Specification};

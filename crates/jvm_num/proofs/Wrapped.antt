@@ -1,4 +1,4 @@
--- What the bits of a result spell, against the results of the definitions, at each width.
+-- The results of operations on bits are those of the definitions, at each width.
 use Rattle.std.proofs.Common.{◌≡◌, ℕ, zero, suc, ◌*◌, ◌/◌, ◌%◌, ◌^◌, ◌<◌, ◌≤◌, arith, refl, ap, sym, ◌∙◌, Some, mod-eq_of_lt, div-le_self}
 use Rattle.std.specs.Prelude.{ℤ, pos, negsuc, neg_ℤ, ◌-ℤ◌, ◌*ℤ◌, unsigned_abs, int_div}
 use Rattle.std.specs.Int.{Width, w8, w16, w32, w64, w128, int_wrap, int_rem_euclid, cast_signed, cast_unsigned, int_shl, int_wrapping_div}
@@ -26,7 +26,7 @@ bits_are_remainder w (negsuc n) small =
     let same : n % 2 ^ bits w ≡ n = mod-eq_of_lt (omega arith) in
     omega arith
 
--- A small number that goes to bits and is read again is the wrapped number.
+-- The bits of a small number, read as a signed number, are the wrapped number.
 read_again : (w : Width) (z : ℤ) → unsigned_abs z < 2 ^ bits w → cast_signed w (cast_unsigned w z) ≡ int_wrap w z
 unfolding int_wrap
 read_again w z small = ap (cast_signed w) (bits_are_remainder w z small)
@@ -58,7 +58,7 @@ remainder_is a (pos zero) not_zero = absurd (not_zero refl)
 remainder_is a (pos (suc n)) not_zero = ap Some (rest_of_division a (pos (suc n)))
 remainder_is a (negsuc n) not_zero = ap Some (rest_of_division a (negsuc n))
 
--- The low bits of a distance's bits.
+-- The low bits of a distance give the distance of the definition.
 distance_is : (w : Width) (d : ℤ) → FitsSigned w32 d → cast_unsigned w32 d % bits_of w ≡ distance_in w d
 distance_is w (pos n) fits = refl
 distance_is w8 (negsuc n) fits = omega (arith, fits.sfits)
@@ -67,7 +67,7 @@ distance_is w32 (negsuc n) fits = omega (arith, fits.sfits)
 distance_is w64 (negsuc n) fits = omega (arith, fits.sfits)
 distance_is w128 (negsuc n) fits = omega (arith, fits.sfits)
 
--- The bits of a number, read, are the number.
+-- The bits of a number, wrapped again, give the number.
 bits_wrap : (w : Width) (a : ℤ) → FitsSigned w a → int_wrap w (pos (cast_unsigned w a)) ≡ a
 bits_wrap w a fits = sym (read_again w (pos (cast_unsigned w a)) (of_z_fits w a fits).fits) ∙ to_z-of_z w a fits
 

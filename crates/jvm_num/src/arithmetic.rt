@@ -3,14 +3,14 @@
 ghost use Rattle.std.specs.Prelude.{◌≡◌};
 ghost use Rattle.jvms_file.specs.Numbers.{wrap as wrapped, sum, difference, product, negation, quotient, remainder};
 
-/// The one int that is congruent to `n` modulo 2^32 (JVMS 2.11.3).
+/// Returns the one int that is congruent to `n` modulo 2^32 (JVMS 2.11.3).
 pub fn wrap(n: i64) -> i32
     ensures { result ≡ wrapped n }
 {
     (n.rem_euclid(1 << 32) as u32).cast_signed()
 }
 
-/// JVMS 6.5 iadd.
+/// Adds two ints (JVMS 6.5 iadd).
 #[tactic(auto, using(std::proofs::lemmas::Int::wraps))]
 pub fn add(a: i32, b: i32) -> i32
     ensures { result ≡ sum a b }
@@ -18,7 +18,7 @@ pub fn add(a: i32, b: i32) -> i32
     a.wrapping_add(b)
 }
 
-/// JVMS 6.5 isub.
+/// Subtracts the second int from the first (JVMS 6.5 isub).
 #[tactic(auto, using(std::proofs::lemmas::Int::wraps))]
 pub fn sub(a: i32, b: i32) -> i32
     ensures { result ≡ difference a b }
@@ -26,14 +26,14 @@ pub fn sub(a: i32, b: i32) -> i32
     a.wrapping_sub(b)
 }
 
-/// JVMS 6.5 imul.
+/// Multiplies two ints (JVMS 6.5 imul).
 pub fn mul(a: i32, b: i32) -> i32
     ensures { result ≡ product a b }
 {
     a.wrapping_mul(b)
 }
 
-/// JVMS 6.5 ineg.
+/// Negates an int (JVMS 6.5 ineg). The least int gives itself.
 #[tactic(auto, using(std::proofs::lemmas::Int::wraps))]
 #[inline(always)]
 pub fn neg(a: i32) -> i32
@@ -42,8 +42,8 @@ pub fn neg(a: i32) -> i32
     a.wrapping_neg()
 }
 
-/// JVMS 6.5 idiv: the quotient, rounded to zero; `None` where the divisor is 0. The least int by -1 is
-/// itself.
+/// Divides the first int by the second and rounds to zero, or returns `None` if the divisor is 0 (JVMS 6.5 idiv). The
+/// least int by -1 gives itself.
 #[tactic(auto, using(crate::proofs::Wrapped::results))]
 pub fn div(a: i32, b: i32) -> Option<i32>
     ensures { result ≡ quotient a b }
@@ -55,8 +55,8 @@ pub fn div(a: i32, b: i32) -> Option<i32>
     }
 }
 
-/// JVMS 6.5 irem: the remainder, with the dividend's sign; `None` where the divisor is 0. The least int
-/// by -1 leaves 0.
+/// Returns the remainder of a division, with the dividend's sign, or `None` if the divisor is 0 (JVMS 6.5 irem). The
+/// least int by -1 leaves 0.
 #[tactic(auto, using(crate::proofs::Wrapped::results))]
 pub fn rem(a: i32, b: i32) -> Option<i32>
     ensures { result ≡ remainder a b }

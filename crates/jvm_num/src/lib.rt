@@ -1,6 +1,6 @@
-//! Arithmetic on the ints and longs of the Java Virtual Machine: each function gives exactly the number
-//! of the definition that its contract names, by the sections of the Java Virtual Machine Specification,
-//! Java SE 8 edition (JVMS). All are total, and none takes memory.
+//! Arithmetic on the ints and longs of the Java Virtual Machine. Each function returns exactly the number of the
+//! definition that its contract names, by the sections of the Java Virtual Machine Specification, Java SE 8 edition
+//! (JVMS). All are total, and none allocates memory.
 #![tactic(auto)]
 
 mod arithmetic;

@@ -1,11 +1,11 @@
-//! Ints taken into the range of a smaller type.
+//! Conversions of an int to a smaller type.
 
 ghost use Rattle.std.specs.Prelude.{◌≡◌};
 ghost use Rattle.jvms_file.specs.Numbers.{narrowed};
 
 use jvms_file::insn;
 
-/// JVMS 2.11.4 and 6.5 i2b, i2c, i2s; a boolean keeps the lowest bit.
+/// Narrows an int to a byte, a char or a short (JVMS 2.11.4, 6.5 i2b, i2c, i2s). For a boolean it keeps the lowest bit.
 #[inline(always)]
 pub fn narrow(to: insn::Narrow, n: i32) -> i32
     ensures { result ≡ narrowed to n }

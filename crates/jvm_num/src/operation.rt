@@ -1,4 +1,4 @@
-//! The operations on two numbers, by the instruction's kind.
+//! Operations on two numbers, selected by the instruction's kind.
 
 ghost use Rattle.std.specs.Prelude.{◌≡◌};
 ghost use Rattle.jvms_file.specs.Numbers.{binary_result, division_result};
@@ -10,7 +10,8 @@ use crate::long::{ladd, land, ldiv, lmul, lor, lrem, lshl, lshr, lsub, lushr, lx
 use crate::shift::{shl, shr, ushr};
 use jvms_file::insn;
 
-/// What two ints give, always (JVMS 6.5 iadd, isub, imul, ishl, ishr, iushr, iand, ior, ixor).
+/// Returns the result of an operation on two ints that always gives one (JVMS 6.5 iadd, isub, imul, ishl, ishr, iushr,
+/// iand, ior, ixor).
 #[inline(always)]
 pub fn binary(op: insn::Binary, a: i32, b: i32) -> i32
     ensures { result ≡ binary_result op a b }
@@ -28,7 +29,7 @@ pub fn binary(op: insn::Binary, a: i32, b: i32) -> i32
     }
 }
 
-/// What two ints give, but for a divisor of 0, which gives `None` (JVMS 6.5 idiv, irem).
+/// Divides two ints, or returns `None` if the divisor is 0 (JVMS 6.5 idiv, irem).
 #[inline(always)]
 pub fn divide(op: insn::Division, a: i32, b: i32) -> Option<i32>
     ensures { result ≡ division_result op a b }
@@ -39,7 +40,7 @@ pub fn divide(op: insn::Division, a: i32, b: i32) -> Option<i32>
     }
 }
 
-/// Returns what two longs give, always (JVMS 6.5 ladd, lsub, lmul, land, lor, lxor).
+/// Returns the result of an operation on two longs that always gives one (JVMS 6.5 ladd, lsub, lmul, land, lor, lxor).
 #[inline(always)]
 pub fn long_binary(op: insn::LongBinary, a: i64, b: i64) -> i64
     ensures { result ≡ long_binary_result op a b }

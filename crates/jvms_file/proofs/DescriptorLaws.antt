@@ -22,7 +22,7 @@ use Rattle.jvms_file.specs.Descriptors.{letter_of, primitive_of, element_text, f
 
 -- ---- Options
 
--- a step that gave something
+-- a step that gave a value
 then_some : {A B : Type 0} (f : A → Option B) (o : Option A) (y : B) → option_and_then f o ≡ Some y → (x : A) × (o ≡ Some x) × (f x ≡ Some y)
 then_some f None y e = absurd cc
 then_some f (Some x) y e = (x, refl, e)
@@ -32,12 +32,12 @@ map_some : {A B : Type 0} (f : A → B) (o : Option A) (y : B) → option_map f 
 map_some f None y e = absurd cc
 map_some f (Some x) y e = (x, refl, same_Some (f x) y e)
 
--- a test that let nothing else through
+-- a test that passed
 guarded : {A : Type 0} (b : Bool) (o : Option A) (y : A) → cond b o None ≡ Some y → (b ≡ true) × (o ≡ Some y)
 guarded true o y e = (refl, e)
 guarded false o y e = absurd cc
 
--- nothing stands behind what was read
+-- nothing follows what was read
 no_rest : {A : Type 0} (o : Option (A × List ℕ)) (x : A) → without_rest o ≡ Some x → o ≡ Some (x, [])
 no_rest None x e = absurd cc
 no_rest (Some (y, [])) x e = ap (λ (z : _). Some (z, [])) (same_Some y x e)
@@ -45,7 +45,7 @@ no_rest (Some (y, u ∷ us)) x e = absurd cc
 
 -- ---- Names
 
--- whether no unit of a part is reserved; an empty part has none
+-- no unit of a part is reserved, and an empty part has none
 abbrev is_clean : List ℕ → Bool
 is_clean us = list_all (λ v. not (is_reserved v)) us
 
@@ -61,7 +61,7 @@ names_are_clean (part ∷ parts) e =
     let both = and_parts (is_name part) (list_all is_name parts) e in
     and_from (is_clean part) (list_all is_clean parts) (name_is_clean part both.0) (names_are_clean parts both.1)
 
--- what is put onto the first part is not reserved where the parts are clean
+-- a unit joined to the first part is not reserved if the parts are clean
 onto_first_clean : (u : ℕ) (parts : List (List ℕ)) → list_all is_clean (onto_first u parts) ≡ true → (not (is_reserved u) ≡ true) × (list_all is_clean parts ≡ true)
 onto_first_clean u [] e =
     let both = and_parts (is_clean (u ∷ [])) true e in
@@ -80,7 +80,7 @@ not_semicolon u e =
     let two = or_parts (u == 46) (u == 59) three.0 in
     two.1
 
--- one unit of a class's name: it is no semicolon, and those behind it are units of names
+-- one unit of a class's name is no semicolon, and the units after it are those of names
 one_unit : (u : ℕ) (us : List ℕ) (slash : Bool) → (u == 47) ≡ slash
     → list_all is_clean (cond slash ([] ∷ slice_split (λ u. u == 47) us) (onto_first u (slice_split (λ u. u == 47) us))) ≡ true
     → ((u == 59) ≡ false) × (list_all is_clean (slice_split (λ u. u == 47) us) ≡ true)
@@ -98,13 +98,13 @@ no_semicolon (u ∷ us) e =
     let both = one_unit u us (u == 47) refl e in
     or_from (u == 59) (list_any (λ v. v == 59) us) both.0 (no_semicolon us both.1)
 
--- no semicolon stands in a class's name
+-- A class's name has no semicolon.
 pub class_name_has_no_semicolon : (us : List ℕ) → IsTrue (is_class_name us) → list_any (λ u. u == 59) us ≡ false
 class_name_has_no_semicolon us e = no_semicolon us (names_are_clean (slice_split (λ u. u == 47) us) e)
 
 -- ---- The first unit that passes a test
 
--- one place further in a text of one unit more
+-- a place plus one is in a text of one more unit exactly if the place is in the text
 one_further : (i n : ℕ) (b : Bool) → nat_lt i n ≡ b → nat_lt (1 + i) (suc n) ≡ b
 one_further i n b e = grind (arith, nat_tests)
 
@@ -113,12 +113,12 @@ any_step : (passes others : Bool) (i n : ℕ) → others ≡ nat_lt i n → (pas
 any_step true others i n e = sym (lt-ltb 0 (suc n) (omega arith))
 any_step false others i n e = e ∙ sym (one_further i n (nat_lt i n) refl)
 
--- some unit passes where the first such place is inside the text
+-- Some unit passes exactly if the first such place is inside the text.
 pub any_is_inside : (p : ℕ → Bool) (us : List ℕ) → list_any p us ≡ nat_lt (position_or_len p us) (length us)
 any_is_inside p [] = refl
 any_is_inside p (u ∷ us) = any_step (p u) (list_any p us) (position_or_len p us) (length us) (any_is_inside p us)
 
--- where the first unit that passes stands behind units that do not
+-- the place of the first unit that passes, after units that don't
 position_behind : (p : ℕ → Bool) (us rest : List ℕ) (v : ℕ) → list_any p us ≡ false → p v ≡ true → position_or_len p (us ++ v ∷ rest) ≡ length us
 position_behind p [] rest v none passes = rw passes refl
 position_behind p (u ∷ us) rest v none passes =
@@ -126,23 +126,23 @@ position_behind p (u ∷ us) rest v none passes =
     let further = position_behind p us rest v both.1 passes in
     rw (both.0) (omega arith)
 
--- true on the right is enough
+-- a disjunction with true is true
 or_true : (b : Bool) → (b || true) ≡ true
 or_true true = refl
 or_true false = refl
 
--- a unit that passes behind others
+-- a unit that passes after others
 any_behind : (p : ℕ → Bool) (us rest : List ℕ) (v : ℕ) → p v ≡ true → list_any p (us ++ v ∷ rest) ≡ true
 any_behind p [] rest v passes = rw passes refl
 any_behind p (u ∷ us) rest v passes = rw (any_behind p us rest v passes) (or_true (p u))
 
 -- ---- One type at the front of a text
 
--- a type, and the text behind it
+-- a type, and the text after it
 abbrev made : ℕ → Element → List ℕ → FieldType × List ℕ
 made d e us = (record { dimensions = d; element = e }, us)
 
--- one test of a letter, and those behind it
+-- one test of a letter, followed by the others
 letter_next : (b : Bool) (x : Primitive) (o : Option Primitive) (p : Primitive) (u : ℕ) → cond b (Some x) o ≡ Some p
     → (b ≡ true → u ≡ letter_of x) → (o ≡ Some p → u ≡ letter_of p) → u ≡ letter_of p
 letter_next true x o p u e here further = subst (λ (q : Primitive). u ≡ letter_of q) (same_Some x p e) (here refl)
@@ -171,7 +171,7 @@ primitive_again primitive.Long = refl
 primitive_again primitive.Short = refl
 primitive_again primitive.Boolean = refl
 
--- a type and the text behind it stand at the front of a text, behind d brackets
+-- A type and the text after it are the front of a text that follows d brackets.
 pub record IsFront (d : ℕ) (us : List ℕ) (t : FieldType) (rest : List ℕ) : Type 0 where
   pub brackets : ℕ
   pub dimensions : t.dimensions ≡ d + brackets
@@ -214,7 +214,7 @@ letter_found d u us t rest fits e =
     } in
     subst (λ (x : FieldType × List ℕ). IsFront d (u ∷ us) x.0 x.1) from.2 whole
 
--- one bracket more
+-- one more bracket
 bracket_found : (d u : ℕ) (us : List ℕ) (t : FieldType) (rest : List ℕ) → u ≡ 91 → IsFront (suc d) us t rest → IsFront d (u ∷ us) t rest
 bracket_found d u us t rest is front = record {
   brackets = suc front.brackets;
@@ -239,7 +239,7 @@ first_found d u us t rest false true fits is_bracket is_class e further =
     subst (λ (v : ℕ). IsFront d (v ∷ us) t rest) (sym same) (object_found d us t rest fits e)
 first_found d u us t rest false false fits is_bracket is_class e further = letter_found d u us t rest fits e
 
--- What is read from the front of a text is spelled there.
+-- A type that is read from the front of a text is spelled there.
 pub front_is_spelled : (d : ℕ) (us : List ℕ) (t : FieldType) (rest : List ℕ) → d ≤ 255 → field_type_from d us ≡ Some (t, rest) → IsFront d us t rest
 unfolding field_type_from
 front_is_spelled d [] t rest fits e = absurd cc
@@ -270,7 +270,7 @@ object_again d name rest named =
     let any : list_any p us ≡ true = ap (list_any p) regrouped ∙ any_behind p name rest 59 refl in
     object_parts d us name rest any before after named
 
--- What is spelled at the front of a text is read.
+-- A type that is spelled at the front of a text is read.
 pub front_is_read : (d n : ℕ) (e : Element) (rest : List ℕ) → d + n ≤ 255 → IsElement e
     → field_type_from d (replicate n 91 ++ (element_text e ++ rest)) ≡ Some (made (d + n) e rest)
 unfolding field_type_from
@@ -292,7 +292,7 @@ element_is_not_empty : (e : Element) → 1 ≤ length (element_text e)
 element_is_not_empty (element.Primitive p) = omega arith
 element_is_not_empty (element.Object name) = omega arith
 
--- The text behind a type is shorter.
+-- The text after a type is shorter.
 pub rest_is_shorter : (us : List ℕ) (t : FieldType) (rest : List ℕ) → field_type_from 0 us ≡ Some (t, rest) → length rest < length us
 rest_is_shorter us t rest e =
     let front = front_is_spelled 0 us t rest (lit≤ tt) e in
@@ -302,7 +302,7 @@ rest_is_shorter us t rest e =
 
 -- ---- A field's type
 
--- What is read from a text is what the text spells.
+-- A type that is read from a text is spelled by the text.
 pub field_is_spelled : (text : List ℕ) (t : FieldType) → field_type_of text ≡ Some t → SpellsFieldType text t
 field_is_spelled text t e =
     let front = front_is_spelled 0 text t [] (lit≤ tt) (no_rest (field_type_from 0 text) t e) in
@@ -311,7 +311,7 @@ field_is_spelled text t e =
     let whole : text ≡ field_text t = front.text ∙ ap (λ (x : List ℕ). replicate front.brackets 91 ++ x) (append-nil (element_text t.element)) ∙ ap (λ (k : ℕ). replicate k 91 ++ element_text t.element) (sym same) in
     ((front.fits, front.named), whole)
 
--- What a text spells is read from its front.
+-- A type that is spelled at the front of a text is read from it.
 pub field_front_is_read : (t : FieldType) (rest : List ℕ) → IsFieldType t → field_type_from 0 (field_text t ++ rest) ≡ Some (t, rest)
 field_front_is_read t rest is =
     let n : 0 + t.dimensions ≡ t.dimensions = omega arith in
@@ -319,7 +319,7 @@ field_front_is_read t rest is =
     ∙ front_is_read 0 t.dimensions t.element rest (omega (arith, is.0)) is.1
     ∙ ap (λ (k : ℕ). Some (made k t.element rest)) n
 
--- What a text spells is read from it.
+-- A type that a text spells is read from it.
 pub field_is_read : (text : List ℕ) (t : FieldType) → SpellsFieldType text t → field_type_of text ≡ Some t
 field_is_read text t spells =
     ap field_type_of (spells.1 ∙ sym (append-nil (field_text t))) ∙ ap without_rest (field_front_is_read t [] spells.0)
@@ -347,7 +347,7 @@ first_of zero (element.Primitive primitive.Boolean) rest = record { first = 90; 
 first_of zero (element.Object name) rest = record { first = 76; others = (name ++ 59 ∷ []) ++ rest; parts = refl; not_close = refl; not_void = refl }
 first_of (suc n) e rest = record { first = 91; others = (replicate n 91 ++ element_text e) ++ rest; parts = refl; not_close = refl; not_void = refl }
 
--- a parameter, and those behind it
+-- a parameter, followed by the others
 abbrev pub with_parameter : FieldType → Option (List FieldType × List ℕ) → Option (List FieldType × List ℕ)
 with_parameter t others = option_map (λ ts. (t ∷ ts.0, ts.1)) others
 
@@ -355,33 +355,33 @@ with_parameter t others = option_map (λ ts. (t ∷ ts.0, ts.1)) others
 abbrev none_before : List ℕ → List FieldType × List ℕ
 none_before us = ([], us)
 
--- one parameter more before others
+-- one more parameter before others
 abbrev one_before : FieldType → List FieldType × List ℕ → List FieldType × List ℕ
 one_before t others = (t ∷ others.0, others.1)
 
--- One step of reading parameters.
+-- At a closing parenthesis the parameters end.
 pub parameters_end : (most : ℕ) (us : List ℕ) → parameters_from (suc most) (41 ∷ us) ≡ Some ([], us)
 unfolding parameters_from
 parameters_end most us = refl
 
--- A parameter at the front.
+-- A parameter is at the front.
 pub parameters_step : (most u : ℕ) (us rest : List ℕ) (t : FieldType) → (u == 41) ≡ false → field_type_from 0 (u ∷ us) ≡ Some (t, rest)
     → parameters_from (suc most) (u ∷ us) ≡ with_parameter t (parameters_from most rest)
 unfolding parameters_from
 parameters_step most u us rest t not_close front = rw (not_close, front) refl
 
--- No type at the front.
+-- No type is at the front.
 pub parameters_stop : (most u : ℕ) (us : List ℕ) → (u == 41) ≡ false → field_type_from 0 (u ∷ us) ≡ None → parameters_from (suc most) (u ∷ us) ≡ None
 unfolding parameters_from
 parameters_stop most u us not_close front = rw (not_close, front) refl
 
--- No closing parenthesis.
+-- The text ends without a closing parenthesis.
 pub parameters_none : (most : ℕ) → parameters_from most [] ≡ None
 unfolding parameters_from
 parameters_none zero = refl
 parameters_none (suc most) = refl
 
--- More than enough changes nothing, where the first unit is no closing parenthesis.
+-- A greater bound changes nothing, if the first unit is no closing parenthesis.
 one_more_parameter : (n m u : ℕ) (us : List ℕ) (front : Option (FieldType × List ℕ)) → (u == 41) ≡ false → field_type_from 0 (u ∷ us) ≡ front
     → ((rest : List ℕ) → length rest < length (u ∷ us) → parameters_from n rest ≡ parameters_from m rest)
     → parameters_from (suc n) (u ∷ us) ≡ parameters_from (suc m) (u ∷ us)
@@ -400,7 +400,7 @@ one_more_unit n m u us true is same =
     subst (λ (v : ℕ). parameters_from (suc n) (v ∷ us) ≡ parameters_from (suc m) (v ∷ us)) (sym at) (parameters_end n us ∙ sym (parameters_end m us))
 one_more_unit n m u us false is same = one_more_parameter n m u us (field_type_from 0 (u ∷ us)) is refl same
 
--- More than enough changes nothing.
+-- A greater bound changes nothing.
 pub enough_parameters : (n m : ℕ) (us : List ℕ) → length us ≤ n → length us ≤ m → parameters_from n us ≡ parameters_from m us
 enough_parameters n m [] enough also = parameters_none n ∙ sym (parameters_none m)
 enough_parameters zero m (u ∷ us) enough also = absurd (omega arith)
@@ -408,12 +408,12 @@ enough_parameters (suc n) zero (u ∷ us) enough also = absurd (omega arith)
 enough_parameters (suc n) (suc m) (u ∷ us) enough also =
     one_more_unit n m u us (u == 41) refl (λ rest shorter. enough_parameters n m rest (omega arith) (omega arith))
 
--- parameters and the text behind them stand at the front of a text
+-- Parameters and the text after them are the front of a text.
 pub record AreFront (us : List ℕ) (ts : List FieldType) (rest : List ℕ) : Type 0 where
   pub text : us ≡ flat_map field_text ts ++ (41 ∷ rest)
   pub fit : AllByRecursion IsFieldType ts
 
--- one parameter more
+-- one more parameter
 parameter_found : (us after rest : List ℕ) (t : FieldType) (ts : List FieldType) → IsFront 0 us t after → AreFront after ts rest → AreFront us (t ∷ ts) rest
 parameter_found us after rest t ts front others =
     let same : t.dimensions ≡ front.brackets = front.dimensions ∙ omega arith in
@@ -442,7 +442,7 @@ parameters_found most u us ts rest false is e further =
     let all = parameter_found (u ∷ us) t.1 rest t.0 others.0.0 spelled (further t.1 others.0.0 read) in
     subst (λ (x : List FieldType). AreFront (u ∷ us) x rest) (ap (λ (x : List FieldType × List ℕ). x.0) others.2) all
 
--- What is read as parameters is spelled so.
+-- Parameters that are read are spelled so.
 pub parameters_are_spelled : (most : ℕ) (us : List ℕ) (ts : List FieldType) (rest : List ℕ) → parameters_from most us ≡ Some (ts, rest) → AreFront us ts rest
 unfolding parameters_from
 parameters_are_spelled zero [] ts rest e = absurd cc
@@ -451,7 +451,7 @@ parameters_are_spelled zero (u ∷ us) ts rest e = absurd cc
 parameters_are_spelled (suc most) (u ∷ us) ts rest e =
     parameters_found most u us ts rest (u == 41) refl e (λ after others read. parameters_are_spelled most after others rest read)
 
--- What is spelled as parameters is read so.
+-- Parameters that are spelled so are read.
 pub parameters_are_read : (most : ℕ) (ts : List FieldType) (rest : List ℕ) → AllByRecursion IsFieldType ts → length (flat_map field_text ts ++ (41 ∷ rest)) ≤ most
     → parameters_from most (flat_map field_text ts ++ (41 ∷ rest)) ≡ Some (ts, rest)
 parameters_are_read zero [] rest fit enough = absurd (omega arith)
@@ -470,9 +470,9 @@ parameters_are_read (suc most) (t ∷ ts) rest fit enough =
     ∙ parameters_step most front.first front.others behind t front.not_close read
     ∙ ap (with_parameter t) (parameters_are_read most ts rest fit.1 (omega arith))
 
--- ---- What a method returns
+-- ---- A method's result
 
--- false on the right is too little
+-- a conjunction with false is not true
 not_both : (b : Bool) → (b && false) ≡ true → ⊥
 not_both true e = absurd cc
 not_both false e = absurd cc
@@ -498,7 +498,7 @@ value_found text r false is e =
     let t = map_some (λ t. result_type.Value t) (field_type_of text) r e in
     subst (λ (x : ResultType). IsResultType x × (text ≡ result_text x)) t.2 (field_is_spelled text t.0 t.1)
 
--- What is read as a result is spelled so.
+-- A result that is read is spelled so.
 pub result_is_spelled : (text : List ℕ) (r : ResultType) → result_type_of text ≡ Some r → IsResultType r × (text ≡ result_text r)
 result_is_spelled text r e = value_found text r (same_text text (86 ∷ [])) refl e
 
@@ -507,7 +507,7 @@ value_read : (t : FieldType) (void : Bool) → void ≡ false → field_type_of 
     → cond void (Some result_type.Void) (option_map (λ t. result_type.Value t) (field_type_of (field_text t))) ≡ Some (result_type.Value t)
 value_read t void other read = rw (other, read) refl
 
--- What is spelled as a result is read so.
+-- A result that is spelled so is read.
 pub result_is_read : (r : ResultType) → IsResultType r → result_type_of (result_text r) ≡ Some r
 result_is_read result_type.Void is = refl
 result_is_read (result_type.Value t) is =
@@ -544,13 +544,13 @@ method_found u us t true is e =
     ap (λ (v : ℕ). v ∷ us) (eqb-true u 40 is) ∙ ap (λ (x : List ℕ). 40 ∷ x) (front.text ∙ ap (λ (x : List ℕ). flat_map field_text ts.0.0 ++ (41 ∷ x)) returned.1) in
     subst (λ (x : MethodType). SpellsMethodType (u ∷ us) x) units.0 ((front.fit, returned.0, few), text)
 
--- What is read from a text is what the text spells.
+-- A method's type that is read from a text is spelled by the text.
 pub method_is_spelled : (text : List ℕ) (t : MethodType) → method_type_of text ≡ Some t → SpellsMethodType text t
 unfolding method_type_of
 method_is_spelled [] t e = absurd cc
 method_is_spelled (u ∷ us) t e = method_found u us t (u == 40) refl e
 
--- What a method's type is spelled by is read so.
+-- The text of a method's type is read as that type.
 pub method_text_is_read : (t : MethodType) → IsMethodType t → method_type_of (method_text t) ≡ Some t
 unfolding method_type_of
 method_text_is_read t is =
@@ -558,6 +558,6 @@ method_text_is_read t is =
     let few : nat_le (parameter_units t) 255 ≡ true = le-leb (parameter_units t) 255 is.2 in
     rw (parameters_are_read (length us) t.parameters (result_text t.result) is.0 (omega arith), result_is_read t.result is.1, few) refl
 
--- What a text spells is read from it.
+-- A method's type that a text spells is read from it.
 pub method_is_read : (text : List ℕ) (t : MethodType) → SpellsMethodType text t → method_type_of text ≡ Some t
 method_is_read text t spells = ap method_type_of spells.1 ∙ method_text_is_read t spells.0

@@ -11,12 +11,12 @@ wrap_is_int n =
     let fits = SFits-int_wrap w32 n in
     record { least = omega (arith, ints); most = omega (arith, ints) }
 
--- The 32 bits of an int, read without a sign, are the int plus so many times 2^32.
+-- The 32 bits of an int, read without a sign, are the int plus a multiple of 2^32.
 unsigned_read : (z : ℤ) → FitsSigned w32 z → (j : ℕ) × (z +ℤ pos (j * 2 ^ 32) ≡ pos (cast_unsigned w32 z))
 unsigned_read (pos n) fits = (0, omega (arith, ints))
 unsigned_read (negsuc n) fits = (1, omega (arith, ints))
 
--- The same of the int that 32 bits spell.
+-- The int that 32 bits spell, plus a multiple of 2^32, is these bits read without a sign.
 signed_read : (x : ℕ) → x < 2 ^ 32 → FitsSigned w32 (cast_signed w32 x) → (j : ℕ) × (cast_signed w32 x +ℤ pos (j * 2 ^ 32) ≡ pos x)
 signed_read x small fits =
     let read = unsigned_read (cast_signed w32 x) fits in

@@ -1,4 +1,4 @@
--- Laws about the bytes of texts (JVMS 4.4.7): what is decoded is coded so, and what is coded so is decoded.
+-- Laws about the bytes of texts (JVMS 4.4.7): decoding and encoding are inverse to each other.
 use Rattle.std.proofs.Common.{take, drop, ◌≡◌, ℕ, zero, suc, ◌+◌, ◌-◌, ◌/◌, ◌%◌, ◌<◌, ◌≤◌, ◌⊎◌, ◌&&◌, ◌||◌, Bool, true, false, cond, ltb, leb, eqb, List, [], ◌∷◌, ◌++◌, length, Option, Some, None, Result, Ok, Err, refl, sym, ap, subst, ◌∙◌, arith, inl, inr}
 use Rattle.std.proofs.lemmas.Bool.{cases_lt, cases_eq, and_parts, or_cases, and_from, and_right, or_left, or_right, ltb-true, leb-true, lt-ltb, le-ltb, le-leb, eq-eqb, eqb-true}
 use Rattle.std.proofs.lemmas.Bool.Decides.{nat_tests}
@@ -8,7 +8,7 @@ use Rattle.std.proofs.Math.Seq.{take-append-add, drop-append-add}
 use Rattle.jvms_file.specs.Results.{◌>>=◌, present}
 use Rattle.jvms_file.specs.Texts.{unit_bytes, encoded, IsText, Codes, is_continuation, two_byte_unit, three_byte_unit, after_lead_of_two, after_lead_of_three, unit_at, decoded_from, decoded}
 
--- Which way a test went.
+-- The cases of a test.
 chosen : {A : Type 0} (b : Bool) (x y z : A) → cond b x y ≡ z → ((b ≡ true) × (x ≡ z)) ⊎ ((b ≡ false) × (y ≡ z))
 chosen true x y z e = inl (refl, e)
 chosen false x y z e = inr (refl, e)
@@ -42,7 +42,7 @@ two_byte_unit_is u p = omega arith
 three_byte_unit_is : (u : ℕ) → u < 0x10000 → three_byte_unit (0xe0 + u / 0x1000) (0x80 + u / 0x40 % 0x40) (0x80 + u % 0x40) ≡ u
 three_byte_unit_is u p = omega arith
 
--- What `unit_at` gives is the unit that the bytes begin with, and what stands behind it.
+-- The unit that `unit_at` returns is at the front of the bytes, and the rest follows it.
 abbrev IsFront : List ℕ → ℕ × List ℕ → Type 0
 IsFront bytes front = (bytes ≡ unit_bytes front.0 ++ front.1) × (front.0 < 0x10000)
 
@@ -68,15 +68,15 @@ three_bytes_front x y z more p q r s t v long =
     let bytes = unit_of_three (three_byte_unit x y z) long in
     (sym (ap (λ (w : List ℕ). w ++ more) bytes ∙ rw (are.0, are.1, are.2) refl), are.3)
 
--- What the test for a byte behind the first says.
+-- The bounds of a byte that may follow the first.
 continuation_is : (y : ℕ) → is_continuation y ≡ true → (0x80 ≤ y) × (y < 0xc0)
 continuation_is y e = let b = and_parts (leb 0x80 y) (ltb y 0xc0) e in (leb-true 0x80 y b.0, ltb-true y 0xc0 b.1)
 
--- What the test for the shortest spelling in two bytes says.
+-- The bounds of the shortest spelling in two bytes.
 short_is : (u : ℕ) → (eqb u 0 || leb 0x80 u) ≡ true → (u ≡ 0) ⊎ (0x80 ≤ u)
 short_is u e = elim (or_cases (eqb u 0) (leb 0x80 u) e) [ inl a ↦ inl (eqb-true u 0 a) | inr b ↦ inr (leb-true 0x80 u b) ]
 
--- What is read from two bytes stands there.
+-- A unit that is read from two bytes is spelled by them.
 after_two_is_front : (x : ℕ) (more : List ℕ) (front : ℕ × List ℕ) → 0xc0 ≤ x → x < 0xe0 → after_lead_of_two x more ≡ Some front → IsFront (x ∷ more) front
 after_two_is_front x [] front p q e = absurd (none_is_not front e)
 after_two_is_front x (y ∷ more) front p q e =
@@ -89,7 +89,7 @@ after_two_is_front x (y ∷ more) front p q e =
       | inr unmet ↦ absurd (none_is_not front unmet.1)
     ]
 
--- What is read from three bytes stands there.
+-- A unit that is read from three bytes is spelled by them.
 after_three_is_front : (x : ℕ) (more : List ℕ) (front : ℕ × List ℕ) → 0xe0 ≤ x → x < 0xf0 → after_lead_of_three x more ≡ Some front → IsFront (x ∷ more) front
 after_three_is_front x [] front p q e = absurd (none_is_not front e)
 after_three_is_front x (y ∷ []) front p q e = absurd (none_is_not front e)
@@ -105,7 +105,7 @@ after_three_is_front x (y ∷ z ∷ more) front p q e =
       | inr unmet ↦ absurd (none_is_not front unmet.1)
     ]
 
--- The unit that is read at the front of bytes stands there.
+-- A unit that is read at the front of bytes is spelled there.
 pub unit_at_is_front : (bytes : List ℕ) (front : ℕ × List ℕ) → unit_at bytes ≡ Some front → (bytes ≡ unit_bytes front.0 ++ front.1) × (front.0 < 0x10000)
 unfolding unit_at
 unit_at_is_front [] front e = absurd (none_is_not front e)
@@ -130,11 +130,11 @@ unit_at_is_front (x ∷ more) front e =
       ]
     ]
 
--- A byte that may stand behind the first.
+-- A byte that may follow the first.
 is_continuation_at : (k : ℕ) → k < 0x40 → is_continuation (0x80 + k) ≡ true
 is_continuation_at k p = and_from (leb 0x80 (0x80 + k)) (ltb (0x80 + k) 0xc0) (le-leb 0x80 (0x80 + k) (omega arith)) (lt-ltb (0x80 + k) 0xc0 (omega arith))
 
--- A unit of two bytes is read behind its first byte.
+-- A unit of two bytes is read after its first byte.
 two_bytes_are_read : (u : ℕ) (rest : List ℕ) → (u ≡ 0) ⊎ (0x80 ≤ u) → u < 0x800 → after_lead_of_two (0xc0 + u / 0x40) ((0x80 + u % 0x40) ∷ rest) ≡ Some (u, rest)
 two_bytes_are_read u rest short p =
     let shortest : (eqb u 0 || leb 0x80 u) ≡ true = elim short [ inl a ↦ or_left (eqb u 0) (leb 0x80 u) (eq-eqb u 0 a) | inr b ↦ or_right (eqb u 0) (leb 0x80 u) (le-leb 0x80 u b) ] in
@@ -143,7 +143,7 @@ two_bytes_are_read u rest short p =
     let step : (v : ℕ) → v ≡ u → cond {A = Option (ℕ × List ℕ)} (is_continuation (0x80 + u % 0x40) && (eqb v 0 || leb 0x80 v)) (Some (v, rest)) None ≡ Some (u, rest) = λ v is. rw (is, both) refl in
     step (two_byte_unit (0xc0 + u / 0x40) (0x80 + u % 0x40)) (two_byte_unit_is u p)
 
--- A unit of three bytes is read behind its first byte.
+-- A unit of three bytes is read after its first byte.
 three_bytes_are_read : (u : ℕ) (rest : List ℕ) → 0x800 ≤ u → u < 0x10000 → after_lead_of_three (0xe0 + u / 0x1000) ((0x80 + u / 0x40 % 0x40) ∷ (0x80 + u % 0x40) ∷ rest) ≡ Some (u, rest)
 three_bytes_are_read u rest long p =
     let y = 0x80 + u / 0x40 % 0x40 in
@@ -153,14 +153,14 @@ three_bytes_are_read u rest long p =
     let step : (v : ℕ) → v ≡ u → cond {A = Option (ℕ × List ℕ)} (is_continuation y && is_continuation z && leb 0x800 v) (Some (v, rest)) None ≡ Some (u, rest) = λ v is. rw (is, all) refl in
     step (three_byte_unit (0xe0 + u / 0x1000) y z) (three_byte_unit_is u p)
 
--- A unit of one byte is read again.
+-- A unit of one byte is read from it.
 one_byte_unit_again : (u : ℕ) (rest : List ℕ) → 0 < u → u < 0x80 → unit_at (unit_bytes u ++ rest) ≡ Some (u, rest)
 unfolding unit_at
 one_byte_unit_again u rest p q =
     let test : (ltb 0 u && ltb u 0x80) ≡ true = and_from (ltb 0 u) (ltb u 0x80) (lt-ltb 0 u p) (lt-ltb u 0x80 q) in
     ap (λ (w : List ℕ). unit_at (w ++ rest)) (unit_of_one u p q) ∙ rw test refl
 
--- A unit of two bytes is read again.
+-- A unit of two bytes is read from them.
 two_byte_unit_again : (u : ℕ) (rest : List ℕ) → (u ≡ 0) ⊎ (0x80 ≤ u) → u < 0x800 → unit_at (unit_bytes u ++ rest) ≡ Some (u, rest)
 unfolding unit_at
 two_byte_unit_again u rest short p =
@@ -169,7 +169,7 @@ two_byte_unit_again u rest short p =
     let lead : (leb 0xc0 x && ltb x 0xe0) ≡ true = and_from (leb 0xc0 x) (ltb x 0xe0) (le-leb 0xc0 x (omega arith)) (lt-ltb x 0xe0 (omega arith)) in
     ap (λ (w : List ℕ). unit_at (w ++ rest)) (unit_of_two u short p) ∙ rw (not_one, lead) (two_bytes_are_read u rest short p)
 
--- A unit of three bytes is read again.
+-- A unit of three bytes is read from them.
 three_byte_unit_again : (u : ℕ) (rest : List ℕ) → 0x800 ≤ u → u < 0x10000 → unit_at (unit_bytes u ++ rest) ≡ Some (u, rest)
 unfolding unit_at
 three_byte_unit_again u rest long p =
@@ -193,13 +193,13 @@ unit_at_again u rest p =
       ]
     ]
 
--- Bytes at whose front a unit stands are some.
+-- Bytes that begin with a unit are not empty.
 filled : (bytes : List ℕ) (u : ℕ) → unit_at (bytes ++ []) ≡ Some (u, []) → 0 < length bytes
 unfolding unit_at
 filled [] u e = absurd (none_is_not (u, []) e)
 filled (x ∷ more) u e = omega arith
 
--- A unit has a byte.
+-- A unit has at least one byte.
 unit_has_bytes : (u : ℕ) → u < 0x10000 → 0 < length (unit_bytes u)
 unit_has_bytes u p = filled (unit_bytes u) u (unit_at_again u [] p)
 
@@ -218,7 +218,7 @@ step_ok : {A B : Type 0} (r : Result A ℕ) (f : A → Result B ℕ) (y : B) →
 step_ok (Ok x) f y e = (x, refl, e)
 step_ok (Err d) f y e = absurd cc
 
--- The fault of a step behind which nothing fails.
+-- The fault of a step after which nothing fails.
 step_err : (r : Result (List ℕ) ℕ) (u at : ℕ) → (r >>= λ us. Ok (u ∷ us)) ≡ Err at → r ≡ Err at
 step_err (Ok us) u at e = absurd cc
 step_err (Err d) u at e = cc
@@ -233,30 +233,30 @@ pub encoded-nil : encoded [] ≡ []
 unfolding encoded
 encoded-nil = refl
 
--- The bytes of two texts, one behind the other.
+-- The bytes of two texts, one after the other.
 pub encoded-append : (us vs : List ℕ) → encoded (us ++ vs) ≡ encoded us ++ encoded vs
 unfolding encoded
 encoded-append us vs = flat_map-append unit_bytes us vs
 
--- Where a unit is read, decoding goes on behind it.
+-- If a unit is read, decoding continues after it.
 pub decoded_from-unit : (most place : ℕ) (bytes : List ℕ) (u : ℕ) (rest : List ℕ) → unit_at bytes ≡ Some (u, rest)
     → decoded_from (suc most) place bytes ≡ (decoded_from most (place + (length bytes - length rest)) rest >>= λ us. Ok (u ∷ us))
 unfolding unit_at decoded_from
 decoded_from-unit most place [] u rest e = absurd (none_is_not (u, rest) e)
 decoded_from-unit most place (x ∷ more) u rest e = rw e refl
 
--- Where no unit is read and bytes are left, decoding ends.
+-- If no unit is read and bytes are left, decoding ends.
 pub decoded_from-bad : (most place : ℕ) (bytes : List ℕ) → 0 < length bytes → unit_at bytes ≡ None → decoded_from most place bytes ≡ Err place
 unfolding decoded_from
 decoded_from-bad most place [] p e = absurd (omega arith)
 decoded_from-bad zero place (x ∷ more) p e = refl
 decoded_from-bad (suc most) place (x ∷ more) p e = rw e refl
 
--- What decoding a text gives.
+-- The result of decoding a text.
 abbrev decoded_to : List ℕ → Result (List ℕ) ℕ
 decoded_to us = Ok us
 
--- Two texts in an `Ok` are one.
+-- Equal `Ok`s have equal texts.
 ok_is : (us vs : List ℕ) → decoded_to us ≡ decoded_to vs → us ≡ vs
 ok_is us vs e = cc
 
@@ -280,7 +280,7 @@ codes_more bytes front us e codes =
     let found = unit_at_is_front bytes front e in
     ((found.1, codes.0), found.0 ∙ ap (λ (w : List ℕ). unit_bytes front.0 ++ w) codes.1 ∙ sym (encoded-cons front.0 us))
 
--- What is decoded from some place on is coded so.
+-- A text that is decoded from a place on is coded by the bytes.
 pub decoded_from_codes : (most place : ℕ) (bytes us : List ℕ) → decoded_from most place bytes ≡ Ok us → Codes bytes us
 unfolding decoded_from
 decoded_from_codes most place [] us e = subst (Codes []) (ok_is [] us (sym (decoded_from-nil most place) ∙ e)) nil_codes
@@ -293,11 +293,11 @@ decoded_from_codes (suc most) place (x ∷ more) us e =
     let whole = codes_more (x ∷ more) front others.0 (present_is (unit_at (x ∷ more)) place front first.1) (decoded_from_codes most behind front.1 others.0 others.1) in
     subst (Codes (x ∷ more)) (ok_is (front.0 ∷ others.0) us others.2) whole
 
--- What is decoded is coded so.
+-- A text that is decoded is coded by the bytes.
 pub decoded_is_encoded : (bytes us : List ℕ) → decoded bytes ≡ Ok us → Codes bytes us
 decoded_is_encoded bytes us e = decoded_from_codes (length bytes) 0 bytes us e
 
--- A text is decoded from its bytes, where there are steps enough.
+-- A text is decoded from its bytes, with steps enough.
 pub decoded_from_encoded : (most place : ℕ) (us : List ℕ) → IsText us → length (encoded us) ≤ most → decoded_from most place (encoded us) ≡ Ok us
 decoded_from_encoded most place [] text enough = rw encoded-nil (decoded_from-nil most place)
 decoded_from_encoded zero place (u ∷ us) text enough =
@@ -312,15 +312,15 @@ decoded_from_encoded (suc most) place (u ∷ us) text enough =
 pub encoded_is_decoded : (us : List ℕ) → IsText us → decoded (encoded us) ≡ Ok us
 encoded_is_decoded us text = decoded_from_encoded (length (encoded us)) 0 us text (omega arith)
 
--- No unit stands at the front of bytes from which none is read.
+-- Bytes from which no unit is read begin with none.
 pub no_unit_at : (bytes : List ℕ) → unit_at bytes ≡ None → (u : ℕ) (rest : List ℕ) → u < 0x10000 → bytes ≡ unit_bytes u ++ rest → ⊥
 no_unit_at bytes e u rest p is = none_is_not (u, rest) (sym e ∙ ap unit_at is ∙ unit_at_again u rest p)
 
--- At this place no unit begins, and a text stands in front of it.
+-- No unit begins at this place, and the bytes before it code a text.
 abbrev pub IsFault : List ℕ → ℕ → Type 0
 IsFault bytes at = (at < length bytes) × ((us : List ℕ) × Codes (take at bytes) us) × ((u : ℕ) (rest : List ℕ) → u < 0x10000 → drop at bytes ≡ unit_bytes u ++ rest → ⊥)
 
--- A fault behind a unit is one of the whole.
+-- A fault after a unit is a fault of the whole.
 fault_more : (u : ℕ) (rest : List ℕ) (at : ℕ) → u < 0x10000 → IsFault rest at → IsFault (unit_bytes u ++ rest) (length (unit_bytes u) + at)
 fault_more u rest at p fault =
     let front = fault.1 in (
@@ -329,14 +329,14 @@ fault_more u rest at p fault =
       λ v after q e. fault.2 v after q (sym (drop-append-add (unit_bytes u) rest at) ∙ e),
     )
 
--- The same, at bytes of which a unit is read.
+-- A fault after a unit that is read from the bytes is a fault of the bytes.
 fault_behind : (bytes : List ℕ) (front : ℕ × List ℕ) (at : ℕ) → unit_at bytes ≡ Some front → IsFault front.1 at → IsFault bytes (length bytes - length front.1 + at)
 fault_behind bytes front at e fault =
     let found = unit_at_is_front bytes front e in
     let size : length (unit_bytes front.0) ≡ length bytes - length front.1 = omega (arith, ap length found.0, length-append (unit_bytes front.0) front.1) in
     subst (λ (k : ℕ). IsFault bytes (k + at)) size (subst (λ (w : List ℕ). IsFault w (length (unit_bytes front.0) + at)) (sym found.0) (fault_more front.0 front.1 at found.1 fault))
 
--- What is left behind a unit is less.
+-- The bytes after a unit are fewer.
 pub shorter_behind : (bytes : List ℕ) (front : ℕ × List ℕ) → unit_at bytes ≡ Some front → length front.1 < length bytes
 shorter_behind bytes front e =
     let found = unit_at_is_front bytes front e in

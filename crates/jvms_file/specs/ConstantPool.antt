@@ -59,7 +59,7 @@ name_and_type_at pool n =
     (λ numbers. both (utf8_at pool numbers.0) (utf8_at pool numbers.1))
     (option_and_then name_and_type_numbers (entry pool n))
 
--- ---- Reading (JVMS 4.4). `cut` is the fault of bytes that aren't there.
+-- ---- Reading (JVMS 4.4). `cut` is the fault of missing bytes.
 
 abbrev pub utf8_constant_at : ClassFault → List ℕ → Result (Constant × List ℕ) ClassFault
 utf8_constant_at cut bytes = do
@@ -93,7 +93,7 @@ eight_bytes_at make cut bytes = do
   a ← u8_at cut bytes
   Ok (make a.0, a.1)
 
--- What stands behind a tag (JVMS table 4.4-A).
+-- The entry after a tag (JVMS table 4.4-A).
 abbrev pub tagged_at : ℕ → ClassFault → List ℕ → Result (Constant × List ℕ) ClassFault
 tagged_at tag cut bytes =
     if tag == 1 then utf8_constant_at cut bytes
@@ -120,7 +120,7 @@ takes_two (constant.Long n) = true
 takes_two (constant.Double n) = true
 takes_two _ = false
 
--- The entries of so many numbers.
+-- The entries of n numbers.
 unfoldable pub entries_at : ClassFault → ℕ → List ℕ → Result (List Constant × List ℕ) ClassFault
 entries_at cut zero bytes = Ok ([], bytes)
 entries_at cut (suc zero) bytes = do
@@ -132,7 +132,7 @@ entries_at cut (suc (suc left)) bytes = do
       then (entries_at cut left c.1 >>= λ cs. Ok (c.0 ∷ constant.Unusable ∷ cs.0, cs.1))
       else (entries_at cut (suc left) c.1 >>= λ cs. Ok (c.0 ∷ cs.0, cs.1)))
 
--- constant_pool_count, and entries of one number less.
+-- constant_pool_count, and entries for one number fewer (JVMS 4.1).
 abbrev pub pool_at : ClassFault → List ℕ → Result (List Constant × List ℕ) ClassFault
 pool_at cut bytes = do
   count ← u2_at cut bytes
@@ -144,15 +144,15 @@ pool_at cut bytes = do
 abbrev pub begins_as_method : List ℕ → Bool
 begins_as_method us = begins_with 40 us
 
--- A method's name with a method's descriptor, or a field's with a field's (JVMS 4.4.6).
+-- A method's name goes with a method's descriptor, and a field's name with a field's (JVMS 4.4.6).
 abbrev pub is_member : List ℕ → List ℕ → Bool
 is_member name descriptor =
     if begins_as_method descriptor
     then is_method_name name && is_some (method_type_of descriptor)
     else is_name name && is_some (field_type_of descriptor)
 
--- Whether the member that an entry names is a method's, or a field's, as asked. Where its numbers name no
--- texts, the fault is that entry's own, and nothing is asked here.
+-- A NameAndType entry names a method, or a field, as asked. It also passes if its numbers name no texts, because that
+-- is a fault of its own.
 abbrev pub names_sort : Bool → List Constant → ℕ → Bool
 names_sort method pool n = right (name_and_type_at pool n)
   where
@@ -173,8 +173,8 @@ reference_fault method pool class name_and_type = do
   _ ← want (is_class pool class && is_name_and_type pool name_and_type) fault.Index
   want (names_sort method pool name_and_type) fault.Descriptor
 
--- An entry's own numbers name entries of the right kinds; then its name or descriptor has its form
--- (JVMS 4.4.1 to 4.4.6). `behind` are the entries behind it.
+-- The fault of an entry (JVMS 4.4.1 to 4.4.6). First, its numbers name entries of the right kinds. Then its name or
+-- descriptor is well formed. `behind` are the entries after it.
 unfoldable pub entry_fault : List Constant → Constant → List Constant → Result (Unit {0}) ClassFault
 entry_fault pool (constant.Utf8 text) behind = Ok tt
 entry_fault pool (constant.Integer n) behind = Ok tt
@@ -193,7 +193,7 @@ entry_fault pool (constant.NameAndType name descriptor) behind = do
   want (is_entry_member (both (utf8_at pool name) (utf8_at pool descriptor))) fault.Descriptor
 entry_fault pool constant.Unusable behind = Ok tt
 
--- The first fault of entries, by rising number.
+-- The first fault of entries, in rising order of their numbers.
 unfoldable pub entries_fault : List Constant → List Constant → Result (Unit {0}) ClassFault
 entries_fault pool [] = Ok tt
 entries_fault pool (c ∷ behind) = do

@@ -35,30 +35,30 @@ primitive_of u =
     else (if u == 90 then Some primitive.Boolean
     else None)))))))
 
--- The text of a type without its brackets: a letter, or L, a class's name and a semicolon.
+-- The text of a type without its brackets: a letter, or L, a class's name and a semicolon (JVMS 4.3.2).
 abbrev pub element_text : Element → List ℕ
 element_text (element.Primitive p) = letter_of p ∷ []
 element_text (element.Object name) = 76 ∷ name ++ 59 ∷ []
 
--- JVMS 4.3.2
+-- The descriptor of a field (JVMS 4.3.2).
 abbrev pub field_text : FieldType → List ℕ
 field_text t = replicate t.dimensions 91 ++ element_text t.element
 
--- JVMS 4.3.3
+-- The descriptor of a method's result (JVMS 4.3.3).
 abbrev pub result_text : ResultType → List ℕ
 result_text result_type.Void = 86 ∷ []
 result_text (result_type.Value t) = field_text t
 
--- JVMS 4.3.3: the parameters' texts in parentheses, and the result's.
+-- The descriptor of a method (JVMS 4.3.3): the parameters' texts in parentheses, and the result's.
 abbrev pub method_text : MethodType → List ℕ
 method_text t = 40 ∷ flat_map field_text t.parameters ++ 41 ∷ result_text t.result
 
--- An element's class has a name.
+-- An element's class has a well-formed name.
 abbrev pub IsElement : Element → Type 0
 IsElement (element.Primitive p) = Unit {0}
 IsElement (element.Object name) = IsTrue (is_class_name name)
 
--- At most 255 dimensions (JVMS 4.3.2).
+-- A field's type has at most 255 dimensions (JVMS 4.3.2).
 abbrev pub IsFieldType : FieldType → Type 0
 IsFieldType t = (t.dimensions ≤ 255) × IsElement t.element
 
@@ -66,21 +66,21 @@ abbrev pub IsResultType : ResultType → Type 0
 IsResultType result_type.Void = Unit {0}
 IsResultType (result_type.Value t) = IsFieldType t
 
--- A long or a double, which counts two units (JVMS 4.3.3).
+-- A long or a double, which has two units (JVMS 4.3.3).
 abbrev pub is_wide : Element → Bool
 is_wide (element.Primitive primitive.Long) = true
 is_wide (element.Primitive primitive.Double) = true
 is_wide _ = false
 
--- The units that a parameter counts (JVMS 4.3.3).
+-- The number of units of a parameter (JVMS 4.3.3).
 abbrev pub units_of : FieldType → ℕ
 units_of t = if t.dimensions == 0 && is_wide t.element then 2 else 1
 
--- The units of a method's parameters, without the object that it is called on.
+-- The number of units of a method's parameters, without the object that it is called on (JVMS 4.3.3).
 abbrev pub parameter_units : MethodType → ℕ
 parameter_units t = sum_by units_of t.parameters
 
--- At most 255 units of parameters (JVMS 4.3.3).
+-- A method's parameters have at most 255 units (JVMS 4.3.3).
 abbrev pub IsMethodType : MethodType → Type 0
 IsMethodType t = AllByRecursion IsFieldType t.parameters × IsResultType t.result × (parameter_units t ≤ 255)
 
@@ -93,7 +93,7 @@ SpellsMethodType text t = IsMethodType t × (text ≡ method_text t)
 
 -- ---- The type that a text spells, if it spells one.
 
--- Behind the L of a class's type: the name up to the semicolon.
+-- The class's type after the L, up to the semicolon, with d brackets before it, and the text after it.
 abbrev pub object_type_from : ℕ → List ℕ → Option (FieldType × List ℕ)
 object_type_from d us =
     let name = before_first (λ u. u == 59) us in
@@ -101,7 +101,7 @@ object_type_from d us =
     then Some (record { dimensions = d; element = element.Object name }, after_first (λ u. u == 59) us)
     else None
 
--- The type at the front of a text, behind d brackets, and the text behind it.
+-- The type at the front of a text that follows d brackets, and the text after it.
 unfoldable pub field_type_from : ℕ → List ℕ → Option (FieldType × List ℕ)
 field_type_from d [] = None
 field_type_from d (u ∷ us) =
@@ -117,8 +117,8 @@ without_rest (Some (x, u ∷ us)) = None
 abbrev pub field_type_of : List ℕ → Option FieldType
 field_type_of text = without_rest (field_type_from 0 text)
 
--- The parameters up to the closing parenthesis, and the text behind it. No text of n units has more than
--- n parameters, so `most` of n is enough.
+-- The parameters up to the closing parenthesis, and the text after it. A text of n units has at most n parameters, so
+-- `most` = n is enough.
 unfoldable pub parameters_from : ℕ → List ℕ → Option (List FieldType × List ℕ)
 parameters_from most [] = None
 parameters_from zero (u ∷ us) = None
@@ -154,11 +154,11 @@ is_array_name us = begins_with 91 us
 abbrev pub is_class_entry_name : List ℕ → Bool
 is_class_entry_name us = if is_array_name us then is_some (field_type_of us) else is_class_name us
 
--- How many dimensions the class of this name has; 0 where it is no array.
+-- The number of dimensions of the class with this name, or 0 if it is no array.
 abbrev pub dimensions_of : List ℕ → ℕ
 dimensions_of us = prefix_len (λ u. u == 91) us
 
--- ---- The type of a text that spells one; what stands here for another text is never seen.
+-- ---- The type of a text that spells one. A text that spells none gets int, or no parameters and no result.
 
 abbrev pub int_type : FieldType
 int_type = record { dimensions = 0; element = element.Primitive primitive.Int }

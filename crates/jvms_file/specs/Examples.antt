@@ -1,4 +1,4 @@
--- Examples, worked out: a class that gives the greatest common divisor of two ints.
+-- Worked examples: a class that returns the greatest common divisor of two ints.
 use Rattle.std.specs.Prelude.{ℕ, List, [], ◌∷◌}
 use Rattle.jvms_file.specs.declared.insn.Insn.{Insn}
 use Rattle.jvms_file.specs.declared.insn.Insn.TheVariants as insn
@@ -23,7 +23,7 @@ gcd_bytes =
     ∷ 0x1b ∷ 0x99 ∷ 0x00 ∷ 0x0c ∷ 0x1b ∷ 0x1a ∷ 0x1b ∷ 0x70 ∷ 0x3c ∷ 0x3b ∷ 0xa7 ∷ 0xff ∷ 0xf6 ∷ 0x1a ∷ 0xac
     ∷ 0x00 ∷ 0x00 ∷ 0x00 ∷ 0x00 ∷ 0x00 ∷ 0x00 ∷ []
 
--- Its code.
+-- The bytes of its code.
 abbrev pub gcd_code : List ℕ
 gcd_code = 0x1b ∷ 0x99 ∷ 0x00 ∷ 0x0c ∷ 0x1b ∷ 0x1a ∷ 0x1b ∷ 0x70 ∷ 0x3c ∷ 0x3b ∷ 0xa7 ∷ 0xff ∷ 0xf6 ∷ 0x1a ∷ 0xac ∷ []
 
@@ -33,7 +33,7 @@ iload n = insn.Simple (simple.Local (local.Load kind.Int) n)
 abbrev pub istore : ℕ → Insn
 istore n = insn.Simple (simple.Local (local.Store kind.Int) n)
 
--- While the second is not 0: the second, and the remainder of the first by it.
+-- While the second number isn't 0, the two become the second, and the remainder of the first by it.
 abbrev pub gcd_insns : List Insn
 gcd_insns =
     iload 1 ∷ insn.Branch (branch.IfZero comparison.Equal) 9 ∷ iload 1 ∷ iload 0 ∷ iload 1

@@ -1,6 +1,6 @@
--- Instructions of a class file (JVMS 4.9.1, 4.10.1.9, 6.5): how one is read, and what it takes. While code
--- is read, the targets of an instruction are bytes, counted from the method's first modulo 2^32, so that
--- one before the method is no instruction's start.
+-- Instructions of a class file (JVMS 4.9.1, 4.10.1.9, 6.5): how one is read, and which operands it accepts. During
+-- reading a target is a byte, counted from the method's first modulo 2^32. So a target before the method is not the
+-- start of an instruction.
 use Rattle.std.specs.Prelude.{ℕ, zero, suc, ◌+◌, ◌-◌, ◌%◌, ◌^◌, Bool, true, false, not, ◌==◌, ◌&&◌, ◌||◌, nat_lt, nat_le, if◌then◌else◌, List, [], ◌∷◌, Option, Some, None, slice_get, Result, Ok, Err, ℤ, int_lt, int_le, unsigned_abs, ◌-ℤ◌}
 use Rattle.std.specs.Option.{option_and_then, option_map}
 use Rattle.std.specs.Int.{w8, w16, w32, cast_unsigned}
@@ -31,11 +31,11 @@ use Rattle.jvms_file.specs.Names.{is_constructor_name, begins_with}
 use Rattle.jvms_file.specs.Descriptors.{method_type_of, parameter_units, is_array_name, dimensions_of}
 use Rattle.jvms_file.specs.ConstantPool.{entry, class_name_at, name_and_type_at}
 
--- The instruction, and the bytes behind it.
+-- An instruction and the bytes after it, or the fault.
 abbrev pub Read : Type 0
 Read = Result (Insn × List ℕ) ClassFault
 
--- Where an offset leads, counted from the opcode's byte.
+-- The byte to which an offset leads, counted from the opcode's byte.
 abbrev pub target_of : ℕ → ℤ → ℕ
 target_of pc offset = (pc + cast_unsigned w32 offset) % 2 ^ 32
 
@@ -52,9 +52,9 @@ array_type_of n =
     else (if n == 11 then Some array_type.Long
     else None)))))))
 
--- ---- What a pool number may name.
+-- ---- The entries that a pool number may name.
 
--- JVMS 6.5 ldc: an int, a float, a string; a class from version 49 on (JVMS 4.9.1).
+-- An entry that ldc loads (JVMS 6.5 ldc): an int, a float or a string. From version 49 on also a class (JVMS 4.9.1).
 abbrev pub is_loadable : ℕ → Constant → Bool
 is_loadable major (constant.Integer n) = true
 is_loadable major (constant.Float n) = true
@@ -62,7 +62,7 @@ is_loadable major (constant.String n) = true
 is_loadable major (constant.Class n) = nat_le 49 major
 is_loadable major _ = false
 
--- JVMS 6.5 ldc2_w
+-- An entry that ldc2_w loads (JVMS 6.5 ldc2_w): a long or a double.
 abbrev pub is_wide_loadable : Constant → Bool
 is_wide_loadable (constant.Long n) = true
 is_wide_loadable (constant.Double n) = true
@@ -76,8 +76,8 @@ abbrev pub is_field : Constant → Bool
 is_field (constant.Field class name_and_type) = true
 is_field _ = false
 
--- The class and the name and type of a method entry of the kind that the instruction takes: an interface's
--- for invokeinterface, a class's for the others (JVMS 4.9.1).
+-- The class, and the name and type, of a method's entry of the kind that the instruction accepts. That is an
+-- interface's method for invokeinterface, and a class's for the others (JVMS 4.9.1).
 abbrev pub method_numbers : Invoke → Constant → Option (ℕ × ℕ)
 method_numbers invoke.Interface (constant.InterfaceMethod class name_and_type) = Some (class, name_and_type)
 method_numbers invoke.Virtual (constant.Method class name_and_type) = Some (class, name_and_type)
@@ -85,14 +85,14 @@ method_numbers invoke.Special (constant.Method class name_and_type) = Some (clas
 method_numbers invoke.Static (constant.Method class name_and_type) = Some (class, name_and_type)
 method_numbers _ _ = None
 
--- The name and the descriptor of the method that an invoke names.
+-- The name and the descriptor of the method that a call names.
 abbrev pub invoked : List Constant → Invoke → ℕ → Option (List ℕ × List ℕ)
 invoked pool how n =
     option_and_then
     (λ numbers. name_and_type_at pool numbers.1)
     (option_and_then (method_numbers how) (entry pool n))
 
--- A name that begins with an angle bracket is <init>, called by invokespecial (JVMS 4.9.1).
+-- A name that begins with an angle bracket is called only if it is <init>, by invokespecial (JVMS 4.9.1).
 abbrev pub is_invocable_name : Invoke → List ℕ → Bool
 is_invocable_name invoke.Special name = not (begins_with 60 name) || is_constructor_name name
 is_invocable_name _ name = not (begins_with 60 name)
@@ -101,12 +101,13 @@ abbrev pub is_invocable : Invoke → Option (List ℕ × List ℕ) → Bool
 is_invocable how None = false
 is_invocable how (Some (name, descriptor)) = is_invocable_name how name
 
--- The units of an interface method's arguments, with the object.
+-- The units of the arguments of an interface's method, including the object.
 abbrev pub interface_count : Option (List ℕ × List ℕ) → Option ℕ
 interface_count None = None
 interface_count (Some (name, descriptor)) = option_map (λ t. parameter_units t + 1) (method_type_of descriptor)
 
--- What a class may be (JVMS 6.5 new, anewarray): no array for new, at most 254 dimensions for anewarray.
+-- A class that the instruction accepts (JVMS 6.5 new, anewarray). For new that is no array. For anewarray it has at
+-- most 254 dimensions.
 abbrev pub is_usable_class : ClassUse → List ℕ → Bool
 is_usable_class class_use.New name = not (is_array_name name)
 is_usable_class class_use.NewArray name = nat_lt (dimensions_of name) 255
@@ -116,12 +117,13 @@ abbrev pub names_usable : ClassUse → Option (List ℕ) → Bool
 names_usable how None = false
 names_usable how (Some name) = is_usable_class how name
 
--- At least one dimension, and no more than the class has (JVMS 6.5 multianewarray).
+-- A number of dimensions that multianewarray accepts (JVMS 6.5 multianewarray): at least one, and at most those of the
+-- class.
 abbrev pub is_dimensions : ℕ → Option (List ℕ) → Bool
 is_dimensions count None = false
 is_dimensions count (Some name) = nat_lt 0 count && nat_le count (dimensions_of name)
 
--- ---- Operands. `cut` is the fault of an instruction that doesn't take its operands.
+-- ---- Operands. `cut` is the fault of an instruction that doesn't accept its operands.
 
 abbrev pub constant_insn : ClassFault → Bool → ℕ → List ℕ → Read
 constant_insn cut test n rest = do
@@ -147,7 +149,7 @@ multi_new_array_insn cut pool bytes = do
   _ ← want (is_dimensions count.0 (class_name_at pool n.0)) cut
   Ok (insn.MultiNewArray n.0 count.0, count.1)
 
--- Behind an invokeinterface: the count of argument units, and a 0.
+-- The end of an invokeinterface: the count of argument units, and a 0 (JVMS 6.5 invokeinterface).
 abbrev pub interface_operands : ClassFault → Option ℕ → List ℕ → Result (List ℕ) ClassFault
 interface_operands cut None bytes = Err cut
 interface_operands cut (Some units) bytes = do
@@ -156,22 +158,22 @@ interface_operands cut (Some units) bytes = do
   _ ← want (count.0 == units && last.0 == 0) cut
   Ok last.1
 
-abbrev pub behind_invoke : ClassFault → Invoke → Option (List ℕ × List ℕ) → List ℕ → Result (List ℕ) ClassFault
-behind_invoke cut invoke.Interface method bytes = interface_operands cut (interface_count method) bytes
-behind_invoke cut _ method bytes = Ok bytes
+abbrev pub after_invoke : ClassFault → Invoke → Option (List ℕ × List ℕ) → List ℕ → Result (List ℕ) ClassFault
+after_invoke cut invoke.Interface method bytes = interface_operands cut (interface_count method) bytes
+after_invoke cut _ method bytes = Ok bytes
 
 abbrev pub invoke_insn : ClassFault → List Constant → Invoke → List ℕ → Read
 invoke_insn cut pool how bytes = do
   n ← u2_at cut bytes
   _ ← want (is_invocable how (invoked pool how n.0)) cut
-  rest ← behind_invoke cut how (invoked pool how n.0) n.1
+  rest ← after_invoke cut how (invoked pool how n.0) n.1
   Ok (insn.Invoke how n.0, rest)
 
--- 0 to 3 bytes, so that what follows them starts at a multiple of 4 (JVMS 6.5 tableswitch).
+-- The number of pads, 0 to 3. The next byte after them is at a multiple of 4 (JVMS 6.5 tableswitch).
 abbrev pub pad_length : ℕ → ℕ
 pad_length pc = 3 - pc % 4
 
--- So many targets of four bytes each.
+-- As many targets as the count says, of four bytes each.
 unfoldable pub targets_at : ClassFault → ℕ → ℕ → List ℕ → Result (List ℕ × List ℕ) ClassFault
 targets_at cut pc zero bytes = Ok ([], bytes)
 targets_at cut pc (suc left) bytes = do
@@ -179,7 +181,8 @@ targets_at cut pc (suc left) bytes = do
   others ← targets_at cut pc left offset.1
   Ok (target_of pc (signed w32 offset.0) ∷ others.0, others.1)
 
--- JVMS 6.5 tableswitch: low is at most high, and a target for each value between.
+-- The operands of tableswitch (JVMS 6.5 tableswitch): low is at most high, and each value from low to high has a
+-- target.
 unfoldable pub table_switch_insn : ClassFault → ℕ → List ℕ → Read
 table_switch_insn cut pc bytes = do
   pads ← bytes_at cut (pad_length pc) bytes
@@ -190,12 +193,12 @@ table_switch_insn cut pc bytes = do
   targets ← targets_at cut pc (unsigned_abs (signed w32 high.0 -ℤ signed w32 low.0) + 1) high.1
   Ok (insn.Table (record { default = target_of pc (signed w32 default.0); low = signed w32 low.0; targets = targets.0 }), targets.1)
 
--- Whether a value lies above the one before it, if there is one.
+-- A value is above the one before it, if there is one.
 abbrev pub is_above : Option ℤ → ℤ → Bool
 is_above None n = true
 is_above (Some m) n = int_lt m n
 
--- So many pairs of a value and an offset, by strictly rising value.
+-- As many pairs of a value and an offset as the count says, in strictly rising order of the values.
 unfoldable pub cases_at : ClassFault → ℕ → ℕ → Option ℤ → List ℕ → Result (List SwitchCase × List ℕ) ClassFault
 cases_at cut pc zero last bytes = Ok ([], bytes)
 cases_at cut pc (suc left) last bytes = do
@@ -205,7 +208,7 @@ cases_at cut pc (suc left) last bytes = do
   others ← cases_at cut pc left (Some (signed w32 value.0)) offset.1
   Ok (record { value = signed w32 value.0; target = target_of pc (signed w32 offset.0) } ∷ others.0, others.1)
 
--- JVMS 6.5 lookupswitch: the number of pairs isn't negative.
+-- The operands of lookupswitch (JVMS 6.5 lookupswitch). The number of pairs isn't negative.
 unfoldable pub lookup_switch_insn : ClassFault → ℕ → List ℕ → Read
 lookup_switch_insn cut pc bytes = do
   pads ← bytes_at cut (pad_length pc) bytes
@@ -215,8 +218,8 @@ lookup_switch_insn cut pc bytes = do
   cases ← cases_at cut pc count.0 None count.1
   Ok (insn.Lookup (record { default = target_of pc (signed w32 default.0); cases = cases.0 }), cases.1)
 
--- Behind `wide` (JVMS 6.5 wide): a load, a store or ret with a local's number of two bytes, or iinc with
--- two bytes of each number.
+-- The instruction after `wide` (JVMS 6.5 wide): a load, a store or ret with a local's number of two bytes, or iinc with
+-- two bytes for each number.
 abbrev pub wide_form : ClassFault → Option Opcode → List ℕ → Read
 wide_form cut (Some (opcode.Local how)) bytes = do
   n ← u2_at cut bytes
@@ -248,7 +251,7 @@ new_array_insn cut bytes = do
   type ← present (array_type_of code.0) cut
   Ok (insn.Simple (simple.Array (array_insn.New type)), code.1)
 
--- Behind an opcode: its operands.
+-- The operands after an opcode.
 unfoldable pub operands_at : List Constant → ℕ → ℕ → Opcode → List ℕ → Read
 operands_at pool major pc (opcode.Alone s) bytes = Ok (insn.Simple s, bytes)
 operands_at pool major pc opcode.PushByte bytes = do
@@ -285,8 +288,8 @@ operands_at pool major pc opcode.Wide bytes = wide_insn (fault.Operand pc) bytes
 operands_at pool major pc opcode.MultiNewArray bytes = multi_new_array_insn (fault.Operand pc) pool bytes
 operands_at pool major pc opcode.Reserved bytes = Err (fault.Opcode pc)
 
--- The instruction at byte pc of a method, with the bytes from there on. A byte that is no opcode is a
--- fault of its own; all else that is wrong is a fault of the operands.
+-- The instruction at byte pc of a method, read from the bytes from there on. A byte that is no opcode is a fault of its
+-- own. All other faults are those of the operands.
 unfoldable pub insn_at : List Constant → ℕ → ℕ → List ℕ → Read
 insn_at pool major pc bytes = do
   code ← u1_at (fault.Operand pc) bytes

@@ -1,5 +1,5 @@
--- Attributes, fields and methods of a class file (JVMS 4.5 to 4.7), as they are read: each test stands
--- where the last byte that it needs was read. `cut` is the fault of bytes that aren't there.
+-- Attributes, fields and methods of a class file (JVMS 4.5 to 4.7), in the order of their bytes. Each test follows the
+-- last byte that it needs. `cut` is the fault of missing bytes.
 use Rattle.std.specs.Prelude.{ℕ, ◌+◌, Bool, true, false, not, ◌==◌, ◌&&◌, ◌||◌, nat_lt, nat_le, if◌then◌else◌, List, [], ◌∷◌, length, take, drop, Option, Some, None, is_some, bit_and, Result, Ok, Err, codes}
 use Rattle.std.specs.List.{list_any}
 use Rattle.jvms_file.specs.declared.class_file.Constant.{Constant}
@@ -16,7 +16,7 @@ use Rattle.jvms_file.specs.declared.class_file.MethodInfo.{MethodInfo}
 use Rattle.jvms_file.specs.declared.fault.ClassFault.{ClassFault}
 use Rattle.jvms_file.specs.declared.fault.ClassFault.TheVariants as fault
 use Rattle.jvms_file.specs.declared.descriptor.MethodType.{MethodType}
-use Rattle.jvms_file.specs.Results.{◌>>=◌, want, counted, counted_onto}
+use Rattle.jvms_file.specs.Results.{◌>>=◌, want, counted, part_list_onto}
 use Rattle.jvms_file.specs.Bytes.{u2_at, u4_at, bytes_at}
 use Rattle.jvms_file.specs.Names.{same_text, is_name, is_method_name, is_initializer_name}
 use Rattle.jvms_file.specs.Descriptors.{field_type_of, method_type_of, parameter_units}
@@ -46,17 +46,18 @@ is_interface access = has_flag 0x0200 access
 abbrev pub is_abstract : ℕ → Bool
 is_abstract access = has_flag 0x0400 access
 
--- ---- What an attribute stands in.
+-- ---- The content of an attribute.
 
--- The length of an attribute's content, and the bytes of it that are there. What would pass its end is
--- missing from the input where the end is behind the input's, else from the attribute.
-pub record Framed : Type 0 where
+-- An attribute's content, as far as the input has it, and the bytes after it. `whole` says whether the input has all of
+-- it. `cut` is the fault of reading past its end: that of the attribute's length if it is whole, else that of missing
+-- input.
+pub record AttributeFrame : Type 0 where
   pub whole : Bool
   pub cut : ClassFault
   pub content : List ℕ
   pub behind : List ℕ
 
-abbrev pub framed : ClassFault → ℕ → List ℕ → Framed
+abbrev pub framed : ClassFault → ℕ → List ℕ → AttributeFrame
 framed cut count bytes =
     record {
       whole = nat_le count (length bytes);
@@ -65,17 +66,17 @@ framed cut count bytes =
       behind = drop count bytes;
     }
 
-abbrev pub frame_at : ClassFault → List ℕ → Result Framed ClassFault
+abbrev pub frame_at : ClassFault → List ℕ → Result AttributeFrame ClassFault
 frame_at cut bytes = do
   count ← u4_at cut bytes
   Ok (framed cut count.0 count.1)
 
--- What was read of an attribute's content is all of it.
-abbrev pub want_all : Framed → List ℕ → Result (Unit {0}) ClassFault
+-- All of an attribute's content is there and was read.
+abbrev pub want_all : AttributeFrame → List ℕ → Result (Unit {0}) ClassFault
 want_all frame [] = want frame.whole frame.cut
 want_all frame (b ∷ bytes) = Err frame.cut
 
--- Behind its name: an attribute that is kept (JVMS 4.7).
+-- The rest of a kept attribute, after its name (JVMS 4.7).
 abbrev pub kept_content_at : ClassFault → ℕ → List ℕ → Result (KeptAttribute × List ℕ) ClassFault
 kept_content_at cut name bytes = do
   count ← u4_at cut bytes
@@ -93,7 +94,7 @@ kept_attributes_at pool cut bytes = do
   count ← u2_at cut bytes
   counted (kept_at pool cut) count.0 count.1
 
--- Whether an entry is the text of an attribute's name.
+-- An entry is the text of an attribute's name.
 abbrev pub is_named : List Constant → ℕ → List ℕ → Bool
 is_named pool n name = is_same (utf8_at pool n)
   where
@@ -103,7 +104,7 @@ is_named pool n name = is_same (utf8_at pool n)
 
 -- ---- Fields (JVMS 4.5)
 
--- The kind of constant that a field's descriptor takes (JVMS table 4.7.2-A).
+-- A field's descriptor accepts a constant of this kind (JVMS table 4.7.2-A).
 abbrev pub takes_constant : List ℕ → Constant → Bool
 takes_constant descriptor (constant.Integer n) = is_int_descriptor descriptor
   where
@@ -120,8 +121,8 @@ abbrev pub is_constant_of : Option (List ℕ) → Option Constant → Bool
 is_constant_of (Some descriptor) (Some c) = takes_constant descriptor c
 is_constant_of _ _ = false
 
--- A ConstantValue's content: the number of an entry that the field's descriptor takes (JVMS 4.7.2).
-abbrev pub constant_value_at : List Constant → ℕ → ℕ → Framed → Result (FieldAttribute × List ℕ) ClassFault
+-- The content of a ConstantValue: the number of an entry that the field's descriptor accepts (JVMS 4.7.2).
+abbrev pub constant_value_at : List Constant → ℕ → ℕ → AttributeFrame → Result (FieldAttribute × List ℕ) ClassFault
 constant_value_at pool descriptor name frame = do
   value ← u2_at frame.cut frame.content
   _ ← want (is_constant_of (utf8_at pool descriptor) (entry pool value.0)) fault.Index
@@ -132,7 +133,7 @@ abbrev pub is_constant_value : FieldAttribute → Bool
 is_constant_value (field_attribute.ConstantValue name value) = true
 is_constant_value (field_attribute.Kept kept) = false
 
--- The next attribute of a field; `seen` are those before it. At most one is a ConstantValue.
+-- The next attribute of a field, after those in `seen`. At most one is a ConstantValue (JVMS 4.5).
 abbrev pub field_attribute_at : List Constant → ClassFault → ℕ → List FieldAttribute → List ℕ → Result (FieldAttribute × List ℕ) ClassFault
 field_attribute_at pool cut descriptor seen bytes = do
   name ← u2_at cut bytes
@@ -144,7 +145,7 @@ field_attribute_at pool cut descriptor seen bytes = do
         constant_value_at pool descriptor name.0 frame)
       else (kept_content_at cut name.0 name.1 >>= λ k. Ok (field_attribute.Kept k.0, k.1)))
 
--- The entries of a member's name and descriptor are texts, each in its form.
+-- A text is there, and passes the test.
 abbrev pub is_text_with : (List ℕ → Bool) → Option (List ℕ) → Bool
 is_text_with test None = false
 is_text_with test (Some text) = test text
@@ -159,7 +160,7 @@ same_entry_text pool m n = is_same (utf8_at pool m) (utf8_at pool n)
 abbrev pub is_same_field : List Constant → ℕ → ℕ → FieldInfo → Bool
 is_same_field pool name descriptor f = same_entry_text pool f.name name && same_entry_text pool f.descriptor descriptor
 
--- The next field; `seen` are those before it.
+-- The next field, after those in `seen` (JVMS 4.5).
 unfoldable pub field_at : List Constant → ClassFault → List FieldInfo → List ℕ → Result (FieldInfo × List ℕ) ClassFault
 field_at pool cut seen bytes = do
   access ← u2_at cut bytes
@@ -171,18 +172,18 @@ field_at pool cut seen bytes = do
   _ ← want (is_text_with (λ text. is_some (field_type_of text)) (utf8_at pool descriptor.0)) fault.Descriptor
   _ ← want (not (list_any (is_same_field pool name.0 descriptor.0) seen)) fault.RepeatedMember
   count ← u2_at cut descriptor.1
-  attributes ← counted_onto (field_attribute_at pool cut descriptor.0) [] count.0 count.1
+  attributes ← part_list_onto (field_attribute_at pool cut descriptor.0) [] count.0 count.1
   Ok (record { access = access.0; name = name.0; descriptor = descriptor.0; attributes = attributes.0 }, attributes.1)
 
--- fields_count and the fields.
+-- fields_count and the fields (JVMS 4.1).
 abbrev pub fields_at : List Constant → ClassFault → List ℕ → Result (List FieldInfo × List ℕ) ClassFault
 fields_at pool cut bytes = do
   count ← u2_at cut bytes
-  counted_onto (field_at pool cut) [] count.0 count.1
+  part_list_onto (field_at pool cut) [] count.0 count.1
 
 -- ---- Methods (JVMS 4.6)
 
--- A handler's entry of the exception table: three bytes' places, and a class entry or 0.
+-- An entry of the exception table: three bytes in the code, and a class entry or 0 (JVMS 4.7.3).
 abbrev pub handler_at : List Constant → ClassFault → List ℕ → Result (Handler × List ℕ) ClassFault
 handler_at pool cut bytes = do
   start ← u2_at cut bytes
@@ -195,8 +196,9 @@ handler_at pool cut bytes = do
 abbrev pub is_code_length : ℕ → Bool
 is_code_length n = nat_lt 0 n && nat_le n 65535
 
--- A Code's content (JVMS 4.7.3). As it ends, behind its length: its instructions, then its handlers.
-unfoldable pub code_at : List Constant → ℕ → Framed → Result (Code × List ℕ) ClassFault
+-- The content of a Code attribute (JVMS 4.7.3). After its last byte its length is tested, then its instructions, then
+-- its handlers.
+unfoldable pub code_at : List Constant → ℕ → AttributeFrame → Result (Code × List ℕ) ClassFault
 code_at pool major frame = do
   max_stack ← u2_at frame.cut frame.content
   max_locals ← u2_at frame.cut max_stack.1
@@ -211,15 +213,15 @@ code_at pool major frame = do
   handlers ← handlers_of insns.0 code_length.0 table.0
   Ok (record { max_stack = max_stack.0; max_locals = max_locals.0; layout = layout_of insns.0 insns.1 bytes.0; insns = insns.1; handlers = handlers; attributes = attributes.0 }, frame.behind)
 
--- A number of a Class entry.
+-- The number of a Class entry.
 abbrev pub class_number_at : List Constant → ClassFault → List ℕ → Result (ℕ × List ℕ) ClassFault
 class_number_at pool cut bytes = do
   n ← u2_at cut bytes
   _ ← want (is_class pool n.0) fault.Index
   Ok (n.0, n.1)
 
--- The content of Exceptions: class entries (JVMS 4.7.5).
-abbrev pub exceptions_at : List Constant → Framed → Result (List ℕ × List ℕ) ClassFault
+-- The content of an Exceptions attribute: class entries (JVMS 4.7.5).
+abbrev pub exceptions_at : List Constant → AttributeFrame → Result (List ℕ × List ℕ) ClassFault
 exceptions_at pool frame = do
   count ← u2_at frame.cut frame.content
   classes ← counted (class_number_at pool frame.cut) count.0 count.1
@@ -234,12 +236,12 @@ abbrev pub is_exceptions : MethodAttribute → Bool
 is_exceptions (method_attribute.Exceptions name classes) = true
 is_exceptions _ = false
 
--- Whether a method has Code: all but native and abstract ones, and each <clinit> (JVMS 4.7.3).
-abbrev pub asks_code : Bool → ℕ → Bool
-asks_code initializer access = initializer || not (is_native access || is_abstract access)
+-- A method has to have Code, unless it is native or abstract. Each <clinit> has to have it (JVMS 4.7.3).
+abbrev pub needs_code : Bool → ℕ → Bool
+needs_code initializer access = initializer || not (is_native access || is_abstract access)
 
--- The next attribute of a method that may have Code or not; `seen` are those before it. At most one is a
--- Code, at most one Exceptions.
+-- The next attribute of a method, after those in `seen`. `code` says whether the method may have Code. At most one is a
+-- Code, and at most one an Exceptions (JVMS 4.6).
 abbrev pub method_attribute_at : List Constant → ℕ → ClassFault → Bool → List MethodAttribute → List ℕ → Result (MethodAttribute × List ℕ) ClassFault
 method_attribute_at pool major cut code seen bytes = do
   name ← u2_at cut bytes
@@ -262,7 +264,7 @@ method_attribute_at pool major cut code seen bytes = do
 abbrev pub is_initializer : List Constant → ℕ → Bool
 is_initializer pool name = is_text_with is_initializer_name (utf8_at pool name)
 
--- A method's descriptor has at most 255 units, with the object that it is called on; a static method and
+-- A method's descriptor has at most 255 units, including the object that the method is called on. A static method and
 -- <clinit> are called on none (JVMS 4.3.3).
 abbrev pub is_method_descriptor_for : Bool → List ℕ → Bool
 is_method_descriptor_for on_none text = fits (method_type_of text)
@@ -274,7 +276,7 @@ is_method_descriptor_for on_none text = fits (method_type_of text)
 abbrev pub is_same_method : List Constant → ℕ → ℕ → MethodInfo → Bool
 is_same_method pool name descriptor m = same_entry_text pool m.name name && same_entry_text pool m.descriptor descriptor
 
--- The next method of a class with these access flags; `seen` are those before it.
+-- The next method of a class with these access flags, after those in `seen` (JVMS 4.6).
 unfoldable pub method_at : List Constant → ℕ → ClassFault → ℕ → List MethodInfo → List ℕ → Result (MethodInfo × List ℕ) ClassFault
 method_at pool major cut class_access seen bytes = do
   access ← u2_at cut bytes
@@ -287,12 +289,12 @@ method_at pool major cut class_access seen bytes = do
   _ ← want (is_text_with (is_method_descriptor_for (is_static access.0 || is_initializer pool name.0)) (utf8_at pool descriptor.0)) fault.Descriptor
   _ ← want (not (list_any (is_same_method pool name.0 descriptor.0) seen)) fault.RepeatedMember
   count ← u2_at cut descriptor.1
-  attributes ← counted_onto (method_attribute_at pool major cut (asks_code (is_initializer pool name.0) access.0)) [] count.0 count.1
-  _ ← want (not (asks_code (is_initializer pool name.0) access.0) || list_any is_code attributes.0) fault.CodePresence
+  attributes ← part_list_onto (method_attribute_at pool major cut (needs_code (is_initializer pool name.0) access.0)) [] count.0 count.1
+  _ ← want (not (needs_code (is_initializer pool name.0) access.0) || list_any is_code attributes.0) fault.CodePresence
   Ok (record { access = access.0; name = name.0; descriptor = descriptor.0; attributes = attributes.0 }, attributes.1)
 
--- methods_count and the methods of a class with these access flags.
+-- methods_count and the methods of a class with these access flags (JVMS 4.1).
 abbrev pub methods_at : List Constant → ℕ → ClassFault → ℕ → List ℕ → Result (List MethodInfo × List ℕ) ClassFault
 methods_at pool major cut class_access bytes = do
   count ← u2_at cut bytes
-  counted_onto (method_at pool major cut class_access) [] count.0 count.1
+  part_list_onto (method_at pool major cut class_access) [] count.0 count.1

@@ -1,5 +1,5 @@
--- What a reader of bytes promises: what it returns, seen by a view, is what the definition reads, unless
--- memory ran out.
+-- The promise of a reader of bytes. Its result, seen by a view, is the one that the definition reads, unless memory ran
+-- out.
 use Rattle.std.specs.Prelude.{◌≡◌, Result, Ok, Err}
 use Rattle.jvms_file.specs.declared.fault.ClassFault.{ClassFault}
 use Rattle.jvms_file.specs.declared.fault.ReadError.{ReadError}

@@ -1,7 +1,7 @@
--- The grammar of class files (JVMS 4): which bytes spell which class, by cases on the class. A class may
--- have several spellings, since pads may have any value and an instruction several forms. The tests of names,
--- descriptors, pool entries, operands, versions and of Code's presence and length are those that reading
--- makes too: each is a rule of its own, stated once.
+-- The grammar of class files (JVMS 4): which bytes spell which class, by cases on the class. A class may have several
+-- spellings, since pads may have any value and an instruction several forms. Some tests are those of reading: of names,
+-- descriptors, pool entries, operands and versions, and of Code's presence and length. Each is a rule of its own,
+-- stated once.
 use Rattle.std.specs.Prelude.{◌≡◌, ℕ, ◌+◌, ◌^◌, ◌<◌, ◌⊎◌, Bool, true, false, not, ◌==◌, ◌||◌, List, [], ◌∷◌, ◌++◌, length, Option, Some, None, is_some, IsTrue, slice_get, ℤ, ◌-ℤ◌, int_le, unsigned_abs, codes, Ok}
 use Rattle.std.specs.List.{list_any}
 use Rattle.std.specs.Int.{w8, w16, w32, w64}
@@ -40,7 +40,7 @@ use Rattle.jvms_file.specs.Descriptors.{field_type_of}
 use Rattle.jvms_file.specs.ConstantPool.{entry, utf8_at, is_utf8, is_class, class_name_at, takes_two, entries_fault}
 use Rattle.jvms_file.specs.Instructions.{target_of, array_type_of, is_loadable, is_wide_loadable, passes, is_field, invoked, is_invocable, interface_count, names_usable, is_dimensions, pad_length, is_above}
 use Rattle.jvms_file.specs.Code.{layout_of}
-use Rattle.jvms_file.specs.Members.{is_named, is_constant_of, is_constant_value, is_text_with, is_same_field, is_same_method, is_code, is_exceptions, asks_code, is_initializer, is_method_descriptor_for, is_static, is_abstract, is_interface, is_code_length}
+use Rattle.jvms_file.specs.Members.{is_named, is_constant_of, is_constant_value, is_text_with, is_same_field, is_same_method, is_code, is_exceptions, needs_code, is_initializer, is_method_descriptor_for, is_static, is_abstract, is_interface, is_code_length}
 use Rattle.jvms_file.specs.ClassFile.{is_proper_class, is_version}
 
 -- ---- Numbers
@@ -63,16 +63,16 @@ IsU2 n = n < 2 ^ 16
 abbrev pub IsU4 : ℕ → Type 0
 IsU4 n = n < 2 ^ 32
 
--- Bytes that two parts make, one behind the other.
+-- The bytes of two parts, one after the other.
 abbrev pub InTwo : List ℕ → (List ℕ → Type 0) → (List ℕ → Type 0) → Type 0
 InTwo bytes P Q = (first : List ℕ) × (rest : List ℕ) × (bytes ≡ first ++ rest) × P first × Q rest
 
--- Bytes that spell each of a list, one behind the other.
+-- The bytes of the items of a list, one after another.
 abbrev pub InOrder : {A : Type 0} → (List ℕ → A → Type 0) → List ℕ → List A → Type 0
 InOrder P bytes [] = bytes ≡ []
 InOrder P bytes (x ∷ xs) = InTwo bytes (λ first. P first x) (λ rest. InOrder P rest xs)
 
--- A count of two bytes, and so many things.
+-- A count of two bytes, followed by the items.
 abbrev pub Counted : {A : Type 0} → (List ℕ → A → Type 0) → List ℕ → List A → Type 0
 Counted P bytes xs = IsU2 (length xs) × InTwo bytes (λ count. count ≡ u2 (length xs)) (λ rest. InOrder P rest xs)
 
@@ -93,7 +93,7 @@ SpellsConstant bytes (constant.InterfaceMethod c n) = IsU2 c × IsU2 n × (bytes
 SpellsConstant bytes (constant.NameAndType n d) = IsU2 n × IsU2 d × (bytes ≡ 12 ∷ u2 n ++ u2 d)
 SpellsConstant bytes constant.Unusable = bytes ≡ []
 
--- Behind each long and double, and nowhere else, stands a number that names nothing (JVMS 4.4.5).
+-- A number that names nothing follows each long and each double, and is nowhere else (JVMS 4.4.5).
 abbrev pub IsNumbered : Bool → List Constant → Type 0
 IsNumbered behind_two [] = behind_two ≡ false
 IsNumbered true (constant.Unusable ∷ cs) = IsNumbered false cs
@@ -101,7 +101,7 @@ IsNumbered true (c ∷ cs) = ⊥
 IsNumbered false (constant.Unusable ∷ cs) = ⊥
 IsNumbered false (c ∷ cs) = IsNumbered (takes_two c) cs
 
--- The count is one more than the numbers.
+-- The pool's bytes: a count that is one more than the numbers, and the entries.
 abbrev pub SpellsPool : List ℕ → List Constant → Type 0
 SpellsPool bytes pool =
     IsU2 (length pool + 1) × IsNumbered false pool × (entries_fault pool pool ≡ Ok tt)
@@ -109,7 +109,7 @@ SpellsPool bytes pool =
 
 -- ---- Instructions (JVMS 6.5)
 
--- This byte is an opcode with such operands.
+-- A byte is an opcode with these operands.
 abbrev pub IsOpcode : ℕ → Opcode → Type 0
 IsOpcode code form = slice_get OPCODES code ≡ Some form
 
@@ -123,7 +123,7 @@ SpellsIncrement bytes n by =
     ((code : ℕ) × IsOpcode code opcode.Increment × IsU1 n × (m : ℕ) × IsU1 m × (by ≡ signed w8 m) × (bytes ≡ code ∷ n ∷ m ∷ []))
     ⊎ ((wide : ℕ) × IsOpcode wide opcode.Wide × (code : ℕ) × IsOpcode code opcode.Increment × IsU2 n × (m : ℕ) × IsU2 m × (by ≡ signed w16 m) × (bytes ≡ wide ∷ code ∷ u2 n ++ u2 m))
 
--- With operand bytes: what isn't here has none.
+-- The bytes of an instruction with operand bytes. An instruction without a case here has none.
 abbrev pub SpellsWithOperands : List ℕ → Simple → Type 0
 SpellsWithOperands bytes (simple.Push (push.Int n)) = SpellsPushInt bytes n
 SpellsWithOperands bytes (simple.Local how n) =
@@ -138,7 +138,7 @@ abbrev pub SpellsSimple : List ℕ → Simple → Type 0
 SpellsSimple bytes s =
     ((code : ℕ) × IsOpcode code (opcode.Alone s) × (bytes ≡ code ∷ [])) ⊎ SpellsWithOperands bytes s
 
--- An offset of four bytes leads from an instruction to the start of that at a place.
+-- An offset of four bytes leads from the instruction at byte pc to the start of the instruction at a place.
 abbrev pub LeadsTo : List ℕ → ℕ → ℕ → ℕ → Type 0
 LeadsTo pcs pc place m = IsU4 m × (slice_get pcs place ≡ Some (target_of pc (signed w32 m)))
 
@@ -154,7 +154,8 @@ abbrev pub SpellsCase : List ℕ → ℕ → List ℕ → SwitchCase → Type 0
 SpellsCase pcs pc bytes c =
     (m : ℕ) × IsU4 m × (c.value ≡ signed w32 m) × (n : ℕ) × LeadsTo pcs pc c.target n × (bytes ≡ u4 m ++ u4 n)
 
--- Pads, the default, low and high, and a target for each value from low to high.
+-- The bytes of a tableswitch: pads, the default, low and high, and a target for each value from low to high (JVMS 6.5
+-- tableswitch).
 abbrev pub SpellsTable : List ℕ → ℕ → List ℕ → TableSwitch → Type 0
 SpellsTable pcs pc bytes s =
     (code : ℕ) × IsOpcode code opcode.TableSwitch × (pads : List ℕ) × (length pads ≡ pad_length pc)
@@ -170,7 +171,7 @@ abbrev pub IsRising : Option ℤ → List SwitchCase → Type 0
 IsRising last [] = Unit {0}
 IsRising last (c ∷ cs) = IsTrue (is_above last c.value) × IsRising (Some c.value) cs
 
--- Pads, the default, the number of pairs, and the pairs.
+-- The bytes of a lookupswitch: pads, the default, the number of pairs, and the pairs (JVMS 6.5 lookupswitch).
 abbrev pub SpellsLookup : List ℕ → ℕ → List ℕ → LookupSwitch → Type 0
 SpellsLookup pcs pc bytes s =
     (code : ℕ) × IsOpcode code opcode.LookupSwitch × (pads : List ℕ) × (length pads ≡ pad_length pc)
@@ -179,7 +180,7 @@ SpellsLookup pcs pc bytes s =
     × (rest : List ℕ) × InOrder (SpellsCase pcs pc) rest s.cases
     × (bytes ≡ code ∷ pads ++ (u4 default ++ (u4 (length s.cases) ++ rest)))
 
--- ldc and ldc_w of an int, a float, a string or a class; ldc2_w of a long or a double.
+-- The bytes of ldc and ldc_w of an int, a float, a string or a class, and of ldc2_w of a long or a double.
 abbrev pub SpellsLoad : List Constant → ℕ → List ℕ → ℕ → Type 0
 SpellsLoad pool major bytes n =
     (IsTrue (passes (is_loadable major) (entry pool n))
@@ -188,13 +189,13 @@ SpellsLoad pool major bytes n =
     ⊎ (IsTrue (passes is_wide_loadable (entry pool n))
     × (code : ℕ) × IsOpcode code opcode.ConstantLong × IsU2 n × (bytes ≡ code ∷ u2 n))
 
--- Behind the number of an invoke: for an interface's method the count of argument units, and a 0.
-abbrev pub SpellsBehindInvoke : Invoke → Option (List ℕ × List ℕ) → List ℕ → Type 0
-SpellsBehindInvoke invoke.Interface method bytes =
+-- The bytes after the number of a call: for an interface's method the count of argument units and a 0, else none.
+abbrev pub SpellsAfterInvoke : Invoke → Option (List ℕ × List ℕ) → List ℕ → Type 0
+SpellsAfterInvoke invoke.Interface method bytes =
     (units : ℕ) × IsU1 units × (interface_count method ≡ Some units) × (bytes ≡ units ∷ 0 ∷ [])
-SpellsBehindInvoke _ method bytes = bytes ≡ []
+SpellsAfterInvoke _ method bytes = bytes ≡ []
 
--- The bytes of an instruction that starts at byte pc; pcs are the starts of all.
+-- The bytes of an instruction that starts at byte pc. pcs are the starts of all instructions.
 abbrev pub SpellsInsn : List Constant → ℕ → List ℕ → ℕ → List ℕ → Insn → Type 0
 SpellsInsn pool major pcs pc bytes (insn.Simple s) = SpellsSimple bytes s
 SpellsInsn pool major pcs pc bytes (insn.Branch how place) = SpellsBranch pcs pc bytes how place
@@ -205,14 +206,14 @@ SpellsInsn pool major pcs pc bytes (insn.Field how n) =
     (code : ℕ) × IsOpcode code (opcode.Field how) × IsU2 n × IsTrue (passes is_field (entry pool n)) × (bytes ≡ code ∷ u2 n)
 SpellsInsn pool major pcs pc bytes (insn.Invoke how n) =
     (code : ℕ) × IsOpcode code (opcode.Invoke how) × IsU2 n × IsTrue (is_invocable how (invoked pool how n))
-    × (rest : List ℕ) × SpellsBehindInvoke how (invoked pool how n) rest × (bytes ≡ code ∷ u2 n ++ rest)
+    × (rest : List ℕ) × SpellsAfterInvoke how (invoked pool how n) rest × (bytes ≡ code ∷ u2 n ++ rest)
 SpellsInsn pool major pcs pc bytes (insn.Class how n) =
     (code : ℕ) × IsOpcode code (opcode.Class how) × IsU2 n × IsTrue (names_usable how (class_name_at pool n)) × (bytes ≡ code ∷ u2 n)
 SpellsInsn pool major pcs pc bytes (insn.MultiNewArray n count) =
     (code : ℕ) × IsOpcode code opcode.MultiNewArray × IsU2 n × IsU1 count
     × IsTrue (is_dimensions count (class_name_at pool n)) × (bytes ≡ code ∷ u2 n ++ count ∷ [])
 
--- Instructions one behind the other from byte pc on, with the bytes at which they start; pcs are all starts.
+-- The bytes of consecutive instructions from byte pc on, with the bytes at which they start. pcs are all starts.
 abbrev pub SpellsFrom : List Constant → ℕ → List ℕ → ℕ → List ℕ → List Insn → List ℕ → Type 0
 SpellsFrom pool major pcs pc bytes [] begun = (bytes ≡ []) × (begun ≡ [])
 SpellsFrom pool major pcs pc bytes (i ∷ is) begun =
@@ -243,12 +244,13 @@ SpellsFieldAttribute pool descriptor bytes (field_attribute.ConstantValue name v
 SpellsFieldAttribute pool descriptor bytes (field_attribute.Kept a) =
     SpellsKept pool bytes a × (is_named pool a.name (codes "ConstantValue") ≡ false)
 
--- At most one passes the test.
+-- At most one item passes the test.
 abbrev pub AtMostOne : {A : Type 0} → (A → Bool) → List A → Type 0
 AtMostOne test [] = Unit {0}
 AtMostOne test (x ∷ xs) = (IsTrue (test x) → list_any test xs ≡ false) × AtMostOne test xs
 
--- The bytes of a handler: its start and target are instructions', its end an instruction's or the code's.
+-- The bytes of a handler. An instruction starts at its start and at its target. At its end an instruction starts, or
+-- the code ends.
 abbrev pub SpellsHandler : List Constant → List ℕ → ℕ → List ℕ → Handler → Type 0
 SpellsHandler pool pcs code_length bytes h =
     (start : ℕ) × (end : ℕ) × (target : ℕ) × IsU2 start × IsU2 end × IsU2 target × IsU2 h.catch_type
@@ -256,7 +258,8 @@ SpellsHandler pool pcs code_length bytes h =
     × (slice_get pcs h.target ≡ Some target) × IsTrue (h.catch_type == 0 || is_class pool h.catch_type)
     × (bytes ≡ u2 start ++ (u2 end ++ (u2 target ++ u2 h.catch_type)))
 
--- JVMS 4.7.3; the layout has the code's bytes, but that pads are 0, and the starts of its instructions.
+-- The bytes of a Code attribute's content (JVMS 4.7.3). The layout has the code's bytes, with pads set to 0, and the
+-- starts of its instructions.
 abbrev pub SpellsCode : List Constant → ℕ → List ℕ → Code → Type 0
 SpellsCode pool major bytes c =
     IsU2 c.max_stack × IsU2 c.max_locals
@@ -293,9 +296,9 @@ SpellsField pool bytes f =
     × InTwo bytes (SpellsMember f.access f.name f.descriptor)
     (λ rest. Counted (SpellsFieldAttribute pool f.descriptor) rest f.attributes)
 
--- Code where one is asked, and only there.
+-- A method has Code exactly if it has to.
 abbrev pub HasItsCode : List Constant → MethodInfo → Type 0
-HasItsCode pool m = list_any is_code m.attributes ≡ asks_code (is_initializer pool m.name) m.access
+HasItsCode pool m = list_any is_code m.attributes ≡ needs_code (is_initializer pool m.name) m.access
 
 abbrev pub SpellsMethod : List Constant → ℕ → ℕ → List ℕ → MethodInfo → Type 0
 SpellsMethod pool major class_access bytes m =
@@ -306,7 +309,7 @@ SpellsMethod pool major class_access bytes m =
     × InTwo bytes (SpellsMember m.access m.name m.descriptor)
     (λ rest. Counted (SpellsMethodAttribute pool major) rest m.attributes)
 
--- No two have one name and one descriptor.
+-- No two items are the same member: one name and one descriptor.
 abbrev pub IsDistinctBy : {A : Type 0} → (A → A → Bool) → List A → Type 0
 IsDistinctBy same [] = Unit {0}
 IsDistinctBy same (x ∷ xs) = (list_any (λ y. same x y) xs ≡ false) × IsDistinctBy same xs

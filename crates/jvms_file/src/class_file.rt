@@ -1,12 +1,12 @@
-//! The parts of a class file (JVMS 4). Of its spelling a method's code keeps the layout alone.
+//! The parts of a class file (JVMS 4). Of the spelling of a method's code only the layout is kept.
 
 use crate::insn::Insn;
-use held::items::Items;
+use shared_data::items::Items;
 
 /// An entry of the constant pool (JVMS 4.4). Numbers of other entries count from 1.
 #[derive(Drop)]
 pub enum Constant {
-    /// A text, as its 16-bit units.
+    /// A text, as its UTF-16 code units.
     Utf8(Items<u16>),
     Integer(i32),
     /// The four bytes of a float.
@@ -20,7 +20,7 @@ pub enum Constant {
     Method { class: u16, name_and_type: u16 },
     InterfaceMethod { class: u16, name_and_type: u16 },
     NameAndType { name: u16, descriptor: u16 },
-    /// The number behind a `Long` or a `Double`, which names nothing (JVMS 4.4.5).
+    /// The number after a `Long` or a `Double`, which names nothing (JVMS 4.4.5).
     Unusable,
 }
 
@@ -34,24 +34,23 @@ pub struct KeptAttribute {
 /// An attribute of a field.
 #[derive(Drop)]
 pub enum FieldAttribute {
-    /// JVMS 4.7.2.
+    /// The attribute ConstantValue (JVMS 4.7.2).
     ConstantValue { name: u16, value: u16 },
     Kept(KeptAttribute),
 }
 
-/// An entry of an exception table (JVMS 4.7.3). Its bounds and its target are places in the list of
-/// instructions; the end may be the number of instructions.
+/// An entry of an exception table (JVMS 4.7.3). Its bounds and its target are places in the list of instructions. The
+/// end may be the number of instructions.
 #[derive(Clone, Copy)]
 pub struct Handler {
     pub start: u32,
     pub end: u32,
     pub target: u32,
-    /// The class entry of what is caught; 0 catches all.
+    /// The class entry of the caught exceptions. 0 catches all.
     pub catch_type: u16,
 }
 
-/// How a method's code is spelled: its bytes, in which pads are 0, and the byte at which each instruction
-/// starts.
+/// The layout of a method's code: its bytes, with pads set to 0, and the byte at which each instruction starts.
 #[derive(Drop)]
 pub struct Layout {
     pub bytes: Items<u8>,
@@ -73,7 +72,7 @@ pub struct Code {
 #[derive(Drop)]
 pub enum MethodAttribute {
     Code { name: u16, code: Code },
-    /// JVMS 4.7.5.
+    /// The attribute Exceptions (JVMS 4.7.5).
     Exceptions { name: u16, classes: Items<u16> },
     Kept(KeptAttribute),
 }
@@ -101,11 +100,11 @@ pub struct MethodInfo {
 pub struct ClassFile {
     pub minor: u16,
     pub major: u16,
-    /// Entry number n stands at place n - 1.
+    /// The entries. Entry number n is at place n - 1.
     pub pool: Items<Constant>,
     pub access: u16,
     pub this_class: u16,
-    /// 0 where there is none.
+    /// The class entry of the superclass, or 0 if there is none.
     pub super_class: u16,
     pub interfaces: Items<u16>,
     pub fields: Items<FieldInfo>,

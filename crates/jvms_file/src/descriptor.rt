@@ -1,6 +1,6 @@
 //! Types as descriptors spell them (JVMS 4.3).
 
-use held::items::Items;
+use shared_data::items::Items;
 
 /// A primitive type (JVMS 4.3.2, BaseType).
 #[derive(Clone, Copy, Debug, PartialEq, Eq)]
@@ -15,7 +15,7 @@ pub enum Primitive {
     Boolean,
 }
 
-/// What an array's innermost components are, or what a type is that is no array.
+/// The type of an array's innermost components, or a type that is no array.
 #[derive(Debug, PartialEq, Eq, Drop)]
 pub enum Element {
     Primitive(Primitive),
@@ -26,12 +26,12 @@ pub enum Element {
 /// The type of a field, a parameter or a result (JVMS 4.3.2, FieldType).
 #[derive(Debug, PartialEq, Eq, Drop)]
 pub struct FieldType {
-    /// How many brackets stand before the element; 0 where the type is no array.
+    /// The number of brackets before the element, or 0 if the type is no array.
     pub dimensions: u8,
     pub element: Element,
 }
 
-/// What a method returns (JVMS 4.3.3, ReturnDescriptor).
+/// The result of a method (JVMS 4.3.3, ReturnDescriptor).
 #[derive(Debug, PartialEq, Eq, Drop)]
 pub enum ResultType {
     Void,

@@ -1,10 +1,10 @@
-//! Instructions without their spelling (JVMS 6.5): short, wide and `_w` forms of one instruction are
-//! one value here. A target is the place of an instruction in the method's list, from 0.
+//! Instructions without their spelling (JVMS 6.5). The short, wide and `_w` forms of an instruction are one value here.
+//! A target is a place in the method's list of instructions, from 0.
 
-use held::boxed::Boxed;
-use held::items::Items;
+use shared_data::boxed::Boxed;
+use shared_data::items::Items;
 
-/// The kinds of values that loads, stores and returns tell apart.
+/// The kinds of values that loads, stores and returns distinguish.
 #[derive(Clone, Copy, PartialEq, Eq)]
 pub enum Kind {
     Int,
@@ -14,7 +14,7 @@ pub enum Kind {
     Reference,
 }
 
-/// The kinds of arrays that array loads and stores tell apart. `Byte` serves arrays of byte and boolean.
+/// The kinds of arrays that array loads and stores distinguish. `Byte` serves arrays of byte and boolean.
 #[derive(Clone, Copy, PartialEq, Eq)]
 pub enum ArrayKind {
     Int,
@@ -27,8 +27,8 @@ pub enum ArrayKind {
     Short,
 }
 
-/// What an instruction pushes that needs nothing else (JVMS 6.5 aconst_null, bipush, dconst, fconst,
-/// iconst, lconst, sipush).
+/// A constant that an instruction pushes without a pool entry (JVMS 6.5 aconst_null, bipush, dconst, fconst, iconst,
+/// lconst, sipush).
 #[derive(Clone, Copy, PartialEq, Eq)]
 pub enum Push {
     Null,
@@ -39,7 +39,7 @@ pub enum Push {
     Double(u8),
 }
 
-/// What is done with one local variable.
+/// An operation on one local variable.
 #[derive(Clone, Copy, PartialEq, Eq)]
 pub enum LocalUse {
     Load(Kind),
@@ -62,7 +62,7 @@ pub enum StackForm {
     Swap,
 }
 
-/// What takes two ints and gives one, always.
+/// An operation on two ints that always gives an int.
 #[derive(Clone, Copy, PartialEq, Eq)]
 pub enum Binary {
     Add,
@@ -77,14 +77,14 @@ pub enum Binary {
     ExclusiveOr,
 }
 
-/// What takes two ints and gives one, but for a divisor of 0.
+/// An operation on two ints, or on two longs, that gives a number unless the divisor is 0.
 #[derive(Clone, Copy, PartialEq, Eq)]
 pub enum Division {
     Quotient,
     Remainder,
 }
 
-/// The types that an int is narrowed to (JVMS 2.11.4; 6.5 i2b, i2c, i2s; `Boolean` keeps the lowest bit).
+/// The types to which an int is narrowed (JVMS 2.11.4, 6.5 i2b, i2c, i2s). `Boolean` keeps the lowest bit.
 #[derive(Clone, Copy, PartialEq, Eq)]
 pub enum Narrow {
     Byte,
@@ -114,7 +114,7 @@ pub enum IntInsn {
     Conversion(Conversion),
 }
 
-/// What two longs give, always.
+/// An operation on two longs that always gives a long.
 #[derive(Clone, Copy, PartialEq, Eq)]
 pub enum LongBinary {
     /// JVMS 6.5 ladd.
@@ -131,7 +131,7 @@ pub enum LongBinary {
     ExclusiveOr,
 }
 
-/// What a long gives that is shifted by an int.
+/// A shift of a long by an int.
 #[derive(Clone, Copy, PartialEq, Eq)]
 pub enum LongShift {
     /// JVMS 6.5 lshl.
@@ -159,7 +159,7 @@ pub enum LongInsn {
     Compare,
 }
 
-/// The arithmetic of floats and doubles, with their conversions: read and written, never run.
+/// The arithmetic of floats and doubles, with their conversions. It is read and written, but never run.
 #[derive(Clone, Copy, PartialEq, Eq)]
 pub enum FloatingInsn {
     AddFloat,
@@ -207,7 +207,7 @@ pub enum ArrayType {
     Long,
 }
 
-/// What is done with an array and names no class.
+/// An operation on an array that names no class.
 #[derive(Clone, Copy, PartialEq, Eq)]
 pub enum ArrayInsn {
     Load(ArrayKind),
@@ -218,14 +218,14 @@ pub enum ArrayInsn {
     New(ArrayType),
 }
 
-/// What ends a method's frame (JVMS 6.5 return, ireturn to areturn).
+/// A return from a method (JVMS 6.5 return, ireturn to areturn).
 #[derive(Clone, Copy, PartialEq, Eq)]
 pub enum ReturnInsn {
     Void,
     Value(Kind),
 }
 
-/// What takes an object and names no class.
+/// An operation on an object that names no class.
 #[derive(Clone, Copy, PartialEq, Eq)]
 pub enum ObjectInsn {
     /// JVMS 6.5 athrow.
@@ -251,7 +251,7 @@ pub enum Simple {
     Object(ObjectInsn),
 }
 
-/// How two ints, or an int and 0, are compared (JVMS 6.5 if<cond>).
+/// A comparison of two ints, or of an int with 0 (JVMS 6.5 if<cond>).
 #[derive(Clone, Copy, PartialEq, Eq)]
 pub enum Comparison {
     Equal,
@@ -262,12 +262,12 @@ pub enum Comparison {
     LessOrEqual,
 }
 
-/// What a branch with one target does.
+/// The kind of a branch with one target.
 #[derive(Clone, Copy, PartialEq, Eq)]
 pub enum Branch {
-    /// JVMS 6.5 if<cond>: an int against 0.
+    /// JVMS 6.5 if<cond>: compares an int with 0.
     IfZero(Comparison),
-    /// JVMS 6.5 if_icmp<cond>: two ints.
+    /// JVMS 6.5 if_icmp<cond>: compares two ints.
     IfInts(Comparison),
     /// JVMS 6.5 if_acmpeq.
     IfSame,
@@ -280,7 +280,7 @@ pub enum Branch {
     Subroutine,
 }
 
-/// The cases of a `tableswitch`: the value `low + k` leads to the target number k.
+/// The cases of a `tableswitch`. The value `low + k` leads to target number k.
 #[derive(PartialEq, Eq, Drop)]
 pub struct TableSwitch {
     pub default: u32,
@@ -295,14 +295,14 @@ pub struct SwitchCase {
     pub target: u32,
 }
 
-/// The cases of a `lookupswitch`, by rising value.
+/// The cases of a `lookupswitch`, in rising order of their values.
 #[derive(PartialEq, Eq, Drop)]
 pub struct LookupSwitch {
     pub default: u32,
     pub cases: Items<SwitchCase>,
 }
 
-/// What is done with a field.
+/// An operation on a field.
 #[derive(Clone, Copy, PartialEq, Eq)]
 pub enum FieldUse {
     GetStatic,
@@ -311,7 +311,7 @@ pub enum FieldUse {
     Put,
 }
 
-/// How a method is called.
+/// The kind of a method call.
 #[derive(Clone, Copy, PartialEq, Eq)]
 pub enum Invoke {
     Virtual,
@@ -320,7 +320,7 @@ pub enum Invoke {
     Interface,
 }
 
-/// What is done with a class.
+/// An operation on a class.
 #[derive(Clone, Copy, PartialEq, Eq)]
 pub enum ClassUse {
     New,
@@ -330,10 +330,10 @@ pub enum ClassUse {
     InstanceOf,
 }
 
-/// What an opcode's operands are (JVMS 6.5).
+/// The operands of an opcode (JVMS 6.5).
 #[derive(Clone, Copy, PartialEq, Eq)]
 pub enum Opcode {
-    /// The opcode alone is the instruction.
+    /// No operands: the opcode is the instruction.
     Alone(Simple),
     /// JVMS 6.5 bipush: one signed byte.
     PushByte,
@@ -345,9 +345,9 @@ pub enum Opcode {
     ConstantWide,
     /// JVMS 6.5 ldc2_w: a pool number of two bytes, of a long or a double.
     ConstantLong,
-    /// A local's number of one byte, or of two behind `wide`.
+    /// A local's number of one byte, or of two after `wide`.
     Local(LocalUse),
-    /// JVMS 6.5 iinc: a local's number and a signed byte, or two bytes of each behind `wide`.
+    /// JVMS 6.5 iinc: a local's number and a signed byte, or two bytes of each after `wide`.
     Increment,
     /// Two signed bytes of offset.
     Branch(Branch),
@@ -357,7 +357,7 @@ pub enum Opcode {
     LookupSwitch,
     /// A pool number of two bytes.
     Field(FieldUse),
-    /// A pool number of two bytes; behind it, for invokeinterface, a count and a 0.
+    /// A pool number of two bytes. After that of an invokeinterface come a count and a 0.
     Invoke(Invoke),
     /// A pool number of two bytes.
     Class(ClassUse),
@@ -370,15 +370,15 @@ pub enum Opcode {
     Reserved,
 }
 
-/// An instruction of a class file. A `u16` behind the first is the number of a pool entry; the count of
-/// an `invokeinterface` follows from its entry.
+/// An instruction of a class file. Each `u16` of this type is the number of a pool entry. That entry also determines
+/// the count of an `invokeinterface`.
 #[derive(PartialEq, Eq, Drop)]
 pub enum Insn {
     Simple(Simple),
     Branch(Branch, u32),
     Table(Boxed<TableSwitch>),
     Lookup(Boxed<LookupSwitch>),
-    /// JVMS 6.5 ldc, ldc_w, ldc2_w: which of them follows from the entry, but for the width.
+    /// JVMS 6.5 ldc, ldc_w, ldc2_w. The entry determines whether it is ldc2_w. ldc and ldc_w differ only in width.
     Constant(u16),
     Field(FieldUse, u16),
     Invoke(Invoke, u16),
@@ -387,7 +387,7 @@ pub enum Insn {
     MultiNewArray(u16, u8),
 }
 
-/// The instructions by opcode, from 0 (JVMS 7).
+/// The operands of each opcode, from opcode 0 (JVMS 7).
 pub const OPCODES: [Opcode; 202] = [
     // 0 nop
     Opcode::Alone(Simple::Nop),

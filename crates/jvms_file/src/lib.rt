@@ -1,5 +1,5 @@
-//! Class files (JVMS 4): their data, and in `specs/` the definitions of what bytes spell, with the numbers of 32
-//! bits that instructions work on (JVMS 2.11.3).
+//! Class files (JVMS 4): their data, and in `specs/` the definitions of what bytes spell. Also the numbers of 32 and 64
+//! bits on which instructions work (JVMS 2.11.3).
 #![tactic(auto)]
 
 pub mod class_file;

@@ -1,4 +1,4 @@
--- A turn of an instruction of arrays leaves a sound state sound.
+-- A turn of an array instruction keeps a sound state sound.
 use Rattle.std.proofs.Common.{◌≡◌, ℕ, zero, suc, ◌<◌, ◌≤◌, true, not, ◌&&◌, List, [], ◌∷◌, ◌++◌, length, replicate, take, Option, None, Some, IfSome, slice_get, refl, sym, ◌∙◌, subst, arith, ◌+◌, drop}
 use Rattle.std.specs.Prelude.{ℤ, pos, int_lt, unsigned_abs}
 use Rattle.std.specs.List.{AllByRecursion, list_all, list_any}
@@ -41,7 +41,7 @@ use Rattle.jvms_machine.proofs.ObjectSoundness.{put_element_is_sound}
 use Rattle.jvms_machine.proofs.NewArrays.{some_made, new_arrays_length, new_arrays_are}
 use Rattle.jvms_machine.proofs.EffectSoundness.{HasDepth, frame_is_fit, reaches_keeps, read_keeps, if_deep_keeps, making_keeps}
 
--- An element that is there holds a value.
+-- An element of an array is a value.
 element_is_value : (heap : List Object) (elements : List Value) (n : ℤ) (v : Value) → AllByRecursion (IsValue heap) elements → element_at elements n ≡ Some v → IsValue heap v
 element_is_value heap elements n v all is =
     cond_both (int_lt n (pos 0)) None (slice_get elements (unsigned_abs n)) (λ (o : Option Value). o ≡ Some v → IsValue heap v)
@@ -49,12 +49,12 @@ element_is_value heap elements n v all is =
     (λ _ there. all_at (IsValue heap) elements (unsigned_abs n) v there all)
     is
 
--- Where there are lengths, an array is made.
+-- Lengths that aren't empty make an array.
 pub some_made_of : (lengths : List ℕ) → 0 < length lengths → 1 ≤ arrays_made lengths
 some_made_of [] some = absurd (omega arith)
 some_made_of (n ∷ lengths) some = some_made n lengths
 
--- As many lengths are taken as there are dimensions.
+-- The number of lengths is that of the dimensions.
 pub lengths_taken : (dimensions : ℕ) (operands : List Value) → dimensions ≤ length operands → length (counted_lengths dimensions operands) ≡ dimensions
 lengths_taken dimensions operands there =
     length-map (lengths_in dimensions operands) length_of_value ∙ length-reverse (take dimensions operands) ∙ length-take-le dimensions operands there
@@ -113,7 +113,7 @@ module _ (program : List Class) (limits : Limits) (start : Start) (s : State) (t
       (λ _. throws_keeps start stands thrown.NoClassDefFoundError)
       (λ _. length_keeps (array_of_class name) n depth)))
 
-  -- Arrays of arrays.
+  -- Nested arrays.
   arrays_room_keeps : (class : List ℕ) (dimensions : ℕ) → HasDepth frame dimensions 1 → KeepsSound (new_arrays_room limits s thread class dimensions (counted_lengths dimensions frame.activation.operands))
   arrays_room_keeps class dimensions depth =
       let lengths = counted_lengths dimensions frame.activation.operands in

@@ -1,5 +1,5 @@
--- A turn of a call leaves a sound state sound: the frame that comes is one of the called method, with the operands of its
--- caller as its arguments, and stands on its caller.
+-- A turn of a call keeps a sound state sound. The new frame is one of the called method, has operands of its caller as
+-- arguments, and is directly above its caller.
 use Rattle.std.proofs.Common.{◌≡◌, ℕ, ◌-◌, ◌<◌, ◌≤◌, true, false, not, ◌==◌, nat_le, nat_lt, leb-false, ltb-false, eqb, eq-eqb, List, [], ◌∷◌, ◌++◌, length, replicate, reverse, take, Option, Some, None, IfSome, IsTrue, slice_get, option_and_then, option_map, unwrap_or, refl, sym, ap, ◌∙◌, subst, arith, length-drop, is_some}
 use Rattle.std.specs.Prelude.{Result, Ok, Err}
 use Rattle.std.specs.List.{AllByRecursion}
@@ -26,16 +26,16 @@ use Rattle.jvms_program.specs.declared.program.Body.{Body}
 use Rattle.jvms_program.specs.declared.program.MethodReference.{MethodReference}
 use Rattle.jvms_program.specs.declared.program.Instruction.TheVariants as instruction
 use Rattle.jvms_program.specs.Program.{IsProgram, method_at}
-use Rattle.jvms_program.specs.Resolution.{MethodFound, fits, resolved_method, method_number}
+use Rattle.jvms_program.specs.Resolution.{ResolvedMethod, fits, resolved_method, method_number}
 use Rattle.jvms_machine.specs.Decisions.{TurnDecision}
-use Rattle.jvms_machine.specs.State.{State, Object, Thread, Frame, MethodFrame, object_at, class_of, IsReference, IsValue, body_at, is_synchronized_at, IsFrame, StandsOn, result_length}
+use Rattle.jvms_machine.specs.State.{State, Object, Thread, Frame, MethodFrame, object_at, class_of, IsReference, IsValue, body_at, is_synchronized_at, IsFrame, IsDirectlyAbove, result_length}
 use Rattle.jvms_machine.specs.Start.{Start, IsArgument, IsStart}
 use Rattle.jvms_machine.specs.Activations.{has_depth}
 use Rattle.jvms_machine.specs.Steps.{instruction_at}
 use Rattle.jvms_machine.specs.Profile.{is_outside_method}
 use Rattle.jvms_machine.specs.Calls.{entered, enter_decision, with_body, called_decision, first_call, entry_decision, run_of_class, selected_run, run_of_object, run_decision, first_call_decision, is_static_call, taken, receiver_of, are_of_call, numbered, call_decision, static_call_decision, selected, selected_decision, wrong_receiver, object_call_decision, receiver_call_decision, resolved_call_decision, invoke_decision}
 use Rattle.jvms_machine.specs.Monitors.{locked_reference}
-use Rattle.jvms_machine.specs.Actions.{with_lock, first_arguments, first_called, given, top_given, calling, top_operands, arguments_of, applied_to, items_of}
+use Rattle.jvms_machine.specs.Actions.{with_lock, first_arguments, first_called, given, stack_without_operands, calling, top_operands, arguments_of, applied_to, items_of}
 use Rattle.jvms_machine.specs.Marks.{calls_in, calls_of}
 use Rattle.jvms_machine.proofs.ListLaws.{all_weaker, all_append, all_replicate, all_take, all_reverse}
 use Rattle.jvms_machine.proofs.InitialisationOrder.{count_call}
@@ -53,12 +53,12 @@ use Rattle.jvms_machine.proofs.NativeSoundness.{native_keeps}
 
 -- ---- The frame of a call
 
--- An argument of an entry is a value, in a heap with the objects of the opening.
+-- An argument of an entry is a value in a heap with the objects of the opening.
 argument_is_value : (heap : List Object) → 4 ≤ length heap → (v : Value) → IsArgument v → IsValue heap v
 argument_is_value heap opened (value.Reference r) is = (is.0, omega arith)
 argument_is_value heap opened _ is = tt
 
--- A call that is entered with arguments that its locals have room for is a frame, where it holds a monitor exactly if its
+-- A call entered with arguments that fit its local variables is a frame, if it holds a monitor if and only if its
 -- method is synchronized.
 pub entered_is_frame : (program : List Class) (heap : List Object) (method : MethodNumber) (body : Body) (monitor : Option ℕ) (arguments : List Value) → length arguments ≤ body.max_locals → AllByRecursion (IsValue heap) arguments → body_at program method ≡ Some body → IfSome monitor (IsReference heap) → is_some monitor ≡ is_synchronized_at program method → IsFrame program heap (stack_frame.Call (entered method body monitor arguments))
 entered_is_frame program heap method body monitor arguments few values body_is held flag =
@@ -66,21 +66,21 @@ entered_is_frame program heap method body monitor arguments few values body_is h
     let as_many : length (arguments ++ unset) ≡ body.max_locals = omega (arith, length-append arguments unset, length-replicate (body.max_locals - length arguments) value.Unset) in
     (body_is, (as_many, omega arith), all_append (IsValue heap) arguments unset values (all_replicate (IsValue heap) (body.max_locals - length arguments) value.Unset tt), tt, held, flag)
 
--- The code at a number is that of the method at it.
+-- The code of a number is that of the method of the number.
 body_of : (program : List Class) (method : MethodNumber) (m : Method) (body : Body) → method_at program method ≡ Some m → m.body ≡ Some body → body_at program method ≡ Some body
 body_of program method m body m_is body_is = ap (option_and_then (λ (n : Method). n.body)) m_is ∙ body_is
 
--- The flag at a number is that of the method at it.
+-- The flag of a number is that of the method of the number.
 flag_of : (program : List Class) (method : MethodNumber) (m : Method) → method_at program method ≡ Some m → is_synchronized_at program method ≡ m.flags.is_synchronized
 flag_of program method m m_is = ap (λ o. unwrap_or (option_map (λ (n : Method). n.flags.is_synchronized) o) false) m_is
 
--- A text is the same as itself.
+-- A text equals itself.
 same_as_itself : (text : List ℕ) → same_text text text ≡ true
 same_as_itself [] = refl
 same_as_itself (u ∷ us) = and_from (eqb u u) (same_text us us) (eq-eqb u u refl) (same_as_itself us)
 
--- The call stands on its caller.
-stands_on_caller : (program : List Class) (heap : List Object) (frame callee : MethodFrame) (m : Method) (how : Invoke) (r : MethodReference) (takes : ℕ) → IsProgram program → IsFrame program heap (stack_frame.Call frame) → instruction_at frame ≡ Some (instruction.Invoke how r) → method_at program callee.method ≡ Some m → m.descriptor ≡ r.descriptor → HasDepth frame takes (result_length r.method_type.result) → StandsOn program (stack_frame.Call callee) (stack_frame.Call (given takes frame))
+-- The call is directly above its caller.
+stands_on_caller : (program : List Class) (heap : List Object) (frame callee : MethodFrame) (m : Method) (how : Invoke) (r : MethodReference) (takes : ℕ) → IsProgram program → IsFrame program heap (stack_frame.Call frame) → instruction_at frame ≡ Some (instruction.Invoke how r) → method_at program callee.method ≡ Some m → m.descriptor ≡ r.descriptor → HasDepth frame takes (result_length r.method_type.result) → IsDirectlyAbove program (stack_frame.Call callee) (stack_frame.Call (given takes frame))
 stands_on_caller program heap frame callee m how r takes of_program is at m_is same depth =
     let type : m.method_type ≡ r.method_type = called_has_type program frame.method frame.body frame.activation.place how r callee.method m of_program is.0 at m_is same in
     let lengths : result_length m.method_type.result ≡ result_length r.method_type.result = ap (λ (t : MethodType). result_length t.result) type in
@@ -96,9 +96,9 @@ module _ (program : List Class) (limits : Limits) (start : Start) (s : State) (t
   abbrev HasFrames : List Frame → Type 0
   HasFrames frames = Stands program limits s t thread frames
 
-  -- ---- How a method is entered
+  -- ---- Entering a method
 
-  -- What is known where a method's code is entered with so many arguments, and this is locked.
+  -- The known facts when a method's code is entered with this number of arguments, and this is locked.
   record Enters (arguments : ℕ) (m : Method) (body : Body) (locked : Lock) : Type 0 where
     pub body_is : m.body ≡ Some body
     pub is_locked : IsLocked limits s locked
@@ -128,14 +128,14 @@ module _ (program : List Class) (limits : Limits) (start : Start) (s : State) (t
       (λ _. with_body_keeps stands m.body (λ body. enter_decision program limits s t thread n m receiver arguments body (make body))
       (λ body body_is. enter_keeps stands n m receiver arguments body (make body) reference body_is (keeps body))))
 
-  -- What a number leads to.
+  -- The method of a number.
   numbered_by : {frames : List Frame} → HasFrames frames → (n : MethodNumber) (o : Option Method) (make : MethodNumber → Method → TurnDecision) → o ≡ method_at program n → ((m : Method) → o ≡ Some m → KeepsSound (make n m)) → KeepsSound (numbered program (Some n) make)
   numbered_by stands n None make e keeps = rw (← e) (still t stands.sound)
   numbered_by stands n (Some m) make e keeps = rw (← e) (keeps m refl)
 
   -- ---- The first call
 
-  -- A method is entered, with what the first call is given.
+  -- A method is entered with the arguments of the first call.
   enters_keeps : HasFrames [] → (n : MethodNumber) (m : Method) (body : Body) (locked : Lock) (count : ℕ) → method_at program n ≡ Some m → AllByRecursion (IsValue s.heap) (first_arguments start thread) → length (first_arguments start thread) ≡ count → Enters count m body locked → KeepsSound (decision.Makes (action.Enters n body locked))
   unfolding applied_to items_of
   enters_keeps stands n m body locked count m_is values as_many enters =
@@ -162,7 +162,7 @@ module _ (program : List Class) (limits : Limits) (start : Start) (s : State) (t
       called_keeps stands n m receiver count _ (λ body locked. decision.Makes (action.Enters n body locked)) reference (throws_keeps start stands thrown.UnsatisfiedLinkError)
       (λ body locked enters. enters_keeps stands n m body locked count m_is values as_many enters)
 
-  -- Thread 0 is given what is handed to the machine.
+  -- Thread 0 has the arguments of the start.
   entry_is_given : HasFrames [] → t ≡ 0 → first_arguments start thread ≡ start.arguments
   entry_is_given stands first =
       let at_first : slice_get s.threads 0 ≡ Some thread = subst (λ k. slice_get s.threads k ≡ Some thread) first stands.given_out in
@@ -179,11 +179,11 @@ module _ (program : List Class) (limits : Limits) (start : Start) (s : State) (t
       (λ _. asking_keeps program limits start s t thread stands start.method.class _
       (first_keeps stands None (length start.arguments) start.method m tt is (subst (AllByRecursion (IsValue s.heap)) (sym given) values) (ap length given)))
 
-  -- Another is given its Thread object.
+  -- Any other thread has its Thread object as its argument.
   object_is_given : (r : ℕ) → thread.object ≡ Some r → first_arguments start thread ≡ value.Reference r ∷ []
   object_is_given r is = rw is refl
 
-  selected_run_keeps : HasFrames [] → (r : ℕ) (o : Option MethodFound) → thread.object ≡ Some r → IsReference s.heap r → KeepsSound (selected_run program limits s t thread r o)
+  selected_run_keeps : HasFrames [] → (r : ℕ) (o : Option ResolvedMethod) → thread.object ≡ Some r → IsReference s.heap r → KeepsSound (selected_run program limits s t thread r o)
   selected_run_keeps stands r None is reference = throws_keeps start stands thrown.AbstractMethodError
   selected_run_keeps stands r (Some found) is reference = of_number (method_number program found)
     where
@@ -206,7 +206,7 @@ module _ (program : List Class) (limits : Limits) (start : Start) (s : State) (t
   first_call_keeps stands starts =
       cond_both (t == 0) _ _ KeepsSound (λ first. entry_keeps stands (method_at program start.method) (eqb-true t 0 first) starts refl) (λ _. run_keeps stands thread.object refl)
 
-  -- ---- The four calls
+  -- ---- The four call instructions
 
   module _ (frame : MethodFrame) (below : List Frame) (how : Invoke) (r : MethodReference) (stands : Stands program limits s t thread (stack_frame.Call frame ∷ below)) (at : instruction_at frame ≡ Some (instruction.Invoke how r)) (depth : HasDepth frame (taken how r.method_type) (result_length r.method_type.result)) (quiet : IsQuiet thread) where
     -- The operands that are the arguments.
@@ -224,7 +224,7 @@ module _ (program : List Class) (limits : Limits) (start : Start) (s : State) (t
         let callee = entered n body (locked_reference locked) arguments in
         let frames = frames_are_stack on in
         let now = stack_frame.Call callee ∷ stack_frame.Call (given takes frame) ∷ below in
-        let are : (calling callee takes thread).frames ≡ now = ap (λ (fs : List Frame). stack_frame.Call callee ∷ top_given takes fs) stands.frames_are in
+        let are : (calling callee takes thread).frames ≡ now = ap (λ (fs : List Frame). stack_frame.Call callee ∷ stack_without_operands takes fs) stands.frames_are in
         let as_many : length arguments ≡ takes = ap length (arguments_are takes) ∙ length-reverse (take takes frame.activation.operands) ∙ length-take-le takes frame.activation.operands depth.there in
         let values : AllByRecursion (IsValue made.heap) arguments = subst (AllByRecursion (IsValue made.heap)) (sym (arguments_are takes)) (all_reverse (IsValue made.heap) (take takes frame.activation.operands) (all_take (IsValue made.heap) takes frame.activation.operands frames.0.0.3)) in
         let few : length arguments ≤ body.max_locals = subst (λ k. k ≤ body.max_locals) (sym as_many) enters.few in
@@ -241,23 +241,23 @@ module _ (program : List Class) (limits : Limits) (start : Start) (s : State) (t
           (λ _. tt),
         )
 
-    call_keeps : (receiver : Option ℕ) → IfSome receiver (IsReference s.heap) → (found : MethodFound) (n : MethodNumber) (m : Method) → IsFound program r.descriptor found → method_number program found ≡ Some n → method_at program n ≡ Some m → m.descriptor ≡ r.descriptor → KeepsSound (call_decision program limits s t thread frame.activation receiver (taken how r.method_type) n m)
+    call_keeps : (receiver : Option ℕ) → IfSome receiver (IsReference s.heap) → (found : ResolvedMethod) (n : MethodNumber) (m : Method) → IsFound program r.descriptor found → method_number program found ≡ Some n → method_at program n ≡ Some m → m.descriptor ≡ r.descriptor → KeepsSound (call_decision program limits s t thread frame.activation receiver (taken how r.method_type) n m)
     call_keeps receiver reference found n m is number m_is same =
         called_keeps stands n m receiver (taken how r.method_type) _ (λ body locked. decision.Makes (action.Calls n body (taken how r.method_type) locked)) reference
         (native_keeps program limits start s t thread frame below stands (how, r, at) quiet (taken how r.method_type) m (slice_get program n.class) depth.there)
         (λ body locked enters. calls_keeps n m body locked m_is same enters)
 
-    numbered_keeps : (found : MethodFound) (o : Option MethodNumber) (make : MethodNumber → Method → TurnDecision) → IsFound program r.descriptor found → method_number program found ≡ o → ((n : MethodNumber) (m : Method) → method_number program found ≡ Some n → method_at program n ≡ Some m → m.descriptor ≡ r.descriptor → KeepsSound (make n m)) → KeepsSound (numbered program o make)
+    numbered_keeps : (found : ResolvedMethod) (o : Option MethodNumber) (make : MethodNumber → Method → TurnDecision) → IsFound program r.descriptor found → method_number program found ≡ o → ((n : MethodNumber) (m : Method) → method_number program found ≡ Some n → method_at program n ≡ Some m → m.descriptor ≡ r.descriptor → KeepsSound (make n m)) → KeepsSound (numbered program o make)
     numbered_keeps found None make is number keeps = still t stands.sound
     numbered_keeps found (Some n) make is number keeps =
         numbered_by stands n (method_at program n) make refl (λ m m_is. keeps n m number m_is (numbered_has_descriptor program r.descriptor found n m is number m_is))
 
-    static_keeps : (found : MethodFound) → IsFound program r.descriptor found → KeepsSound (static_call_decision program limits s t thread frame.activation (taken how r.method_type) found)
+    static_keeps : (found : ResolvedMethod) → IsFound program r.descriptor found → KeepsSound (static_call_decision program limits s t thread frame.activation (taken how r.method_type) found)
     static_keeps found is =
         numbered_keeps found (method_number program found) _ is refl
         (λ n m number m_is same. asking_keeps program limits start s t thread stands n.class _ (call_keeps None tt found n m is number m_is same))
 
-    selected_keeps : (q : ℕ) → IsReference s.heap q → (o : Option MethodFound) → ((f : MethodFound) → o ≡ Some f → IsFound program r.descriptor f) → KeepsSound (selected_decision program limits s t thread frame.activation q (taken how r.method_type) o)
+    selected_keeps : (q : ℕ) → IsReference s.heap q → (o : Option ResolvedMethod) → ((f : ResolvedMethod) → o ≡ Some f → IsFound program r.descriptor f) → KeepsSound (selected_decision program limits s t thread frame.activation q (taken how r.method_type) o)
     selected_keeps q reference None is = throws_keeps start stands thrown.AbstractMethodError
     selected_keeps q reference (Some found) is =
         numbered_keeps found (method_number program found) _ (is found refl) refl
@@ -267,19 +267,19 @@ module _ (program : List Class) (limits : Limits) (start : Start) (s : State) (t
     wrong_receiver_keeps invoke.Interface = throws_keeps start stands thrown.IncompatibleClassChangeError
     wrong_receiver_keeps _ = still t stands.sound
 
-    object_call_keeps : (found : MethodFound) (q : ℕ) (o : Option Object) → object_at s.heap q ≡ o → IsFound program r.descriptor found → KeepsSound (object_call_decision program limits s t thread frame how r found q o)
+    object_call_keeps : (found : ResolvedMethod) (q : ℕ) (o : Option Object) → object_at s.heap q ≡ o → IsFound program r.descriptor found → KeepsSound (object_call_decision program limits s t thread frame how r found q o)
     object_call_keeps found q None at_q is = still t stands.sound
     object_call_keeps found q (Some o) at_q is =
         cond_both (fits program (class_of o) found.class.name) _ _ KeepsSound
         (λ _. selected_keeps q (leads_is_reference s.heap q o at_q) (selected program frame how r (class_of o) found) (λ f f_is. selected_is_found program frame how r (class_of o) r.descriptor found f is f_is))
         (λ _. wrong_receiver_keeps how)
 
-    receiver_keeps : (found : MethodFound) (o : Option Value) → IsFound program r.descriptor found → KeepsSound (receiver_call_decision program limits s t thread frame how r found o)
+    receiver_keeps : (found : ResolvedMethod) (o : Option Value) → IsFound program r.descriptor found → KeepsSound (receiver_call_decision program limits s t thread frame how r found o)
     receiver_keeps found (Some (value.Reference q)) is = object_call_keeps found q (object_at s.heap q) refl is
     receiver_keeps found (Some value.Null) is = throws_keeps start stands thrown.NullPointerException
     receiver_keeps found _ is = still t stands.sound
 
-    resolved_keeps : (o : Result MethodFound Thrown) → resolved_method program (is_static_call how) r ≡ o → KeepsSound (resolved_call_decision program limits s t thread frame how r o)
+    resolved_keeps : (o : Result ResolvedMethod Thrown) → resolved_method program (is_static_call how) r ≡ o → KeepsSound (resolved_call_decision program limits s t thread frame how r o)
     resolved_keeps (Err class) is = throws_keeps start stands class
     resolved_keeps (Ok found) is =
         let found_is = resolved_is_found program (is_static_call how) r found is in

@@ -1,4 +1,4 @@
--- A turn of an instruction that names a class, or loads a string or a class, leaves a sound state sound.
+-- A turn of an instruction that names a class, or loads a string or a class, keeps a sound state sound.
 use Rattle.std.proofs.Common.{◌≡◌, ℕ, Bool, true, false, not, List, [], ◌∷◌, ◌++◌, length, Option, None, Some, refl, sym, ◌∙◌, arith}
 use Rattle.std.specs.Prelude.{pos}
 use Rattle.std.specs.List.{AllByRecursion}
@@ -28,7 +28,7 @@ use Rattle.jvms_machine.specs.Heap.{next_reference}
 use Rattle.jvms_machine.specs.Fields.{reaches, taking}
 use Rattle.jvms_machine.specs.Heap.{class_name_at}
 use Rattle.jvms_machine.specs.Actions.{new_objects, new_count, new_elements}
-use Rattle.jvms_machine.specs.Objects.{is_instantiable, made_if_room, instance_of_number, new_instance_decision, with_class_of, cast, told_instance, class_decision, held_or_made, loadable_decision}
+use Rattle.jvms_machine.specs.Objects.{is_instantiable, creation_if_room, instance_of_number, new_instance_decision, with_class_of, cast, instance_test_result, class_decision, existing_or_new, loadable_decision}
 use Rattle.jvms_machine.specs.Turn.{HasItsDimensions}
 use Rattle.jvms_machine.proofs.LimitLaws.{room_is}
 use Rattle.jvms_machine.proofs.ThreadChanges.{Stands}
@@ -44,10 +44,10 @@ module _ (program : List Class) (limits : Limits) (start : Start) (s : State) (t
   abbrev KeepsSound : TurnDecision → Type 0
   KeepsSound d = Keeps program limits start s t d
 
-  -- ---- Objects that are made
+  -- ---- New objects
 
-  -- One object with no elements.
-  one_keeps : (what : NewObject (List ℕ)) → HasDepth frame 0 1 → length (new_objects program (next_reference s.heap) frame.activation.operands what) ≡ 1 → new_count frame.activation.operands what ≡ 1 → new_elements frame.activation.operands what ≡ 0 → HasItsDimensions frame.activation.operands what → AllByRecursion (IsObject program (s.heap ++ new_objects program (next_reference s.heap) frame.activation.operands what)) (new_objects program (next_reference s.heap) frame.activation.operands what) → KeepsSound (made_if_room limits s thread 0 what)
+  -- One object without elements.
+  one_keeps : (what : NewObject (List ℕ)) → HasDepth frame 0 1 → length (new_objects program (next_reference s.heap) frame.activation.operands what) ≡ 1 → new_count frame.activation.operands what ≡ 1 → new_elements frame.activation.operands what ≡ 0 → HasItsDimensions frame.activation.operands what → AllByRecursion (IsObject program (s.heap ++ new_objects program (next_reference s.heap) frame.activation.operands what)) (new_objects program (next_reference s.heap) frame.activation.operands what) → KeepsSound (creation_if_room limits s thread 0 what)
   one_keeps what depth length_is count none has_dimensions are =
       cond_both (has_room_for 1 limits s) _ _ KeepsSound
       (λ has.
@@ -93,13 +93,13 @@ module _ (program : List Class) (limits : Limits) (start : Start) (s : State) (t
   cast_keeps true = goes_on_keeps
   cast_keeps false = throws_keeps start stands thrown.ClassCastException
 
-  -- A value that is there, in place of so many operands.
+  -- An existing value replaces operands.
   puts_keeps : (takes : ℕ) (v : Value) → HasDepth frame takes (value_size v) → IsValue s.heap v → KeepsSound (reaches effect.Nothing (frame_action.Push takes v))
   puts_keeps takes v depth is =
       reaches_keeps program limits start s t thread frame below stands effect.Nothing (frame_action.Push takes v)
       (λ _. record { sound = stands.sound; room = (depth.there, depth.room); value = is; heard = tt; can_be_made = λ _. tt })
 
-  told_keeps : (b : Bool) → HasDepth frame 1 1 → KeepsSound (told_instance b)
+  told_keeps : (b : Bool) → HasDepth frame 1 1 → KeepsSound (instance_test_result b)
   told_keeps true depth = puts_keeps 1 (value.Int (pos 1)) depth tt
   told_keeps false depth = puts_keeps 1 (value.Int (pos 0)) depth tt
 
@@ -115,11 +115,11 @@ module _ (program : List Class) (limits : Limits) (start : Start) (s : State) (t
       (λ _. with_class_keeps name frame.activation.operands (reaches effect.Nothing (taking 0 frame.activation)) (cast limits s thread frame) goes_on_keeps cast_keeps)
   class_keeps class_use.InstanceOf name =
       if_deep_keeps program limits start s t thread frame below stands 1 1 _
-      (λ depth. with_class_keeps name frame.activation.operands (told_instance false) told_instance (told_keeps false depth) (λ b. told_keeps b depth))
+      (λ depth. with_class_keeps name frame.activation.operands (instance_test_result false) instance_test_result (told_keeps false depth) (λ b. told_keeps b depth))
 
   -- ---- ldc of a string or a class
 
-  held_keeps : (o : Option ℕ) (what : NewObject (List ℕ)) → HasDepth frame 0 1 → ((r : ℕ) → o ≡ Some r → IsReference s.heap r) → KeepsSound (made_if_room limits s thread 0 what) → KeepsSound (held_or_made limits s thread o what)
+  held_keeps : (o : Option ℕ) (what : NewObject (List ℕ)) → HasDepth frame 0 1 → ((r : ℕ) → o ≡ Some r → IsReference s.heap r) → KeepsSound (creation_if_room limits s thread 0 what) → KeepsSound (existing_or_new limits s thread o what)
   held_keeps None what depth is made = made
   held_keeps (Some r) what depth is made = puts_keeps 0 (value.Reference r) depth (is r refl)
 

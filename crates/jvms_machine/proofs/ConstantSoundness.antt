@@ -1,4 +1,4 @@
--- A sound state stays sound where the constants of a class's static fields are stored, and the strings among them made.
+-- Storing the constants of a class's static fields, and creating the strings among them, keeps a sound state sound.
 use Rattle.std.proofs.Common.{◌≡◌, ℕ, ◌+◌, ◌≤◌, Bool, true, false, List, [], ◌∷◌, ◌++◌, length, map, Option, None, Some, refl, sym, ap, ◌∙◌, subst}
 use Rattle.std.specs.List.{AllByRecursion}
 use Rattle.std.proofs.lemmas.List.{length-map}
@@ -21,7 +21,7 @@ use Rattle.jvms_machine.proofs.StoredValues.{found_is_reference, keys_stay, valu
 
 -- ---- The values of constants
 
--- A string's object, if it is there, is a value.
+-- A string's object, if it exists, is a value.
 text_is_value : (heap : List Object) (t : FieldType) (units : List ℕ) (o : Option ℕ) → o ≡ text_reference heap units → IsValue heap (constant_value heap t (loadable.String units))
 text_is_value heap t units None e = rw (← e) tt
 text_is_value heap t units (Some r) e = rw (← e) (found_is_reference (is_text units) heap r (sym e))
@@ -33,7 +33,7 @@ constant_is_value heap t _ = tt
 
 -- ---- The static fields
 
--- Static fields of the same keys, with values in them.
+-- Static fields with the same keys, which have values.
 abbrev AreStatics : List Object → List (FieldKey × Value) → List (FieldKey × Value) → Type 0
 AreStatics heap before after = (keys after ≡ keys before) × AllByRecursion (λ f. IsValue heap f.1) after
 

@@ -1,5 +1,5 @@
--- An instruction that touches more than its frame leaves a sound state sound, where what it makes of the state beside the
--- frame is sound, and what it puts into the frame is a value there.
+-- An instruction that reaches beyond its frame keeps a state sound. Its effect must leave a sound state, and the value
+-- for the frame must be one of that state.
 use Rattle.std.proofs.Common.{◌≡◌, ℕ, ◌+◌, ◌-◌, ◌≤◌, true, nat_le, leb-true, List, [], ◌∷◌, ◌++◌, length, Option, None, Some, IfSome, IsTrue, slice_get, refl, sym, ap, ◌∙◌, subst, arith}
 use Rattle.std.specs.List.{AllByRecursion, filter}
 use Rattle.std.proofs.lemmas.Bool.{cond_both, and_parts}
@@ -28,7 +28,7 @@ use Rattle.jvms_machine.specs.Fields.{read}
 use Rattle.jvms_machine.specs.Heap.{next_reference}
 use Rattle.jvms_machine.specs.Places.{value_size}
 use Rattle.jvms_machine.specs.Arrays.{if_deep, making}
-use Rattle.jvms_machine.specs.Actions.{call_gone_on, top_gone_on, gone_on, with_changed, event, instance_variable, static_variable, effect_items, put_field, put_static, new_objects, new_count, new_elements, affected, top_operands, operands_of, applied_to, items_of}
+use Rattle.jvms_machine.specs.Actions.{frame_after_action, stack_after_action, thread_after_action, with_changed, event, instance_variable, static_variable, effect_items, put_field, put_static, new_objects, new_count, new_elements, affected, top_operands, operands_of, applied_to, items_of}
 use Rattle.jvms_machine.specs.Marks.{is_mark, calls_in, calls_of}
 use Rattle.jvms_machine.specs.Turn.{TopHasRoom, HasItsDimensions, CanBeMade}
 use Rattle.jvms_machine.proofs.InitialisationOrder.{count_call}
@@ -40,28 +40,28 @@ use Rattle.jvms_machine.proofs.ThreadChanges.{Stands, frames_are_stack, moved_is
 use Rattle.jvms_machine.proofs.HeapGrowth.{grown_length, appended_is_sound}
 use Rattle.jvms_machine.proofs.KeptStates.{IsHeardEffect, Keeps, still}
 
--- ---- The call on top goes on
+-- ---- The top call continues
 
--- The call on top fits its code.
+-- The top call fits its code.
 pub frame_is_fit : {program : List Class} {limits : Limits} {s : State} {t : ℕ} {thread : Thread} (frame : MethodFrame) (below : List Frame) → Stands program limits s t thread (stack_frame.Call frame ∷ below) → IsFit s.heap frame.body frame.activation
 frame_is_fit frame below stands =
     let is = (frames_are_stack stands).0.0 in
     record { locals_fit = is.1.0; operands_fit = is.1.1; locals = is.2; operands = is.3 }
 
--- The state is sound after it has gone on with values.
-pub gone_on_is_sound : {program : List Class} {limits : Limits} {s : State} {t : ℕ} {thread : Thread} (frame : MethodFrame) (below : List Frame) (act : FrameAction) → Stands program limits s t thread (stack_frame.Call frame ∷ below) → HasRoom frame.body frame.activation act → HasValue s.heap act → Sound program limits (with_changed s t (gone_on act))
+-- The state is sound after the top call has continued with values.
+pub gone_on_is_sound : {program : List Class} {limits : Limits} {s : State} {t : ℕ} {thread : Thread} (frame : MethodFrame) (below : List Frame) (act : FrameAction) → Stands program limits s t thread (stack_frame.Call frame ∷ below) → HasRoom frame.body frame.activation act → HasValue s.heap act → Sound program limits (with_changed s t (thread_after_action act))
 gone_on_is_sound {program = program} {s = s} {thread = thread} frame below act stands room value =
     let frames = frames_are_stack stands in
     let fit = applied_is_fit s.heap frame.body frame.activation (frame_is_fit frame below stands) act room value in
-    let now = stack_frame.Call (call_gone_on act frame) ∷ below in
-    let are : (gone_on act thread).frames ≡ now = ap (top_gone_on act) stands.frames_are in
-    moved_is_sound stands (gone_on act) now are refl (refl, refl)
+    let now = stack_frame.Call (frame_after_action act frame) ∷ below in
+    let are : (thread_after_action act thread).frames ≡ now = ap (stack_after_action act) stands.frames_are in
+    moved_is_sound stands (thread_after_action act) now are refl (refl, refl)
     ((frames.0.0.0, (fit.locals_fit, fit.operands_fit), fit.locals, fit.operands, frames.0.0.4, frames.0.0.5), frames.0.1)
-    (stack_goes_on program frame (call_gone_on act frame).activation below frames.1)
+    (stack_goes_on program frame (frame_after_action act frame).activation below frames.1)
     frames.2
-    (λ c. count_call c (call_gone_on act frame) below ∙ sym (count_call c frame below))
+    (λ c. count_call c (frame_after_action act frame) below ∙ sym (count_call c frame below))
 
--- ---- What an effect leaves
+-- ---- The state after an effect
 
 put_field_threads : (s : State) (r : ℕ) (v : Value) (o : Option FieldKey) → (put_field s r v o).threads ≡ s.threads
 put_field_threads s r v None = refl
@@ -71,7 +71,7 @@ put_static_threads : (s : State) (v : Value) (o : Option FieldKey) → (put_stat
 put_static_threads s v None = refl
 put_static_threads s v (Some key) = refl
 
--- No thread that was given out is changed.
+-- No started thread is changed.
 pub affected_thread : (program : List Class) (s : State) (t : ℕ) (operands : List Value) (what : Effect (List ℕ)) (u : ℕ) (thread : Thread) → slice_get s.threads u ≡ Some thread → slice_get (affected program s t operands what).threads u ≡ Some thread
 affected_thread program s t operands effect.Nothing u thread at = at
 affected_thread program s t operands (effect.GetField r n) u thread at = at
@@ -115,7 +115,7 @@ effect_is_no_mark program t (effect.Notifies r all) = refl
 
 -- ---- The depth
 
--- What a test of the depth tells.
+-- The result of a test of the depth.
 pub record HasDepth (frame : MethodFrame) (takes gives : ℕ) : Type 0 where
   pub there : takes ≤ length frame.activation.operands
   pub room : length frame.activation.operands - takes + gives ≤ frame.body.max_stack
@@ -132,8 +132,8 @@ depth_is frame takes gives is =
 
 -- ---- The turn
 
--- What is known of an instruction of the call on top that has this effect: the state beside the frame is sound, and what
--- the frame is given has room in it and is a value.
+-- The known facts about an instruction of the top call with this effect: the state after the effect is sound, and the
+-- frame has room for the new value.
 pub record IsMade (program : List Class) (limits : Limits) (s : State) (t : ℕ) (frame : MethodFrame) (what : Effect (List ℕ)) (act : FrameAction) : Type 0 where
   pub sound : Sound program limits (affected program s t frame.activation.operands what)
   pub room : HasRoom frame.body frame.activation act
@@ -145,27 +145,27 @@ module _ (program : List Class) (limits : Limits) (start : Start) (s : State) (t
   abbrev KeepsSound : TurnDecision → Type 0
   KeepsSound d = Keeps program limits start s t d
 
-  -- The operands of the call on top.
+  -- The operands of the top call.
   operands_are : operands_of (slice_get s.threads t) ≡ frame.activation.operands
   operands_are = ap operands_of stands.given_out ∙ ap top_operands stands.frames_are
 
-  -- After the effect the thread stands as it stood.
+  -- The thread has the same frames after the effect.
   stands_after : (what : Effect (List ℕ)) → Sound program limits (affected program s t frame.activation.operands what) → Stands program limits (affected program s t frame.activation.operands what) t thread (stack_frame.Call frame ∷ below)
   stands_after what sound =
       record { sound = sound; given_out = affected_thread program s t frame.activation.operands what t thread stands.given_out; awake = stands.awake; frames_are = stands.frames_are }
 
-  -- Its calls are those that it had.
-  calls_after : (what : Effect (List ℕ)) (act : FrameAction) (operands : List Value) → calls_of (with_changed (affected program s t operands what) t (gone_on act)) t ≡ calls_of s t
+  -- The thread has the same calls after the effect.
+  calls_after : (what : Effect (List ℕ)) (act : FrameAction) (operands : List Value) → calls_of (with_changed (affected program s t operands what) t (thread_after_action act)) t ≡ calls_of s t
   calls_after what act operands =
       let given_out = affected_thread program s t operands what t thread stands.given_out in
-      changed_calls (affected program s t operands what).threads t thread (gone_on act) given_out ∙ gone_on_calls act thread.frames ∙ sym (ap calls_in stands.given_out)
+      changed_calls (affected program s t operands what).threads t thread (thread_after_action act) given_out ∙ gone_on_calls act thread.frames ∙ sym (ap calls_in stands.given_out)
 
   pub reaches_keeps : (what : Effect (List ℕ)) (act : FrameAction) → (IsProgram program → IsMade program limits s t frame what act) → KeepsSound (decision.Makes (action.Reaches what act))
   unfolding applied_to items_of
   reaches_keeps what act made = (
     (λ of_program.
         let is = made of_program in
-        subst (λ operands. Sound program limits (with_changed (affected program s t operands what) t (gone_on act))) (sym operands_are)
+        subst (λ operands. Sound program limits (with_changed (affected program s t operands what) t (thread_after_action act))) (sym operands_are)
         (gone_on_is_sound frame below act (stands_after what is.sound) is.room is.value)),
     (λ of_program are.
         let is = made of_program in
@@ -191,7 +191,8 @@ module _ (program : List Class) (limits : Limits) (start : Start) (s : State) (t
 
   -- ---- New objects
 
-  -- What is made is sound, where the new objects are objects and there is room for them; arrays of arrays have their dimensions.
+  -- The state with new objects is sound if they are objects and there is room for them. Nested arrays have their
+  -- dimensions.
   pub making_keeps : (takes : ℕ) (what : NewObject (List ℕ)) → HasDepth frame takes 1 → length (new_objects program (next_reference s.heap) frame.activation.operands what) ≡ new_count frame.activation.operands what → AllByRecursion (IsObject program (s.heap ++ new_objects program (next_reference s.heap) frame.activation.operands what)) (new_objects program (next_reference s.heap) frame.activation.operands what) → length s.heap + new_count frame.activation.operands what ≤ limits.objects → s.elements + new_elements frame.activation.operands what ≤ limits.elements → (IsProgram program → 1 ≤ new_count frame.activation.operands what) → HasItsDimensions frame.activation.operands what → KeepsSound (making s takes what)
   making_keeps takes what depth count are objects elements some has_dimensions =
       let operands = frame.activation.operands in

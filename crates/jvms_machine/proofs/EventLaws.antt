@@ -1,5 +1,5 @@
--- The entries and exits of monitors and the starts of threads among the items of a turn are those that the states before and
--- after it tell.
+-- The entries and exits of monitors and the starts of threads among the items of a turn are those that the states
+-- before and after it determine.
 use Rattle.std.proofs.Common.{◌≡◌, ℕ, ◌+◌, ◌-◌, ◌==◌, Bool, true, false, cond, List, [], ◌∷◌, ◌++◌, length, map, Option, Some, None, is_none, IfSome, slice_get, refl, sym, ap, ◌∙◌, arith, length-set, length-append}
 use Rattle.std.specs.List.{filter, range_with_len}
 use Rattle.std.proofs.lemmas.Bool.{cond_both, cond-false}
@@ -29,14 +29,14 @@ use Rattle.jvms_program.specs.Program.{key_of, field_key_at}
 use Rattle.jvms_machine.specs.Decisions.{TurnAction, TurnDecision}
 use Rattle.jvms_machine.specs.State.{State, Thread, new_thread, monitor_at, Sound}
 use Rattle.jvms_machine.specs.Start.{Start}
-use Rattle.jvms_machine.specs.Actions.{mark, event, instance_variable, static_variable, enter_items, exit_items, release_items, lock_items, unlock_items, effect_items, changed_to, with_changed, with_lock, with_unlock, with_waiter, with_retaken, put_to_wait, waited, with_result, with_exception, with_class_constants, put_field, put_static, affected, operands_of, gone_on, applied_to, items_of}
+use Rattle.jvms_machine.specs.Actions.{mark, event, instance_variable, static_variable, enter_items, exit_items, release_items, lock_items, unlock_items, effect_items, changed_to, with_changed, with_lock, with_unlock, with_waiter, with_retaken, put_to_wait, waited, with_result, with_exception, with_class_constants, put_field, put_static, affected, operands_of, thread_after_action, applied_to, items_of}
 use Rattle.jvms_machine.specs.Turn.{CanBeLocked, CanBeMade, IsReady, IsReadyToMake, state_after, items_after}
 use Rattle.jvms_machine.specs.Events.{is_acquire, is_release, is_fork, newly_held, acquires_between, releases_between, forks_between}
 use Rattle.jvms_machine.proofs.KeptStates.{IsLeft, IsHeardEffect, IsHeard, IsHeardOf}
 use Rattle.jvms_machine.proofs.HeldMonitors.{none_new_in_same, entered_new, entered_old, left_new, left_old, freed_new, freed_old, retaken_new, retaken_old}
 
--- The events of a turn are those that its states tell.
-pub record IsTold (t : ℕ) (before after : State) (items : List Item) : Type 0 where
+-- The events of a turn are those that its states determine.
+pub record HasEventsOf (t : ℕ) (before after : State) (items : List Item) : Type 0 where
   pub acquires : filter is_acquire items ≡ acquires_between t before after
   pub releases : filter is_release items ≡ releases_between t before after
   pub forks : filter is_fork items ≡ forks_between t before after
@@ -81,16 +81,16 @@ writes_are_other : (t : ℕ) (o : Option Variable) → AreOther (event (λ v. it
 writes_are_other t None = record { acquires = refl; releases = refl; forks = refl }
 writes_are_other t (Some v) = record { acquires = refl; releases = refl; forks = refl }
 
--- Others before and behind leave what passes.
+-- Other items before and after don't change the filtered items.
 after_others : (test : Item → Bool) (others items : List Item) → filter test others ≡ [] → filter test (others ++ items) ≡ filter test items
 after_others test others items none = filter-append test others items ∙ ap (λ is. is ++ filter test items) none
 
 before_others : (test : Item → Bool) (items others : List Item) → filter test others ≡ [] → filter test (items ++ others) ≡ filter test items
 before_others test items others none = filter-append test items others ∙ ap (λ is. filter test items ++ is) none ∙ append-nil (filter test items)
 
--- ---- What is told of monitors
+-- ---- Events of monitors
 
--- These monitors come to be held, and these to be free.
+-- These monitors become held, and these become free.
 record Changes (before after : State) (held free : List ℕ) : Type 0 where
   pub held_are : newly_held before.monitors after.monitors ≡ held
   pub free_are : newly_held after.monitors before.monitors ≡ free
@@ -101,15 +101,15 @@ no_forks t before after same =
     let none : length after.threads - length before.threads ≡ 0 = omega arith in
     sym (ap (λ n. map (λ u. item.Fork t u) (range_with_len (length before.threads) n)) none)
 
-told_by : (t : ℕ) (before after : State) (items : List Item) (held free : List ℕ) → Changes before after held free → filter is_acquire items ≡ map (λ r. item.Acquire t r) held → filter is_release items ≡ map (λ r. item.Release t r) free → filter is_fork items ≡ [] → IsTold t before after items
-told_by t before after items held free changes acquires releases forks =
+by_instance_test : (t : ℕ) (before after : State) (items : List Item) (held free : List ℕ) → Changes before after held free → filter is_acquire items ≡ map (λ r. item.Acquire t r) held → filter is_release items ≡ map (λ r. item.Release t r) free → filter is_fork items ≡ [] → HasEventsOf t before after items
+by_instance_test t before after items held free changes acquires releases forks =
     record {
       acquires = acquires ∙ sym (ap (λ (rs : List ℕ). map (λ r. item.Acquire t r) rs) changes.held_are);
       releases = releases ∙ sym (ap (λ (rs : List ℕ). map (λ r. item.Release t r) rs) changes.free_are);
       forks = forks ∙ no_forks t before after changes.threads_are;
     }
 
--- No monitor and no thread comes or goes.
+-- No monitor and no thread is added or removed.
 changes_none : (before after : State) → after.monitors ≡ before.monitors → length after.threads ≡ length before.threads → Changes before after [] []
 changes_none before after same threads =
     record {
@@ -118,11 +118,11 @@ changes_none before after same threads =
       threads_are = threads;
     }
 
-quiet : (t : ℕ) (before after : State) (items : List Item) → after.monitors ≡ before.monitors → length after.threads ≡ length before.threads → AreOther items → IsTold t before after items
+quiet : (t : ℕ) (before after : State) (items : List Item) → after.monitors ≡ before.monitors → length after.threads ≡ length before.threads → AreOther items → HasEventsOf t before after items
 quiet t before after items same threads other =
-    told_by t before after items [] [] (changes_none before after same threads) other.acquires other.releases other.forks
+    by_instance_test t before after items [] [] (changes_none before after same threads) other.acquires other.releases other.forks
 
--- One comes to be held, if this is so.
+-- The events of one monitor that becomes held, if the condition is true.
 acquired : (t r : ℕ) (b : Bool) → (filter is_acquire (cond b (item.Acquire t r ∷ []) []) ≡ map (λ q. item.Acquire t q) (cond b (r ∷ []) [])) × (filter is_release (cond b (item.Acquire t r ∷ []) []) ≡ []) × (filter is_fork (cond b (item.Acquire t r ∷ []) []) ≡ [])
 acquired t r true = (refl, refl, refl)
 acquired t r false = (refl, refl, refl)
@@ -137,9 +137,9 @@ changed_length threads t change (Some thread) = length-set threads t (change thr
 
 module _ (program : List Class) (s : State) (t : ℕ) where
   abbrev Told : State → List Item → Type 0
-  Told after items = IsTold t s after items
+  Told after items = HasEventsOf t s after items
 
-  -- The length of the threads with one changed.
+  -- The number of threads with one changed.
   same_length : (made : State) (change : Thread → Thread) → length (with_changed made t change).threads ≡ length made.threads
   same_length made change = changed_length made.threads t change (slice_get made.threads t)
 
@@ -159,7 +159,7 @@ module _ (program : List Class) (s : State) (t : ℕ) where
         threads_are = threads;
       }
 
-  -- A call locks what it locks behind its entry.
+  -- A call locks after its entry.
   lock_is_told : (after : State) (n : MethodNumber) (locked : Lock) → after.monitors ≡ (with_lock program s t locked).monitors → length after.threads ≡ length s.threads → CanBeLocked s locked → Told after (enter_items program t n ++ lock_items t locked)
   lock_is_told after n lock.Nothing same threads can =
       let others = entries_are_other program t n in
@@ -168,11 +168,11 @@ module _ (program : List Class) (s : State) (t : ℕ) where
   lock_is_told after n (lock.Monitor monitor) same threads can =
       let others = entries_are_other program t n in
       let acquires = acquired t monitor.reference monitor.outermost in
-      told_by t s after _ (cond monitor.outermost (monitor.reference ∷ []) []) [] (entered_changes after monitor same threads can.0)
+      by_instance_test t s after _ (cond monitor.outermost (monitor.reference ∷ []) []) [] (entered_changes after monitor same threads can.0)
       (after_others is_acquire (enter_items program t n) (lock_items t (lock.Monitor monitor)) others.acquires ∙ acquires.0) (after_others is_release (enter_items program t n) (lock_items t (lock.Monitor monitor)) others.releases ∙ acquires.1) (after_others is_fork (enter_items program t n) (lock_items t (lock.Monitor monitor)) others.forks ∙ acquires.2)
   lock_is_told after n (lock.NewClass class r) same threads can =
       let others = entries_are_other program t n in
-      told_by t s after _ (r ∷ []) [] (new_changes after class r same threads can.1)
+      by_instance_test t s after _ (r ∷ []) [] (new_changes after class r same threads can.1)
       (after_others is_acquire (enter_items program t n) (lock_items t (lock.NewClass class r)) others.acquires) (after_others is_release (enter_items program t n) (lock_items t (lock.NewClass class r)) others.releases) (after_others is_fork (enter_items program t n) (lock_items t (lock.NewClass class r)) others.forks)
 
   left_changes : {limits : Limits} → Sound program limits s → (after : State) (monitor : MonitorUse) → after.monitors ≡ (with_unlock s (Some monitor)).monitors → length after.threads ≡ length s.threads → IsLeft s monitor → Changes s after [] (cond monitor.outermost (monitor.reference ∷ []) [])
@@ -183,13 +183,13 @@ module _ (program : List Class) (s : State) (t : ℕ) where
         threads_are = threads;
       }
 
-  -- A call that is popped leaves its monitor before its exit.
+  -- A popped call leaves its monitor before its exit.
   unlock_is_told : {limits : Limits} → Sound program limits s → (after : State) (n : MethodNumber) (unlock : Option MonitorUse) → after.monitors ≡ (with_unlock s unlock).monitors → length after.threads ≡ length s.threads → IfSome unlock (IsLeft s) → Told after (unlock_items t unlock ++ exit_items program t n)
   unlock_is_told sound after n None same threads left = quiet t s after _ same threads (exits_are_other program t n)
   unlock_is_told sound after n (Some monitor) same threads left =
       let others = exits_are_other program t n in
       let releases = released t monitor.reference monitor.outermost in
-      told_by t s after _ [] (cond monitor.outermost (monitor.reference ∷ []) []) (left_changes sound after monitor same threads left)
+      by_instance_test t s after _ [] (cond monitor.outermost (monitor.reference ∷ []) []) (left_changes sound after monitor same threads left)
       (before_others is_acquire (release_items t monitor) (exit_items program t n) others.acquires ∙ releases.0) (before_others is_release (release_items t monitor) (exit_items program t n) others.releases ∙ releases.1) (before_others is_fork (release_items t monitor) (exit_items program t n) others.forks ∙ releases.2)
 
 -- ---- States with the same monitors and threads
@@ -228,14 +228,14 @@ unlocked_threads s (Some monitor) = refl
 -- ---- The turn
 
 module _ (program : List Class) (limits : Limits) (start : Start) (s : State) (t : ℕ) (sound : Sound program limits s) where
-  -- As many threads as in a state with the same.
+  -- The number of threads is that of a state with the same threads.
   as_many : (made : State) (change : Thread → Thread) → made.threads ≡ s.threads → length (with_changed made t change).threads ≡ length s.threads
   as_many made change same = same_length program s t made change ∙ ap length same
 
-  beside_is_told : (made : State) (change : Thread → Thread) (items : List Item) → IsBeside s made → AreOther items → IsTold t s (with_changed made t change) items
+  beside_is_told : (made : State) (change : Thread → Thread) (items : List Item) → IsBeside s made → AreOther items → HasEventsOf t s (with_changed made t change) items
   beside_is_told made change items beside others = quiet t s (with_changed made t change) items beside.0 (as_many made change beside.1) others
 
-  itself_is_told : (change : Thread → Thread) (items : List Item) → AreOther items → IsTold t s (with_changed s t change) items
+  itself_is_told : (change : Thread → Thread) (items : List Item) → AreOther items → HasEventsOf t s (with_changed s t change) items
   itself_is_told change items others = beside_is_told s change items (refl, refl) others
 
   one_fork : (r u : ℕ) (change : Thread → Thread) → u ≡ length s.threads → item.Fork t u ∷ [] ≡ forks_between t s (with_changed (record s { threads = s.threads ++ new_thread (Some r) ∷ [] }) t change)
@@ -245,37 +245,37 @@ module _ (program : List Class) (limits : Limits) (start : Start) (s : State) (t
       let one : length (with_changed made t change).threads - length s.threads ≡ 1 = omega (arith, same_length program s t made change) in
       ap (λ v. item.Fork t v ∷ []) is ∙ sym (ap (λ n. map (λ v. item.Fork t v) (range_with_len (length s.threads) n)) one)
 
-  effect_is_told : (operands : List Value) (what : Effect (List ℕ)) (act : FrameAction) → CanBeMade s operands what → IsHeardEffect s what → (others : List Value) → IsTold t s (with_changed (affected program s t others what) t (gone_on act)) (effect_items program t what)
-  effect_is_told operands effect.Nothing act can heard others = itself_is_told (gone_on act) [] none_are_other
-  effect_is_told operands (effect.GetField r n) act can heard others = itself_is_told (gone_on act) _ (reads_are_other t (instance_variable program r n))
+  effect_is_told : (operands : List Value) (what : Effect (List ℕ)) (act : FrameAction) → CanBeMade s operands what → IsHeardEffect s what → (others : List Value) → HasEventsOf t s (with_changed (affected program s t others what) t (thread_after_action act)) (effect_items program t what)
+  effect_is_told operands effect.Nothing act can heard others = itself_is_told (thread_after_action act) [] none_are_other
+  effect_is_told operands (effect.GetField r n) act can heard others = itself_is_told (thread_after_action act) _ (reads_are_other t (instance_variable program r n))
   effect_is_told operands (effect.PutField r n v) act can heard others =
-      beside_is_told _ (gone_on act) _ (beside_put_field s r v (field_key_at program n)) (writes_are_other t (instance_variable program r n))
-  effect_is_told operands (effect.GetStatic n) act can heard others = itself_is_told (gone_on act) _ (reads_are_other t (static_variable program n))
+      beside_is_told _ (thread_after_action act) _ (beside_put_field s r v (field_key_at program n)) (writes_are_other t (instance_variable program r n))
+  effect_is_told operands (effect.GetStatic n) act can heard others = itself_is_told (thread_after_action act) _ (reads_are_other t (static_variable program n))
   effect_is_told operands (effect.PutStatic n v) act can heard others =
-      beside_is_told _ (gone_on act) _ (beside_put_static s v (field_key_at program n)) (writes_are_other t (static_variable program n))
-  effect_is_told operands (effect.LoadElement r i) act can heard others = itself_is_told (gone_on act) _ (record { acquires = refl; releases = refl; forks = refl })
+      beside_is_told _ (thread_after_action act) _ (beside_put_static s v (field_key_at program n)) (writes_are_other t (static_variable program n))
+  effect_is_told operands (effect.LoadElement r i) act can heard others = itself_is_told (thread_after_action act) _ (record { acquires = refl; releases = refl; forks = refl })
   effect_is_told operands (effect.StoreElement r i v) act can heard others =
-      beside_is_told _ (gone_on act) _ (refl, refl) (record { acquires = refl; releases = refl; forks = refl })
-  effect_is_told operands (effect.Makes what) act can heard others = beside_is_told _ (gone_on act) _ (refl, refl) none_are_other
-  effect_is_told operands (effect.Prints what ends_line) act can heard others = beside_is_told _ (gone_on act) _ (refl, refl) none_are_other
+      beside_is_told _ (thread_after_action act) _ (refl, refl) (record { acquires = refl; releases = refl; forks = refl })
+  effect_is_told operands (effect.Makes what) act can heard others = beside_is_told _ (thread_after_action act) _ (refl, refl) none_are_other
+  effect_is_told operands (effect.Prints what ends_line) act can heard others = beside_is_told _ (thread_after_action act) _ (refl, refl) none_are_other
   effect_is_told operands (effect.Locks monitor) act can heard others =
       let made = with_lock program s t (lock.Monitor monitor) in
-      let after = with_changed made t (gone_on act) in
+      let after = with_changed made t (thread_after_action act) in
       let acquires = acquired t monitor.reference monitor.outermost in
-      told_by t s after _ (cond monitor.outermost (monitor.reference ∷ []) []) [] (entered_changes program s t after monitor refl (as_many made (gone_on act) refl) can.0) acquires.0 acquires.1 acquires.2
+      by_instance_test t s after _ (cond monitor.outermost (monitor.reference ∷ []) []) [] (entered_changes program s t after monitor refl (as_many made (thread_after_action act) refl) can.0) acquires.0 acquires.1 acquires.2
   effect_is_told operands (effect.Unlocks monitor) act can heard others =
       let made = with_unlock s (Some monitor) in
-      let after = with_changed made t (gone_on act) in
+      let after = with_changed made t (thread_after_action act) in
       let releases = released t monitor.reference monitor.outermost in
-      told_by t s after _ [] (cond monitor.outermost (monitor.reference ∷ []) []) (left_changes program s t sound after monitor refl (as_many made (gone_on act) refl) heard) releases.0 releases.1 releases.2
+      by_instance_test t s after _ [] (cond monitor.outermost (monitor.reference ∷ []) []) (left_changes program s t sound after monitor refl (as_many made (thread_after_action act) refl) heard) releases.0 releases.1 releases.2
   effect_is_told operands (effect.Starts r u) act can heard others =
-      record { acquires = sym (ap (λ (rs : List ℕ). map (λ q. item.Acquire t q) rs) (none_new_in_same s.monitors)); releases = sym (ap (λ (rs : List ℕ). map (λ q. item.Release t q) rs) (none_new_in_same s.monitors)); forks = one_fork r u (gone_on act) heard }
-  effect_is_told operands (effect.Notifies r all) act can heard others = beside_is_told _ (gone_on act) _ (refl, refl) none_are_other
-  effect_is_told operands (effect.Joins u) act can heard others = itself_is_told (gone_on act) _ (record { acquires = refl; releases = refl; forks = refl })
+      record { acquires = sym (ap (λ (rs : List ℕ). map (λ q. item.Acquire t q) rs) (none_new_in_same s.monitors)); releases = sym (ap (λ (rs : List ℕ). map (λ q. item.Release t q) rs) (none_new_in_same s.monitors)); forks = one_fork r u (thread_after_action act) heard }
+  effect_is_told operands (effect.Notifies r all) act can heard others = beside_is_told _ (thread_after_action act) _ (refl, refl) none_are_other
+  effect_is_told operands (effect.Joins u) act can heard others = itself_is_told (thread_after_action act) _ (record { acquires = refl; releases = refl; forks = refl })
 
-  action_is_told : (act : TurnAction) → IsReady start s t act → IsHeard s act → IsTold t s (applied_to program start s t act) (items_of program t act)
+  action_is_told : (act : TurnAction) → IsReady start s t act → IsHeard s act → HasEventsOf t s (applied_to program start s t act) (items_of program t act)
   unfolding applied_to items_of
-  action_is_told (action.Goes act) ready heard = itself_is_told (gone_on act) [] none_are_other
+  action_is_told (action.Goes act) ready heard = itself_is_told (thread_after_action act) [] none_are_other
   action_is_told (action.Reaches what act) ready heard = effect_is_told _ what act ready.3 heard (operands_of (slice_get s.threads t))
   action_is_told (action.Begins class) ready heard =
       let beside = beside_constants s (slice_get program class) in
@@ -301,7 +301,7 @@ module _ (program : List Class) (limits : Limits) (start : Start) (s : State) (t
       quiet t s _ [] beside.0 (as_many (with_exception program s e) _ beside.1) none_are_other
   action_is_told (action.Waits w) ready heard =
       let after = with_changed (with_waiter s t w.reference) t (put_to_wait w) in
-      told_by t s after _ [] (w.reference ∷ [])
+      by_instance_test t s after _ [] (w.reference ∷ [])
       (record {
         held_are = freed_new w.reference s.monitors;
         free_are = freed_old s.heap s.threads w.reference heard.0 s.monitors sound.monitors heard.1;
@@ -310,13 +310,13 @@ module _ (program : List Class) (limits : Limits) (start : Start) (s : State) (t
       refl refl refl
   action_is_told (action.Retakes w) ready heard =
       let after = with_changed (with_retaken s t w) t waited in
-      told_by t s after _ (w.reference ∷ []) []
+      by_instance_test t s after _ (w.reference ∷ []) []
       (record { held_are = retaken_new t w s.monitors heard; free_are = retaken_old t w s.monitors; threads_are = as_many (with_retaken s t w) waited refl })
       refl refl refl
   action_is_told (action.Raises e) ready heard = beside_is_told _ _ [] (beside_exception program s e) none_are_other
   action_is_told (action.Fails e) ready heard = beside_is_told _ _ [] (beside_exception program s e) none_are_other
 
-  -- What is decided, ready, and tells what is so, has the events that its states tell.
-  pub decision_is_told : (d : TurnDecision) → IsReadyToMake start s t d → IsHeardOf s d → IsTold t s (state_after program start s t d) (items_after program t d)
+  -- A decision that is ready and reports its events truly has the events that its states determine.
+  pub decision_is_told : (d : TurnDecision) → IsReadyToMake start s t d → IsHeardOf s d → HasEventsOf t s (state_after program start s t d) (items_after program t d)
   decision_is_told (decision.Makes act) ready heard = action_is_told act ready heard
   decision_is_told (decision.Unmade o) ready heard = quiet t s s [] refl refl none_are_other

@@ -1,4 +1,4 @@
--- A turn that throws an exception leaves a sound state sound.
+-- A turn that throws an exception keeps a sound state sound.
 use Rattle.std.proofs.Common.{◌≡◌, ℕ, ◌+◌, ◌<◌, ◌≤◌, Bool, true, leb-true, add-one, List, [], ◌∷◌, ◌++◌, length, Some, IfSome, IsTrue, codes, refl, sym, ap, ◌∙◌, subst, arith}
 use Rattle.std.proofs.lemmas.Bool.{cond_both}
 use Rattle.jvms_machine.specs.declared.machine.Limits.{Limits}
@@ -23,14 +23,14 @@ use Rattle.jvms_machine.proofs.MarkLaws.{unmarked_by, changed_calls}
 use Rattle.jvms_machine.proofs.ThreadChanges.{Stands, thread_is, changed_is_sound}
 use Rattle.jvms_machine.proofs.KeptStates.{Keeps}
 
--- ---- What is thrown
+-- ---- The thrown object
 
--- An object of a class that fits Throwable is one.
+-- An object of a class that fits Throwable is a Throwable.
 pub throwable_by : (program : List Class) (heap : List Object) (r : ℕ) (o : Object) → object_at heap r ≡ Some o → IsTrue (fits program (class_of o) (codes "java/lang/Throwable")) → (0 < r) × (r ≤ length heap) → IsThrowable program heap r
 throwable_by program heap r o at is reference =
     (subst (λ p. IfSome p (λ (q : Object). IsTrue (fits program (class_of q) (codes "java/lang/Throwable")))) (sym at) is, reference)
 
--- There is room for an object that is made; one that is there is a Throwable.
+-- There is room for a new object, and an existing object is a Throwable.
 abbrev pub IsThrown : List Class → Limits → State → Exception → Type 0
 IsThrown program limits s (exception.New class) = length s.heap + 1 ≤ limits.objects
 IsThrown program limits s (exception.Held r) = IsProgram program → IsThrowable program s.heap r
@@ -61,14 +61,14 @@ new_is_throwable program heap class is =
     let longer = grown_length heap (new ∷ []) in
     throwable_by program (heap ++ new ∷ []) (length heap + 1) new (rw add-one (appended_at heap new)) (thrown_fits program class is) (omega arith, omega arith)
 
--- What is thrown is a Throwable, in the state with its object.
+-- The thrown object is a Throwable in the state with it.
 pub exception_is_throwable : (program : List Class) (limits : Limits) (s : State) (e : Exception) → IsThrown program limits s e → IsProgram program → IsThrowable program (with_exception program s e).heap (exception_reference s e)
 exception_is_throwable program limits s (exception.New class) room is = new_is_throwable program s.heap class is
 exception_is_throwable program limits s (exception.Held r) throwable is = throwable is
 
 -- ---- Its thread
 
--- The thread stands as it stood, in the state with the object of what is thrown.
+-- The thread has the same frames in the state with the thrown object.
 pub stands_with_exception : {program : List Class} {limits : Limits} {s : State} {t : ℕ} {thread : Thread} {frames : List Frame} → Stands program limits s t thread frames → (e : Exception) → IsThrown program limits s e → Stands program limits (with_exception program s e) t thread frames
 stands_with_exception {program = program} {limits = limits} {s = s} stands (exception.New class) room =
     let new = first_instance program (thrown_class class) in
@@ -77,7 +77,7 @@ stands_with_exception {program = program} {limits = limits} {s = s} stands (exce
     record { sound = grown_sound; given_out = stands.given_out; awake = stands.awake; frames_are = stands.frames_are }
 stands_with_exception stands (exception.Held r) throwable = stands
 
--- A thread with an exception pending, which may have ended with it.
+-- A thread with a pending exception, which may have ended with it.
 abbrev struck : (Bool → Bool) → ℕ → Thread → Thread
 struck finish r thread = record thread { pending = Some r; ended = finish thread.ended }
 
@@ -93,7 +93,7 @@ module _ (program : List Class) (limits : Limits) (t : ℕ) (thread : Thread) (f
   thrown_is_sound s stands e thrown is =
       raised_is_sound (with_exception program s e) (stands_with_exception stands e thrown) (exception_reference s e) (exception_is_throwable program limits s e thrown is)
 
-  -- It has the calls that it had.
+  -- The thread has the same calls.
   thrown_calls : (s : State) → Stands program limits s t thread frames → (e : Exception) (r : ℕ) → calls_of (with_changed (with_exception program s e) t (struck finish r)) t ≡ calls_of s t
   thrown_calls s stands (exception.New class) r = changed_calls s.threads t thread (struck finish r) stands.given_out ∙ sym (ap calls_in stands.given_out)
   thrown_calls s stands (exception.Held q) r = changed_calls s.threads t thread (struck finish r) stands.given_out ∙ sym (ap calls_in stands.given_out)

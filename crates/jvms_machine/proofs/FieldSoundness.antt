@@ -1,5 +1,5 @@
--- A turn that reads or writes a field leaves a sound state sound: what is read is a value of the state, and what is stored
--- was among the operands.
+-- A turn that reads or writes a field keeps a sound state sound. A value that is read is one of the state, and a stored
+-- value was an operand.
 use Rattle.std.proofs.Common.{◌≡◌, ℕ, ◌+◌, ◌≤◌, Bool, not, List, ◌∷◌, length, Option, None, Some, IfSome, refl, sym}
 use Rattle.std.specs.Prelude.{Result, Ok, Err}
 use Rattle.std.specs.List.{AllByRecursion}
@@ -20,7 +20,7 @@ use Rattle.jvms_program.specs.declared.program.FieldReference.{FieldReference}
 use Rattle.jvms_program.specs.declared.thrown.Thrown.{Thrown}
 use Rattle.jvms_program.specs.declared.thrown.Thrown.TheVariants as thrown
 use Rattle.jvms_program.specs.Program.{field_key_at}
-use Rattle.jvms_program.specs.Resolution.{FieldFound, fits, resolved_field, field_number}
+use Rattle.jvms_program.specs.Resolution.{ResolvedField, fits, resolved_field, field_number}
 use Rattle.jvms_machine.specs.Decisions.{TurnDecision}
 use Rattle.jvms_machine.specs.State.{State, Object, Thread, Frame, MethodFrame, object_at, class_of, IsValue}
 use Rattle.jvms_file.specs.Descriptors.{units_of}
@@ -43,12 +43,12 @@ module _ (program : List Class) (limits : Limits) (start : Start) (s : State) (t
   abbrev KeepsSound : TurnDecision → Type 0
   KeepsSound d = Keeps program limits start s t d
 
-  -- A value that is found is one.
+  -- A value that is found is a value of the state.
   found_value : (test : FieldKey → Bool) (fields : List (FieldKey × Value)) (o : Option Value) → o ≡ lookup test fields → AllByRecursion (λ f. IsValue s.heap f.1) fields → IfSome o (IsValue s.heap)
   found_value test fields None is values = tt
   found_value test fields (Some v) is values = looked_up_is_value s.heap test fields v values (sym is)
 
-  -- The value on top is one.
+  -- The topmost operand is a value of the state.
   top_is : (type : FieldType) → IsWhole s.heap (kind_of_type type) (top_value (kind_of_type type) frame.activation.operands)
   top_is type = top_is_whole s.heap (kind_of_type type) frame.activation.operands (frame_is_fit frame below stands).operands
 
@@ -109,7 +109,7 @@ module _ (program : List Class) (limits : Limits) (start : Start) (s : State) (t
   found_keeps how type None depth = still t stands.sound
   found_keeps how type (Some n) depth = numbered_keeps how type n (field_key_at program n) depth
 
-  resolved_keeps : (how : FieldUse) (type : FieldType) (found : Result FieldFound Thrown) → HasDepth frame (field_takes how type) (field_gives how type) → KeepsSound (resolved_field_decision program limits s t thread frame how type found)
+  resolved_keeps : (how : FieldUse) (type : FieldType) (found : Result ResolvedField Thrown) → HasDepth frame (field_takes how type) (field_gives how type) → KeepsSound (resolved_field_decision program limits s t thread frame how type found)
   resolved_keeps how type (Err class) depth = throws_keeps start stands class
   resolved_keeps how type (Ok f) depth = found_keeps how type (field_number program f) depth
 

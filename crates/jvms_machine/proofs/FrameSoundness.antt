@@ -1,5 +1,5 @@
--- The action of an instruction that touches its frame alone has room in it, and leaves it with the locals and at
--- most the operands that its code asks for, and with values of the heap in them.
+-- The action of an instruction that touches its frame alone has room in it. It leaves the frame with the local
+-- variables of its code, at most its operands, and values of the heap in them.
 use Rattle.std.proofs.Common.{◌≡◌, ℕ, ◌+◌, ◌-◌, ◌<◌, ◌≤◌, cond, Bool, true, ◌&&◌, nat_le, nat_lt, leb-true, ltb-true, List, [], ◌∷◌, length, drop, not, Option, Some, None, IfSome, ℤ, pos, subst, sym, ◌∙◌, arith, length-drop}
 use Rattle.std.specs.List.{AllByRecursion}
 use Rattle.std.proofs.lemmas.Bool.{cond_both, and_parts}
@@ -44,26 +44,26 @@ use Rattle.jvms_machine.specs.Steps.{beyond_unless, simple_decision, frame_decis
 use Rattle.jvms_machine.proofs.ListLaws.{all_read, all_drop}
 use Rattle.jvms_machine.proofs.PlaceLaws.{kind_is_some, local_is_whole, put_length, put_values, storable_is_whole, stored_length, stored_values}
 
--- What a frame keeps: the locals and at most the operands that the code asks for, all of them values.
+-- A frame is fit: it has the local variables of its code and at most its operands, and all of them are values.
 pub record IsFit (heap : List Object) (body : Body) (a : Activation) : Type 0 where
   pub locals_fit : length a.locals ≡ body.max_locals
   pub operands_fit : length a.operands ≤ body.max_stack
   pub locals : AllByRecursion (IsValue heap) a.locals
   pub operands : AllByRecursion (IsValue heap) a.operands
 
--- What an action puts into a frame is a value.
+-- The value that an action stores in a frame is one of the heap.
 abbrev pub HasValue : List Object → FrameAction → Type 0
 HasValue heap (action.Push takes v) = IsValue heap v
 HasValue heap (action.Store takes n v) = IsValue heap v
 HasValue heap _ = Unit {0}
 
--- What is decided keeps a frame fit: the action has room, and what it puts there is a value.
+-- A decision keeps a frame fit: its action has room, and its value is one of the heap.
 abbrev pub Keeps : List Object → Body → Activation → FrameDecision → Type 0
 Keeps heap body a (decision.Does act) = HasRoom body a act × HasValue heap act
 Keeps heap body a _ = Unit {0}
 
 module _ (heap : List Object) (body : Body) (a : Activation) (fit : IsFit heap body a) where
-  -- ---- What an action makes of a fit frame is fit.
+  -- ---- An action keeps a frame fit
 
   few : (takes : ℕ) → takes ≤ length a.operands → length (drop takes a.operands) ≡ length a.operands - takes
   few takes there = length-drop takes a.operands
@@ -103,7 +103,7 @@ module _ (heap : List Object) (body : Body) (a : Activation) (fit : IsFit heap b
   applied_is_fit (action.Subroutine target) room is =
       with_operands target (value.ReturnAddress (a.place + 1) ∷ a.operands) (omega arith) (tt, fit.operands)
 
-  -- ---- What is decided keeps a frame fit.
+  -- ---- A decision keeps a frame fit
 
   abbrev KeepsFit : FrameDecision → Type 0
   KeepsFit d = Keeps heap body a d
@@ -157,7 +157,7 @@ module _ (heap : List Object) (body : Body) (a : Activation) (fit : IsFit heap b
   local_is_value : (n : ℕ) → IsValue heap (local_at a n)
   local_is_value n = all_read (IsValue heap) a.locals n value.Unset tt fit.locals
 
-  -- A value that is loaded is of the kind, and takes the places of it.
+  -- A loaded value is one of the heap, and has the size of its kind.
   load_value_keeps : (k : Kind) (o : Option Value) → IfSome o (λ v. IsValue heap v × (value_size v ≡ kind_size k)) → length a.operands - 0 + kind_size k ≤ body.max_stack → KeepsFit (load_value o)
   load_value_keeps k None is room = tt
   load_value_keeps k (Some v) is room = ((omega arith, subst (λ n. length a.operands - 0 + n ≤ body.max_stack) (sym is.1) room), is.0)

@@ -1,4 +1,4 @@
--- A sound state stays sound where its heap has grown: with more objects, and with other values in those that are there.
+-- A sound state stays sound when its heap grows: with more objects, and with other values in the existing ones.
 use Rattle.std.proofs.Common.{◌≡◌, ℕ, zero, suc, ◌+◌, ◌≤◌, List, [], ◌∷◌, ◌++◌, length, Some, IfSome, IsTrue, codes, slice_get, slice_set, get_or, length-set, refl, sym, ap, ◌∙◌, subst, ⊎_elim, arith}
 use Rattle.std.specs.List.{AllByRecursion}
 use Rattle.std.proofs.lemmas.Bool.{cases_eq}
@@ -17,7 +17,7 @@ use Rattle.jvms_machine.proofs.ListLaws.{all_weaker, all_append, appended_within
 
 -- ---- Heaps that grow
 
--- What stands in place of an object: an instance or an array of its class; a string or a class object stays.
+-- An object may become an instance or an array of its class. A string or a class object stays as it is.
 abbrev pub Becomes : Object → Object → Type 0
 Becomes (instance class fields) now = (others : List (FieldKey × Value)) × (now ≡ instance class others)
 Becomes (array class elements) now = (others : List Value) × (now ≡ array class others)
@@ -35,7 +35,7 @@ class_stays (array class elements) now is = ap class_of is.1
 class_stays (text units) now is = ap class_of is
 class_stays (class_object name) now is = ap class_of is
 
--- What a reference led to stands there still, or what it has become.
+-- The object of each reference is still there, perhaps in its later form.
 pub record Grows (before after : List Object) : Type 0 where
   pub longer : length before ≤ length after
   pub there : (r : ℕ) (o : Object) → object_at before r ≡ Some o → (now : Object) × (object_at after r ≡ Some now) × Becomes o now
@@ -54,7 +54,7 @@ appended_grows heap new = let longer = grown_length heap new in record { longer 
     there zero o is = absurd (none-some o is)
     there (suc i) o is = (o, appended_within heap new i o is, becomes_itself o)
 
--- So has one where an object has become another.
+-- A heap in which an object has its later form has grown.
 pub written_grows : (heap : List Object) (i : ℕ) (was now : Object) → slice_get heap i ≡ Some was → Becomes was now → Grows heap (slice_set heap i now)
 written_grows heap i was now at becomes = let same = length-set heap i now in record { longer = omega arith; there = there }
   where
@@ -68,10 +68,10 @@ written_grows heap i was now at becomes = let same = length-set heap i now in re
         (λ (other : j ≡ i → ⊥). (o, get_set_other heap i j now other ∙ is, becomes_itself o))
         (cases_eq j i)
 
--- ---- What stays
+-- ---- Unchanged properties
 
 module _ (heap after : List Object) (grows : Grows heap after) where
-  -- What a reference led to it leads to.
+  -- A reference of the heap is one of the grown heap.
   pub reference_grows : (r : ℕ) → IsReference heap r → IsReference after r
   reference_grows r is = let longer = grows.longer in (is.0, omega arith)
 
@@ -123,8 +123,8 @@ module _ (heap after : List Object) (grows : Grows heap after) where
 
 -- ---- States that grow
 
--- The state is sound with a heap that has grown, with other values of the static fields, with other elements counted and
--- with another output, if there is room.
+-- The state stays sound with a grown heap, other values of the static fields, another number of elements and another
+-- output, if there is room.
 pub grown_is_sound : {program : List Class} {limits : Limits} {s : State} → Sound program limits s → (after : List Object) (statics : List (FieldKey × Value)) (elements : ℕ) (output : List ℕ) → Grows s.heap after → AllByRecursion (IsObject program after) after → keys statics ≡ keys s.statics → AllByRecursion (λ f. IsValue after f.1) statics → length after ≤ limits.objects → elements ≤ limits.elements → Sound program limits (record s { heap = after; statics = statics; elements = elements; output = output })
 grown_is_sound {program = program} {limits = limits} {s = s} sound after statics elements output grows objects same values room few =
     let heap = s.heap in
@@ -150,7 +150,7 @@ grown_is_sound {program = program} {limits = limits} {s = s} sound after statics
       thread_count = sound.thread_count;
     }
 
--- The objects of a heap, and new ones behind them, are objects of the longer heap.
+-- The objects of a heap, and new ones after them, are objects of the longer heap.
 pub objects_with : (program : List Class) (heap new : List Object) → AllByRecursion (IsObject program heap) heap → AllByRecursion (IsObject program (heap ++ new)) new → AllByRecursion (IsObject program (heap ++ new)) (heap ++ new)
 objects_with program heap new are new_are =
     let after = heap ++ new in

@@ -1,4 +1,4 @@
--- Which monitors come to be held, and which come to be free, as one is entered or left.
+-- The monitors that become held, and those that become free, when one is entered or left.
 use Rattle.std.proofs.Common.{◌≡◌, ℕ, ◌+◌, ◌-◌, ◌<◌, ◌==◌, Bool, true, false, cond, nat_lt, eq-eqb, List, [], ◌∷◌, map, Option, Some, None, is_none, refl, sym, ap, ◌∙◌, subst, ⊎_elim, arith, ne_eqb}
 use Rattle.std.specs.List.{AllByRecursion, filter}
 use Rattle.std.specs.Map.{remove_entry}
@@ -20,7 +20,7 @@ filter_none p (x ∷ xs) all = cond-false (p x) (x ∷ filter p xs) (filter p xs
 abbrev references : List (ℕ × Hold) → List ℕ
 references monitors = map (λ m. m.0) monitors
 
--- ---- What is held
+-- ---- Held monitors
 
 abbrev IsHeldIn : List (ℕ × Hold) → ℕ → Type 0
 IsHeldIn monitors r = is_none (monitor_at monitors r) ≡ false
@@ -31,7 +31,7 @@ held_first r h monitors = ap is_none (cond-true (r == r) (Some h) (monitor_at mo
 held_behind : (m : ℕ × Hold) (monitors : List (ℕ × Hold)) (k : ℕ) → IsHeldIn monitors k → IsHeldIn (m ∷ monitors) k
 held_behind m monitors k is = cond_both (m.0 == k) _ _ (λ (o : Option Hold). is_none o ≡ false) (λ _. refl) (λ _. is)
 
--- What is held, and not by the first, is so behind it.
+-- A monitor that is held, and isn't the first, is held in the rest of the list.
 held_rest : (m : ℕ × Hold) (monitors : List (ℕ × Hold)) (k : ℕ) → (m.0 == k) ≡ false → IsHeldIn (m ∷ monitors) k → IsHeldIn monitors k
 held_rest m monitors k other is = sym (ap is_none (cond-false (m.0 == k) (Some m.1) (monitor_at monitors k) other)) ∙ is
 
@@ -40,7 +40,7 @@ own_held [] = tt
 own_held (m ∷ monitors) =
     (held_first m.0 m.1 monitors, all_weaker (IsHeldIn monitors) (IsHeldIn (m ∷ monitors)) (held_behind m monitors) (references monitors) (own_held monitors))
 
--- ---- A hold that comes or changes
+-- ---- A hold that is added or changed
 
 held_new : (r : ℕ) (h : Hold) (monitors : List (ℕ × Hold)) → IsHeldIn (with_hold r h monitors) r
 held_new r h [] = held_first r h []
@@ -51,7 +51,7 @@ held_new r h (m ∷ monitors) =
     (λ _. held_first r h (m ∷ monitors))
     (λ _. held_behind m (with_hold r h monitors) r (held_new r h monitors)))
 
--- The others stay held.
+-- The other monitors stay held.
 held_with : (r : ℕ) (h : Hold) (monitors : List (ℕ × Hold)) (k : ℕ) → IsHeldIn monitors k → IsHeldIn (with_hold r h monitors) k
 held_with r h [] k is = absurd (false≢true (sym is))
 held_with r h (m ∷ monitors) k is =
@@ -74,7 +74,7 @@ with_references P r h (m ∷ monitors) is all =
     (λ _. (is, all))
     (λ _. (all.0, with_references P r h monitors is all.1)))
 
--- One that was free is new alone.
+-- A monitor that was free is the only new one.
 one_new : (before : List (ℕ × Hold)) (r : ℕ) (h : Hold) (monitors : List (ℕ × Hold)) → is_none (monitor_at before r) ≡ true → AllByRecursion (IsHeldIn before) (references monitors) → newly_held before (with_hold r h monitors) ≡ r ∷ []
 one_new before r h [] free all = cond-true (is_none (monitor_at before r)) (r ∷ []) [] free
 one_new before r h (m ∷ monitors) free all =
@@ -100,7 +100,7 @@ none_old_with r h monitors =
 none_new_with : (r : ℕ) (h : Hold) (monitors : List (ℕ × Hold)) → IsHeldIn monitors r → newly_held monitors (with_hold r h monitors) ≡ []
 none_new_with r h monitors held = none_new monitors (with_hold r h monitors) (with_references (IsHeldIn monitors) r h monitors held (own_held monitors))
 
--- ---- A hold that goes
+-- ---- A hold that is removed
 
 removed_references : (P : ℕ → Type 0) (r : ℕ) (monitors : List (ℕ × Hold)) → AllByRecursion P (references monitors) → AllByRecursion P (references (remove_entry (λ q. q == r) monitors))
 removed_references P r [] all = tt
@@ -131,7 +131,7 @@ module _ (heap : List Object) (threads : List Thread) where
       (λ same. behind_is_free r monitors (subst (λ q. AllByRecursion (λ (n : ℕ × Hold). q < n.0) monitors) (eqb-true m.0 r same) are.2))
       (λ other. ap is_none (cond-false (m.0 == r) (Some m.1) (monitor_at (remove_entry (λ q. q == r) monitors) r) other) ∙ removed_is_free r monitors are.3)
 
-  -- Of all references but one a test tells nothing.
+  -- A test that may pass for one reference only fails for the references after it.
   apart_from : (test : ℕ → Bool) (r : ℕ) (monitors : List (ℕ × Hold)) → AllByRecursion (λ (n : ℕ × Hold). r < n.0) monitors → AllByRecursion (λ k. (r == k) ≡ false → test k ≡ false) (references monitors) → AllByRecursion (λ k. test k ≡ false) (references monitors)
   apart_from test r [] behind all = tt
   apart_from test r (m ∷ monitors) behind all =
@@ -159,7 +159,7 @@ module _ (heap : List Object) (threads : List Thread) where
 
 -- ---- Entering and leaving
 
--- Where it was free, the monitor that is entered comes to be held, and nothing else.
+-- If it was free, the entered monitor becomes held, and no other does.
 pub entered_new : (t r : ℕ) (o : Option Hold) (monitors : List (ℕ × Hold)) → monitor_at monitors r ≡ o → newly_held monitors (entered_monitor t r monitors) ≡ cond (is_none o) (r ∷ []) []
 entered_new t r None monitors e = rw e (one_new monitors r (record { owner = t; count = 1 }) monitors (ap is_none e) (own_held monitors))
 entered_new t r (Some h) monitors e = rw e (none_new_with r (record { owner = h.owner; count = h.count + 1 }) monitors (ap is_none e))
@@ -173,26 +173,26 @@ left_new r h monitors e =
     (λ _. none_new monitors (remove_entry (λ q. q == r) monitors) (removed_references (IsHeldIn monitors) r monitors (own_held monitors)))
     (λ _. none_new_with r (record { owner = h.owner; count = h.count - 1 }) monitors (ap is_none e)))
 
--- A held monitor that is freed is free, and no other is.
+-- A held monitor that is freed becomes free, and no other does.
 pub freed_new : (r : ℕ) (monitors : List (ℕ × Hold)) → newly_held monitors (freed_monitor r monitors) ≡ []
 freed_new r monitors = none_new monitors (freed_monitor r monitors) (removed_references (IsHeldIn monitors) r monitors (own_held monitors))
 
 pub freed_old : (heap : List Object) (threads : List Thread) (r : ℕ) (h : Hold) (monitors : List (ℕ × Hold)) → AreMonitors heap threads monitors → monitor_at monitors r ≡ Some h → newly_held (freed_monitor r monitors) monitors ≡ r ∷ []
 freed_old heap threads r h monitors are e = one_old heap threads r monitors are (ap is_none e)
 
--- A free monitor that is taken again is held, and no other is.
+-- A free monitor that is retaken becomes held, and no other does.
 pub retaken_new : (t : ℕ) (w : Wait) (monitors : List (ℕ × Hold)) → monitor_at monitors w.reference ≡ None → newly_held monitors (retaken_monitor t w monitors) ≡ w.reference ∷ []
 retaken_new t w monitors e = one_new monitors w.reference (record { owner = t; count = w.count }) monitors (ap is_none e) (own_held monitors)
 
 pub retaken_old : (t : ℕ) (w : Wait) (monitors : List (ℕ × Hold)) → newly_held (retaken_monitor t w monitors) monitors ≡ []
 retaken_old t w monitors = none_old_with w.reference _ monitors
 
--- Either case of a test.
+-- Both cases of a test.
 either : {X Y : Type 0} (f : X → Y) (b : Bool) (x y : X) (p q : Y) → f x ≡ p → f y ≡ q → f (cond b x y) ≡ cond b p q
 either f true x y p q first second = first
 either f false x y p q first second = second
 
--- Where it was entered once, the monitor that is left comes to be free, and nothing else.
+-- If it was entered once, the left monitor becomes free, and no other does.
 pub left_old : (heap : List Object) (threads : List Thread) (r : ℕ) (h : Hold) (monitors : List (ℕ × Hold)) → AreMonitors heap threads monitors → monitor_at monitors r ≡ Some h → newly_held (left_monitor r monitors) monitors ≡ cond (h.count == 1) (r ∷ []) []
 left_old heap threads r h monitors are e =
     rw e (either (λ (ms : List (ℕ × Hold)). newly_held ms monitors) (h.count == 1) (remove_entry (λ q. q == r) monitors) (with_hold r (record { owner = h.owner; count = h.count - 1 }) monitors) (r ∷ []) []

@@ -1,4 +1,4 @@
--- A turn that asks for the initialisation of a class leaves a sound state sound.
+-- A turn that requires the initialisation of a class keeps a sound state sound.
 use Rattle.std.proofs.Common.{◌≡◌, ℕ, ◌+◌, ◌<◌, ◌≤◌, false, not, ◌==◌, nat_le, leb-false, List, length, Option, Some, None, IfSome, slice_get, slice_set, refl, sym, ap, ◌∙◌, subst, arith, length-set}
 use Rattle.std.proofs.lemmas.Bool.{cond_both, not-false}
 use Rattle.std.proofs.lemmas.Option.{slice_get_within}
@@ -13,7 +13,7 @@ use Rattle.jvms_machine.specs.Decisions.{TurnDecision}
 use Rattle.jvms_machine.specs.State.{State, Thread, Frame, IsWait, Sound}
 use Rattle.jvms_machine.specs.Exceptions.{has_room_for}
 use Rattle.jvms_machine.specs.Start.{Start}
-use Rattle.jvms_machine.specs.Initialisation.{constants_of, new_texts, begin_decision, asking_at, asking}
+use Rattle.jvms_machine.specs.Initialisation.{constants_of, new_texts, begin_decision, requiring_class_in, asking}
 use Rattle.jvms_machine.specs.Actions.{with_changed, with_class_constants, with_initialisation, begun, applied_to, items_of}
 use Rattle.jvms_machine.specs.Marks.{calls_in, calls_of}
 use Rattle.jvms_machine.proofs.LimitLaws.{room_is}
@@ -31,7 +31,7 @@ module _ (program : List Class) (limits : Limits) (start : Start) (s : State) (t
   abbrev HasFrames : List Frame → Type 0
   HasFrames frames = Stands program limits s t thread frames
 
-  -- ---- A class is asked for
+  -- ---- A required initialisation
 
   -- A class that begins, in the state with its constants.
   begun_is_sound : {frames : List Frame} (made : State) → Stands program limits made t thread frames → made.initialisations ≡ s.initialisations → (class : ℕ) (c : Class) → slice_get s.initialisations class ≡ Some initialisation.NotBegun → slice_get program class ≡ Some c → length thread.frames < limits.frames → Sound program limits (with_initialisation (with_changed made t (begun class)) class (initialisation.InProgress t))
@@ -66,7 +66,7 @@ module _ (program : List Class) (limits : Limits) (start : Start) (s : State) (t
       (λ _. throws_keeps start stands thrown.StackOverflowError)
       (λ room. begins_keeps stands class c begins is (room_is texts limits s (not-false (has_room_for texts limits s) has)) (leb-false limits.frames (length thread.frames) room)))
 
-  asking_at_keeps : {frames : List Frame} → HasFrames frames → (class : ℕ) (o : Option Initialisation) (go_on : TurnDecision) → slice_get s.initialisations class ≡ o → KeepsSound go_on → KeepsSound (asking_at program limits s t thread class o go_on)
+  asking_at_keeps : {frames : List Frame} → HasFrames frames → (class : ℕ) (o : Option Initialisation) (go_on : TurnDecision) → slice_get s.initialisations class ≡ o → KeepsSound go_on → KeepsSound (requiring_class_in program limits s t thread class o go_on)
   asking_at_keeps stands class None go_on is keeps = still t stands.sound
   asking_at_keeps stands class (Some initialisation.NotBegun) go_on is keeps = begin_keeps stands class (slice_get program class) is refl
   asking_at_keeps stands class (Some (initialisation.InProgress u)) go_on is keeps =
@@ -74,6 +74,6 @@ module _ (program : List Class) (limits : Limits) (start : Start) (s : State) (t
   asking_at_keeps stands class (Some initialisation.Done) go_on is keeps = keeps
   asking_at_keeps stands class (Some initialisation.Erroneous) go_on is keeps = throws_keeps start stands thrown.NoClassDefFoundError
 
-  -- A turn that asks for the initialisation of a class.
+  -- A turn that requires the initialisation of a class.
   pub asking_keeps : {frames : List Frame} → HasFrames frames → (class : ℕ) (go_on : TurnDecision) → KeepsSound go_on → KeepsSound (asking program limits s t thread class go_on)
   asking_keeps stands class go_on keeps = asking_at_keeps stands class (slice_get s.initialisations class) go_on refl keeps

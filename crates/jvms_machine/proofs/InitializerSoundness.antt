@@ -1,5 +1,5 @@
--- A turn with an initialisation frame on top leaves a sound state sound: the superclass is asked for, <clinit> is called on
--- the frame, or the class is done and the frame is popped.
+-- A turn with an initialisation on top keeps a sound state sound. The superclass is initialised first, then `<clinit>`
+-- is called above the frame, or the class is done and the frame is popped.
 use Rattle.std.proofs.Common.{◌≡◌, ℕ, ◌<◌, ◌≤◌, Bool, true, false, ◌&&◌, nat_le, leb-false, List, [], ◌∷◌, length, Option, Some, None, codes, slice_get, slice_set, drop, option_and_then, option_map, unwrap_or, refl, sym, ap, ◌∙◌, arith, length-set}
 use Rattle.std.specs.List.{AllByRecursion}
 use Rattle.std.proofs.lemmas.Bool.{cond_both, and_parts}
@@ -43,7 +43,7 @@ initializer_is_named c n m number at =
     let found = sym (position_leads test c.methods n number) ∙ at in
     (and_parts (same_text m.name (codes "<clinit>")) (same_text m.descriptor (codes "()V")) (find_passes test c.methods m found)).0
 
--- So it isn't synchronized.
+-- `<clinit>` isn't synchronized.
 initializer_is_plain : (program : List Class) (class n : ℕ) (c : Class) → IsProgram program → slice_get program class ≡ Some c → initializer_of c ≡ Some n → is_synchronized_at program (record { class = class; method = n }) ≡ false
 initializer_is_plain program class n c of_program is number =
     ap (λ (o : Option Class). unwrap_or (option_map (λ (m : Method). m.flags.is_synchronized) (option_and_then (λ (d : Class). slice_get d.methods n) o)) false) is
@@ -82,14 +82,14 @@ module _ (program : List Class) (limits : Limits) (start : Start) (s : State) (t
         (λ _. tt),
       )
 
-  -- What is known of the <clinit> of a class.
+  -- The known facts about the `<clinit>` of a class.
   record IsInitializer (class n : ℕ) (c : Class) (body : Body) : Type 0 where
     pub class_is : slice_get program class ≡ Some c
     pub number : initializer_of c ≡ Some n
     pub body_is : option_and_then (λ (m : Method). m.body) (slice_get c.methods n) ≡ Some body
     pub room : length thread.frames < limits.frames
 
-  -- It is called.
+  -- The `<clinit>` is called.
   initialises_keeps : (class n : ℕ) (c : Class) (body : Body) (below : List Frame) → HasFrames (stack_frame.Initialisation class false ∷ below) → IsInitializer class n c body → KeepsSound (decision.Makes (action.Initialises (record { class = class; method = n }) body))
   unfolding applied_to items_of
   initialises_keeps class n c body below stands is =

@@ -1,4 +1,4 @@
--- What limits leave room for.
+-- The room that limits leave.
 use Rattle.std.proofs.Common.{◌≡◌, ℕ, ◌+◌, ◌<◌, ◌≤◌, ◌^◌, true, ◌&&◌, nat_le, length, IsTrue, leb-true, arith}
 use Rattle.std.proofs.lemmas.Bool.{and_parts}
 use Rattle.jvms_machine.specs.declared.machine.Limits.{Limits}
@@ -7,7 +7,8 @@ use Rattle.jvms_machine.specs.Heap.{has_room_for_elements}
 use Rattle.jvms_machine.specs.Exceptions.{has_room_for}
 use Rattle.jvms_machine.specs.Limits.{is_between, are_limits}
 
--- The opening's objects fit, and so do a thread and a frame. All objects can be counted in 32 bits, and all elements by an int.
+-- There is room for the opening's objects, a thread and a frame. All objects can be counted in 32 bits, and all
+-- elements by an int.
 pub record HasRoom (limits : Limits) : Type 0 where
   pub objects : 4 ≤ limits.objects
   pub threads : 1 ≤ limits.threads
@@ -20,11 +21,11 @@ pub record HasRoom (limits : Limits) : Type 0 where
 between_least : (least most n : ℕ) → is_between least most n ≡ true → least ≤ n
 between_least least most n is = leb-true least n (and_parts (nat_le least n) (nat_le n most) is).0
 
--- And at most the higher.
+-- A number between two is at most the higher.
 between_most : (least most n : ℕ) → is_between least most n ≡ true → n ≤ most
 between_most least most n is = leb-true n most (and_parts (nat_le least n) (nat_le n most) is).1
 
--- Limits that are such have room.
+-- Valid limits have room.
 pub limits_have_room : (limits : Limits) → IsTrue (are_limits limits) → HasRoom limits
 limits_have_room limits are =
     let objects = is_between 4 16777216 limits.objects in

@@ -1,4 +1,4 @@
--- A turn that enters or leaves a monitor leaves a sound state sound.
+-- A turn that enters or leaves a monitor keeps a sound state sound.
 use Rattle.std.proofs.Common.{◌≡◌, ℕ, ◌+◌, ◌^◌, ◌<◌, ◌≤◌, ◌==◌, true, false, not, List, [], ◌∷◌, ◌++◌, length, Option, Some, None, is_none, is_some, IfSome, IsTrue, refl, sym, ap, ◌∙◌, subst, arith}
 use Rattle.std.proofs.lemmas.Bool.{cond_both, eqb-false, not-true, not-false}
 use Rattle.std.proofs.lemmas.Option.{none-some, cond_some, slice_get_within}
@@ -29,9 +29,9 @@ use Rattle.jvms_machine.proofs.WaiterLaws.{awake_waits_not}
 use Rattle.jvms_machine.proofs.KeptStates.{IsLeft, Keeps, still}
 use Rattle.jvms_machine.proofs.ExceptionSoundness.{throws_keeps}
 
--- ---- The monitors that are held
+-- ---- The held monitors
 
--- The state is sound with other monitors that are such.
+-- The state stays sound with other valid monitors.
 pub monitors_are_sound : {program : List Class} {limits : Limits} {s : State} → Sound program limits s → (monitors : List (ℕ × Hold)) → AreMonitors s.heap s.threads monitors → Sound program limits (record s { monitors = monitors })
 monitors_are_sound sound monitors are =
     record {
@@ -54,17 +54,17 @@ monitors_are_sound sound monitors are =
       thread_count = sound.thread_count;
     }
 
--- What is known of a monitor that is entered.
+-- The known facts about an entered monitor.
 abbrev pub IsEntered : State → MonitorUse → Type 0
 IsEntered s monitor = IsReference s.heap monitor.reference × CanBeEntered s monitor
 
--- What is known of what a call locks.
+-- The known facts about what a call locks.
 abbrev pub IsLocked : Limits → State → Lock → Type 0
 IsLocked limits s lock.Nothing = Unit {0}
 IsLocked limits s (lock.Monitor monitor) = IsEntered s monitor
 IsLocked limits s (lock.NewClass class r) = (r ≡ next_reference s.heap) × (length s.heap + 1 ≤ limits.objects)
 
--- What is locked is a reference in the state with it.
+-- The locked reference is one of the state with it.
 pub locked_is_reference : (program : List Class) (limits : Limits) (s : State) (t : ℕ) (locked : Lock) → IsLocked limits s locked → IfSome (locked_reference locked) (IsReference (with_lock program s t locked).heap)
 locked_is_reference program limits s t lock.Nothing is = tt
 locked_is_reference program limits s t (lock.Monitor monitor) is = is.0
@@ -73,13 +73,13 @@ locked_is_reference program limits s t (lock.NewClass class r) is =
     let same = is.0 in
     (omega arith, omega arith)
 
--- The heap has grown by it, or is the same.
+-- The heap has grown by the locked object, or is unchanged.
 pub locked_grows : (program : List Class) (s : State) (t : ℕ) (locked : Lock) → Grows s.heap (with_lock program s t locked).heap
 locked_grows program s t lock.Nothing = grows_not s.heap
 locked_grows program s t (lock.Monitor monitor) = grows_not s.heap
 locked_grows program s t (lock.NewClass class r) = appended_grows s.heap (class_object (class_name_at program class) ∷ [])
 
--- It can be locked, within limits.
+-- Within limits, the lock can be taken.
 pub can_be_locked : {program : List Class} {limits : Limits} {s : State} → Sound program limits s → (locked : Lock) → IsLocked limits s locked → IsTrue (are_limits limits) → CanBeLocked s locked
 can_be_locked sound lock.Nothing is limited = tt
 can_be_locked sound (lock.Monitor monitor) is limited = is.1
@@ -90,12 +90,12 @@ can_be_locked {limits = limits} {s = s} sound (lock.NewClass class r) is limited
     (omega (arith, room.few_objects), new_is_free s.heap s.threads r s.monitors (omega arith) sound.monitors)
 
 module _ {program : List Class} {limits : Limits} {s : State} {t : ℕ} {thread : Thread} {frames : List Frame} (stands : Stands program limits s t thread frames) where
-  -- The state is sound where the thread has entered a monitor.
+  -- The state in which the thread has entered a monitor is sound.
   pub entered_is_sound : (monitor : MonitorUse) → IsEntered s monitor → Sound program limits (with_lock program s t (lock.Monitor monitor))
   entered_is_sound monitor is =
       monitors_are_sound stands.sound _ (entered_are s.heap s.threads t monitor.reference s.monitors (slice_get_within s.threads t thread stands.given_out) (awake_waits_not s.threads t monitor.reference thread stands.given_out stands.awake) is.0 is.1.1 stands.sound.monitors)
 
-  -- The thread stands as it stood where it has locked something.
+  -- The thread has the same frames after it has locked something.
   pub stands_with_lock : (locked : Lock) → IsLocked limits s locked → Stands program limits (with_lock program s t locked) t thread frames
   stands_with_lock lock.Nothing is = stands
   stands_with_lock (lock.Monitor monitor) is = record { sound = entered_is_sound monitor is; given_out = stands.given_out; awake = stands.awake; frames_are = stands.frames_are }
@@ -109,13 +109,13 @@ module _ {program : List Class} {limits : Limits} {s : State} {t : ℕ} {thread 
       let are = entered_are grown.heap s.threads t r s.monitors (slice_get_within s.threads t thread stands.given_out) (awake_waits_not s.threads t r thread stands.given_out stands.awake) (omega arith, omega arith) (subst (λ o. IfSome o (λ (h : Hold). h.count + 1 < 2 ^ 32)) (sym free) tt) grown_sound.monitors in
       record { sound = monitors_are_sound grown_sound _ are; given_out = stands.given_out; awake = stands.awake; frames_are = stands.frames_are }
 
-  -- And where it has left a monitor.
+  -- The thread has the same frames after it has left a monitor.
   pub stands_with_unlock : (unlock : Option MonitorUse) → Stands program limits (with_unlock s unlock) t thread frames
   stands_with_unlock None = stands
   stands_with_unlock (Some monitor) =
       record { sound = monitors_are_sound stands.sound _ (left_are s.heap s.threads monitor.reference s.monitors stands.sound.monitors); given_out = stands.given_out; awake = stands.awake; frames_are = stands.frames_are }
 
--- What a thread leaves is held.
+-- A monitor that a thread leaves is held.
 leaving_held_is : (s : State) (t r : ℕ) (o : Option Hold) (monitor : MonitorUse) → monitor_at s.monitors r ≡ o → leaving_held t r o ≡ Some monitor → IsLeft s monitor
 leaving_held_is s t r None monitor e is = absurd (none-some monitor is)
 leaving_held_is s t r (Some h) monitor e is =
@@ -126,12 +126,12 @@ leaving_held_is s t r (Some h) monitor e is =
 pub leaving_is : (s : State) (t r : ℕ) (monitor : MonitorUse) → leaving s t r ≡ Some monitor → IsLeft s monitor
 leaving_is s t r monitor is = leaving_held_is s t r (monitor_at s.monitors r) monitor refl is
 
--- The heap is the same where a monitor is left.
+-- Leaving a monitor doesn't change the heap.
 pub unlocked_heap : (s : State) (unlock : Option MonitorUse) → (with_unlock s unlock).heap ≡ s.heap
 unlocked_heap s None = refl
 unlocked_heap s (Some monitor) = refl
 
--- ---- What a turn locks
+-- ---- The lock of a turn
 
 module _ (program : List Class) (limits : Limits) (start : Start) (s : State) (t : ℕ) (thread : Thread) {frames : List Frame} (stands : Stands program limits s t thread frames) where
   abbrev KeepsSound : TurnDecision → Type 0
@@ -150,12 +150,12 @@ module _ (program : List Class) (limits : Limits) (start : Start) (s : State) (t
       let other = eqb-false h.count 4294967295 fewer in
       keeps (record { reference = r; outermost = false }) (reference, (sym (ap is_none e), subst (λ o. IfSome o (λ (k : Hold). k.count + 1 < 2 ^ 32)) (sym e) (omega arith)))))
 
-  -- A monitor of an object that is there is entered.
+  -- The monitor of an existing object is entered.
   pub entering_keeps : (r : ℕ) (make : MonitorUse → TurnDecision) → IsReference s.heap r → ((monitor : MonitorUse) → IsEntered s monitor → KeepsSound (make monitor)) → KeepsSound (entering limits s t thread r make)
   entering_keeps r make reference keeps =
       entering_held_keeps r (monitor_at s.monitors r) make refl (held_is s.heap s.threads r s.monitors stands.sound.monitors) reference keeps
 
-  -- What is made of what is locked, where that is something.
+  -- The turns after a lock keep the state sound, if something is locked.
   abbrev AllKeep : (Lock → TurnDecision) → Type 0
   AllKeep make = (locked : Lock) → IsLocked limits s locked → is_some (locked_reference locked) ≡ true → KeepsSound (make locked)
 
@@ -171,7 +171,7 @@ module _ (program : List Class) (limits : Limits) (start : Start) (s : State) (t
       (λ has. keeps (lock.NewClass class (next_reference s.heap)) (refl, room_is 1 limits s has) refl)
       (λ _. throws_keeps start stands thrown.OutOfMemoryError)
 
-  -- What a call of a method locks: something exactly where it is synchronized.
+  -- A call of a method locks something if and only if the method is synchronized.
   pub locking_keeps : (n : MethodNumber) (m : Method) (receiver : Option ℕ) (make : Lock → TurnDecision) → IfSome receiver (IsReference s.heap) → ((locked : Lock) → IsLocked limits s locked → is_some (locked_reference locked) ≡ m.flags.is_synchronized → KeepsSound (make locked)) → KeepsSound (locking program limits s t thread n m receiver make)
   locking_keeps n m receiver make is keeps =
       let name = class_name_at program n.class in

@@ -17,13 +17,13 @@ use Rattle.jvms_program.specs.BuiltIn.{is_built_in}
 use Rattle.jvms_program.specs.Program.{key_of}
 use Rattle.jvms_machine.specs.declared.trace.Item.TheVariants as item
 use Rattle.jvms_machine.specs.State.{State, Thread, Frame}
-use Rattle.jvms_machine.specs.Actions.{mark, enter_items, exit_items, acquire_items, release_items, lock_items, unlock_items, changed_to, top_gone_on, top_given, caller_gone_on, with_result}
+use Rattle.jvms_machine.specs.Actions.{mark, enter_items, exit_items, acquire_items, release_items, lock_items, unlock_items, changed_to, stack_after_action, stack_without_operands, stack_after_return, with_result}
 use Rattle.jvms_machine.specs.Marks.{is_mark, calls, calls_in, calls_of, marks_between}
 use Rattle.jvms_machine.proofs.ListLaws.{get_set_same}
 
 -- ---- Marks
 
--- Where no call comes or goes, there are no marks.
+-- If no call is pushed or popped, there are no marks.
 pub unmarked : (program : List Class) (t : ℕ) (before : List MethodNumber) → [] ≡ marks_between program t before before
 unmarked program t before =
     let none : length before - length before ≡ 0 = omega arith in
@@ -32,7 +32,7 @@ unmarked program t before =
 pub unmarked_by : (program : List Class) (t : ℕ) (before after : List MethodNumber) → after ≡ before → [] ≡ marks_between program t before after
 unmarked_by program t before after same = unmarked program t before ∙ sym (ap (marks_between program t before) same)
 
--- Entries and exits are marks.
+-- Entries and exits of methods are marks.
 enters_are_marks : (t : ℕ) (o : Option MethodKey) → filter is_mark (mark (λ key. item.Enter t key) o) ≡ mark (λ key. item.Enter t key) o
 enters_are_marks t None = refl
 enters_are_marks t (Some key) = cond_both (is_built_in key.class) _ _ (λ items. filter is_mark items ≡ items) (λ _. refl) (λ _. refl)
@@ -41,7 +41,7 @@ exits_are_marks : (t : ℕ) (o : Option MethodKey) → filter is_mark (mark (λ 
 exits_are_marks t None = refl
 exits_are_marks t (Some key) = cond_both (is_built_in key.class) _ _ (λ items. filter is_mark items ≡ items) (λ _. refl) (λ _. refl)
 
--- Entries and exits of monitors are not.
+-- Entries and exits of monitors are no marks.
 pub acquire_is_no_mark : (t : ℕ) (monitor : MonitorUse) → filter is_mark (acquire_items t monitor) ≡ []
 acquire_is_no_mark t monitor = cond_both monitor.outermost _ _ (λ items. filter is_mark items ≡ []) (λ _. refl) (λ _. refl)
 
@@ -57,7 +57,7 @@ unlock_is_no_mark : (t : ℕ) (unlock : Option MonitorUse) → filter is_mark (u
 unlock_is_no_mark t None = refl
 unlock_is_no_mark t (Some monitor) = release_is_no_mark t monitor
 
--- A call that comes is marked alone, and so is one that goes.
+-- A pushed call has only its own mark, and so has a popped one.
 pub marked_with_lock : (program : List Class) (t : ℕ) (m : MethodNumber) (locked : Lock) → filter is_mark (enter_items program t m ++ lock_items t locked) ≡ filter is_mark (enter_items program t m)
 marked_with_lock program t m locked =
     filter-append is_mark (enter_items program t m) (lock_items t locked)
@@ -67,7 +67,7 @@ pub marked_with_unlock : (program : List Class) (t : ℕ) (m : MethodNumber) (un
 marked_with_unlock program t m unlock =
     filter-append is_mark (unlock_items t unlock) (exit_items program t m) ∙ ap (λ items. items ++ filter is_mark (exit_items program t m)) (unlock_is_no_mark t unlock)
 
--- A call that comes.
+-- A pushed call.
 pub entered_mark : (program : List Class) (t : ℕ) (before after : List MethodNumber) (m : MethodNumber) → after ≡ m ∷ before → filter is_mark (enter_items program t m) ≡ marks_between program t before after
 entered_mark program t before after m one =
     let none : length before - length (m ∷ before) ≡ 0 = omega arith in
@@ -77,7 +77,7 @@ entered_mark program t before after m one =
     ∙ ap (λ n. flat_map (enter_items program t) (take n (m ∷ before))) more
     ∙ append-nil (enter_items program t m))
 
--- A call that goes.
+-- A popped call.
 pub left_mark : (program : List Class) (t : ℕ) (before after : List MethodNumber) (m : MethodNumber) → before ≡ m ∷ after → filter is_mark (exit_items program t m) ≡ marks_between program t before after
 left_mark program t before after m one =
     let none : length after - length (m ∷ after) ≡ 0 = omega arith in
@@ -95,23 +95,23 @@ pub changed_calls : (threads : List Thread) (t : ℕ) (thread : Thread) (change 
 changed_calls threads t thread change given =
     ap calls_in (ap (λ o. slice_get (changed_to threads t change o) t) given ∙ get_set_same threads t thread (change thread) given)
 
--- A call that goes on is one of the same method.
-pub gone_on_calls : (act : FrameAction) (frames : List Frame) → calls (top_gone_on act frames) ≡ calls frames
+-- A call that continues is one of the same method.
+pub gone_on_calls : (act : FrameAction) (frames : List Frame) → calls (stack_after_action act frames) ≡ calls frames
 gone_on_calls act [] = refl
 gone_on_calls act (stack_frame.Call f ∷ below) = refl
 gone_on_calls act (stack_frame.Initialisation class called ∷ below) = refl
 
--- So is a caller.
-pub given_calls : (takes : ℕ) (frames : List Frame) → calls (top_given takes frames) ≡ calls frames
+-- A caller that passes operands is one of the same method.
+pub given_calls : (takes : ℕ) (frames : List Frame) → calls (stack_without_operands takes frames) ≡ calls frames
 given_calls takes [] = refl
 given_calls takes (stack_frame.Call f ∷ below) = refl
 given_calls takes (stack_frame.Initialisation class called ∷ below) = refl
 
-pub returned_calls : (result : Option Value) (frames : List Frame) → calls (caller_gone_on result frames) ≡ calls frames
+pub returned_calls : (result : Option Value) (frames : List Frame) → calls (stack_after_return result frames) ≡ calls frames
 returned_calls result [] = refl
 returned_calls result (stack_frame.Call f ∷ below) = refl
 returned_calls result (stack_frame.Initialisation class called ∷ below) = refl
 
--- The run's result is no thread's.
+-- The result of the run belongs to no thread.
 pub result_calls : (s : State) (t : ℕ) (result : Option Value) → calls_of (with_result s t result) t ≡ calls_of s t
 result_calls s t result = cond_both (t == 0) (record s { result = result }) s (λ (r : State). calls_of r t ≡ calls_of s t) (λ _. refl) (λ _. refl)

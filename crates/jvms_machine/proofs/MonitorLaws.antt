@@ -1,5 +1,5 @@
--- The monitors that are held stay in the order of their references, of objects that are there and of threads that were
--- given out, as they are entered and left.
+-- The held monitors stay in the order of their references, of existing objects and of started threads, when they are
+-- entered and left.
 use Rattle.std.proofs.Common.{◌≡◌, ℕ, ◌+◌, ◌-◌, ◌^◌, ◌<◌, ◌==◌, false, nat_lt, List, [], ◌∷◌, length, Option, Some, None, IfSome, slice_get, refl, sym, subst, arith}
 use Rattle.std.specs.List.{AllByRecursion}
 use Rattle.std.specs.Map.{remove_entry}
@@ -9,9 +9,9 @@ use Rattle.jvms_machine.specs.State.{Object, Thread, monitor_at, waits_for, IsRe
 use Rattle.jvms_machine.specs.Monitors.{with_hold, entered_monitor, left_monitor}
 use Rattle.jvms_machine.proofs.ListLaws.{all_weaker}
 
--- ---- What stands in the order
+-- ---- The order of the monitors
 
--- All of these monitors are of objects behind this one.
+-- All of these monitors are of objects after this one.
 abbrev AreBehind : ℕ → List (ℕ × Hold) → Type 0
 AreBehind r monitors = AllByRecursion (λ n. r < n.0) monitors
 
@@ -30,7 +30,7 @@ removed_behind q r [] behind = tt
 removed_behind q r (m ∷ monitors) behind =
     cond_both (m.0 == r) _ _ (AreBehind q) (λ _. behind.1) (λ _. (behind.0, removed_behind q r monitors behind.1))
 
--- ---- Holds that come, change and go
+-- ---- Holds that are added, changed and removed
 
 module _ (heap : List Object) (threads : List Thread) where
   pub with_hold_are : (r : ℕ) (h : Hold) (monitors : List (ℕ × Hold)) → IsReference heap r → IsHold threads r h → AreMonitors heap threads monitors → AreMonitors heap threads (with_hold r h monitors)
@@ -52,7 +52,7 @@ module _ (heap : List Object) (threads : List Thread) where
       (λ _. are.3)
       (λ _. (are.0, are.1, removed_behind m.0 r monitors are.2, removed_are r monitors are.3))
 
-  -- A monitor that is held is of an object that is there, and is held.
+  -- A held monitor is of an existing object, and has a valid hold.
   pub held_is : (r : ℕ) (monitors : List (ℕ × Hold)) → AreMonitors heap threads monitors → IfSome (monitor_at monitors r) (λ h. IsReference heap r × IsHold threads r h)
   held_is r [] are = tt
   held_is r (m ∷ monitors) are =
@@ -60,7 +60,7 @@ module _ (heap : List Object) (threads : List Thread) where
       (λ same. let is = eqb-true m.0 r same in (subst (IsReference heap) is are.0, subst (λ q. IsHold threads q m.1) is are.1))
       (λ _. held_is r monitors are.3)
 
-  -- That of a reference behind all objects is free.
+  -- The monitor of a reference after all objects is free.
   pub new_is_free : (r : ℕ) (monitors : List (ℕ × Hold)) → length heap < r → AreMonitors heap threads monitors → monitor_at monitors r ≡ None
   new_is_free r [] behind are = refl
   new_is_free r (m ∷ monitors) behind are =
@@ -76,7 +76,7 @@ module _ (heap : List Object) (threads : List Thread) where
   entered_by t r (Some h) monitors e given_out awake reference room held are =
       rw (← e) (with_hold_are r (record { owner = h.owner; count = h.count + 1 }) monitors reference (held.1.0, omega arith, room, held.1.3) are)
 
-  -- A thread that was given out, and doesn't wait for the object, enters a monitor whose entries can be counted.
+  -- A started thread that doesn't wait for the object enters a monitor whose entries can be counted.
   pub entered_are : (t r : ℕ) (monitors : List (ℕ × Hold)) → t < length threads → waits_for r (slice_get threads t) ≡ false → IsReference heap r → IfSome (monitor_at monitors r) (λ h. h.count + 1 < 2 ^ 32) → AreMonitors heap threads monitors → AreMonitors heap threads (entered_monitor t r monitors)
   entered_are t r monitors given_out awake reference room are =
       entered_by t r (monitor_at monitors r) monitors refl given_out awake reference room (held_is r monitors are) are

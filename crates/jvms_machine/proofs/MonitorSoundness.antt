@@ -1,4 +1,4 @@
--- A turn of monitorenter or monitorexit leaves a sound state sound.
+-- A turn of `monitorenter` or `monitorexit` keeps a sound state sound.
 use Rattle.std.proofs.Common.{◌≡◌, ℕ, ◌≤◌, List, [], ◌∷◌, length, Option, Some, None, refl, sym}
 use Rattle.jvms_machine.specs.declared.value.Value.{Value}
 use Rattle.jvms_machine.specs.declared.machine.Limits.{Limits}

@@ -1,4 +1,4 @@
--- A turn that calls a native method of a built-in class leaves a sound state sound. What it prints is among the operands of
+-- A turn that calls a native method of a built-in class keeps a sound state sound. The printed value is an operand of
 -- its call.
 use Rattle.std.proofs.Common.{◌≡◌, ℕ, ◌≤◌, Bool, true, ◌&&◌, nat_lt, List, ◌∷◌, ◌++◌, length, Option, None, Some, slice_get, codes, refl, arith}
 use Rattle.std.specs.List.{AllByRecursion}
@@ -68,7 +68,7 @@ module _ (program : List Class) (limits : Limits) (start : Start) (s : State) (t
 
   -- ---- The methods of Thread
 
-  -- What touches no more than the operand that it takes.
+  -- The reference exists, and there is an operand to remove.
   abbrev IsReferenceThere : ℕ → Type 0
   IsReferenceThere r = IsReference s.heap r × (1 ≤ length frame.activation.operands)
 
@@ -109,7 +109,7 @@ module _ (program : List Class) (limits : Limits) (start : Start) (s : State) (t
       (λ _. join_keeps (thread_of s.threads r) (there (omega arith)))
   thread_native_keeps m _ values there = still t stands.sound
 
-  -- A native method that takes so many operands.
+  -- A native method that takes operands.
   pub native_keeps : IsAtInvoke (stack_frame.Call frame ∷ below) → IsQuiet thread → (takes : ℕ) (m : Method) (o : Option Class) → takes ≤ length frame.activation.operands → KeepsSound (native_of_class limits s t thread frame.activation takes m o)
   native_keeps at_invoke quiet takes m None there = still t stands.sound
   native_keeps at_invoke quiet takes m (Some c) there =

@@ -1,5 +1,4 @@
--- A sound state stays sound with a value stored in a field of an object or a class, or in an element of an array, and with
--- a longer output.
+-- A sound state stays sound with a value stored in a field or in an array's element, and with a longer output.
 use Rattle.std.proofs.Common.{◌≡◌, ℕ, zero, suc, ◌-◌, ◌≤◌, List, Option, None, Some, slice_set, length-set, refl, sym, subst, arith}
 use Rattle.std.proofs.lemmas.Option.{none-some}
 use Rattle.jvms_machine.specs.declared.value.Value.{Value}
@@ -16,7 +15,7 @@ use Rattle.jvms_machine.proofs.StoredValues.{object_is, keys_stay, values_stay, 
 module _ {program : List Class} {limits : Limits} {s : State} (sound : Sound program limits s) where
   -- ---- An object that changes
 
-  -- The object at a place of the heap has become another.
+  -- The object at an index of the heap has its later form.
   written_is_sound : (i : ℕ) (was now : Object) → object_at s.heap (suc i) ≡ Some was → Becomes was now → IsObject program s.heap now → Sound program limits (record s { heap = slice_set s.heap i now })
   written_is_sound i was now at becomes is =
       let after = slice_set s.heap i now in
@@ -38,7 +37,7 @@ module _ {program : List Class} {limits : Limits} {s : State} (sound : Sound pro
   pub changed_object_is_sound : (r : ℕ) (change : Object → Object) → ((was : Object) → Becomes was (change was)) → ((was : Object) → IsObject program s.heap was → IsObject program s.heap (change was)) → Sound program limits (with_changed_object s r change)
   changed_object_is_sound r change becomes stays = changed_by r change (object_at s.heap r) refl becomes stays
 
-  -- ---- A value that is stored
+  -- ---- A stored value
 
   pub put_field_is_sound : (r : ℕ) (v : Value) (o : Option FieldKey) → IsValue s.heap v → Sound program limits (put_field s r v o)
   put_field_is_sound r v None is = sound
@@ -53,7 +52,7 @@ module _ {program : List Class} {limits : Limits} {s : State} (sound : Sound pro
       grown_is_sound sound s.heap (with_value key v s.statics) s.elements s.output (grows_not s.heap) sound.objects_are
       (keys_stay key v s.statics) (values_stay s.heap key v s.statics is sound.static_values) sound.objects sound.elements
 
-  -- ---- What is printed
+  -- ---- The output
 
   pub printed_is_sound : (output : List ℕ) → Sound program limits (record s { output = output })
   printed_is_sound output =

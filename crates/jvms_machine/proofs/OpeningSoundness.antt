@@ -23,7 +23,7 @@ use Rattle.jvms_machine.specs.Opening.{opening_heap, is_system_out, opening_stat
 use Rattle.jvms_machine.proofs.ListLaws.{all_map, all_map_weaker, all_flat_map}
 use Rattle.jvms_machine.proofs.LimitLaws.{limits_have_room}
 
--- The value that a field of an element's type begins with is a value in any heap.
+-- The default value of a field of an element's type is a value in any heap.
 element_default_is_value : (heap : List Object) (e : Element) → IsValue heap (default_of_element e)
 element_default_is_value heap (element.Object name) = tt
 element_default_is_value heap (element.Primitive primitive.Float) = tt
@@ -31,7 +31,7 @@ element_default_is_value heap (element.Primitive primitive.Double) = tt
 element_default_is_value heap (element.Primitive primitive.Long) = tt
 element_default_is_value heap (element.Primitive _) = tt
 
--- The value that any field begins with is a value in any heap.
+-- The default value of any field is a value in any heap.
 pub default_is_value : (heap : List Object) (t : FieldType) → IsValue heap (default_value t)
 default_is_value heap t = cond_both (t.dimensions == 0) _ _ (IsValue heap) (λ _. element_default_is_value heap t.element) (λ _. tt)
 
@@ -39,16 +39,16 @@ default_is_value heap t = cond_both (t.dimensions == 0) _ _ (IsValue heap) (λ _
 abbrev HasValue : List Object → FieldKey × Value → Type 0
 HasValue heap f = IsValue heap f.1
 
--- The fields of a class that pass a test begin with values.
+-- The fields of a class that pass a test have values at first.
 fields_have_values : (heap : List Object) (test : Field → Bool) (c : Class) → AllByRecursion (HasValue heap) (fields_where test c)
 fields_have_values heap test c =
     all_map (HasValue heap) (λ f. (field_key c f, default_value f.field_type)) (λ f. default_is_value heap f.field_type) (filter test c.fields)
 
--- So do those of several classes.
+-- The fields of several classes that pass a test have values at first.
 all_fields_have_values : (heap : List Object) (test : Field → Bool) (classes : List Class) → AllByRecursion (HasValue heap) (flat_map (fields_where test) classes)
 all_fields_have_values heap test classes = all_flat_map (HasValue heap) (fields_where test) (fields_have_values heap test) classes
 
--- An object that is made has its class's fields, and values in them.
+-- A new object has its class's fields, with values.
 pub first_instance_is : (program : List Class) (heap : List Object) (class : List ℕ) → IsObject program heap (first_instance program class)
 first_instance_is program heap class = (refl, all_fields_have_values heap (λ f. not f.is_static) (reverse (chain program class)))
 
@@ -57,7 +57,7 @@ opening_keys : (fields : List (FieldKey × Value)) → keys (map opening_static 
 opening_keys [] = refl
 opening_keys (f ∷ fields) = ap (λ (ks : List FieldKey). f.0 ∷ ks) (opening_keys fields)
 
--- A static field of the opening holds a value: reference 3, or its first value.
+-- A static field of the opening has a value: reference 3, or its default value.
 opening_static_has_value : (program : List Class) (f : FieldKey × Value) → HasValue (opening_heap program) f → HasValue (opening_heap program) (opening_static f)
 opening_static_has_value program f is = cond_both (is_system_out f.0) (value.Reference 3) f.1 (IsValue (opening_heap program)) (λ _. (omega arith, omega arith)) (λ _. is)
 

@@ -1,4 +1,4 @@
--- Values that are put, stored, loaded and taken, with their places.
+-- Values that are pushed, stored, loaded and removed, with their slots.
 use Rattle.std.proofs.Common.{◌≡◌, ℕ, ◌+◌, ◌-◌, ◌≤◌, ◌==◌, ◌&&◌, Bool, true, false, if◌then◌else◌, List, [], ◌∷◌, length, Option, Some, None, IfSome, slice_get, slice_set, unwrap_or, refl, ◌∙◌, arith, length-set}
 use Rattle.std.specs.List.{AllByRecursion}
 use Rattle.std.proofs.lemmas.Bool.{cond_both}
@@ -17,7 +17,7 @@ use Rattle.jvms_machine.specs.Locals.{storable_value, whole_local}
 use Rattle.jvms_machine.specs.Places.{is_of_kind, kind_of_element, kind_of_type, kind_size, of_kind, put_on, top_value, value_size, whole_top}
 use Rattle.jvms_machine.proofs.ListLaws.{all_set}
 
--- ---- Values that are put on operands
+-- ---- Pushed values
 
 pub put_length : (v : Value) (operands : List Value) → length (put_on v operands) ≡ length operands + value_size v
 put_length (value.Long n) operands = omega arith
@@ -37,7 +37,7 @@ put_values heap (value.Reference r) operands is values = (is, values)
 put_values heap (value.ReturnAddress i) operands is values = (tt, values)
 put_values heap value.Unset operands is values = (tt, values)
 
--- ---- Values that are stored in local variables
+-- ---- Values stored in local variables
 
 other_length : (locals : List Value) (n : ℕ) (v : Value) → length (without_other_place locals n v) ≡ length locals
 other_length locals n (value.Long m) = length-set locals (n + 1) value.Unset
@@ -97,9 +97,9 @@ module _ (heap : List Object) where
   stored_values locals n (value.ReturnAddress i) is are = one_value locals n (value.ReturnAddress i) is are
   stored_values locals n value.Unset is are = one_value locals n value.Unset is are
 
-  -- ---- Values that are taken
+  -- ---- Removed values
 
-  -- What is whole is a value that takes the places of its kind.
+  -- A whole value has the size of its kind.
   abbrev pub IsWhole : Kind → Option Value → Type 0
   IsWhole k o = IfSome o (λ v. IsValue heap v × (value_size v ≡ kind_size k))
 
@@ -128,7 +128,7 @@ module _ (heap : List Object) where
   pub top_is_whole : (k : Kind) (operands : List Value) → AreValues operands → IsWhole k (top_value k operands)
   top_is_whole k operands values = whole_of_kind k (whole_top operands) (whole_top_is_value operands values)
 
-  -- And of the kind.
+  -- A whole value is of its kind.
   kind_of_whole : (k : Kind) (o : Option Value) → IfSome o (IsValue heap) → IfSome (of_kind k o) (λ v. IsValue heap v × (is_of_kind k v ≡ true))
   kind_of_whole k None is = tt
   kind_of_whole k (Some v) is =
@@ -156,7 +156,7 @@ module _ (heap : List Object) where
 
 -- ---- Sizes
 
--- A value of any kind takes a place at least.
+-- A value of any kind takes at least one slot.
 pub kind_is_some : (k : Kind) → 1 ≤ kind_size k
 kind_is_some kind.Int = omega arith
 kind_is_some kind.Long = omega arith
@@ -175,7 +175,7 @@ element_units (element.Primitive primitive.Long) = refl
 element_units (element.Primitive primitive.Short) = refl
 element_units (element.Primitive primitive.Boolean) = refl
 
--- The values of a type take as many places as it counts units.
+-- The values of a type have the number of slots that the descriptor counts.
 by_dimensions : (dimensions : ℕ) (e : Element) (b : Bool) → (dimensions == 0) ≡ b → kind_size (if b then kind_of_element e else kind.Reference) ≡ (if b && is_wide e then 2 else 1)
 by_dimensions dimensions e true is = element_units e
 by_dimensions dimensions e false is = refl

@@ -1,4 +1,4 @@
--- The turn of a thread that waits leaves a sound state sound.
+-- The turn of a waiting thread keeps a sound state sound.
 use Rattle.std.proofs.Common.{◌≡◌, ℕ, ◌≤◌, false, List, [], ◌∷◌, Option, Some, None, IfSome, slice_get, slice_set, refl, sym, ap, ◌∙◌, subst, arith, length-set}
 use Rattle.std.specs.List.{AllByRecursion}
 use Rattle.std.proofs.lemmas.Bool.{cond_both}
@@ -12,7 +12,7 @@ use Rattle.jvms_program.specs.declared.program.Class.{Class}
 use Rattle.jvms_machine.specs.Decisions.{TurnDecision}
 use Rattle.jvms_machine.specs.State.{State, Object, Thread, Frame, monitor_at, waits_for, IsAtInvoke, IsFrame, IsThread, IsWait, Sound}
 use Rattle.jvms_machine.specs.Start.{Start}
-use Rattle.jvms_machine.specs.Actions.{caller_gone_on, changed_to, waited, with_changed, with_retaken, applied_to, items_of}
+use Rattle.jvms_machine.specs.Actions.{stack_after_return, changed_to, waited, with_changed, with_retaken, applied_to, items_of}
 use Rattle.jvms_machine.specs.Marks.{calls_in, calls_of}
 use Rattle.jvms_machine.specs.Waiting.{is_waiter, retaking, waiting_decision}
 use Rattle.jvms_machine.proofs.ListLaws.{all_at, all_set, get_set_same}
@@ -24,8 +24,8 @@ use Rattle.jvms_machine.proofs.WaiterLaws.{notified_is_other, others_wait, woken
 use Rattle.jvms_machine.proofs.KeptStates.{Keeps, still}
 use Rattle.jvms_machine.proofs.ReturnSoundness.{returned_count, returned_frames, returned_length, returned_stack}
 
--- The frames of a call that is done are frames.
-gone_on_frames : (program : List Class) (heap : List Object) (frames : List Frame) → IsAtInvoke frames → AllByRecursion (IsFrame program heap) frames → AllByRecursion (IsFrame program heap) (caller_gone_on None frames)
+-- The frames of a completed call are frames.
+gone_on_frames : (program : List Class) (heap : List Object) (frames : List Frame) → IsAtInvoke frames → AllByRecursion (IsFrame program heap) frames → AllByRecursion (IsFrame program heap) (stack_after_return None frames)
 gone_on_frames program heap [] at_invoke all = absurd at_invoke
 gone_on_frames program heap (f ∷ below) at_invoke all = returned_frames program heap None f below tt tt all
 

@@ -1,5 +1,5 @@
--- A turn of a return leaves a sound state sound: the thread ends, or its caller goes on with the result, for which it has
--- room.
+-- A turn of a return keeps a sound state sound. The thread ends, or its caller continues with the result, for which it
+-- has room.
 use Rattle.std.proofs.Common.{◌≡◌, ℕ, ◌+◌, ◌≤◌, true, ◌==◌, nat_le, List, [], ◌∷◌, length, drop, Option, Some, None, IfSome, slice_get, count_by, refl, sym, ap, ◌∙◌, subst, arith}
 use Rattle.std.specs.List.{AllByRecursion}
 use Rattle.std.proofs.lemmas.Bool.{cond_both}
@@ -21,12 +21,12 @@ use Rattle.jvms_program.specs.declared.program.Class.{Class}
 use Rattle.jvms_program.specs.declared.program.Method.{Method}
 use Rattle.jvms_program.specs.Program.{method_at}
 use Rattle.jvms_machine.specs.Decisions.{TurnDecision}
-use Rattle.jvms_machine.specs.State.{State, Object, Thread, Frame, MethodFrame, IsValue, IsFrame, IsStack, IsWait, StandsOn, result_length, is_initialisation_of, Sound}
+use Rattle.jvms_machine.specs.State.{State, Object, Thread, Frame, MethodFrame, IsValue, IsFrame, IsStack, IsWait, IsDirectlyAbove, result_length, is_initialisation_of, Sound}
 use Rattle.jvms_machine.specs.Start.{Start}
 use Rattle.jvms_machine.specs.Locals.{is_profile_kind}
 use Rattle.jvms_machine.specs.Places.{kind_of_type, kind_size, top_value, value_size}
 use Rattle.jvms_machine.specs.Returns.{gives_kind, gives_nothing, method_return_decision, return_decision, return_top_decision, return_value_decision, returned_decision, returns_to, same_kind}
-use Rattle.jvms_machine.specs.Actions.{with_unlock, changed_to, ended, with_returned, returned_to, caller_gone_on, returned, with_changed, applied_to, items_of}
+use Rattle.jvms_machine.specs.Actions.{with_unlock, changed_to, ended, with_returned, frame_after_return, stack_after_return, returned, with_changed, applied_to, items_of}
 use Rattle.jvms_machine.specs.Marks.{calls, calls_in, calls_of}
 use Rattle.jvms_machine.specs.Turn.{HasRoomFor}
 use Rattle.jvms_machine.proofs.InitialisationOrder.{order_with_thread, count_call}
@@ -37,9 +37,9 @@ use Rattle.jvms_machine.proofs.LockSoundness.{stands_with_unlock, unlocked_heap}
 use Rattle.jvms_machine.proofs.UnlockSoundness.{unlocking_keeps}
 use Rattle.jvms_machine.proofs.PlaceLaws.{IsWhole, put_length, put_values, top_is_whole, type_units}
 
--- ---- The caller of a call that returns
+-- ---- The caller of a returning call
 
--- A result takes the places of one that a method of this type gives.
+-- A result has the size of the method's result type.
 abbrev IsResultOf : ResultType → Option Value → Type 0
 IsResultOf type None = Unit {0}
 IsResultOf type (Some v) = result_length type ≡ value_size v
@@ -56,8 +56,8 @@ gives_size : (type : ResultType) (k : Kind) → gives_kind type k ≡ true → r
 gives_size result_type.Void k gives = absurd (cc)
 gives_size (result_type.Value t) k gives = sym (type_units t) ∙ same_size (kind_of_type t) k gives
 
--- The caller has room for it.
-has_room_for_result : (program : List Class) (frame : MethodFrame) (m : Method) (result : Option Value) (f : Frame) (below : List Frame) → method_at program frame.method ≡ Some m → IsResultOf m.method_type.result result → StandsOn program (stack_frame.Call frame) f → HasRoomFor result (f ∷ below)
+-- The caller has room for the result.
+has_room_for_result : (program : List Class) (frame : MethodFrame) (m : Method) (result : Option Value) (f : Frame) (below : List Frame) → method_at program frame.method ≡ Some m → IsResultOf m.method_type.result result → IsDirectlyAbove program (stack_frame.Call frame) f → HasRoomFor result (f ∷ below)
 has_room_for_result program frame m None f below m_is gives on = tt
 has_room_for_result program frame m (Some v) (stack_frame.Initialisation class called) below m_is gives on = tt
 has_room_for_result program frame m (Some v) (stack_frame.Call lower) below m_is gives on =
@@ -66,33 +66,33 @@ has_room_for_result program frame m (Some v) (stack_frame.Call lower) below m_is
     let room : length lower.activation.operands + result_length on.0.method_type.result ≤ lower.body.max_stack = on.2.3 in
     omega arith
 
--- The caller with the result on top of its operands is a frame.
+-- The caller with the result as its topmost operand is a frame.
 returned_operands : (heap : List Object) (result : Option Value) (lower : MethodFrame) (below : List Frame) → HasRoomFor result (stack_frame.Call lower ∷ below) → length lower.activation.operands ≤ lower.body.max_stack → IfSome result (IsValue heap) → AllByRecursion (IsValue heap) lower.activation.operands → (length (with_returned result lower.activation.operands) ≤ lower.body.max_stack) × AllByRecursion (IsValue heap) (with_returned result lower.activation.operands)
 returned_operands heap None lower below room few is values = (few, values)
 returned_operands heap (Some v) lower below room few is values =
     (subst (λ n. n ≤ lower.body.max_stack) (sym (put_length v lower.activation.operands)) room, put_values heap v lower.activation.operands is values)
 
-pub returned_frames : (program : List Class) (heap : List Object) (result : Option Value) (f : Frame) (below : List Frame) → HasRoomFor result (f ∷ below) → IfSome result (IsValue heap) → AllByRecursion (IsFrame program heap) (f ∷ below) → AllByRecursion (IsFrame program heap) (caller_gone_on result (f ∷ below))
+pub returned_frames : (program : List Class) (heap : List Object) (result : Option Value) (f : Frame) (below : List Frame) → HasRoomFor result (f ∷ below) → IfSome result (IsValue heap) → AllByRecursion (IsFrame program heap) (f ∷ below) → AllByRecursion (IsFrame program heap) (stack_after_return result (f ∷ below))
 returned_frames program heap result (stack_frame.Initialisation class called) below room is all = all
 returned_frames program heap result (stack_frame.Call lower) below room is all =
     let operands = returned_operands heap result lower below room all.0.1.1 is all.0.3 in
     ((all.0.0, (all.0.1.0, operands.0), all.0.2, operands.1, all.0.4, all.0.5), all.1)
 
--- It stands where it stood.
-pub returned_stack : (program : List Class) (result : Option Value) (frames : List Frame) → IsStack program frames → IsStack program (caller_gone_on result frames)
+-- The stack stays a stack when the caller continues.
+pub returned_stack : (program : List Class) (result : Option Value) (frames : List Frame) → IsStack program frames → IsStack program (stack_after_return result frames)
 returned_stack program result [] stack = stack
 returned_stack program result (stack_frame.Initialisation class called ∷ below) stack = stack
-returned_stack program result (stack_frame.Call lower ∷ below) stack = stack_goes_on program lower (returned_to result lower).activation below stack
+returned_stack program result (stack_frame.Call lower ∷ below) stack = stack_goes_on program lower (frame_after_return result lower).activation below stack
 
-pub returned_length : (result : Option Value) (frames : List Frame) → length (caller_gone_on result frames) ≡ length frames
+pub returned_length : (result : Option Value) (frames : List Frame) → length (stack_after_return result frames) ≡ length frames
 returned_length result [] = refl
 returned_length result (stack_frame.Initialisation class called ∷ below) = refl
 returned_length result (stack_frame.Call lower ∷ below) = refl
 
-pub returned_count : (result : Option Value) (c : ℕ) (frames : List Frame) → count_by (is_initialisation_of c) (caller_gone_on result frames) ≡ count_by (is_initialisation_of c) frames
+pub returned_count : (result : Option Value) (c : ℕ) (frames : List Frame) → count_by (is_initialisation_of c) (stack_after_return result frames) ≡ count_by (is_initialisation_of c) frames
 returned_count result c [] = refl
 returned_count result c (stack_frame.Initialisation class called ∷ below) = refl
-returned_count result c (stack_frame.Call lower ∷ below) = count_call c (returned_to result lower) below ∙ sym (count_call c lower below)
+returned_count result c (stack_frame.Call lower ∷ below) = count_call c (frame_after_return result lower) below ∙ sym (count_call c lower below)
 
 -- ---- The turn
 
@@ -128,7 +128,7 @@ module _ (program : List Class) (limits : Limits) (start : Start) (s : State) (t
         (λ _. is_left),
       )
 
-  -- The caller goes on.
+  -- The caller continues.
   returns_keeps : (frame : MethodFrame) (f : Frame) (below : List Frame) (result : Option Value) → HasFrames (stack_frame.Call frame ∷ f ∷ below) → IfSome result (IsValue s.heap) → HasRoomFor result (f ∷ below) → (unlock : Option MonitorUse) → IfSome unlock (IsLeft s) → KeepsSound (decision.Makes (action.Returns frame.method result unlock))
   unfolding applied_to items_of
   returns_keeps frame f below result stands result_is room unlock is_left =
@@ -136,8 +136,8 @@ module _ (program : List Class) (limits : Limits) (start : Start) (s : State) (t
       let there = stands_with_unlock stands unlock in
       let result_there : IfSome result (IsValue made.heap) = subst (λ heap. IfSome result (IsValue heap)) (sym (unlocked_heap s unlock)) result_is in
       let frames = frames_are_stack there in
-      let now = caller_gone_on result (f ∷ below) in
-      let are : (returned result thread).frames ≡ now = ap (λ (fs : List Frame). caller_gone_on result (drop 1 fs)) stands.frames_are in
+      let now = stack_after_return result (f ∷ below) in
+      let are : (returned result thread).frames ≡ now = ap (λ (fs : List Frame). stack_after_return result (drop 1 fs)) stands.frames_are in
       let as_many : length now ≡ length (f ∷ below) = returned_length result (f ∷ below) in
       let few = frames.2 in (
         (λ _. moved_is_sound there (returned result) now are refl (refl, refl)

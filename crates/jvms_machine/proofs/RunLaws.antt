@@ -5,7 +5,7 @@ use Rattle.jvms_program.specs.declared.program.Class.{Class}
 use Rattle.jvms_machine.specs.declared.machine.Limits.{Limits}
 use Rattle.jvms_machine.specs.Start.{Start}
 use Rattle.jvms_machine.specs.State.{State}
-use Rattle.jvms_machine.specs.Turn.{Row, turn}
+use Rattle.jvms_machine.specs.Turn.{Transition, turn}
 use Rattle.jvms_machine.specs.Run.{RunResult, before, joined, run_from}
 
 pub run_append : (program : List Class) (limits : Limits) (start : Start) (s : State) (xs ys : List ℕ)
@@ -19,11 +19,11 @@ run_append program limits start s (x ∷ xs) ys =
     ap (before row) (run_append program limits start row.state xs ys)
     ∙ ap (λ items. record { outcomes = row.outcome ∷ r.outcomes ++ q.outcomes; state = q.state; items = items }) (sym (append_assoc row.items r.items q.items))
 
--- The result of one row.
-abbrev pub of_row : Row → RunResult
+-- Returns the result of one transition.
+abbrev pub of_row : Transition → RunResult
 of_row row = record { outcomes = row.outcome ∷ []; state = row.state; items = row.items }
 
--- A run of one choice more.
+-- A run of one more choice.
 pub run_next : (program : List Class) (limits : Limits) (start : Start) (s : State) (xs : List ℕ) (t : ℕ)
     → run_from program limits start s (xs ++ t ∷ []) ≡ joined (run_from program limits start s xs) (of_row (turn program limits start (run_from program limits start s xs).state t))
 unfolding run_from

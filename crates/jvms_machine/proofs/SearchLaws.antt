@@ -1,11 +1,11 @@
--- What a search of a list finds.
+-- The results of searches of a list.
 use Rattle.std.proofs.Common.{◌≡◌, ℕ, zero, suc, ◌+◌, Bool, true, false, cond, nat_lt, List, [], ◌∷◌, length, Some, None, slice_get, refl, sym, ap, ◌∙◌, subst}
 use Rattle.std.specs.List.{AllByRecursion, find, position, position_from, position_or_len}
 use Rattle.std.proofs.lemmas.List.Folds.{find_at}
 use Rattle.std.proofs.lemmas.Iterator.Adapters.{position_from-zero}
 use Rattle.std.proofs.lemmas.Option.{same_Some, none-some, cond_some}
 
--- What is found passes the test.
+-- A found element passes the test.
 passes_by : {X : Type 0} (test : X → Bool) (b : Bool) (y x : X) (xs : List X) → b ≡ test y → (find test xs ≡ Some x → test x ≡ true) → cond b (Some y) (find test xs) ≡ Some x → test x ≡ true
 passes_by test true y x xs e more is = subst (λ z. test z ≡ true) (same_Some y x is) (sym e)
 passes_by test false y x xs e more is = more is
@@ -14,13 +14,13 @@ pub find_passes : {X : Type 0} (test : X → Bool) (xs : List X) (x : X) → fin
 find_passes test [] x is = absurd (none-some x is)
 find_passes test (y ∷ xs) x is = passes_by test (test y) y x xs refl (find_passes test xs x) is
 
--- At the place of a search stands what it finds.
+-- The index that a search returns is that of the element found.
 pub position_leads : {X : Type 0} (test : X → Bool) (xs : List X) (n : ℕ) → position test xs ≡ Some n → slice_get xs n ≡ find test xs
 position_leads test xs n is =
     let same = cond_some (nat_lt (position_or_len test xs) (length xs)) (position_or_len test xs) n is in
     ap (slice_get xs) (sym same.1) ∙ sym (find_at test xs)
 
--- What is found stands at a place.
+-- A found element is at an index.
 place_by : {X : Type 0} (test : X → Bool) (b : Bool) (y x : X) (xs : List X) → (find test xs ≡ Some x → (i : ℕ) × (slice_get xs i ≡ Some x)) → cond b (Some y) (find test xs) ≡ Some x → (i : ℕ) × (slice_get (y ∷ xs) i ≡ Some x)
 place_by test true y x xs more is = (zero, is)
 place_by test false y x xs more is = let place = more is in (suc place.0, place.1)
@@ -29,7 +29,7 @@ pub found_at : {X : Type 0} (test : X → Bool) (xs : List X) (x : X) → find t
 found_at test [] x is = absurd (none-some x is)
 found_at test (y ∷ xs) x is = place_by test (test y) y x xs (found_at test xs x) is
 
--- Where none is found, none passes.
+-- If none is found, none passes.
 none_by : {X : Type 0} (test : X → Bool) (b : Bool) (i : ℕ) (x : X) (xs : List X) → test x ≡ b → (position_from test (i + 1) xs ≡ None → AllByRecursion (λ y. test y ≡ false) xs) → cond b (Some i) (position_from test (i + 1) xs) ≡ None → (test x ≡ false) × AllByRecursion (λ y. test y ≡ false) xs
 none_by test true i x xs e more none = absurd (none-some i (sym none))
 none_by test false i x xs e more none = (e, more none)

@@ -1,4 +1,4 @@
--- A sound state stays sound where a thread is started of an object that is no other's.
+-- A sound state stays sound when a thread is started of an object that no other thread has.
 use Rattle.std.proofs.Common.{◌≡◌, ℕ, zero, suc, ◌+◌, ◌<◌, false, List, [], ◌∷◌, ◌++◌, length, Option, Some, None, IfSome, slice_get, refl, ◌∙◌, arith, length-append}
 use Rattle.std.specs.List.{AllByRecursion}
 use Rattle.std.proofs.lemmas.Option.{none-some}
@@ -8,12 +8,12 @@ use Rattle.jvms_machine.specs.State.{State, Thread, new_thread, same_object, ini
 use Rattle.jvms_machine.proofs.ListLaws.{all_append}
 use Rattle.jvms_machine.proofs.ThreadChanges.{WaitAlike, monitors_among, waiters_among}
 
--- What the first of more threads is, it is of these, if there is one.
+-- A property of the first thread is kept when threads are appended.
 first_stays : (threads more : List Thread) (t : ℕ) (thread : Thread) → slice_get threads t ≡ Some thread → IfSome (slice_get threads 0) (λ u. u.object ≡ None) → IfSome (slice_get (threads ++ more) 0) (λ u. u.object ≡ None)
 first_stays [] more t thread at none = absurd (none-some thread at)
 first_stays (u ∷ us) more t thread at none = none
 
--- No thread is of an object that none is found of.
+-- No thread has an object for which none is found.
 none_is : (r : ℕ) (threads : List Thread) → AllByRecursion (λ u. same_object u.object (Some r) ≡ false) threads → (own : HaveOwnObjects threads) → HaveOwnObjects (threads ++ new_thread (Some r) ∷ [])
 none_is r [] apart own = (tt, tt)
 none_is r (u ∷ us) apart own =
@@ -26,7 +26,7 @@ new_frames [] object (suc u) class = refl
 new_frames (v ∷ vs) object zero class = refl
 new_frames (v ∷ vs) object (suc u) class = new_frames vs object u class
 
--- It doesn't wait.
+-- A new thread doesn't wait.
 new_waits : (threads : List Thread) (object : Option ℕ) → WaitAlike threads (threads ++ new_thread object ∷ [])
 new_waits [] object zero r = refl
 new_waits [] object (suc u) r = refl

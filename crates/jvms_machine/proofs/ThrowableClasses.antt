@@ -1,4 +1,5 @@
--- Each class of an exception that the machine throws fits java/lang/Throwable, in any program with the built-in classes.
+-- Each class of an exception that the machine throws fits java/lang/Throwable, in any program with the built-in
+-- classes.
 use Rattle.std.proofs.Common.{List, ◌++◌, IsTrue, codes, refl, sym, subst}
 use Rattle.jvms_program.specs.declared.program.Class.{Class}
 use Rattle.jvms_program.specs.declared.thrown.Thrown.{Thrown}
@@ -8,7 +9,7 @@ use Rattle.jvms_program.specs.Program.{IsProgram}
 use Rattle.jvms_program.specs.Resolution.{ancestry_within, fits}
 use Rattle.jvms_machine.specs.Exceptions.{thrown_class}
 
--- By computing: the built-in classes are found before any other.
+-- The proof is by computation: the built-in classes are found before any other.
 above_throwable : (own : List Class) (class : Thrown) → IsTrue (fits (built_in_classes ++ own) (thrown_class class) (codes "java/lang/Throwable"))
 unfolding built_in_classes ancestry_within fits thrown_class
 above_throwable own thrown.ArithmeticException = refl

@@ -1,4 +1,4 @@
--- A turn of any thread leaves a sound state sound, and what it makes is ready to be made.
+-- A turn of any thread keeps a sound state sound, and its action can be applied.
 use Rattle.std.proofs.Common.{◌≡◌, ℕ, Bool, true, false, List, [], ◌∷◌, Option, Some, None, IfSome, IsTrue, slice_get, refl, sym, ap, ◌∙◌, subst}
 use Rattle.std.specs.List.{filter}
 use Rattle.jvms_machine.specs.declared.machine.Limits.{Limits}
@@ -21,9 +21,9 @@ use Rattle.jvms_machine.specs.State.{State, Thread, status_by, Frame, MethodFram
 use Rattle.jvms_machine.specs.Start.{Start, IsStart}
 use Rattle.jvms_machine.specs.Limits.{are_limits}
 use Rattle.jvms_machine.specs.Steps.{frame_decision, instruction_at, step_at, top_step}
-use Rattle.jvms_machine.specs.Actions.{gone_on, applied_to, items_of}
+use Rattle.jvms_machine.specs.Actions.{thread_after_action, applied_to, items_of}
 use Rattle.jvms_machine.specs.Marks.{calls_in, calls_of, is_mark, marks_between}
-use Rattle.jvms_machine.specs.Turn.{IsReadyToMake, reaching_decision, instruction_decision, frame_turn_decision, frames_decision, given_out_decision, thread_decision, decide, turn}
+use Rattle.jvms_machine.specs.Turn.{IsReadyToMake, reaching_decision, instruction_decision, frame_turn_decision, frames_decision, started_decision, thread_decision, decide, turn}
 use Rattle.jvms_machine.proofs.FrameSoundness.{frame_decision_keeps}
 use Rattle.jvms_machine.proofs.FrameSoundness as frame_soundness
 use Rattle.jvms_machine.proofs.MarkLaws.{unmarked_by, changed_calls, gone_on_calls}
@@ -31,7 +31,7 @@ use Rattle.jvms_machine.proofs.ListLaws.{all_at}
 use Rattle.jvms_machine.proofs.ThreadChanges.{IsQuiet, Stands}
 use Rattle.jvms_machine.proofs.RetakeSoundness.{waiting_keeps}
 use Rattle.jvms_machine.proofs.KeptStates.{Keeps, still}
-use Rattle.jvms_machine.proofs.EventLaws.{IsTold, decision_is_told}
+use Rattle.jvms_machine.proofs.EventLaws.{HasEventsOf, decision_is_told}
 use Rattle.jvms_machine.proofs.ExceptionSoundness.{throws_keeps}
 use Rattle.jvms_machine.proofs.InitializerSoundness.{initialisation_keeps}
 use Rattle.jvms_machine.proofs.CallSoundness.{first_call_keeps, invoke_keeps}
@@ -53,17 +53,17 @@ module _ (program : List Class) (limits : Limits) (start : Start) (s : State) (t
 
     -- ---- Instructions
 
-    -- The call on top goes on.
+    -- The top call continues.
     goes_keeps : (frame : MethodFrame) (below : List Frame) (act : FrameAction) → HasFrames (stack_frame.Call frame ∷ below) → top_step thread.frames ≡ frame_decided.Does act → frame_soundness.Keeps s.heap frame.body frame.activation (frame_decided.Does act) → KeepsSound (decision.Makes (action.Goes act))
     unfolding applied_to items_of
     goes_keeps frame below act stands does keeps = (
       (λ _. gone_on_is_sound frame below act stands keeps.0 keeps.1),
       (λ _ _. subst (λ o. IfSome o (λ (th : Thread). top_step th.frames ≡ frame_decided.Does act)) (sym stands.given_out) does),
-      unmarked_by program t (calls_of s t) _ (changed_calls s.threads t thread (gone_on act) stands.given_out ∙ gone_on_calls act thread.frames ∙ sym (ap calls_in stands.given_out)),
+      unmarked_by program t (calls_of s t) _ (changed_calls s.threads t thread (thread_after_action act) stands.given_out ∙ gone_on_calls act thread.frames ∙ sym (ap calls_in stands.given_out)),
       (λ _. tt),
     )
 
-    -- An instruction that touches more than its frame.
+    -- An instruction that reaches beyond its frame.
     reaching_keeps : (frame : MethodFrame) (below : List Frame) (i : Instruction) → HasFrames (stack_frame.Call frame ∷ below) → instruction_at frame ≡ Some i → IsQuiet thread → KeepsSound (reaching_decision program limits s t thread frame below i)
     unfolding reaching_decision
     reaching_keeps frame below (instruction.Simple (simple.Return how)) stands at quiet =
@@ -98,14 +98,14 @@ module _ (program : List Class) (limits : Limits) (start : Start) (s : State) (t
     stack_keeps (stack_frame.Initialisation class called ∷ below) starts stands quiet = initialisation_keeps program limits start s t thread class called below (slice_get program class) stands refl
     stack_keeps (stack_frame.Call frame ∷ below) starts stands quiet = frame_turn_keeps frame below (instruction_at frame) stands quiet refl
 
-    -- A thread that waits has nothing pending.
+    -- A thread with a pending exception doesn't wait.
     pub pending_is_awake : (exception : ℕ) (waits : Option Wait) → Sound program limits s → slice_get s.threads t ≡ Some thread → thread.pending ≡ Some exception → thread.waits ≡ waits → thread.waits ≡ None
     pending_is_awake exception None sound at pending is = is
     pending_is_awake exception (Some w) sound at pending is =
         let known = subst (λ o. IfSome o (IsWait s.heap thread)) is (all_at (IsThread program limits s.heap) s.threads t thread at sound.threads).5 in
         absurd (none-some exception (sym known.4 ∙ pending))
 
-    status_keeps : (ended : Bool) (pending : Option ℕ) (waits : Option Wait) → IsStart start → Sound program limits s → slice_get s.threads t ≡ Some thread → thread.ended ≡ ended → thread.pending ≡ pending → thread.waits ≡ waits → KeepsSound (given_out_decision program limits start s t thread (status_by ended pending waits))
+    status_keeps : (ended : Bool) (pending : Option ℕ) (waits : Option Wait) → IsStart start → Sound program limits s → slice_get s.threads t ≡ Some thread → thread.ended ≡ ended → thread.pending ≡ pending → thread.waits ≡ waits → KeepsSound (started_decision program limits start s t thread (status_by ended pending waits))
     status_keeps true pending waits starts sound at is_ended is_pending is_waiting = still t sound
     status_keeps false (Some exception) waits starts sound at is_ended is_pending is_waiting =
         unwinding_keeps program limits start s t thread exception
@@ -122,22 +122,22 @@ module _ (program : List Class) (limits : Limits) (start : Start) (s : State) (t
   unfolding decide
   decide_keeps starts sound = thread_keeps (slice_get s.threads t) starts sound refl
 
--- A turn of any thread leaves a sound state sound.
+-- A turn of any thread keeps a sound state sound.
 pub turn_keeps : (program : List Class) (limits : Limits) (start : Start) (s : State) (t : ℕ) → IsProgram program → IsTrue (are_limits limits) → IsStart start → Sound program limits s → Sound program limits (turn program limits start s t).state
 unfolding turn
 turn_keeps program limits start s t is are starts sound = (decide_keeps program limits start s t starts sound).0 is
 
--- What is decided in a sound state is ready to be made.
+-- A decision in a sound state can be applied.
 pub decided_is_ready : (program : List Class) (limits : Limits) (start : Start) (s : State) (t : ℕ) → IsProgram program → IsTrue (are_limits limits) → IsStart start → Sound program limits s → IsReadyToMake start s t (decide program limits start s t)
 decided_is_ready program limits start s t is are starts sound = (decide_keeps program limits start s t starts sound).1 is are
 
--- The marks of a turn are of the calls that come and go.
+-- The marks of a turn are those of pushed and popped calls.
 pub turn_marks : (program : List Class) (limits : Limits) (start : Start) (s : State) (t : ℕ) → IsTrue (are_limits limits) → IsStart start → Sound program limits s → filter is_mark (turn program limits start s t).items ≡ marks_between program t (calls_of s t) (calls_of (turn program limits start s t).state t)
 unfolding turn
 turn_marks program limits start s t are starts sound = (decide_keeps program limits start s t starts sound).2
 
--- Its events are those that its states tell.
-pub turn_is_told : (program : List Class) (limits : Limits) (start : Start) (s : State) (t : ℕ) → IsProgram program → IsTrue (are_limits limits) → IsStart start → Sound program limits s → IsTold t s (turn program limits start s t).state (turn program limits start s t).items
+-- The events of a turn are those that its states determine.
+pub turn_is_told : (program : List Class) (limits : Limits) (start : Start) (s : State) (t : ℕ) → IsProgram program → IsTrue (are_limits limits) → IsStart start → Sound program limits s → HasEventsOf t s (turn program limits start s t).state (turn program limits start s t).items
 unfolding turn
 turn_is_told program limits start s t is are starts sound =
     let keeps = decide_keeps program limits start s t starts sound in

@@ -1,4 +1,4 @@
--- A turn that pops a call leaves the call's monitor, or can't, and leaves a sound state sound.
+-- A turn that pops a call leaves the call's monitor, or can't, and keeps a sound state sound.
 use Rattle.std.proofs.Common.{◌≡◌, ℕ, Bool, List, ◌∷◌, Option, Some, None, IfSome, slice_get, drop, refl, sym, ap, ◌∙◌, arith}
 use Rattle.jvms_machine.specs.declared.machine.Limits.{Limits}
 use Rattle.jvms_machine.specs.declared.state.StackFrame.TheVariants as stack_frame
@@ -64,7 +64,7 @@ module _ (program : List Class) (limits : Limits) (start : Start) (s : State) (t
   unlocking_one None fails make fail keeps = keeps None tt
   unlocking_one (Some r) fails make fail keeps = unlocking_by r (leaving s t r) fails make refl fail keeps
 
-  -- The call on top leaves its monitor, or can't.
+  -- The top call leaves its monitor, or can't.
   pub unlocking_keeps : (make : Option MonitorUse → TurnDecision) → ((unlock : Option MonitorUse) → IfSome unlock (IsLeft s) → KeepsSound (make unlock)) → KeepsSound (unlocking s t frame.monitor (fails_to_unlock limits s frame.method below) make)
   unlocking_keeps make keeps =
       unlocking_one frame.monitor (fails_to_unlock limits s frame.method below) make

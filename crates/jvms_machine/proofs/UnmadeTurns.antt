@@ -1,4 +1,4 @@
--- The turn of a thread that isn't enabled changes nothing: what is made is enabled.
+-- The turn of a thread that isn't enabled changes nothing, because a turn that is taken is one of an enabled thread.
 use Rattle.std.proofs.Common.{◌≡◌, ℕ, Bool, true, false, List, [], refl}
 use Rattle.jvms_machine.specs.declared.machine.Limits.{Limits}
 use Rattle.jvms_program.specs.declared.program.Class.{Class}
@@ -15,7 +15,7 @@ unwound_is_enabled : (last : Bool) → is_enabled (unwound_outcome last) ≡ tru
 unwound_is_enabled true = refl
 unwound_is_enabled false = refl
 
--- What is made is the turn of an enabled thread.
+-- A turn with an action is one of an enabled thread.
 pub action_is_enabled : (act : TurnAction) → is_enabled (outcome_of_action act) ≡ true
 action_is_enabled (action.Goes act) = refl
 action_is_enabled (action.Reaches effect act) = refl

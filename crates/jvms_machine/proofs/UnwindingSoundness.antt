@@ -1,5 +1,5 @@
--- A turn of a thread with a pending exception leaves a sound state sound: a handler takes the object, or the frame on top is
--- popped; and so does athrow.
+-- A turn of a thread with a pending exception keeps a sound state sound: a handler takes the object, or the top frame
+-- is popped. So does `athrow`.
 use Rattle.std.proofs.Common.{◌≡◌, ℕ, ◌<◌, ◌≤◌, Bool, not, ◌&&◌, ◌==◌, List, [], ◌∷◌, length, Option, Some, None, IfSome, codes, slice_get, slice_set, drop, refl, sym, ap, ◌∙◌, subst, arith, length-set}
 use Rattle.std.proofs.lemmas.Bool.{cond_both, eqb-false}
 use Rattle.jvms_machine.specs.declared.value.Value.{Value}
@@ -22,7 +22,7 @@ use Rattle.jvms_machine.specs.Start.{Start}
 use Rattle.jvms_machine.specs.Exceptions.{exception_reference}
 use Rattle.jvms_machine.specs.Unwinding.{handler_of, popped_decision, handler_decision, is_error, failed_with, top_decision, object_decision, unwinding_decision, throwable_decision, throw_top, throw_decision}
 use Rattle.jvms_machine.specs.Monitors.{is_empty}
-use Rattle.jvms_machine.specs.Actions.{with_unlock, given, top_given, top_operands, thrown_in, handling, top_handling, caught, raised, unwound, with_changed, with_initialisation, with_exception, applied_to, items_of}
+use Rattle.jvms_machine.specs.Actions.{with_unlock, given, stack_without_operands, top_operands, after_throw, handling, top_handling, caught, raised, unwound, with_changed, with_initialisation, with_exception, applied_to, items_of}
 use Rattle.jvms_machine.specs.Marks.{calls, calls_in, calls_of}
 use Rattle.jvms_machine.specs.Turn.{HasRoomToHandle}
 use Rattle.jvms_machine.proofs.InitialisationOrder.{order_over, count_call}
@@ -46,20 +46,20 @@ module _ (program : List Class) (limits : Limits) (start : Start) (s : State) (t
   -- ---- athrow
 
   module _ (frame : MethodFrame) (below : List Frame) (stands : HasFrames (stack_frame.Call frame ∷ below)) where
-    -- The object is taken off the operands, and is pending.
+    -- The object is removed from the operands, and is pending.
     throws_keeps : (r : ℕ) → IsThrowable program s.heap r → 1 ≤ length frame.activation.operands → KeepsSound (decision.Makes (action.Throws r))
     unfolding applied_to items_of
     throws_keeps r is there =
         let frames = frames_are_stack stands in
         let now = stack_frame.Call (given 1 frame) ∷ below in
-        let are : (thrown_in r thread).frames ≡ now = ap (top_given 1) stands.frames_are in (
-          (λ _. struck_is_sound stands (thrown_in r) now are is (refl, refl)
+        let are : (after_throw r thread).frames ≡ now = ap (stack_without_operands 1) stands.frames_are in (
+          (λ _. struck_is_sound stands (after_throw r) now are is (refl, refl)
               (given_is_frame program s.heap 1 frame frames.0.0, frames.0.1)
               (stack_goes_on program frame (given 1 frame).activation below frames.1)
               frames.2
               (λ c. count_call c (given 1 frame) below ∙ sym (count_call c frame below))),
           (λ _ _. subst (λ o. IfSome o (λ (th : Thread). 1 ≤ length (top_operands th.frames))) (sym stands.given_out) (subst (λ (fs : List Frame). 1 ≤ length (top_operands fs)) (sym stands.frames_are) there)),
-          unmarked_by program t (calls_of s t) _ (changed_calls s.threads t thread (thrown_in r) stands.given_out ∙ ap calls are ∙ sym (ap calls stands.frames_are) ∙ sym (ap calls_in stands.given_out)),
+          unmarked_by program t (calls_of s t) _ (changed_calls s.threads t thread (after_throw r) stands.given_out ∙ ap calls are ∙ sym (ap calls stands.frames_are) ∙ sym (ap calls_in stands.given_out)),
           (λ _. tt),
         )
 
@@ -128,7 +128,7 @@ module _ (program : List Class) (limits : Limits) (start : Start) (s : State) (t
 
   -- ---- An initialisation is on top
 
-  -- What its failure leaves pending is a Throwable, or there is room for it.
+  -- The exception that is pending after its failure is a Throwable, or there is room for it.
   failed_is_thrown : {frames : List Frame} → HasFrames frames → (called : Bool) (r : ℕ) (o : Object) → thread.pending ≡ Some r → IsThrown program limits s (failed_with program limits s called r o)
   failed_is_thrown stands called r o pending =
       cond_both (called && not (is_error program o)) _ _ (IsThrown program limits s)
@@ -155,7 +155,7 @@ module _ (program : List Class) (limits : Limits) (start : Start) (s : State) (t
         (stands.frames_are ∙ ap (λ (fs : List Frame). stack_frame.Initialisation class called ∷ fs) (sym below_is)))
         there.sound.result
 
-    -- Its thread has the calls that it had.
+    -- Its thread has the same calls.
     failed_calls : (e : Exception) (last : Bool) → IsThrown program limits s e → calls_in (slice_get (with_changed (with_exception program s e) t (failing e last)).threads t) ≡ calls_of s t
     failed_calls e last is =
         let there = stands_with_exception stands e is in

@@ -16,22 +16,22 @@ use Rattle.jvms_machine.specs.Status.{is_enabled}
 use Rattle.jvms_machine.specs.Unwinding.{CanBeUnwound, handler_of, popped_decision, handler_decision, failed_with, top_decision, object_decision, unwinding_decision}
 use Rattle.jvms_machine.specs.Exceptions.{exception_of}
 use Rattle.jvms_machine.specs.Monitors.{is_empty, leaving, unlocking}
-use Rattle.jvms_machine.specs.Turn.{given_out_decision, thread_decision, decide, turn}
+use Rattle.jvms_machine.specs.Turn.{started_decision, thread_decision, decide, turn}
 use Rattle.jvms_machine.proofs.ThreadChanges.{Stands, pending_is}
 use Rattle.jvms_machine.proofs.UnmadeTurns.{action_is_enabled}
 use Rattle.jvms_machine.proofs.TurnSoundness.{pending_is_awake}
 
--- What is decided is the turn of an enabled thread.
+-- The decision is one of an enabled thread.
 abbrev IsMade : TurnDecision → Type 0
 IsMade d = is_enabled (outcome_of d) ≡ true
 
--- A reference leads to an object.
+-- A reference has an object.
 reference_leads : (heap : List Object) (r : ℕ) → IsReference heap r → (o : Object) × (object_at heap r ≡ Some o)
 reference_leads heap zero is = absurd (omega (arith, is.0))
 reference_leads heap (suc i) is = (get_or heap i (text []), slice_get-get_or heap i (text []) (omega (arith, is.1)))
 
 module _ (program : List Class) (limits : Limits) (s : State) where
-  -- ---- The frame on top
+  -- ---- The top frame
 
   unlocking_by : (t r : ℕ) (o : Option MonitorUse) (fails : TurnDecision) (make : Option MonitorUse → TurnDecision) → o ≡ leaving s t r → IsMade fails → ((unlock : Option MonitorUse) → IsMade (make unlock)) → IsMade (unlocking s t (Some r) fails make)
   unlocking_by t r None fails make e fail made = rw (← e) fail
@@ -74,7 +74,7 @@ module _ (program : List Class) (limits : Limits) (s : State) where
   unfolding decide
   decides_to_unwind start t thread r given_out live pending =
       ap (thread_decision program limits start s t) given_out
-      ∙ ap (given_out_decision program limits start s t thread) (ap (λ b. status_by b thread.pending thread.waits) live ∙ ap (λ o. status_by false o thread.waits) pending)
+      ∙ ap (started_decision program limits start s t thread) (ap (λ b. status_by b thread.pending thread.waits) live ∙ ap (λ o. status_by false o thread.waits) pending)
 
 pub pending_is_unwound : (program : List Class) (limits : Limits) (start : Start) (s : State) (t : ℕ) (thread : Thread) (r : ℕ) → Sound program limits s → slice_get s.threads t ≡ Some thread → thread.ended ≡ false → thread.pending ≡ Some r → CanBeUnwound thread.frames → is_enabled (turn program limits start s t).outcome ≡ true
 unfolding turn

@@ -1,4 +1,4 @@
--- A turn of wait, notify or notifyAll leaves a sound state sound.
+-- A turn of `wait`, `notify` or `notifyAll` keeps a sound state sound.
 use Rattle.std.proofs.Common.{◌≡◌, ℕ, ◌≤◌, ◌==◌, Bool, true, List, ◌∷◌, length, Option, Some, None, IfSome, slice_get, slice_set, count_by, codes, eq-eqb, refl, sym, ap, ◌∙◌, subst, arith, length-set}
 use Rattle.std.specs.List.{AllByRecursion}
 use Rattle.std.proofs.lemmas.Bool.{cond_both, eqb-true}
@@ -20,7 +20,7 @@ use Rattle.jvms_machine.specs.Decisions.{TurnDecision}
 use Rattle.jvms_machine.specs.State.{State, Thread, Frame, MethodFrame, monitor_at, waits_for, is_initialisation_of, IsAtInvoke, IsFrame, IsHold, IsReference, IsStack, IsThread, IsWait, Sound}
 use Rattle.jvms_machine.specs.Start.{Start}
 use Rattle.jvms_machine.specs.Fields.{taking}
-use Rattle.jvms_machine.specs.Actions.{changed_to, given, put_to_wait, top_given, top_operands, with_changed, with_waiter, applied_to, items_of}
+use Rattle.jvms_machine.specs.Actions.{changed_to, given, put_to_wait, stack_without_operands, top_operands, with_changed, with_waiter, applied_to, items_of}
 use Rattle.jvms_machine.specs.Marks.{calls_in, calls_of}
 use Rattle.jvms_machine.specs.Waiting.{freed_monitor, object_native_decision, owned, waits_or_notifies, without_notified}
 use Rattle.jvms_machine.proofs.ListLaws.{all_set, get_set_same}
@@ -35,7 +35,7 @@ use Rattle.jvms_machine.proofs.EffectSoundness.{reaches_keeps}
 
 -- ---- notify and notifyAll
 
--- The state is sound where some are notified.
+-- The state stays sound when waiters are notified.
 notified_is_sound : {program : List Class} {limits : Limits} {s : State} → Sound program limits s → (r : ℕ) (all : Bool) → Sound program limits (record s { waiters = without_notified r all s.waiters })
 notified_is_sound {s = s} sound r all =
     record {
@@ -64,7 +64,7 @@ module _ (program : List Class) (limits : Limits) (start : Start) (s : State) (t
   abbrev KeepsSound : TurnDecision → Type 0
   KeepsSound d = Keeps program limits start s t d
 
-  -- What is known of a wait that begins.
+  -- The known facts about a wait that begins.
   record IsBegun (w : Wait) : Type 0 where
     pub at_invoke : IsAtInvoke (stack_frame.Call frame ∷ below)
     pub quiet : IsQuiet thread
@@ -75,9 +75,9 @@ module _ (program : List Class) (limits : Limits) (start : Start) (s : State) (t
   now = stack_frame.Call (given 1 frame) ∷ below
 
   frames_after : (w : Wait) → (put_to_wait w thread).frames ≡ now
-  frames_after w = ap (top_given 1) stands.frames_are
+  frames_after w = ap (stack_without_operands 1) stands.frames_are
 
-  -- The monitor was entered by an object that is there.
+  -- The thread's wait is valid: the object exists, and the monitor was entered.
   wait_is : (w : Wait) → IsBegun w → IsWait s.heap (put_to_wait w thread) w
   wait_is w begun =
       let held = subst (λ o. IfSome o (λ h. IsReference s.heap w.reference × IsHold s.threads w.reference h)) begun.held (held_is s.heap s.threads w.reference s.monitors stands.sound.monitors) in

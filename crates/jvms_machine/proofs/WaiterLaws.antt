@@ -1,4 +1,4 @@
--- Those that wait for objects, and the owners of monitors, as a thread waits, is notified, or takes a monitor again.
+-- The waiters of objects, and the owners of monitors, when a thread waits, is notified, or retakes a monitor.
 use Rattle.std.proofs.Common.{◌≡◌, ℕ, zero, suc, ◌==◌, Bool, true, false, not, ◌||◌, List, [], ◌∷◌, ◌++◌, Some, None, slice_get, slice_set, ◌<◌, refl, sym, ap, ◌∙◌, subst, ⊎_elim, ne_eqb, arith}
 use Rattle.std.specs.List.{AllByRecursion, filter}
 use Rattle.std.specs.Map.{remove_entry}
@@ -10,9 +10,9 @@ use Rattle.jvms_machine.specs.Waiting.{freed_monitor, is_waiter, without_notifie
 use Rattle.jvms_machine.proofs.ListLaws.{all_weaker, all_append, all_both, get_set_other}
 use Rattle.jvms_machine.proofs.ThreadChanges.{AreAwake, owners_awake}
 
--- ---- What a thread waits for
+-- ---- The waits of threads
 
--- A thread that doesn't wait waits for nothing.
+-- A thread that doesn't wait waits for no object.
 pub awake_waits_not : (threads : List Thread) (t r : ℕ) (thread : Thread) → slice_get threads t ≡ Some thread → thread.waits ≡ None → waits_for r (slice_get threads t) ≡ false
 awake_waits_not threads t r thread at awake = ap (waits_for r) at ∙ ap (is_wait_for r) awake
 
@@ -24,7 +24,7 @@ put_waits (v ∷ vs) zero after w is (suc u) q other not_yet = not_yet
 put_waits (v ∷ vs) (suc t) after w is zero q other not_yet = not_yet
 put_waits (v ∷ vs) (suc t) after w is (suc u) q other not_yet = put_waits vs t after w is u q other not_yet
 
--- Where a thread waits no more, none waits for more than before.
+-- If a thread no longer waits, no thread waits for more than before.
 pub woken_waits : (threads : List Thread) (t : ℕ) (after : Thread) → after.waits ≡ None → (u q : ℕ) → waits_for q (slice_get threads u) ≡ false → waits_for q (slice_get (slice_set threads t after) u) ≡ false
 woken_waits [] t after is u q not_yet = not_yet
 woken_waits (v ∷ vs) zero after is zero q not_yet = ap (is_wait_for q) is
@@ -37,7 +37,7 @@ woken_waits (v ∷ vs) (suc t) after is (suc u) q not_yet = woken_waits vs t aft
 behind_is_other : (r : ℕ) (monitors : List (ℕ × Hold)) → AllByRecursion (λ (n : ℕ × Hold). r < n.0) monitors → AllByRecursion (λ (n : ℕ × Hold). (r == n.0) ≡ false) monitors
 behind_is_other r monitors behind = all_weaker (λ (n : ℕ × Hold). r < n.0) (λ (n : ℕ × Hold). (r == n.0) ≡ false) (λ n is. ne_eqb r n.0 (λ same. absurd (omega arith))) monitors behind
 
--- What is left is of other objects.
+-- The remaining monitors are of other objects.
 freed_is_other : (heap : List Object) (threads : List Thread) (r : ℕ) (monitors : List (ℕ × Hold)) → AreMonitors heap threads monitors → AllByRecursion (λ (n : ℕ × Hold). (r == n.0) ≡ false) (freed_monitor r monitors)
 freed_is_other heap threads r [] are = tt
 freed_is_other heap threads r (m ∷ monitors) are =
@@ -45,20 +45,21 @@ freed_is_other heap threads r (m ∷ monitors) are =
     (λ same. behind_is_other r monitors (subst (λ q. AllByRecursion (λ (n : ℕ × Hold). q < n.0) monitors) (eqb-true m.0 r same) are.2))
     (λ other. (ne_eqb r m.0 (λ e. eqb-false m.0 r other (sym e)), freed_is_other heap threads r monitors are.3))
 
--- Of what a thread has freed and waits for none of the other owners waits.
+-- When a thread has freed a monitor and waits for its object, no owner of another monitor waits for the object of its
+-- own.
 pub freed_awake : (heap : List Object) (threads : List Thread) (t : ℕ) (after : Thread) (w : Wait) (monitors : List (ℕ × Hold)) → after.waits ≡ Some w → AreMonitors heap threads monitors → AreMonitors heap threads (freed_monitor w.reference monitors) → AreAwake (slice_set threads t after) (freed_monitor w.reference monitors)
 freed_awake heap threads t after w monitors is are freed =
     all_both (λ (n : ℕ × Hold). (w.reference == n.0) ≡ false) (λ n. waits_for n.0 (slice_get threads n.1.owner) ≡ false) (λ n. waits_for n.0 (slice_get (slice_set threads t after) n.1.owner) ≡ false)
     (λ n other not_yet. put_waits threads t after w is n.1.owner n.0 other not_yet)
     (freed_monitor w.reference monitors) (freed_is_other heap threads w.reference monitors are) (owners_awake heap threads threads (λ u q no. no) (freed_monitor w.reference monitors) freed)
 
--- ---- Those that wait
+-- ---- Waiters
 
--- None of them is this thread.
+-- None of the waiters is this thread.
 abbrev pub AreOthers : ℕ → List (ℕ × ℕ) → Type 0
 AreOthers t waiters = AllByRecursion (λ v. (v.1 == t) ≡ false) waiters
 
--- A thread that doesn't wait is none of them.
+-- A thread that doesn't wait is no waiter.
 pub awake_is_other : (threads : List Thread) (t : ℕ) (thread : Thread) → slice_get threads t ≡ Some thread → thread.waits ≡ None → (waiters : List (ℕ × ℕ)) → AreWaiters threads waiters → AreOthers t waiters
 awake_is_other threads t thread at awake [] are = tt
 awake_is_other threads t thread at awake (w ∷ waiters) are = (
@@ -73,18 +74,18 @@ none_is_waiter : (t : ℕ) (b : Bool) (w : ℕ × ℕ) (waiters : List (ℕ × �
 none_is_waiter t true w waiters e rest none = absurd (false≢true (sym none))
 none_is_waiter t false w waiters e rest none = (e, rest none)
 
--- Nor is one that isn't among them.
+-- A thread that isn't listed is no waiter.
 pub notified_is_other : (t : ℕ) (waiters : List (ℕ × ℕ)) → is_waiter t waiters ≡ false → AreOthers t waiters
 notified_is_other t [] none = tt
 notified_is_other t (w ∷ waiters) none = none_is_waiter t (w.1 == t) w waiters refl (notified_is_other t waiters) none
 
--- They wait also where another thread has changed.
+-- The waiters stay valid when another thread has changed.
 pub others_wait : (threads : List Thread) (t : ℕ) (after : Thread) (waiters : List (ℕ × ℕ)) → AreOthers t waiters → AreWaiters threads waiters → AreWaiters (slice_set threads t after) waiters
 others_wait threads t after [] others are = tt
 others_wait threads t after (w ∷ waiters) others are =
     (ap (waits_for w.0) (get_set_other threads t w.1 after (eqb-false w.1 t others.0)) ∙ are.0, are.1, others_wait threads t after waiters others.1 are.2)
 
--- A thread that waits, and is none of them, comes behind them.
+-- A waiting thread that isn't listed is appended to the waiters.
 pub one_more_waits : (threads : List Thread) (r t : ℕ) (waiters : List (ℕ × ℕ)) → waits_for r (slice_get threads t) ≡ true → AreOthers t waiters → AreWaiters threads waiters → AreWaiters threads (waiters ++ (r, t) ∷ [])
 one_more_waits threads r t [] waits others are = (waits, tt, tt)
 one_more_waits threads r t (w ∷ waiters) waits others are = (
@@ -93,7 +94,7 @@ one_more_waits threads r t (w ∷ waiters) waits others are = (
   one_more_waits threads r t waiters waits others.1 are.2,
 )
 
--- ---- Those that are notified
+-- ---- Notified waiters
 
 all_kept : (P : ℕ × ℕ → Type 0) (test : ℕ × ℕ → Bool) (waiters : List (ℕ × ℕ)) → AllByRecursion P waiters → AllByRecursion P (filter test waiters)
 all_kept P test [] all = tt
@@ -118,7 +119,7 @@ left_wait threads r (w ∷ waiters) are =
     (λ _. are.2)
     (λ _. (are.0, all_left (λ v. (v.1 == w.1) ≡ false) r waiters are.1, left_wait threads r waiters are.2))
 
--- Those that aren't notified wait.
+-- The waiters that aren't notified still wait.
 pub unnotified_wait : (threads : List Thread) (r : ℕ) (all : Bool) (waiters : List (ℕ × ℕ)) → AreWaiters threads waiters → AreWaiters threads (without_notified r all waiters)
 unnotified_wait threads r true waiters are = kept_wait threads (λ w. not (w.0 == r)) waiters are
 unnotified_wait threads r false waiters are = left_wait threads r waiters are

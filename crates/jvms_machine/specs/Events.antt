@@ -1,5 +1,5 @@
--- The events of a turn that are told from the states before and after it: of a monitor that is free and comes to be held, or
--- the reverse, and of a thread that is new.
+-- The events of a turn by the states before and after it: those of monitors that change between free and held, and of
+-- new threads.
 use Rattle.std.specs.Prelude.{ℕ, ◌-◌, Bool, true, false, List, length, map, is_none}
 use Rattle.std.specs.List.{filter, range_with_len}
 use Rattle.jvms_machine.specs.declared.trace.Item.{Item}
@@ -19,18 +19,20 @@ abbrev pub is_fork : Item → Bool
 is_fork (item.Fork t u) = true
 is_fork _ = false
 
--- The references of the monitors that are free before and held after.
+-- Returns the references of the monitors that are free before and held after.
 abbrev pub newly_held : List (ℕ × Hold) → List (ℕ × Hold) → List ℕ
 newly_held before after = filter (λ r. is_none (monitor_at before r)) (map (λ m. m.0) after)
 
--- Thread t acquires each of them, and releases each that is held before and free after.
+-- Return the events of monitors: thread t acquires each newly held one, and releases each that is held before and free
+-- after.
 abbrev pub acquires_between : ℕ → State → State → List Item
 acquires_between t before after = map (λ r. item.Acquire t r) (newly_held before.monitors after.monitors)
 
 abbrev pub releases_between : ℕ → State → State → List Item
 releases_between t before after = map (λ r. item.Release t r) (newly_held after.monitors before.monitors)
 
--- It forks each thread that is there after and wasn't before: their numbers go on from those before.
+-- Returns the events of new threads: thread t forks each thread that exists after and not before. Their numbers follow
+-- those before.
 abbrev pub forks_between : ℕ → State → State → List Item
 forks_between t before after =
     map (λ u. item.Fork t u) (range_with_len (length before.threads) (length after.threads - length before.threads))

@@ -1,4 +1,4 @@
--- Examples, worked out: a run of the class that gives the greatest common divisor of two ints.
+-- Worked examples: a run of the class that computes the greatest common divisor of two ints.
 use Rattle.std.specs.Prelude.{ℕ, true, List, [], ◌∷◌, ◌++◌, replicate, codes, Option, None, Result, Ok, Err, pos}
 use Rattle.std.specs.Option.{option_map}
 use Rattle.jvms_file.specs.declared.fault.ClassFault.{ClassFault}
@@ -18,11 +18,11 @@ use Rattle.jvms_machine.specs.Run.{RunResult, run}
 abbrev pub default_limits : Limits
 default_limits = record { objects = 1000000; elements = 10000000; threads = 64; frames = 1024 }
 
--- G.gcd.(II)I with 48 and 36
+-- The entry `G.gcd.(II)I` with 48 and 36.
 abbrev pub gcd_entry : Entry
 gcd_entry = entry.Static (codes "G") (codes "gcd") (codes "(II)I") (argument.Int (pos 48) ∷ argument.Int (pos 36) ∷ [])
 
--- The run of so many choices of thread 0, if the bytes spell a class with the entry.
+-- Returns the run of a number of choices of thread 0, if the bytes spell a class with the entry.
 abbrev pub run_of_bytes : List ℕ → Entry → ℕ → Option RunResult
 run_of_bytes bytes e turns = of_class (read bytes)
   where

@@ -1,5 +1,5 @@
--- Exceptions that the machine throws (JVMS 2.10). A test that throws changes nothing but the object that it makes and
--- what is pending: operands, local variables and place stay.
+-- Exceptions that the machine throws (JVMS 2.10). A test that throws changes nothing but the object that it creates and
+-- the pending exception. Operands, local variables and pc stay.
 use Rattle.std.specs.Prelude.{ℕ, ◌+◌, nat_le, Bool, if◌then◌else◌, List, [], ◌∷◌, length, codes}
 use Rattle.jvms_program.specs.declared.thrown.Thrown.{Thrown}
 use Rattle.jvms_program.specs.declared.thrown.Thrown.TheVariants as thrown
@@ -11,7 +11,7 @@ use Rattle.jvms_machine.specs.declared.action.Exception.TheVariants as exception
 use Rattle.jvms_machine.specs.Decisions.{TurnDecision}
 use Rattle.jvms_machine.specs.State.{State, Frame, Thread}
 
--- The name of an exception's class.
+-- Returns the name of an exception's class.
 unfoldable pub thrown_class : Thrown → List ℕ
 thrown_class thrown.ArithmeticException = codes "java/lang/ArithmeticException"
 thrown_class thrown.ArrayStoreException = codes "java/lang/ArrayStoreException"
@@ -32,31 +32,31 @@ thrown_class thrown.NoSuchMethodError = codes "java/lang/NoSuchMethodError"
 thrown_class thrown.OutOfMemoryError = codes "java/lang/OutOfMemoryError"
 thrown_class thrown.StackOverflowError = codes "java/lang/StackOverflowError"
 
--- ---- Which object is thrown
+-- ---- The thrown object
 
--- Whether so many objects more are within the limits.
+-- Decides whether `count` more objects are within the limits.
 abbrev pub has_room_for : ℕ → Limits → State → Bool
 has_room_for count limits s = nat_le (length s.heap + count) limits.objects
 
--- Where too many objects, elements, threads or entries of a monitor would be there, reference 1 is thrown, and where
--- too many frames, reference 2. Others are made anew, unless there is no room for one more object.
+-- Returns the object to throw. Reference 1 is thrown for too many objects, elements, threads or entries of a monitor,
+-- and reference 2 for too many frames. Others are created, or are reference 1 if there is no room for one more object.
 abbrev pub exception_of : Limits → State → Thrown → Exception
 exception_of limits s thrown.OutOfMemoryError = exception.Held 1
 exception_of limits s thrown.StackOverflowError = exception.Held 2
 exception_of limits s class = if has_room_for 1 limits s then exception.New class else exception.Held 1
 
--- The reference of what is thrown.
+-- Returns the reference of the thrown object.
 abbrev pub exception_reference : State → Exception → ℕ
 exception_reference s (exception.New class) = length s.heap + 1
 exception_reference s (exception.Held r) = r
 
 -- ---- The turn that throws
 
--- With a frame the exception is pending after the turn; without one the thread has ended.
+-- Returns the decision to throw. With a frame the exception is pending after the turn, and without one the thread ends.
 abbrev pub raising : List Frame → Exception → TurnDecision
 raising [] e = decision.Makes (action.Fails e)
 raising (f ∷ below) e = decision.Makes (action.Raises e)
 
--- The turn of this thread throws an exception of this class.
+-- Returns the decision that the turn of this thread throws an exception of this class.
 unfoldable pub throws : Limits → State → Thread → Thrown → TurnDecision
 throws limits s thread class = raising thread.frames (exception_of limits s class)

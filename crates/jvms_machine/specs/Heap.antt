@@ -1,4 +1,4 @@
--- The heap (JVMS 2.4, 2.7): what is made, and what is changed of what is there.
+-- The heap (JVMS 2.4, 2.7): new objects, and changes of existing ones.
 use Rattle.std.specs.Prelude.{ℕ, zero, suc, ◌+◌, ◌*◌, ◌-◌, Bool, true, false, not, ◌&&◌, ◌==◌, nat_le, if◌then◌else◌, List, [], ◌∷◌, ◌++◌, length, map, drop, replicate, Option, Some, None, slice_get, slice_set, codes, ℤ}
 use Rattle.std.specs.List.{flat_map, range_with_len}
 use Rattle.jvms_machine.specs.declared.value.Value.{Value}
@@ -21,18 +21,19 @@ use Rattle.jvms_machine.specs.State.{State, Object, instance, array, default_val
 
 -- ---- Room
 
--- Whether so many objects more, and so many elements of arrays more, are within the limits.
+-- Decides whether `objects` more objects and `elements` more array elements are within the limits.
 abbrev pub has_room_for_elements : ℕ → ℕ → Limits → State → Bool
 has_room_for_elements objects elements limits s =
     nat_le (length s.heap + objects) limits.objects && nat_le (s.elements + elements) limits.elements
 
--- The reference of the next object.
+-- Returns the reference of the next object.
 abbrev pub next_reference : List Object → ℕ
 next_reference heap = length heap + 1
 
--- ---- Values that are stored
+-- ---- Stored values
 
--- A byte, char or short is narrowed, and of a boolean the lowest bit is kept (own).
+-- Narrows an int to an element type. Bytes, chars and shorts are narrowed, and of a boolean the lowest bit is kept
+-- (own).
 abbrev pub narrowed_to : Element → ℤ → ℤ
 narrowed_to (element.Primitive primitive.Byte) n = narrowed narrow.Byte n
 narrowed_to (element.Primitive primitive.Char) n = narrowed narrow.Char n
@@ -40,40 +41,40 @@ narrowed_to (element.Primitive primitive.Short) n = narrowed narrow.Short n
 narrowed_to (element.Primitive primitive.Boolean) n = narrowed narrow.Boolean n
 narrowed_to _ n = n
 
--- What is kept of a value that is stored in a field, or in an array's element, of a type.
+-- Returns a value in the form that a field, or an array's element, of a type stores.
 abbrev pub stored_as : FieldType → Value → Value
 stored_as t (value.Int n) = value.Int (if t.dimensions == 0 then narrowed_to t.element n else n)
 stored_as t v = v
 
 -- ---- Fields
 
--- The value of the field of a key.
+-- Returns the value of the field of a key.
 abbrev pub value_of : FieldKey → List (FieldKey × Value) → Option Value
 value_of key fields = lookup (λ k. same_key k key) fields
 
--- The fields with a value in the first one of a key.
+-- Stores a value in the first field of a key.
 abbrev pub with_value : FieldKey → Value → List (FieldKey × Value) → List (FieldKey × Value)
 with_value key v [] = []
 with_value key v (f ∷ fields) = if same_key f.0 key then (f.0, v) ∷ fields else f ∷ with_value key v fields
 
--- An object with a value in the field of a key.
+-- Stores a value in the field of a key of an object.
 abbrev pub with_field : FieldKey → Value → Object → Object
 with_field key v (instance class fields) = instance class (with_value key v fields)
 with_field key v o = o
 
--- An array with a value at an index.
+-- Stores a value at an index of an array.
 abbrev pub with_element : ℕ → Value → Object → Object
 with_element index v (array class elements) = array class (slice_set elements index v)
 with_element index v o = o
 
--- The heap with the object of a reference changed.
+-- Returns the heap with the object of a reference changed.
 abbrev pub with_object : List Object → ℕ → (Object → Object) → Option Object → List Object
 with_object heap r change None = heap
 with_object heap r change (Some o) = slice_set heap (r - 1) (change o)
 
 -- ---- Arrays
 
--- The class of an array of a component type (JVMS 6.5 newarray).
+-- Returns the class of an array of a component type (JVMS 6.5 `newarray`).
 abbrev pub array_of_type : ArrayType → List ℕ
 array_of_type array_type.Boolean = codes "[Z"
 array_of_type array_type.Char = codes "[C"
@@ -84,15 +85,15 @@ array_of_type array_type.Short = codes "[S"
 array_of_type array_type.Int = codes "[I"
 array_of_type array_type.Long = codes "[J"
 
--- The class of an array whose components are of a class (JVMS 6.5 anewarray).
+-- Returns the class of an array whose components are of a class (JVMS 6.5 `anewarray`).
 abbrev pub array_of_class : List ℕ → List ℕ
 array_of_class name = if is_array_name name then codes "[" ++ name else codes "[L" ++ name ++ codes ";"
 
--- The type of the components of an array's class.
+-- Returns the component type of an array's class.
 abbrev pub component_type : List ℕ → FieldType
 component_type class = field_type (drop 1 class)
 
--- The class of the components of an array of references.
+-- Returns the component class of an array of references.
 abbrev pub component_class : List ℕ → List ℕ
 component_class class = if (component_type class).dimensions == 0 then name_of (component_type class).element else drop 1 class
   where
@@ -100,36 +101,37 @@ component_class class = if (component_type class).dimensions == 0 then name_of (
     name_of (element.Object name) = name
     name_of (element.Primitive p) = drop 1 class
 
--- The first value of an array's elements.
+-- Returns the default value of an array's elements.
 abbrev pub first_element : List ℕ → Value
 first_element class = default_value (component_type class)
 
 -- ---- Arrays of arrays (JVMS 6.5 multianewarray)
 
--- Whether arrays of a class can lie so many deep in each other: the components of all but the innermost are arrays.
+-- Decides whether a class has this number of array dimensions. The components of all but the innermost arrays are
+-- arrays.
 abbrev pub has_dimensions : List ℕ → ℕ → Bool
 has_dimensions class zero = false
 has_dimensions class (suc zero) = true
 has_dimensions class (suc (suc more)) = not ((component_type class).dimensions == 0) && has_dimensions (drop 1 class) (suc more)
 
--- How many arrays these lengths make, the outermost first: none within one of length 0.
+-- Returns the number of arrays that these lengths make, the outermost first. An array of length 0 has none in it.
 abbrev pub arrays_made : List ℕ → ℕ
 arrays_made [] = 0
 arrays_made (n ∷ []) = 1
 arrays_made (n ∷ m ∷ lengths) = 1 + n * arrays_made (m ∷ lengths)
 
--- How many elements these have together.
+-- Returns the number of their elements.
 abbrev pub elements_made : List ℕ → ℕ
 elements_made [] = 0
 elements_made (n ∷ []) = n
 elements_made (n ∷ m ∷ lengths) = n + n * elements_made (m ∷ lengths)
 
--- The references of so many parts, each of which takes so many.
+-- Returns the references of `count` parts, each of which takes `size` references.
 abbrev pub part_references : ℕ → ℕ → ℕ → List ℕ
 part_references first size count = map (λ i. first + i * size) (range_with_len 0 count)
 
--- An array of these lengths, whose reference is this one, and its parts: the array first, then its parts by rising
--- index, each with its own before the next.
+-- Returns an array of these lengths with this reference, and its parts. The array is first, then its parts by rising
+-- index, each with its own parts before the next.
 abbrev pub new_arrays : ℕ → List ℕ → List ℕ → List Object
 new_arrays r class [] = []
 new_arrays r class (n ∷ []) = array class (replicate n (first_element class)) ∷ []
@@ -139,7 +141,7 @@ new_arrays r class (n ∷ m ∷ lengths) =
 
 -- ---- Objects of classes
 
--- The class of a number's name.
+-- Returns the name of the class of a number.
 abbrev pub class_name_at : List Class → ℕ → List ℕ
 class_name_at program class = name (slice_get program class)
   where

@@ -21,9 +21,9 @@ use Rattle.jvms_machine.specs.State.{State, Thread, Object, text, text_reference
 use Rattle.jvms_machine.specs.Decisions.{TurnDecision, never_seen}
 use Rattle.jvms_machine.specs.Exceptions.{throws, has_room_for}
 
--- ---- A class is asked for
+-- ---- A required initialisation
 
--- The constants of static fields (JVMS 4.7.2), in the fields' order.
+-- Returns the constants of static fields (JVMS 4.7.2), in the fields' order.
 abbrev pub constants_of : List Field → List Loadable
 constants_of [] = []
 constants_of (f ∷ fields) = listed f.is_static f.constant ++ constants_of fields
@@ -32,7 +32,7 @@ constants_of (f ∷ fields) = listed f.is_static f.constant ++ constants_of fiel
     listed true (Some c) = c ∷ []
     listed _ _ = []
 
--- The strings among constants that have no object yet, each once.
+-- Returns the distinct strings among constants that have no object yet.
 abbrev pub new_texts : List Object → List Loadable → List (List ℕ)
 new_texts heap [] = []
 new_texts heap (loadable.String units ∷ constants) =
@@ -40,8 +40,8 @@ new_texts heap (loadable.String units ∷ constants) =
     else units ∷ new_texts (heap ++ text units ∷ []) constants
 new_texts heap (c ∷ constants) = new_texts heap constants
 
--- The initialisation begins: there is room for the strings of the constants, then for a frame; the class is marked, its
--- constants are stored, and its frame is pushed. The instruction is run again later.
+-- Decides the start of an initialisation. It tests the room for the strings of the constants, then that for a frame.
+-- The class is then marked, its constants are stored, and its frame is pushed. The instruction runs again later.
 abbrev pub begin_decision : Limits → State → Thread → ℕ → Option Class → TurnDecision
 begin_decision limits s thread class None = never_seen
 begin_decision limits s thread class (Some c) =
@@ -49,53 +49,54 @@ begin_decision limits s thread class (Some c) =
     else (if nat_le limits.frames (length thread.frames) then throws limits s thread thrown.StackOverflowError
     else decision.Makes (action.Begins class))
 
--- What a turn that asks for the initialisation of a class does first: `go_on` where it is done or in progress by
--- the turn's own thread.
-abbrev pub asking_at : List Class → Limits → State → ℕ → Thread → ℕ → Option Initialisation → TurnDecision → TurnDecision
-asking_at program limits s t thread class None go_on = never_seen
-asking_at program limits s t thread class (Some initialisation.NotBegun) go_on =
+-- Decides a turn that requires the initialisation of a class. It is `go_on` if that is done, or in progress by the
+-- turn's own thread.
+abbrev pub requiring_class_in : List Class → Limits → State → ℕ → Thread → ℕ → Option Initialisation → TurnDecision → TurnDecision
+requiring_class_in program limits s t thread class None go_on = never_seen
+requiring_class_in program limits s t thread class (Some initialisation.NotBegun) go_on =
     begin_decision limits s thread class (slice_get program class)
-asking_at program limits s t thread class (Some (initialisation.InProgress u)) go_on =
+requiring_class_in program limits s t thread class (Some (initialisation.InProgress u)) go_on =
     if u == t then go_on else decision.Unmade (outcome.Blocked (blocked.Initialisation class u))
-asking_at program limits s t thread class (Some initialisation.Done) go_on = go_on
-asking_at program limits s t thread class (Some initialisation.Erroneous) go_on =
+requiring_class_in program limits s t thread class (Some initialisation.Done) go_on = go_on
+requiring_class_in program limits s t thread class (Some initialisation.Erroneous) go_on =
     throws limits s thread thrown.NoClassDefFoundError
 
 abbrev pub asking : List Class → Limits → State → ℕ → Thread → ℕ → TurnDecision → TurnDecision
 asking program limits s t thread class go_on =
-    asking_at program limits s t thread class (slice_get s.initialisations class) go_on
+    requiring_class_in program limits s t thread class (slice_get s.initialisations class) go_on
 
--- ---- An initialisation frame is on top
+-- ---- A turn with an initialisation on top
 
--- The number of a class's <clinit>()V among its methods.
+-- Returns the index of a class's `<clinit>()V` among its methods.
 abbrev pub initializer_of : Class → Option ℕ
 initializer_of c = declared_number c (codes "<clinit>") (codes "()V")
 
--- The number of the superclass that is asked for: an interface asks for none.
+-- Returns the number of the superclass that initialisation requires. An interface requires none.
 abbrev pub asked_superclass : List Class → Class → Option ℕ
 asked_superclass program c =
     if is_interface_kind c.kind then None else option_and_then (class_number program) c.superclass
 
--- The <clinit>()V of a class is called, where there is room for a frame. Its flags aren't asked (own).
+-- Decides the call of a class's `<clinit>()V`, if there is room for a frame. Its flags aren't tested (own).
 abbrev pub initializer_call : Limits → State → Thread → MethodNumber → Option Body → TurnDecision
 initializer_call limits s thread method None = never_seen
 initializer_call limits s thread method (Some body) =
     if nat_le limits.frames (length thread.frames) then throws limits s thread thrown.StackOverflowError
     else decision.Makes (action.Initialises method body)
 
--- Where no superclass is left to wait for: the <clinit>()V is called, or, where there is none, the class is done.
+-- Decides the initialisation of a class that waits for no superclass. It calls the `<clinit>()V`, or finishes if there
+-- is none.
 abbrev pub initializer_decision : Limits → State → Thread → Class → ℕ → Option ℕ → TurnDecision
 initializer_decision limits s thread c class None = decision.Makes (action.Finishes class)
 initializer_decision limits s thread c class (Some n) =
     initializer_call limits s thread (record { class = class; method = n }) (option_and_then (λ m. m.body) (slice_get c.methods n))
 
--- The superclass is asked for first.
+-- Decides the initialisation of the superclass, which comes first.
 abbrev pub superclass_decision : List Class → Limits → State → ℕ → Thread → Option ℕ → TurnDecision → TurnDecision
 superclass_decision program limits s t thread None go_on = go_on
 superclass_decision program limits s t thread (Some super) go_on = asking program limits s t thread super go_on
 
--- The superclass is asked for; then <clinit> is called, or, where there is none or it has returned, the class is
--- done.
+-- Decides a turn with an initialisation on top. The superclass comes first, then the call of `<clinit>`. The class is
+-- done if there is no `<clinit>` or it has returned.
 abbrev pub initialisation_decision : List Class → Limits → State → ℕ → Thread → ℕ → Bool → Option Class → TurnDecision
 initialisation_decision program limits s t thread class called None = never_seen
 initialisation_decision program limits s t thread class true (Some c) = decision.Makes (action.Finishes class)

@@ -1,5 +1,5 @@
--- The marks of a turn told from the states before and after it: a call is marked as its frame comes or goes. A turn changes
--- no other thread's frames.
+-- The marks of a turn, by the states before and after it: a call is marked when its frame is pushed or popped. A turn
+-- changes no other thread's frames.
 use Rattle.std.specs.Prelude.{ℕ, ◌-◌, Bool, true, false, List, [], ◌∷◌, ◌++◌, length, take, Option, Some, None, slice_get}
 use Rattle.std.specs.List.{flat_map}
 use Rattle.jvms_program.specs.declared.program.Class.{Class}
@@ -10,13 +10,13 @@ use Rattle.jvms_machine.specs.declared.state.StackFrame.TheVariants as stack_fra
 use Rattle.jvms_machine.specs.State.{State, Thread, Frame}
 use Rattle.jvms_machine.specs.Actions.{enter_items, exit_items}
 
--- An entry or an exit; the other items are events.
+-- Decides whether an item is a mark: an entry or an exit. The other items are events.
 abbrev pub is_mark : Item → Bool
 is_mark (item.Enter t method) = true
 is_mark (item.Exit t method) = true
 is_mark _ = false
 
--- The methods of the calls on a stack, the top first.
+-- Returns the methods of the calls on a stack, the top first.
 abbrev pub calls : List Frame → List MethodNumber
 calls [] = []
 calls (stack_frame.Call f ∷ below) = f.method ∷ calls below
@@ -29,7 +29,7 @@ calls_in (Some thread) = calls thread.frames
 abbrev pub calls_of : State → ℕ → List MethodNumber
 calls_of s t = calls_in (slice_get s.threads t)
 
--- The exits of the calls that were there and are gone, then the entries of those that have come.
+-- Returns the exits of the popped calls, then the entries of the pushed ones.
 abbrev pub marks_between : List Class → ℕ → List MethodNumber → List MethodNumber → List Item
 marks_between program t before after =
     flat_map (exit_items program t) (take (length before - length after) before)

@@ -1,5 +1,4 @@
--- Monitors (JVMS 2.11.10): how they are entered and left. They are re-entrant; that entries and exits are structured isn't
--- asked.
+-- Monitors (JVMS 2.11.10): their entry and exit. They are re-entrant. Entries and exits needn't be structured.
 use Rattle.std.specs.Prelude.{ℕ, ◌+◌, ◌-◌, ◌==◌, nat_lt, Bool, true, false, not, if◌then◌else◌, List, [], ◌∷◌, Option, Some, None}
 use Rattle.std.specs.Map.{remove_entry}
 use Rattle.jvms_machine.specs.declared.machine.Outcome.TheVariants as outcome
@@ -20,15 +19,15 @@ use Rattle.jvms_machine.specs.State.{State, Thread, Frame, class_reference, moni
 use Rattle.jvms_machine.specs.Heap.{class_name_at, next_reference}
 use Rattle.jvms_machine.specs.Exceptions.{exception_of, throws, has_room_for}
 
--- ---- The monitors that are held
+-- ---- The held monitors
 
--- With this under a reference, in the order of the references.
+-- Sets the hold of a reference, in the order of the references.
 abbrev pub with_hold : ℕ → Hold → List (ℕ × Hold) → List (ℕ × Hold)
 with_hold r h [] = (r, h) ∷ []
 with_hold r h (m ∷ monitors) =
     if r == m.0 then (r, h) ∷ monitors else (if nat_lt r m.0 then (r, h) ∷ m ∷ monitors else m ∷ with_hold r h monitors)
 
--- A thread has entered the monitor of an object.
+-- Returns the held monitors after a thread has entered the monitor of an object.
 abbrev pub entered_monitor : ℕ → ℕ → List (ℕ × Hold) → List (ℕ × Hold)
 entered_monitor t r monitors = with_hold r (once_more (monitor_at monitors r)) monitors
   where
@@ -36,7 +35,7 @@ entered_monitor t r monitors = with_hold r (once_more (monitor_at monitors r)) m
     once_more None = record { owner = t; count = 1 }
     once_more (Some h) = record { owner = h.owner; count = h.count + 1 }
 
--- Its owner has left the monitor of an object once.
+-- Returns the held monitors after the owner has left the monitor of an object once.
 abbrev pub left_monitor : ℕ → List (ℕ × Hold) → List (ℕ × Hold)
 left_monitor r monitors = once_less (monitor_at monitors r)
   where
@@ -48,8 +47,8 @@ left_monitor r monitors = once_less (monitor_at monitors r)
 
 -- ---- Entering and leaving
 
--- What a turn that enters the monitor of an object does first, and else what is made of it: another thread's is waited
--- for; one can't be entered more than 4,294,967,295 times (own).
+-- Decides the entry of an object's monitor. A monitor of another thread blocks the turn. One can't be entered more than
+-- 4,294,967,295 times (own).
 abbrev pub entering_held : Limits → State → ℕ → Thread → ℕ → Option Hold → (MonitorUse → TurnDecision) → TurnDecision
 entering_held limits s t thread r None make = make (record { reference = r; outermost = true })
 entering_held limits s t thread r (Some h) make =
@@ -60,7 +59,7 @@ entering_held limits s t thread r (Some h) make =
 abbrev pub entering : Limits → State → ℕ → Thread → ℕ → (MonitorUse → TurnDecision) → TurnDecision
 entering limits s t thread r make = entering_held limits s t thread r (monitor_at s.monitors r) make
 
--- How a thread leaves a monitor, if it is the owner.
+-- Returns how a thread leaves a monitor, if it is the owner.
 abbrev pub leaving_held : ℕ → ℕ → Option Hold → Option MonitorUse
 leaving_held t r None = None
 leaving_held t r (Some h) = if h.owner == t then Some (record { reference = r; outermost = h.count == 1 }) else None
@@ -70,19 +69,20 @@ leaving s t r = leaving_held t r (monitor_at s.monitors r)
 
 -- ---- Synchronized methods
 
--- The monitor of an object that is there.
+-- Decides the entry of the monitor of an existing object by a call.
 abbrev pub object_locking : Limits → State → ℕ → Thread → Option ℕ → (Lock → TurnDecision) → TurnDecision
 object_locking limits s t thread None make = never_seen
 object_locking limits s t thread (Some r) make = entering limits s t thread r (λ monitor. make (lock.Monitor monitor))
 
--- The monitor of the object of a class, which is made at its first use.
+-- Decides the entry of the monitor of a class's object by a call. The object is created at its first use.
 abbrev pub class_locking : Limits → State → ℕ → Thread → ℕ → Option ℕ → (Lock → TurnDecision) → TurnDecision
 class_locking limits s t thread class (Some r) make = entering limits s t thread r (λ monitor. make (lock.Monitor monitor))
 class_locking limits s t thread class None make =
     if has_room_for 1 limits s then make (lock.NewClass class (next_reference s.heap))
     else throws limits s thread thrown.OutOfMemoryError
 
--- What a call of a method enters: of a synchronized method the monitor of the receiver, or of its class's object.
+-- Decides what a call of a method enters: the monitor of the receiver, or of its class's object, if the method is
+-- synchronized.
 abbrev pub locking : List Class → Limits → State → ℕ → Thread → MethodNumber → Method → Option ℕ → (Lock → TurnDecision) → TurnDecision
 locking program limits s t thread n m receiver make =
     if not m.flags.is_synchronized then make lock.Nothing
@@ -90,15 +90,15 @@ locking program limits s t thread n m receiver make =
     then class_locking limits s t thread n.class (class_reference s.heap (class_name_at program n.class)) make
     else object_locking limits s t thread receiver make)
 
--- The monitor that a call holds with its frame.
+-- Returns the object whose monitor a call holds with its frame.
 abbrev pub locked_reference : Lock → Option ℕ
 locked_reference lock.Nothing = None
 locked_reference (lock.Monitor monitor) = Some monitor.reference
 locked_reference (lock.NewClass class r) = Some r
 
--- ---- Calls that are popped
+-- ---- Popped calls
 
--- A call leaves the monitor of its frame, if it has one; a thread that isn't the owner can't.
+-- Decides how a call leaves the monitor of its frame, if it has one. A thread that isn't the owner can't.
 abbrev pub unlocking : State → ℕ → Option ℕ → TurnDecision → (Option MonitorUse → TurnDecision) → TurnDecision
 unlocking s t None fails make = make None
 unlocking s t (Some r) fails make = left (leaving s t r)
@@ -111,7 +111,7 @@ abbrev pub is_empty : List Frame → Bool
 is_empty [] = true
 is_empty (f ∷ frames) = false
 
--- The call of a method, above these frames, can't leave its monitor.
+-- Returns the decision that the call of a method, above these frames, fails to leave its monitor.
 abbrev pub fails_to_unlock : Limits → State → MethodNumber → List Frame → TurnDecision
 fails_to_unlock limits s method below =
     decision.Makes (action.FailsToUnlock method (exception_of limits s thrown.IllegalMonitorStateException) (is_empty below))

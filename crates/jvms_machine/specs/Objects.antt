@@ -1,4 +1,4 @@
--- Objects of classes, strings and class objects (JVMS 6.5 new, checkcast, instanceof, ldc).
+-- Objects of classes, strings and class objects (JVMS 6.5 `new`, `checkcast`, `instanceof`, `ldc`).
 use Rattle.std.specs.Prelude.{ℕ, Bool, true, false, not, if◌then◌else◌, List, ◌∷◌, Option, Some, None, pos}
 use Rattle.jvms_machine.specs.declared.value.Value.{Value}
 use Rattle.jvms_machine.specs.declared.value.Value.TheVariants as value
@@ -32,17 +32,18 @@ is_instantiable class_kind.Neither = true
 is_instantiable class_kind.Abstract = false
 is_instantiable class_kind.Interface = false
 
--- An object is made, if there is room for one.
-abbrev pub made_if_room : Limits → State → Thread → ℕ → NewObject (List ℕ) → TurnDecision
-made_if_room limits s thread takes what =
+-- Decides the creation of an object, if there is room for one.
+abbrev pub creation_if_room : Limits → State → Thread → ℕ → NewObject (List ℕ) → TurnDecision
+creation_if_room limits s thread takes what =
     if has_room_for 1 limits s then making s takes what else throws limits s thread thrown.OutOfMemoryError
 
 abbrev pub instance_of_number : List Class → Limits → State → ℕ → Thread → Option ℕ → TurnDecision
 instance_of_number program limits s t thread None = never_seen
 instance_of_number program limits s t thread (Some class) =
-    asking program limits s t thread class (made_if_room limits s thread 0 (new_object.Instance class))
+    asking program limits s t thread class (creation_if_room limits s thread 0 (new_object.Instance class))
 
--- In this order: the class is there; it is neither abstract nor an interface; it is initialised; there is room.
+-- Decides JVMS 6.5 `new`. It tests that the class exists, that it is neither abstract nor an interface, its
+-- initialisation, and the room, in this order.
 abbrev pub new_instance_decision : List Class → Limits → State → ℕ → Thread → List ℕ → Option Class → TurnDecision
 new_instance_decision program limits s t thread name None = throws limits s thread thrown.NoClassDefFoundError
 new_instance_decision program limits s t thread name (Some c) =
@@ -51,7 +52,7 @@ new_instance_decision program limits s t thread name (Some c) =
 
 -- ---- checkcast and instanceof
 
--- What is asked of an object: null is told before the class is resolved.
+-- Tests the topmost operand against a class. Null is tested before the class is resolved.
 abbrev pub with_class_of : List Class → Limits → State → Thread → List ℕ → List Value → TurnDecision → (Bool → TurnDecision) → TurnDecision
 with_class_of program limits s thread name (value.Null ∷ below) null told = null
 with_class_of program limits s thread name (value.Reference r ∷ below) null told = at (object_at s.heap r)
@@ -66,9 +67,9 @@ abbrev pub cast : Limits → State → Thread → MethodFrame → Bool → TurnD
 cast limits s thread frame true = reaches effect.Nothing (taking 0 frame.activation)
 cast limits s thread frame false = throws limits s thread thrown.ClassCastException
 
-abbrev pub told_instance : Bool → TurnDecision
-told_instance true = reaches effect.Nothing (frame_action.Push 1 (value.Int (pos 1)))
-told_instance false = reaches effect.Nothing (frame_action.Push 1 (value.Int (pos 0)))
+abbrev pub instance_test_result : Bool → TurnDecision
+instance_test_result true = reaches effect.Nothing (frame_action.Push 1 (value.Int (pos 1)))
+instance_test_result false = reaches effect.Nothing (frame_action.Push 1 (value.Int (pos 0)))
 
 -- ---- The instructions that name a class
 
@@ -81,21 +82,21 @@ class_decision program limits s t thread frame class_use.CheckCast name =
     if_deep frame 1 1
     (with_class_of program limits s thread name frame.activation.operands (reaches effect.Nothing (taking 0 frame.activation)) (cast limits s thread frame))
 class_decision program limits s t thread frame class_use.InstanceOf name =
-    if_deep frame 1 1 (with_class_of program limits s thread name frame.activation.operands (told_instance false) told_instance)
+    if_deep frame 1 1 (with_class_of program limits s thread name frame.activation.operands (instance_test_result false) instance_test_result)
 
 -- ---- ldc of a string or a class
 
--- The object that is there, or a new one: equal texts have one, and so has a class.
-abbrev pub held_or_made : Limits → State → Thread → Option ℕ → NewObject (List ℕ) → TurnDecision
-held_or_made limits s thread (Some r) what = reaches effect.Nothing (frame_action.Push 0 (value.Reference r))
-held_or_made limits s thread None what = made_if_room limits s thread 0 what
+-- Decides to push the existing object, or else a new one. Equal strings share one object, and a class has one.
+abbrev pub existing_or_new : Limits → State → Thread → Option ℕ → NewObject (List ℕ) → TurnDecision
+existing_or_new limits s thread (Some r) what = reaches effect.Nothing (frame_action.Push 0 (value.Reference r))
+existing_or_new limits s thread None what = creation_if_room limits s thread 0 what
 
 unfoldable pub loadable_decision : List Class → Limits → State → Thread → MethodFrame → Loadable → TurnDecision
 loadable_decision program limits s thread frame (loadable.String units) =
-    if_deep frame 0 1 (held_or_made limits s thread (text_reference s.heap units) (new_object.Text units))
+    if_deep frame 0 1 (existing_or_new limits s thread (text_reference s.heap units) (new_object.Text units))
 loadable_decision program limits s thread frame (loadable.Class name) =
     if_deep frame 0 1 (
     if class_exists program name
-    then held_or_made limits s thread (class_reference s.heap name) (new_object.ClassObject name)
+    then existing_or_new limits s thread (class_reference s.heap name) (new_object.ClassObject name)
     else throws limits s thread thrown.NoClassDefFoundError)
 loadable_decision program limits s thread frame _ = never_seen

@@ -1,4 +1,4 @@
--- A machine at its opening, or why there is none.
+-- The opening of a machine, or the reason for which there is none.
 use Rattle.std.specs.Prelude.{Bool, ◌&&◌, if◌then◌else◌, List, [], ◌∷◌, map, Option, Some, None, codes, Result, Ok, Err}
 use Rattle.jvms_machine.specs.declared.value.Value.{Value}
 use Rattle.jvms_machine.specs.declared.value.Value.TheVariants as value
@@ -14,25 +14,26 @@ use Rattle.jvms_machine.specs.State.{State, Object, array, first_instance, stati
 use Rattle.jvms_machine.specs.Start.{Start, start_of}
 use Rattle.jvms_machine.specs.Limits.{are_limits}
 
--- Why a machine isn't made: the entry is looked at first, then the limits.
-pub data NotMade : Type 0 where
-  no_entry : NotMade
-  no_limits : NotMade
+-- The reason for which a machine isn't made. The entry is tested first, then the limits.
+pub data StartFault : Type 0 where
+  no_entry : StartFault
+  no_limits : StartFault
 
-abbrev pub within : Limits → Start → Result Start NotMade
+abbrev pub within : Limits → Start → Result Start StartFault
 within limits start = if are_limits limits then Ok start else Err no_limits
 
-abbrev pub start_within : Limits → Option Start → Result Start NotMade
-start_within limits None = Err no_entry
-start_within limits (Some start) = within limits start
+abbrev pub start_within_limits : Limits → Option Start → Result Start StartFault
+start_within_limits limits None = Err no_entry
+start_within_limits limits (Some start) = within limits start
 
--- Where a machine of a program starts, with these limits and this entry.
-abbrev pub made : List Class → Limits → Entry → Result Start NotMade
-made program limits e = start_within limits (start_of program e)
+-- Returns the start of a machine of a program with these limits and this entry.
+abbrev pub made : List Class → Limits → Entry → Result Start StartFault
+made program limits e = start_within_limits limits (start_of program e)
 
 -- ---- The opening state
 
--- References 1 to 4: the error of too many objects, that of too many frames, System.out, and main's argument.
+-- Returns the objects of references 1 to 4: the error for too many objects, that for too many frames, `System.out`, and
+-- the argument of `main`.
 abbrev pub opening_heap : List Class → List Object
 opening_heap program =
     first_instance program (codes "java/lang/OutOfMemoryError")
@@ -44,7 +45,7 @@ opening_heap program =
 abbrev pub is_system_out : FieldKey → Bool
 is_system_out key = same_text key.class (codes "java/lang/System") && same_text key.name (codes "out")
 
--- System.out is reference 3; all other static fields have their first value.
+-- Returns a static field at the opening. `System.out` is reference 3, and any other field has its default value.
 abbrev pub opening_static : FieldKey × Value → FieldKey × Value
 opening_static f = (f.0, if is_system_out f.0 then value.Reference 3 else f.1)
 

@@ -1,4 +1,4 @@
--- What is printed (own): an int or a long in decimal, a string in UTF-8, null as its name; and the end of a line.
+-- The printed bytes (own): an int or a long in decimal, a string in UTF-8, null as its name, and the end of a line.
 use Rattle.std.specs.Prelude.{ℕ, ◌+◌, ◌-◌, ◌*◌, Bool, true, false, ◌&&◌, nat_le, if◌then◌else◌, List, [], ◌∷◌, ◌++◌, Option, Some, codes, encode_utf8}
 use Rattle.std.specs.List.{flat_map}
 use Rattle.std.specs.Fmt.{signed_decimal}
@@ -6,14 +6,15 @@ use Rattle.jvms_machine.specs.declared.action.Printed.{Printed}
 use Rattle.jvms_machine.specs.declared.action.Printed.TheVariants as printed
 use Rattle.jvms_machine.specs.State.{Object, text, object_at}
 
--- The first and the second half of a supplementary character.
+-- Decide whether a unit is the high or the low surrogate of a supplementary character.
 abbrev pub is_high : ℕ → Bool
 is_high u = nat_le 0xd800 u && nat_le u 0xdbff
 
 abbrev pub is_low : ℕ → Bool
 is_low u = nat_le 0xdc00 u && nat_le u 0xdfff
 
--- The characters of units: halves are joined where both are there, and one without the other is a question mark.
+-- Returns the characters of units. A pair of surrogates is one character, and a single surrogate becomes a question
+-- mark.
 abbrev pub characters : List ℕ → List ℕ
 characters [] = []
 characters (u ∷ []) = (if is_high u then 63 else (if is_low u then 63 else u)) ∷ []
@@ -21,7 +22,7 @@ characters (u ∷ v ∷ units) =
     if is_high u && is_low v then (0x10000 + (u - 0xd800) * 0x400 + (v - 0xdc00)) ∷ characters units
     else (if is_high u then 63 else (if is_low u then 63 else u)) ∷ characters (v ∷ units)
 
--- A text in UTF-8.
+-- Returns a text in UTF-8.
 abbrev pub text_bytes : List ℕ → List ℕ
 text_bytes units = flat_map encode_utf8 (characters units)
 
@@ -36,7 +37,7 @@ printed_bytes heap (printed.Long n) = signed_decimal n
 printed_bytes heap printed.Null = codes "null"
 printed_bytes heap (printed.Text r) = object_bytes (object_at heap r)
 
--- The bytes of what is printed, with byte 0A at the end of a line.
+-- Returns the printed bytes, with byte 0A at the end of a line.
 abbrev pub line_bytes : List Object → Printed → Bool → List ℕ
 line_bytes heap what true = printed_bytes heap what ++ 10 ∷ []
 line_bytes heap what false = printed_bytes heap what

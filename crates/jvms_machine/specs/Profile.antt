@@ -1,5 +1,5 @@
--- Types outside of the profile, float and double, and the classes of which no object is made (own).
--- The files of their families decide the instructions of these types.
+-- Types outside the profile, float and double, and the classes that `new` can't instantiate (own). The files of their
+-- families decide the instructions of these types.
 use Rattle.std.specs.Prelude.{ℕ, Bool, true, false, ◌||◌, List, Option, Some, None, codes}
 use Rattle.std.specs.List.{list_any}
 use Rattle.jvms_file.specs.declared.descriptor.Primitive.TheVariants as primitive
@@ -22,7 +22,7 @@ use Rattle.jvms_program.specs.Resolution.{class_type}
 
 -- ---- Types and descriptors
 
--- A float or double, or an array of them.
+-- Decides whether an element type is float or double.
 abbrev pub is_outside_element : Element → Bool
 is_outside_element (element.Primitive primitive.Float) = true
 is_outside_element (element.Primitive primitive.Double) = true
@@ -32,7 +32,7 @@ abbrev pub is_outside_result : ResultType → Bool
 is_outside_result result_type.Void = false
 is_outside_result (result_type.Value t) = is_outside_element t.element
 
--- Whether a method's descriptor names a float or a double anywhere.
+-- Decides whether a method's descriptor names a float or a double anywhere.
 abbrev pub is_outside_method : MethodType → Bool
 is_outside_method t = list_any (λ p. is_outside_element p.element) t.parameters || is_outside_result t.result
 
@@ -40,7 +40,7 @@ abbrev pub is_outside_type : Option FieldType → Bool
 is_outside_type None = false
 is_outside_type (Some t) = is_outside_element t.element
 
--- Whether the class of a name is an array of floats or doubles.
+-- Decides whether a class name is that of an array of floats or doubles.
 abbrev pub is_outside_class : List ℕ → Bool
 is_outside_class name = is_outside_type (class_type name)
 
@@ -56,7 +56,7 @@ is_outside_component array_type.Float = true
 is_outside_component array_type.Double = true
 is_outside_component _ = false
 
--- Loads, stores and newarray of float and double.
+-- Decides whether an array instruction is a load, a store or `newarray` of float or double.
 abbrev pub is_outside_array : ArrayInsn → Bool
 is_outside_array (array.Load k) = is_outside_kind k
 is_outside_array (array.Store k) = is_outside_kind k
@@ -65,13 +65,14 @@ is_outside_array (array.New t) = is_outside_component t
 
 -- ---- Classes
 
--- The classes of which `new` makes no object.
+-- Decides whether `new` of a class is outside the profile.
 unfoldable pub is_never_new : List ℕ → Bool
 is_never_new name =
     same_text name (codes "java/lang/String") || same_text name (codes "java/lang/Class")
     || same_text name (codes "java/lang/System") || same_text name (codes "java/io/PrintStream")
 
--- `new` of those, and anewarray of such arrays. A cast or a test makes nothing.
+-- Decides whether an instruction is `new` of such a class or `anewarray` of such an array. A cast or a test creates
+-- nothing.
 abbrev pub is_outside_use : ClassUse → List ℕ → Bool
 is_outside_use class_use.New name = is_never_new name
 is_outside_use class_use.NewArray name = is_outside_class name

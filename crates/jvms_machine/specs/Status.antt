@@ -1,4 +1,4 @@
--- How a machine stands, told from what each thread's next turn would come to.
+-- The status of a machine, by the outcome of each thread's next turn.
 use Rattle.std.specs.Prelude.{Bool, true, false, if◌then◌else◌, List, map}
 use Rattle.std.specs.List.{list_all, list_any, enumerate_from}
 use Rattle.jvms_machine.specs.declared.machine.Outcome.{Outcome}
@@ -23,12 +23,13 @@ abbrev pub is_bad : Outcome → Bool
 is_bad (outcome.Bad why) = true
 is_bad _ = false
 
--- What each thread's next turn would come to.
+-- Returns the outcome of each thread's next turn.
 abbrev pub next_outcomes : List Class → Limits → Start → State → List Outcome
 next_outcomes program limits start s =
     map (λ numbered. (turn program limits start s numbered.0).outcome) (enumerate_from 0 s.threads)
 
--- Finished: all threads have ended; running: one is enabled; stalled: the next turn of one is Bad; else deadlocked.
+-- Returns the status. It is finished if all threads have ended, else running if one is enabled, else stalled if the
+-- next turn of one is Bad, else deadlocked.
 unfoldable pub status_of : List Class → Limits → Start → State → Status
 status_of program limits start s =
     if list_all (λ thread. thread.ended) s.threads then status.Finished

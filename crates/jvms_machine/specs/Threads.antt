@@ -1,5 +1,5 @@
--- The threads that programs start (Java SE API, Thread.start and Thread.join): each native method is done in the turn of its
--- call.
+-- The threads that a program starts (Java SE API, `Thread.start` and `Thread.join`). Each native method completes in
+-- the turn of its call.
 use Rattle.std.specs.Prelude.{ℕ, nat_lt, if◌then◌else◌, List, ◌∷◌, length, Option, Some, None, slice_get, codes}
 use Rattle.std.specs.List.{position}
 use Rattle.jvms_machine.specs.declared.machine.Outcome.TheVariants as outcome
@@ -17,18 +17,18 @@ use Rattle.jvms_machine.specs.State.{State, Thread, Activation, same_object}
 use Rattle.jvms_machine.specs.Exceptions.{throws}
 use Rattle.jvms_machine.specs.Fields.{reaches, taking}
 
--- The thread that was started of a Thread object.
+-- Returns the thread that was started by a Thread object.
 abbrev pub thread_of : List Thread → ℕ → Option ℕ
 thread_of threads r = position (λ thread. same_object thread.object (Some r)) threads
 
--- In this order: it wasn't started before; there is room for one thread more.
+-- Decides the start of a Thread object. It tests that it wasn't started before, then the room for one more thread.
 abbrev pub start_decision : Limits → State → Thread → Activation → ℕ → Option ℕ → TurnDecision
 start_decision limits s thread a r (Some u) = throws limits s thread thrown.IllegalThreadStateException
 start_decision limits s thread a r None =
     if nat_lt (length s.threads) limits.threads then reaches (effect.Starts r (length s.threads)) (taking 1 a)
     else throws limits s thread thrown.OutOfMemoryError
 
--- A thread's end is waited for; one that wasn't started isn't.
+-- Decides a join. The turn is blocked until the thread has ended. A thread that wasn't started isn't waited for.
 abbrev pub join_decision : State → Activation → Option ℕ → TurnDecision
 join_decision s a None = reaches effect.Nothing (taking 1 a)
 join_decision s a (Some u) = of_thread (slice_get s.threads u)
@@ -38,7 +38,7 @@ join_decision s a (Some u) = of_thread (slice_get s.threads u)
     of_thread (Some other) =
         if other.ended then reaches (effect.Joins u) (taking 1 a) else decision.Unmade (outcome.Blocked (blocked.Join u))
 
--- start and join of the Thread object on top.
+-- Decides a call of `start` or `join` for the Thread object on top.
 abbrev pub thread_native_decision : Limits → State → Thread → Activation → Method → List Value → TurnDecision
 thread_native_decision limits s thread a m (value.Reference r ∷ below) =
     if same_text m.name (codes "start") then start_decision limits s thread a r (thread_of s.threads r)

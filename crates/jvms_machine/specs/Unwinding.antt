@@ -1,4 +1,5 @@
--- A pending exception (JVMS 2.10): the handler that takes it, or the frame that it pops; and athrow (JVMS 6.5).
+-- Decisions on a pending exception (JVMS 2.10), which a handler takes or which pops a frame, and on `athrow` (JVMS
+-- 6.5).
 use Rattle.std.specs.Prelude.{ℕ, ◌<◌, ◌==◌, ◌&&◌, Bool, true, not, nat_le, nat_lt, if◌then◌else◌, List, [], ◌∷◌, Option, Some, None, codes}
 use Rattle.std.specs.List.{find}
 use Rattle.jvms_program.specs.declared.program.Catch.{Catch}
@@ -26,7 +27,7 @@ use Rattle.jvms_machine.specs.Arrays.{if_deep, with_object_of}
 abbrev pub covers : ℕ → ExceptionHandler → Bool
 covers place h = nat_le h.start place && nat_lt place h.end
 
--- Whether a handler takes objects of a class. A class that isn't there takes none (own).
+-- Decides whether a handler takes objects of a class. A handler whose class doesn't exist takes none (own).
 abbrev pub takes_class : List Class → List ℕ → Catch → Bool
 takes_class program class catch.All = true
 takes_class program class (catch.Class name) = fits program class name
@@ -34,19 +35,19 @@ takes_class program class (catch.Class name) = fits program class name
 abbrev pub handles : List Class → List ℕ → ℕ → ExceptionHandler → Bool
 handles program class place h = covers place h && takes_class program class h.catch
 
--- The first handler in the table's order that covers the place and takes the object.
+-- Returns the first handler in the table's order that covers the pc and takes the object.
 abbrev pub handler_of : List Class → List ℕ → MethodFrame → Option ExceptionHandler
 handler_of program class f = find (handles program class f.activation.place) f.body.handlers
 
--- ---- The frame on top
+-- ---- The top frame
 
--- A call is popped, and leaves its monitor.
+-- Decides that a call is popped, and leaves its monitor.
 abbrev pub popped_decision : Limits → State → ℕ → MethodFrame → List Frame → TurnDecision
 popped_decision limits s t f below =
     unlocking s t f.monitor (fails_to_unlock limits s f.method below)
     (λ unlock. decision.Makes (action.Unwinds f.method (is_empty below) unlock))
 
--- The handler takes the object, for which there has to be room; without a handler the call is popped.
+-- Decides the turn with this handler. It needs room for the object. Without a handler the call is popped.
 abbrev pub handler_decision : Limits → State → ℕ → MethodFrame → List Frame → ℕ → Option ExceptionHandler → TurnDecision
 handler_decision limits s t f below r None = popped_decision limits s t f below
 handler_decision limits s t f below r (Some h) = if f.body.max_stack == 0 then bad cause.Depth else decision.Makes (action.Catches r h.target)
@@ -54,7 +55,8 @@ handler_decision limits s t f below r (Some h) = if f.body.max_stack == 0 then b
 abbrev pub is_error : List Class → Object → Bool
 is_error program o = fits program (class_of o) (codes "java/lang/Error")
 
--- What a class's failed initialisation leaves pending: an exception of its <clinit> that is no Error is replaced.
+-- Returns the exception that is pending after a class's failed initialisation. An exception of its `<clinit>` that is
+-- no Error is replaced.
 abbrev pub failed_with : List Class → Limits → State → Bool → ℕ → Object → Exception
 failed_with program limits s called r o =
     if called && not (is_error program o) then exception_of limits s thrown.ExceptionInInitializerError else exception.Held r
@@ -70,12 +72,11 @@ abbrev pub object_decision : List Class → Limits → State → ℕ → List Fr
 object_decision program limits s t frames r None = never_seen
 object_decision program limits s t frames r (Some o) = top_decision program limits s t frames r o
 
--- The turn of a thread with a pending exception.
+-- Decides the turn of a thread with a pending exception.
 unfoldable pub unwinding_decision : List Class → Limits → State → ℕ → Thread → ℕ → TurnDecision
 unwinding_decision program limits s t thread r = object_decision program limits s t thread.frames r (object_at s.heap r)
 
--- The frame on top is popped, or a handler of it takes the object: that of a call with room for the object, or that of an
--- initialisation.
+-- The top frame can be unwound: it is an initialisation, or a call with room for the object of a handler.
 abbrev pub CanBeUnwound : List Frame → Type 0
 CanBeUnwound [] = ⊥
 CanBeUnwound (stack_frame.Call f ∷ below) = 0 < f.body.max_stack
@@ -91,6 +92,6 @@ abbrev pub throw_top : List Class → Limits → State → Thread → List Value
 throw_top program limits s thread [] = bad cause.Depth
 throw_top program limits s thread (v ∷ below) = with_object_of limits s thread v (throwable_decision program)
 
--- In this order: the depth; null; that the object is a Throwable.
+-- Decides JVMS 6.5 `athrow`. It tests the depth and null, then that the object is a Throwable.
 unfoldable pub throw_decision : List Class → Limits → State → Thread → MethodFrame → TurnDecision
 throw_decision program limits s thread frame = if_deep frame 1 0 (throw_top program limits s thread frame.activation.operands)

@@ -1,5 +1,5 @@
--- wait, notify and notifyAll (JLS 17.2; Java SE API, Object): each is done in the turn of its call, but for what a thread
--- that waits does when it was notified. No thread is woken otherwise (own).
+-- The methods `wait`, `notify` and `notifyAll` (JLS 17.2, Java SE API, `Object`). Each completes in the turn of its
+-- call, except that a waiting thread continues after its notification. No thread is woken otherwise (own).
 use Rattle.std.specs.Prelude.{ℕ, Bool, not, ◌==◌, if◌then◌else◌, List, ◌∷◌, map, Option, Some, None, codes}
 use Rattle.std.specs.List.{filter, list_any}
 use Rattle.std.specs.Map.{remove_entry}
@@ -22,31 +22,31 @@ use Rattle.jvms_machine.specs.Exceptions.{throws}
 use Rattle.jvms_machine.specs.Fields.{reaches, taking}
 use Rattle.jvms_machine.specs.Monitors.{with_hold}
 
--- ---- What waiting changes
+-- ---- The changes by a wait
 
--- The monitor of an object is free, however often it was entered.
+-- Frees the monitor of an object, whatever its entry count.
 abbrev pub freed_monitor : ℕ → List (ℕ × Hold) → List (ℕ × Hold)
 freed_monitor r monitors = remove_entry (λ q. q == r) monitors
 
--- A thread has taken the monitor again, entered as often as before.
+-- Gives the monitor back to a thread, with the entry count from before its wait.
 abbrev pub retaken_monitor : ℕ → Wait → List (ℕ × Hold) → List (ℕ × Hold)
 retaken_monitor t w monitors = with_hold w.reference (record { owner = t; count = w.count }) monitors
 
--- Whether a thread waits and wasn't notified.
+-- Decides whether a thread waits and wasn't notified.
 abbrev pub is_waiter : ℕ → List (ℕ × ℕ) → Bool
 is_waiter t waiters = list_any (λ w. w.1 == t) waiters
 
--- The threads that wait for an object, the one that has waited longest first.
+-- Returns the threads that wait for an object, the longest wait first.
 abbrev pub waiters_of : ℕ → List (ℕ × ℕ) → List ℕ
 waiters_of r waiters = map (λ w. w.1) (filter (λ w. w.0 == r) waiters)
 
--- notify takes out the thread that has waited longest for the object, if there is one, and notifyAll all that wait for it.
+-- Removes the notified waiters: the one that has waited longest for the object, or all that wait for it.
 abbrev pub without_notified : ℕ → Bool → List (ℕ × ℕ) → List (ℕ × ℕ)
 without_notified r all waiters = if all then filter (λ w. not (w.0 == r)) waiters else remove_entry (λ q. q == r) waiters
 
 -- ---- The turns
 
--- The owner of the monitor may wait and notify: what it does on a monitor that it has entered so often.
+-- Decides a wait or a notification. Only the owner of the monitor, with its entry count, may wait and notify.
 abbrev pub owned : Limits → State → ℕ → Thread → Option Hold → (ℕ → TurnDecision) → TurnDecision
 owned limits s t thread None make = throws limits s thread thrown.IllegalMonitorStateException
 owned limits s t thread (Some h) make =
@@ -57,18 +57,18 @@ waits_or_notifies a m r count =
     if same_text m.name (codes "wait") then decision.Makes (action.Waits (record { reference = r; count = count }))
     else reaches (effect.Notifies r (same_text m.name (codes "notifyAll"))) (taking 1 a)
 
--- wait, notify and notifyAll of the object on top.
+-- Decides a call of `wait`, `notify` or `notifyAll` for the object on top.
 abbrev pub object_native_decision : Limits → State → ℕ → Thread → Activation → Method → List Value → TurnDecision
 object_native_decision limits s t thread a m (value.Reference r ∷ below) =
     owned limits s t thread (monitor_at s.monitors r) (waits_or_notifies a m r)
 object_native_decision limits s t thread a m _ = never_seen
 
--- A thread that was notified takes the monitor again, once it is free.
+-- Decides that a notified thread retakes the monitor, once it is free.
 abbrev pub retaking : Wait → Option Hold → TurnDecision
 retaking w (Some h) = decision.Unmade (outcome.Blocked (blocked.Monitor w.reference h.owner))
 retaking w None = decision.Makes (action.Retakes w)
 
--- The turn of a thread that waits: it is blocked until it is notified.
+-- Decides the turn of a waiting thread. The turn is blocked until the thread is notified and the monitor is free.
 unfoldable pub waiting_decision : State → ℕ → Wait → TurnDecision
 waiting_decision s t w =
     if is_waiter t s.waiters then decision.Unmade (outcome.Blocked (blocked.Wait w.reference))

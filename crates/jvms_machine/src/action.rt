@@ -1,4 +1,4 @@
-//! What a turn comes to: decided first, with nothing changed, and then made.
+//! The decision on a turn, made with nothing changed, and the action that is then applied.
 
 use crate::machine::{BadCause, Outcome, ThreadId};
 use crate::state::Wait;
@@ -8,55 +8,55 @@ use jvms_program::number::{FieldNumber, MethodNumber};
 use jvms_program::thrown::Thrown;
 use std::alloc::AllocError;
 
-/// What an instruction does that touches its frame alone (JVMS 6.5). What it takes it takes off the top of the
-/// operands; `takes` counts places, of which a long has two.
+/// The action of an instruction that touches its frame alone (JVMS 6.5). Operands are removed from the top. `takes`
+/// counts slots, and a long has two.
 #[derive(Clone, Copy, PartialEq, Eq)]
 pub enum FrameAction {
-    /// Takes so many operands, puts a value on top, and goes on to the next instruction.
+    /// Removes `takes` operands, pushes a value, and moves to the next instruction.
     Push { takes: u8, value: Value },
-    /// Takes so many operands, stores a value in a local variable, and goes on to the next instruction.
+    /// Removes `takes` operands, stores a value in a local variable, and moves to the next instruction.
     Store { takes: u8, local: u16, value: Value },
-    /// Takes so many operands, and goes on at a place.
+    /// Removes `takes` operands, and sets the pc.
     Jump { takes: u16, target: usize },
-    /// Rearranges the top operands, and goes on to the next instruction.
+    /// Rearranges the topmost operands, and moves to the next instruction.
     Rearrange(StackForm),
-    /// Puts the return address of the next instruction on top, and goes on at a place.
+    /// Pushes the return address of the next instruction, and sets the pc.
     Subroutine { target: usize },
 }
 
-/// What an instruction comes to, as far as its frame tells.
+/// The decision on an instruction by its frame alone.
 #[derive(Clone, Copy, PartialEq, Eq)]
 pub enum FrameDecision {
     Does(FrameAction),
-    /// An exception of this class is thrown, and the frame stays as it is.
+    /// Throws an exception of this class. The frame stays as it is.
     Throws(Thrown),
-    /// The turn can't be made.
+    /// The turn can't be taken.
     Stops(BadCause),
-    /// The frame alone doesn't tell: the instruction touches more than it, as a return does.
+    /// The frame alone doesn't decide. The instruction touches more than it, as a return does.
     Beyond,
 }
 
-/// An exception that is thrown (JVMS 2.10).
+/// A thrown exception (JVMS 2.10).
 #[derive(Clone, Copy, Debug, PartialEq, Eq)]
 pub enum Exception {
-    /// An object of this class is made, with a null message.
+    /// Creates an object of this class, with a null message.
     New(Thrown),
-    /// The object of this reference is thrown, which is there.
+    /// Throws the existing object of this reference.
     Held { reference: u32 },
 }
 
-/// What is made on the heap (JVMS 2.4, 2.7). `T` is a text, or what leads to it.
+/// A new object on the heap (JVMS 2.4, 2.7). `T` is the type of texts.
 #[derive(Copy)]
 pub enum NewObject<T> {
-    /// An object of the class of a number.
+    /// An instance of a class.
     Instance { class: usize },
-    /// An array of a class with so many elements.
+    /// An array of a class with `length` elements.
     Array { class: T, length: u32 },
-    /// An array of a class and the arrays in it, whose lengths are so many operands.
+    /// An array of a class and the arrays in it, whose lengths are the topmost `dimensions` operands.
     Arrays { class: T, dimensions: u8 },
-    /// The string of these units.
+    /// The string of these UTF-16 code units.
     Text { units: T },
-    /// The object of the class of this name.
+    /// The object of the named class.
     ClassObject { name: T },
 }
 
@@ -66,7 +66,7 @@ impl<T: Copy> Clone for NewObject<T> {
     }
 }
 
-/// What is printed before the end of a line, if the line ends.
+/// The printed value, without the end of its line.
 #[derive(Clone, Copy, Debug, PartialEq, Eq)]
 pub enum Printed {
     Nothing,
@@ -77,27 +77,27 @@ pub enum Printed {
     Text { reference: u32 },
 }
 
-/// A monitor that is entered or left (JVMS 2.11.10).
+/// The entry or exit of a monitor (JVMS 2.11.10).
 #[derive(Clone, Copy, Debug, PartialEq, Eq)]
 pub struct MonitorUse {
     /// The object's reference.
     pub reference: u32,
-    /// It is free before it is entered, or after it is left.
+    /// Set if the monitor is free before the entry, or after the exit.
     pub outermost: bool,
 }
 
-/// What a call enters with its frame (JVMS 2.11.10).
+/// The monitor that a call enters with its frame (JVMS 2.11.10).
 #[derive(Clone, Copy, Debug, PartialEq, Eq)]
 pub enum Lock {
-    /// Nothing: its method isn't synchronized.
+    /// No monitor. The method isn't synchronized.
     Nothing,
-    /// The monitor of an object that is there.
+    /// The monitor of an existing object.
     Monitor(MonitorUse),
-    /// The monitor of the object of a class, which is made with it, under this reference.
+    /// The monitor of the object of a class, which is created with this reference.
     NewClass { class: usize, reference: u32 },
 }
 
-/// What an instruction does beside what it makes of its frame.
+/// The effect of an instruction beside the action on its frame.
 #[derive(Copy)]
 pub enum Effect<T> {
     Nothing,
@@ -131,20 +131,20 @@ pub enum Effect<T> {
         what: Printed,
         ends_line: bool,
     },
-    /// A monitor is entered.
+    /// Enters a monitor.
     Locks(MonitorUse),
-    /// A monitor is left.
+    /// Leaves a monitor.
     Unlocks(MonitorUse),
-    /// The thread of an object is started under this number.
+    /// Starts the thread of an object, with this number.
     Starts {
         reference: u32,
         thread: ThreadId,
     },
-    /// This thread has ended, and was waited for.
+    /// Joins this thread, which has ended.
     Joins {
         thread: ThreadId,
     },
-    /// The thread that has waited longest for an object is notified, or all are that wait for it.
+    /// Notifies the thread that has waited longest for an object, or all that wait for it.
     Notifies {
         reference: u32,
         all: bool,
@@ -157,88 +157,88 @@ impl<T: Copy> Clone for Effect<T> {
     }
 }
 
-/// How a turn changes the state, with what its making needs. `C` is a method's code, or what leads to it, and `T` a
-/// text.
+/// A change of the state by a turn, with all that its application needs. `C` is the type of a method's code, and `T`
+/// that of texts.
 #[derive(Copy)]
 pub enum Action<C, T> {
-    /// The call on top goes on by an instruction that touches its frame alone.
+    /// The top call continues by an instruction that touches its frame alone.
     Goes(FrameAction),
-    /// The call on top goes on by an instruction that touches more.
+    /// The top call continues by an instruction that reaches beyond its frame.
     Reaches(Effect<T>, FrameAction),
-    /// The initialisation of a class begins, and its frame is pushed.
+    /// Begins the initialisation of a class, and pushes its frame.
     Begins {
         class: usize,
     },
-    /// The initialisation of a class is done, and its frame popped.
+    /// Finishes the initialisation of a class, and pops its frame.
     Finishes {
         class: usize,
     },
-    /// The first call of the thread is made: of this method, which has this code.
+    /// Makes the first call of the thread, of this method with this code.
     Enters {
         method: MethodNumber,
         code: C,
         lock: Lock,
     },
-    /// The first call, of this method, returns, and the thread ends.
+    /// Returns from the first call, of this method, and ends the thread.
     Ends {
         method: MethodNumber,
         result: Option<Value>,
         unlock: Option<MonitorUse>,
     },
-    /// A method is called, which has this code: so many operands of the call on top are its arguments.
+    /// Calls a method with this code. Its arguments are the topmost `takes` operands of the top call.
     Calls {
         method: MethodNumber,
         code: C,
         takes: u16,
         lock: Lock,
     },
-    /// The call on top, of this method, returns to the frame below.
+    /// Returns from the top call, of this method, to the frame below.
     Returns {
         method: MethodNumber,
         result: Option<Value>,
         unlock: Option<MonitorUse>,
     },
-    /// The `<clinit>` of the class whose initialisation is on top is called, which has this code.
+    /// Calls the `<clinit>` with this code, of the class whose initialisation is on top.
     Initialises {
         method: MethodNumber,
         code: C,
     },
-    /// The object of this reference is taken off the operands of the call on top, and is pending.
+    /// Removes the object of this reference from the operands of the top call, and makes it pending.
     Throws {
         reference: u32,
     },
-    /// A handler of the call on top, at this place, takes the pending object.
+    /// Enters a handler of the top call with the pending object.
     Catches {
         reference: u32,
         target: usize,
     },
-    /// The call on top, of this method, is popped by the pending exception. With the last frame the thread ends.
+    /// Pops the top call, of this method, because of the pending exception. The thread ends with its last frame.
     Unwinds {
         method: MethodNumber,
         last: bool,
         unlock: Option<MonitorUse>,
     },
-    /// The call on top, of this method, is popped by its return or by an exception, and its thread doesn't own the monitor
-    /// that it would leave: this exception is pending. With the last frame the thread ends.
+    /// Pops the top call, of this method, by its return or an exception, though its thread doesn't own the monitor that
+    /// it would leave. This exception is then pending. The thread ends with its last frame.
     FailsToUnlock {
         method: MethodNumber,
         exception: Exception,
         last: bool,
     },
-    /// The initialisation of a class, which is on top, is popped by the pending exception: the class is erroneous, and
-    /// this exception is pending. With the last frame the thread ends.
+    /// Pops the initialisation of a class because of the pending exception. The class is then erroneous, and this
+    /// exception is pending. The thread ends with its last frame.
     FailsInitialisation {
         class: usize,
         exception: Exception,
         last: bool,
     },
-    /// The call on top, of `wait`, frees a monitor, which was entered so often. The thread waits from now on.
+    /// Frees a monitor with this entry count, for the top call, of `wait`. The thread then waits.
     Waits(Wait),
-    /// A thread that was notified takes the monitor again, and its call of `wait` is done.
+    /// Gives the monitor back to a notified thread, and completes its call of `wait`.
     Retakes(Wait),
-    /// An exception is pending.
+    /// Makes an exception pending.
     Raises(Exception),
-    /// The first call throws an exception, and the thread ends.
+    /// Ends the thread, whose first call throws an exception.
     Fails(Exception),
 }
 
@@ -248,10 +248,10 @@ impl<C: Copy, T: Copy> Clone for Action<C, T> {
     }
 }
 
-/// What a turn comes to.
+/// The decision on a turn.
 #[derive(Copy)]
 pub enum Decision<C, T> {
-    /// It isn't made: nothing changes.
+    /// The turn isn't taken, and nothing changes.
     Unmade(Outcome),
     Makes(Action<C, T>),
 }

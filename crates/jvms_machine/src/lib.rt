@@ -1,5 +1,5 @@
-//! The machine (JVMS 2, 6.5): what it is handed and what it answers, and in `specs/` its state, the rows of the
-//! instruction table, turns and runs.
+//! The machine (JVMS 2, 6.5): its inputs and answers, and in `specs/` its state, the transitions of the instruction
+//! table, turns and runs.
 #![tactic(auto)]
 
 pub mod action;

@@ -1,8 +1,8 @@
-//! What is handed to the machine, and what it answers.
+//! The inputs of the machine, and its answers.
 
-use held::items::Items;
+use shared_data::items::Items;
 
-/// A thread's number; thread 0 runs the entry.
+/// A thread's number. Thread 0 runs the entry.
 pub type ThreadId = u32;
 
 /// An argument of an entry.
@@ -12,77 +12,77 @@ pub enum Argument {
     Long(i64),
 }
 
-/// Where a run begins.
+/// The entry of a run: the method with which thread 0 begins.
 #[derive(Debug, PartialEq, Eq, Drop)]
 pub enum Entry {
-    /// `main([Ljava/lang/String;)V` of the class of this name.
+    /// `main([Ljava/lang/String;)V` of the named class.
     Main {
         class: Items<u16>,
     },
-    /// A static method with arguments that are ints and longs.
+    /// A static method with int and long arguments.
     Static {
         class: Items<u16>,
         name: Items<u16>,
-        /// The descriptor as it is written.
+        /// The text of the descriptor.
         descriptor: Items<u16>,
         arguments: Items<Argument>,
     },
 }
 
-/// What a run may use.
+/// The limits of a run.
 #[derive(Clone, Copy, Debug, PartialEq, Eq)]
 pub struct Limits {
-    /// All references ever made: 4 to 16,777,216.
+    /// All references that are ever created: 4 to 16,777,216.
     pub objects: u32,
     /// All elements of all arrays: 0 to 268,435,456.
     pub elements: u32,
-    /// All threads ever started, thread 0 included: 1 to 1,024.
+    /// All threads that are ever started, thread 0 included: 1 to 1,024.
     pub threads: u32,
-    /// The frames of a thread: 1 to 65,536.
+    /// The frames of one thread: 1 to 65,536.
     pub frames: u32,
 }
 
-/// What a blocked thread waits for.
+/// The thing for which a blocked thread waits: a monitor, an initialisation, the end of a thread, or a notification.
 #[derive(Clone, Copy, Debug, PartialEq, Eq)]
 pub enum BlockedOn {
     Monitor { reference: u32, owner: ThreadId },
-    /// The initialisation of the class at this place of the program's list.
+    /// The initialisation of the class at this index of the program's list.
     Initialisation { class: usize, owner: ThreadId },
     Join { thread: ThreadId },
-    /// A notification of those that wait for the object of this reference.
+    /// A notification of the threads that wait for the object of this reference.
     Wait { reference: u32 },
 }
 
-/// Why a turn can't be made by the instruction table.
+/// The cause for which a turn can't be taken by the instruction table.
 #[derive(Clone, Copy, Debug, PartialEq, Eq)]
 pub enum BadCause {
-    /// No instruction stands there.
+    /// The pc is at no instruction.
     FellOff,
     /// The instruction, or the entry's descriptor, is outside the profile.
     OutOfProfile,
     /// Too few operands, or no room for the result.
     Depth,
-    /// An operand or a local of another kind.
+    /// An operand or a local variable of another kind.
     Kind,
-    /// A local number that isn't below max_locals, or parameters above it.
+    /// The number of a local variable that isn't below max_locals, or more parameters than max_locals.
     Local,
 }
 
-/// What a choice of a thread comes to.
+/// The outcome of a choice of a thread.
 #[derive(Clone, Copy, Debug, PartialEq, Eq)]
 pub enum Outcome {
-    /// The turn was made, and nothing is pending after it.
+    /// The turn was taken, and nothing is pending after it.
     Ran,
-    /// The turn was made, and an exception is pending after it.
+    /// The turn was taken, and an exception is pending after it.
     Raised,
-    /// The thread has ended; with `last`, in this very turn.
+    /// The thread has ended. With `last` it ended in this turn.
     Ended { last: bool },
     Blocked { on: BlockedOn },
     NoThread,
     Bad { cause: BadCause },
 }
 
-/// How a machine stands.
+/// The status of a machine.
 #[derive(Clone, Copy, Debug, PartialEq, Eq)]
 pub enum Status {
     Finished,

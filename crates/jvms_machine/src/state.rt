@@ -2,7 +2,7 @@
 
 use crate::machine::ThreadId;
 
-/// How far the initialisation of a class has come (JVMS 5.5).
+/// The state of a class's initialisation (JVMS 5.5).
 #[derive(Clone, Copy, Debug, PartialEq, Eq)]
 pub enum Initialisation {
     NotBegun,
@@ -11,23 +11,23 @@ pub enum Initialisation {
     Erroneous,
 }
 
-/// A monitor that is held: by which thread, entered how often (JVMS 2.11.10).
+/// A held monitor: its owner, and its entry count (JVMS 2.11.10).
 #[derive(Clone, Copy, Debug, PartialEq, Eq)]
 pub struct Hold {
     pub owner: ThreadId,
     pub count: u32,
 }
 
-/// What a thread keeps that waits (JLS 17.2): the object that it waits for, and how often it had entered the object's
-/// monitor, from 1 on.
+/// A thread's wait (JLS 17.2): the object for which it waits, and the entry count of the object's monitor before the
+/// wait, from 1.
 #[derive(Clone, Copy, Debug, PartialEq, Eq)]
 pub struct Wait {
     pub reference: u32,
     pub count: u32,
 }
 
-/// What stands on a thread's stack (JVMS 2.5.2): the frame `F` of a call, or the initialisation of the class of a
-/// number and whether its `<clinit>` was called.
+/// A frame on a thread's stack (JVMS 2.5.2): the frame `F` of a call, or the initialisation of a class and whether its
+/// `<clinit>` was called.
 #[derive(Drop)]
 pub enum StackFrame<F> {
     Call(F),

@@ -1,9 +1,9 @@
-//! The items of a trace: events and marks, in the order of the turns that made them.
+//! The items of a trace: events and marks, in the order of their turns.
 
 use crate::machine::ThreadId;
 use jvms_program::key::{FieldKey, MethodKey};
 
-/// What a read or a write touches.
+/// The variable of a read or a write.
 #[derive(Debug, PartialEq, Eq, Drop)]
 pub enum Variable {
     Instance { reference: u32, field: FieldKey },
@@ -11,7 +11,7 @@ pub enum Variable {
     Element { reference: u32, index: u32 },
 }
 
-/// What a thread did.
+/// An event or a mark of a thread.
 #[derive(Debug, PartialEq, Eq, Drop)]
 pub enum Item {
     Read {
@@ -27,7 +27,7 @@ pub enum Item {
         thread: ThreadId,
         reference: u32,
     },
-    /// The exit that frees it.
+    /// The exit that frees an object's monitor.
     Release {
         thread: ThreadId,
         reference: u32,

@@ -1,5 +1,5 @@
--- What class files mean is a program: the built-in classes stand first, each type is what its descriptor spells, and
--- <clinit> has no flags.
+-- The meanings of class files are a program. The built-in classes come first, each type is the one that its descriptor
+-- spells, and <clinit> has no flags.
 use Rattle.std.proofs.Common.{◌≡◌, ℕ, Bool, true, not, List, [], ◌∷◌, ◌++◌, map, Option, Some, None, IfSome, unwrap_or, refl, ap}
 use Rattle.std.specs.List.{AllByRecursion, list_all}
 use Rattle.std.proofs.lemmas.Bool.{and_parts, not-true, false≢true}
@@ -37,7 +37,7 @@ all_tested P test step (x ∷ xs) is =
     let both = and_parts (test x) (list_all test xs) is in
     (step x both.0, all_tested P test step xs both.1)
 
--- ---- What a class file means
+-- ---- The meaning of a class file
 
 field_reference_is_spelled : (pool : List Constant) (c : Option Constant) → (field_reference_of pool c).field_type ≡ field_type (field_reference_of pool c).descriptor
 field_reference_is_spelled pool (Some (constant.Utf8 t)) = refl
@@ -117,7 +117,7 @@ print_stream_is_spelled = (tt, ((refl, tt), ((refl, tt), ((refl, tt), ((refl, tt
 object_is_spelled : IsSpelledClass object_class
 object_is_spelled = (tt, ((refl, (tt, tt)), ((refl, tt), ((refl, tt), ((refl, tt), tt)))))
 
--- The classes below Throwable have its constructors, and nothing else.
+-- The classes below Throwable have its constructors and no other members.
 built_ins_are_spelled : AllByRecursion IsSpelledClass built_in_classes
 unfolding built_in_classes
 built_ins_are_spelled = (

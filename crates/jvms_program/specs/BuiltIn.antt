@@ -1,4 +1,4 @@
--- The classes that every program has, with their members and their code, which runs as any other.
+-- The classes that every program has, with their members and their code (own). Their code runs like any other.
 use Rattle.std.specs.Prelude.{ℕ, Bool, true, false, List, [], ◌∷◌, ◌++◌, Option, Some, None, codes}
 use Rattle.std.specs.List.{list_any}
 use Rattle.jvms_file.specs.declared.insn.Kind.TheVariants as value_kind
@@ -44,7 +44,7 @@ abbrev pub method : List ℕ → List ℕ → MethodFlags → Option Body → Me
 method name descriptor flags body =
     record { name = name; descriptor = descriptor; method_type = method_type descriptor; flags = flags; throws = []; body = body }
 
--- A method with code. Each has two places of stack and two locals.
+-- A method with code, with a stack of 2 and 2 locals.
 abbrev pub coded : List ℕ → List ℕ → List Instruction → Method
 coded name descriptor code =
     method name descriptor no_flags (Some (record { max_stack = 2; max_locals = 2; instructions = code; handlers = [] }))
@@ -98,7 +98,8 @@ abbrev pub call_run : Instruction
 call_run =
     instruction.Invoke invoke.Interface (record { is_interface = true; class = codes "java/lang/Runnable"; name = codes "run"; descriptor = codes "()V"; method_type = method_type (codes "()V") })
 
--- run calls the target's run, if there is a target: else it goes on at its last instruction, number 6.
+-- The class of threads. run calls the target's run if there is a target. Else it continues at its last instruction, at
+-- place 6.
 abbrev pub thread_class : Class
 thread_class =
     class_with object (codes "java/lang/Runnable" ∷ []) (field false (codes "target") (codes "Ljava/lang/Runnable;") ∷ [])
@@ -114,7 +115,7 @@ thread_class =
 abbrev pub message_field : FieldUse → Instruction
 message_field how = field_insn how (codes "java/lang/Throwable") (codes "message") (codes "Ljava/lang/String;")
 
--- What Throwable and each class below it have.
+-- The constructors of Throwable and of each class below it.
 abbrev pub throwable_constructors : List Method
 throwable_constructors =
     coded (codes "<init>") (codes "()V") (return_void ∷ [])
@@ -187,6 +188,6 @@ built_in_classes =
     ∷ interface_with [] (codes "java/io/Serializable")
     ∷ throwable_classes
 
--- Whether a class is built in, by its name.
+-- A class of this name is built in.
 unfoldable pub is_built_in : List ℕ → Bool
 is_built_in name = list_any (λ c. same_text c.name name) built_in_classes

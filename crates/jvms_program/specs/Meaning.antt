@@ -1,4 +1,4 @@
--- What a class file means: a class of a program, with texts in place of pool numbers.
+-- The meaning of a class file: a class of a program, with texts in place of pool numbers.
 use Rattle.std.specs.Prelude.{ℕ, Bool, true, false, ◌==◌, ◌&&◌, ◌||◌, not, if◌then◌else◌, List, [], ◌∷◌, map, Option, Some, None, pos}
 use Rattle.std.specs.Option.{option_map, unwrap_or}
 use Rattle.jvms_file.specs.declared.class_file.Constant.{Constant}
@@ -34,15 +34,15 @@ use Rattle.jvms_file.specs.Descriptors.{field_type, method_type}
 use Rattle.jvms_file.specs.ConstantPool.{entry, utf8_at, class_name_at, name_and_type_at}
 use Rattle.jvms_file.specs.Members.{is_private, is_static, is_synchronized, is_native, is_abstract, is_interface, is_initializer}
 
--- In a class that bytes spell, each number that is looked up names what is sought; what stands here for
--- one that doesn't is never seen.
+-- The text of a number. In a class that bytes spell, each number that is looked up names what it has to. The default
+-- for another number is never used.
 abbrev pub text_of : List Constant → ℕ → List ℕ
 text_of pool n = unwrap_or (utf8_at pool n) []
 
 abbrev pub class_text : List Constant → ℕ → List ℕ
 class_text pool n = unwrap_or (class_name_at pool n) []
 
--- ---- What an instruction names
+-- ---- The items that an instruction names
 
 abbrev pub loadable_of : List Constant → Option Constant → Loadable
 loadable_of pool (Some (constant.Integer n)) = loadable.Integer n
@@ -108,7 +108,7 @@ throws_of pool (method_attribute.Exceptions name classes ∷ others) = map (clas
 throws_of pool (method_attribute.Code name c ∷ others) = throws_of pool others
 throws_of pool (method_attribute.Kept a ∷ others) = throws_of pool others
 
--- Of <clinit> no flag is kept: whatever they are, it is called as a static method that is neither native,
+-- The flags of a method (JVMS 4.6). <clinit> keeps no flag: it is called as a static method that is neither native,
 -- abstract nor synchronized.
 abbrev pub flags_of : Bool → ℕ → MethodFlags
 flags_of initializer access =
@@ -136,7 +136,7 @@ constant_of pool [] = None
 constant_of pool (field_attribute.ConstantValue name value ∷ others) = Some (loadable_of pool (entry pool value))
 constant_of pool (field_attribute.Kept a ∷ others) = constant_of pool others
 
--- The fields of an interface count as static.
+-- A field of a class or an interface. The fields of an interface count as static.
 abbrev pub field_of : List Constant → Bool → FieldInfo → Field
 field_of pool interface f =
     record {

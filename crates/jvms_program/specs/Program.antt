@@ -1,4 +1,4 @@
--- Programs (JVMS 5.3): a map from class name to class, as the list of its classes. No two have one name.
+-- Programs (JVMS 5.3): a map from class name to class, as the list of its classes. No two have the same name.
 use Rattle.std.specs.Prelude.{◌≡◌, ℕ, ◌&&◌, List, ◌++◌, map, Option, IfSome, IsTrue, slice_get}
 use Rattle.std.specs.Option.{option_and_then, option_map}
 use Rattle.std.specs.List.{AllByRecursion, find, position}
@@ -21,13 +21,14 @@ use Rattle.jvms_program.specs.BuiltIn.{built_in_classes, no_flags}
 unfoldable pub program_of : List ClassFile → List Class
 program_of files = built_in_classes ++ map meaning files
 
--- What an instruction keeps of the descriptor that it names is what that spells.
+-- The type that an instruction keeps is the one that its descriptor spells.
 abbrev pub IsSpelledInstruction : Instruction → Type 0
 IsSpelledInstruction (instruction.Field how r) = r.field_type ≡ field_type r.descriptor
 IsSpelledInstruction (instruction.Invoke how r) = r.method_type ≡ method_type r.descriptor
 IsSpelledInstruction _ = Unit {0}
 
--- So do fields and methods, and the instructions of a method's code.
+-- The types that methods and fields keep, and those of the instructions of a method's code, are the ones that their
+-- descriptors spell.
 abbrev pub IsSpelledMethod : Method → Type 0
 IsSpelledMethod m =
     (m.method_type ≡ method_type m.descriptor) × IfSome m.body (λ b. AllByRecursion IsSpelledInstruction b.instructions)
@@ -35,12 +36,12 @@ IsSpelledMethod m =
 abbrev pub IsSpelledClass : Class → Type 0
 IsSpelledClass c = AllByRecursion (λ f. f.field_type ≡ field_type f.descriptor) c.fields × AllByRecursion IsSpelledMethod c.methods
 
--- Of <clinit> no flag is kept.
+-- A <clinit> keeps no flag.
 abbrev pub HasItsFlags : Method → Type 0
 HasItsFlags m = IsTrue (is_initializer_name m.name) → m.flags ≡ no_flags
 
--- What holds of every list of classes that is a program: the built-in classes stand first, types are those that
--- descriptors spell, and <clinit> has no flags.
+-- A list of classes is a program: it begins with the built-in classes, types are those that descriptors spell, and
+-- <clinit> has no flags.
 pub record IsProgram (program : List Class) : Type 0 where
   pub built_ins : (own : List Class) × (program ≡ built_in_classes ++ own)
   pub spelled : AllByRecursion IsSpelledClass program
@@ -64,11 +65,11 @@ abbrev pub declared_field_number : Class → List ℕ → List ℕ → Option �
 declared_field_number c name descriptor =
     position (λ f. same_text f.name name && same_text f.descriptor descriptor) c.fields
 
--- A field's key: with the class that declares it.
+-- The key of a field: the class that declares it, its name and its descriptor.
 abbrev pub field_key : Class → Field → FieldKey
 field_key c f = record { class = c.name; name = f.name; descriptor = f.descriptor }
 
--- The field of a number, and its key.
+-- The field of a number.
 abbrev pub field_at : List Class → FieldNumber → Option Field
 field_at program n = option_and_then (λ c. slice_get c.fields n.field) (slice_get program n.class)
 
@@ -80,7 +81,7 @@ field_key_at program n =
 abbrev pub method_at : List Class → MethodNumber → Option Method
 method_at program n = option_and_then (λ c. slice_get c.methods n.method) (slice_get program n.class)
 
--- A method's key in a trace: with the class that declares it.
+-- The key of a method in a trace: the class that declares it, its name and its descriptor.
 abbrev pub key_in : Class → Method → MethodKey
 key_in c m = record { class = c.name; name = m.name; descriptor = m.descriptor }
 

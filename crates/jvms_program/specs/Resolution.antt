@@ -1,6 +1,6 @@
--- Resolution and selection by names (JVMS 5.4.3, 6.5 checkcast, invokeinterface, invokespecial,
--- invokevirtual). A superclass or a superinterface is always there; a class that isn't its own ancestor
--- has no more ancestors than the program has classes, so a search of that depth is enough.
+-- Resolution and selection by names (JVMS 5.4.3, 6.5 checkcast, invokeinterface, invokespecial, invokevirtual). A
+-- superclass or a superinterface is always there. A class that isn't its own ancestor has at most as many ancestors as
+-- the program has classes, so a search of that depth is enough.
 use Rattle.std.specs.Prelude.{ℕ, zero, suc, Bool, true, false, not, ◌==◌, ◌&&◌, ◌||◌, nat_lt, if◌then◌else◌, List, [], ◌∷◌, ◌++◌, length, Option, Some, None, is_some, Result, Ok, codes}
 use Rattle.std.specs.Option.{option_and_then, option_map}
 use Rattle.std.specs.List.{find, flat_map, list_any}
@@ -26,7 +26,7 @@ use Rattle.jvms_program.specs.BuiltIn.{object}
 
 -- ---- Ancestors
 
--- A class, its superclass, and so on, at most so many.
+-- A class, its superclass, and so on, at most `most` classes.
 unfoldable pub chain_within : ℕ → List Class → List ℕ → List Class
 chain_within zero program name = []
 chain_within (suc most) program name = from_class (class_named program name) (λ super. chain_within most program super)
@@ -42,7 +42,7 @@ chain_within (suc most) program name = from_class (class_named program name) (λ
 abbrev pub chain : List Class → List ℕ → List Class
 chain program name = chain_within (length program) program name
 
--- A class, then the ancestries of its superinterfaces in order, then that of its superclass.
+-- A class, followed by the ancestries of its superinterfaces in order, followed by that of its superclass.
 unfoldable pub ancestry_within : ℕ → List Class → List ℕ → List Class
 ancestry_within zero program name = []
 ancestry_within (suc most) program name = from_class (class_named program name) (λ super. ancestry_within most program super)
@@ -71,43 +71,43 @@ names_class name classes = list_any (λ c. same_text c.name name) classes
 
 -- ---- Subtypes (JVMS 4.10.1.2, 6.5 checkcast)
 
--- What every array fits.
+-- The classes of which every array is a subtype (JVMS 4.10.1.2).
 abbrev pub is_array_ancestor : List ℕ → Bool
 is_array_ancestor name =
     same_text name object || same_text name (codes "java/lang/Cloneable") || same_text name (codes "java/io/Serializable")
 
-abbrev pub element_fits : List Class → Element → Element → Bool
-element_fits program (element.Primitive p) (element.Primitive q) = letter_of p == letter_of q
-element_fits program (element.Object a) (element.Object b) = names_class b (ancestry program a)
-element_fits program (element.Primitive p) (element.Object b) = false
-element_fits program (element.Object a) (element.Primitive q) = false
+abbrev pub is_element_subtype : List Class → Element → Element → Bool
+is_element_subtype program (element.Primitive p) (element.Primitive q) = letter_of p == letter_of q
+is_element_subtype program (element.Object a) (element.Object b) = names_class b (ancestry program a)
+is_element_subtype program (element.Primitive p) (element.Object b) = false
+is_element_subtype program (element.Object a) (element.Primitive q) = false
 
 abbrev pub is_array_ancestor_element : Element → Bool
 is_array_ancestor_element (element.Primitive p) = false
 is_array_ancestor_element (element.Object name) = is_array_ancestor name
 
--- A type with more dimensions than another fits it where that one's elements take arrays; with as many,
--- where the elements fit.
-abbrev pub type_fits : List Class → FieldType → FieldType → Bool
-type_fits program a b =
+-- A type is a subtype of another. If it has more dimensions, the other's element has to be a supertype of arrays. If it
+-- has equally many, its element has to be a subtype of the other's.
+abbrev pub is_type_subtype : List Class → FieldType → FieldType → Bool
+is_type_subtype program a b =
     if nat_lt b.dimensions a.dimensions then is_array_ancestor_element b.element
-    else (if a.dimensions == b.dimensions then element_fits program a.element b.element else false)
+    else (if a.dimensions == b.dimensions then is_element_subtype program a.element b.element else false)
 
--- The type of a class by its name, which may be an array's.
+-- The type of a class by its name, which may be an array's descriptor.
 abbrev pub class_type : List ℕ → Option FieldType
 class_type name = if is_array_name name then field_type_of name else Some (record { dimensions = 0; element = element.Object name })
 
-abbrev pub both_fit : List Class → Option FieldType → Option FieldType → Bool
-both_fit program (Some a) (Some b) = type_fits program a b
-both_fit program _ _ = false
+abbrev pub are_subtypes : List Class → Option FieldType → Option FieldType → Bool
+are_subtypes program (Some a) (Some b) = is_type_subtype program a b
+are_subtypes program _ _ = false
 
--- Whether the class of the first name fits that of the second.
+-- The class of the first name is a subtype of the class of the second.
 unfoldable pub fits : List Class → List ℕ → List ℕ → Bool
-fits program a b = both_fit program (class_type a) (class_type b)
+fits program a b = are_subtypes program (class_type a) (class_type b)
 
 -- ---- Resolution (JVMS 5.4.3)
 
--- A class is there, and an array's element class.
+-- A class is there. For an array that is the class of its elements.
 abbrev pub type_exists : List Class → FieldType → Bool
 type_exists program t = element_exists t.element
   where
@@ -122,31 +122,31 @@ class_exists program name = exists (class_type name)
     exists None = false
     exists (Some t) = type_exists program t
 
--- The class whose members a class has: an array's are Object's.
+-- The class whose members a class has. An array has those of Object.
 abbrev pub members_class : List ℕ → List ℕ
 members_class name = if is_array_name name then object else name
 
 -- A field with the class that declares it.
-pub record FieldFound : Type 0 where
+pub record ResolvedField : Type 0 where
   pub class : Class
   pub field : Field
 
 -- A method with the class that declares it.
-pub record MethodFound : Type 0 where
+pub record ResolvedMethod : Type 0 where
   pub class : Class
   pub method : Method
 
-abbrev pub declared_field : List ℕ → List ℕ → Class → Option FieldFound
+abbrev pub declared_field : List ℕ → List ℕ → Class → Option ResolvedField
 declared_field name descriptor c =
     option_map (λ f. record { class = c; field = f })
     (find (λ f. same_text f.name name && same_text f.descriptor descriptor) c.fields)
 
-abbrev pub declared_method : List ℕ → List ℕ → Class → Option MethodFound
+abbrev pub declared_method : List ℕ → List ℕ → Class → Option ResolvedMethod
 declared_method name descriptor c =
     option_map (λ m. record { class = c; method = m })
     (find (λ m. same_text m.name name && same_text m.descriptor descriptor) c.methods)
 
--- What the first of a list of classes gives that gives anything.
+-- The first result of the test that any of the classes gives, in their order.
 abbrev pub first_in : {A : Type 0} → (Class → Option A) → List Class → Option A
 first_in look [] = None
 first_in look (c ∷ cs) = or_else (look c) (first_in look cs)
@@ -155,14 +155,14 @@ first_in look (c ∷ cs) = or_else (look c) (first_in look cs)
     or_else None other = other
     or_else (Some x) other = Some x
 
--- JVMS 5.4.3.2: the first of the class's ancestry that declares the field.
-abbrev pub found_field : List Class → FieldReference → Option FieldFound
-found_field program r = first_in (declared_field r.name r.descriptor) (ancestry program (members_class r.class))
+-- The field that a reference names (JVMS 5.4.3.2): the first in the class's ancestry that declares it.
+abbrev pub reference_field : List Class → FieldReference → Option ResolvedField
+reference_field program r = first_in (declared_field r.name r.descriptor) (ancestry program (members_class r.class))
 
-abbrev pub resolved_field : List Class → Bool → FieldReference → Result FieldFound Thrown
+abbrev pub resolved_field : List Class → Bool → FieldReference → Result ResolvedField Thrown
 resolved_field program static r = do
   _ ← want (class_exists program r.class) thrown.NoClassDefFoundError
-  f ← present (found_field program r) thrown.NoSuchFieldError
+  f ← present (reference_field program r) thrown.NoSuchFieldError
   _ ← want (if static then f.field.is_static else not f.field.is_static) thrown.IncompatibleClassChangeError
   Ok f
 
@@ -178,12 +178,14 @@ names_interface program name = is_it (class_named program name)
     is_it None = false
     is_it (Some c) = is_interface_kind c.kind
 
--- JVMS 5.4.3.3: the class's chain, then for each of it the ancestries of its superinterfaces.
+-- The order of the search for a class's method (JVMS 5.4.3.3): the class's chain, followed by the ancestries of the
+-- superinterfaces of each class in it.
 abbrev pub class_method_order : List Class → List ℕ → List Class
 class_method_order program name =
     chain program name ++ flat_map (λ c. flat_map (ancestry program) c.interfaces) (chain program name)
 
--- JVMS 5.4.3.4: the interface, Object, then the ancestries of the interface's superinterfaces.
+-- The order of the search for an interface's method (JVMS 5.4.3.4): the interface, Object, and the ancestries of the
+-- interface's superinterfaces.
 abbrev pub interface_method_order : List Class → List ℕ → List Class
 interface_method_order program name = order (class_named program name)
   where
@@ -195,23 +197,23 @@ interface_method_order program name = order (class_named program name)
     order None = []
     order (Some c) = c ∷ listed (class_named program object) ++ flat_map (ancestry program) c.interfaces
 
-abbrev pub found_in_order : List Class → MethodReference → Option MethodFound
-found_in_order program r =
+abbrev pub method_in_order : List Class → MethodReference → Option ResolvedMethod
+method_in_order program r =
     first_in (declared_method r.name r.descriptor)
     (if r.is_interface then interface_method_order program r.class else class_method_order program (members_class r.class))
 
--- A constructor is looked for in the named class alone.
-abbrev pub found_method : List Class → MethodReference → Option MethodFound
-found_method program r =
+-- The method that a reference names. A constructor is searched in the named class alone.
+abbrev pub reference_method : List Class → MethodReference → Option ResolvedMethod
+reference_method program r =
     if is_constructor_name r.name
     then option_and_then (declared_method r.name r.descriptor) (class_named program r.class)
-    else found_in_order program r
+    else method_in_order program r
 
-abbrev pub resolved_method : List Class → Bool → MethodReference → Result MethodFound Thrown
+abbrev pub resolved_method : List Class → Bool → MethodReference → Result ResolvedMethod Thrown
 resolved_method program static r = do
   _ ← want (class_exists program r.class) thrown.NoClassDefFoundError
   _ ← want (if r.is_interface then names_interface program r.class else not (names_interface program r.class)) thrown.IncompatibleClassChangeError
-  m ← present (found_method program r) thrown.NoSuchMethodError
+  m ← present (reference_method program r) thrown.NoSuchMethodError
   _ ← want (if static then m.method.flags.is_static else not m.method.flags.is_static) thrown.IncompatibleClassChangeError
   Ok m
 
@@ -220,44 +222,44 @@ resolved_method program static r = do
 abbrev pub is_selectable : Method → Bool
 is_selectable m = not m.flags.is_static && not m.flags.is_private
 
-abbrev pub selectable_in : List ℕ → List ℕ → Class → Option MethodFound
+abbrev pub selectable_in : List ℕ → List ℕ → Class → Option ResolvedMethod
 selectable_in name descriptor c = keep (declared_method name descriptor c)
   where
-    keep : Option MethodFound → Option MethodFound
+    keep : Option ResolvedMethod → Option ResolvedMethod
     keep None = None
     keep (Some found) = if is_selectable found.method then Some found else None
 
--- A private method is itself selected; else the first that is neither static nor private of its name and
--- descriptor, from a class up its chain.
-abbrev pub selected_from : List Class → List ℕ → MethodFound → Option MethodFound
+-- The method that a call selects for an object of a class (JVMS 6.5 invokevirtual). A private method is itself
+-- selected. Else it is the first in the class's chain with this name and descriptor that is neither static nor private.
+abbrev pub selected_from : List Class → List ℕ → ResolvedMethod → Option ResolvedMethod
 selected_from program class m =
     if m.method.flags.is_private then Some m
     else first_in (selectable_in m.method.name m.method.descriptor) (chain program (members_class class))
 
--- Whether a class is a proper superclass of another.
+-- A class is a proper superclass of another.
 abbrev pub is_superclass : List Class → List ℕ → List ℕ → Bool
 is_superclass program super class = not (same_text super class) && names_class super (chain program class)
 
 abbrev pub superclass_of : List Class → List ℕ → Option (List ℕ)
 superclass_of program class = option_and_then (λ c. c.superclass) (class_named program class)
 
--- JVMS 6.5 invokespecial: the resolved method, but where it is no constructor and the named class is a
--- superclass of the current one, the selection from the current class's superclass on.
-abbrev pub selected_special : List Class → List ℕ → MethodReference → MethodFound → Option MethodFound
+-- The method that invokespecial calls (JVMS 6.5 invokespecial). That is the resolved one if it is a constructor, or if
+-- the named class is no superclass of the current one. Else it is selected from the current class's superclass on.
+abbrev pub selected_special : List Class → List ℕ → MethodReference → ResolvedMethod → Option ResolvedMethod
 selected_special program current r m =
     if not (is_constructor_name r.name) && is_superclass program r.class current
     then option_and_then (λ super. selected_from program super m) (superclass_of program current)
     else Some m
 
--- The number of a field that was found.
-abbrev pub field_number : List Class → FieldFound → Option FieldNumber
+-- The number of a field that was resolved.
+abbrev pub field_number : List Class → ResolvedField → Option FieldNumber
 field_number program f =
     option_and_then
     (λ class. option_map (λ field. record { class = class; field = field }) (declared_field_number f.class f.field.name f.field.descriptor))
     (class_number program f.class.name)
 
--- The number of a method that was found.
-abbrev pub method_number : List Class → MethodFound → Option MethodNumber
+-- The number of a method that was resolved.
+abbrev pub method_number : List Class → ResolvedMethod → Option MethodNumber
 method_number program m =
     option_and_then
     (λ class. option_map (λ method. record { class = class; method = method }) (declared_number m.class m.method.name m.method.descriptor))

@@ -1,6 +1,6 @@
 //! Members with the class that declares them.
 
-use held::shared::Text;
+use shared_data::shared::Text;
 
 /// A field with the class that declares it.
 #[derive(Debug, PartialEq, Eq, Drop)]

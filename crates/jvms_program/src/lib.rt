@@ -1,5 +1,5 @@
-//! Programs (JVMS 5): classes with their members by name, and in `specs/` what class files mean, the built-in
-//! classes, and how names are resolved.
+//! Programs (JVMS 5): classes with their members by name. In `specs/` are the meaning of class files, the built-in
+//! classes, and the resolution of names.
 #![tactic(auto)]
 
 pub mod case_table;

@@ -2,9 +2,9 @@
 
 use crate::case_table::CaseTable;
 use crate::instructions::Instructions;
-use held::boxed::Boxed;
-use held::items::Items;
-use held::shared::{Shared, Text};
+use shared_data::boxed::Boxed;
+use shared_data::items::Items;
+use shared_data::shared::{Shared, Text};
 use jvms_file::descriptor::{FieldType, MethodType};
 use jvms_file::insn::{Branch, ClassUse, FieldUse, Invoke, Simple, TableSwitch};
 
@@ -14,23 +14,23 @@ pub struct FieldReference {
     pub class: Text,
     pub name: Text,
     pub descriptor: Text,
-    /// What the descriptor spells.
+    /// The type that the descriptor spells.
     pub field_type: Shared<FieldType>,
 }
 
 /// A method that an instruction names (JVMS 5.1).
 #[derive(Debug, Drop)]
 pub struct MethodReference {
-    /// Whether the pool entry is an InterfaceMethodref.
+    /// True if the pool entry is an InterfaceMethodref.
     pub is_interface: bool,
     pub class: Text,
     pub name: Text,
     pub descriptor: Text,
-    /// What the descriptor spells.
+    /// The type that the descriptor spells.
     pub method_type: Shared<MethodType>,
 }
 
-/// What an instruction loads from the constant pool (JVMS 6.5 ldc, ldc2_w).
+/// A constant that an instruction loads from the constant pool (JVMS 6.5 ldc, ldc2_w).
 #[derive(Debug, Drop)]
 pub enum Loadable {
     Integer(i32),
@@ -41,7 +41,7 @@ pub enum Loadable {
     Class(Text),
 }
 
-/// An instruction with what it names in place of pool entries.
+/// An instruction with the named items themselves in place of pool entries.
 #[derive(Drop)]
 pub enum Instruction {
     Simple(Simple),
@@ -52,18 +52,18 @@ pub enum Instruction {
     Field(FieldUse, Boxed<FieldReference>),
     Invoke(Invoke, Boxed<MethodReference>),
     Class(ClassUse, Text),
-    /// How many dimensions are made, and the array's class.
+    /// The number of dimensions that are created, and the array's class.
     MultiNewArray(u8, Text),
 }
 
-/// What a handler catches (JVMS 4.7.3, catch_type).
+/// The exceptions that a handler catches (JVMS 4.7.3, catch_type).
 #[derive(Debug, Drop)]
 pub enum Catch {
     All,
     Class(Text),
 }
 
-/// A range of a method's instructions and where an exception in it is handled.
+/// A range of a method's instructions, and the place where an exception in it is handled.
 #[derive(Debug, Drop)]
 pub struct ExceptionHandler {
     pub start: u32,
@@ -81,21 +81,20 @@ pub struct Body {
     pub handlers: Items<ExceptionHandler>,
 }
 
-/// What a class keeps of a field.
+/// A field of a class.
 #[derive(Debug, Drop)]
 pub struct Field {
     pub name: Text,
     pub descriptor: Text,
-    /// What the descriptor spells.
+    /// The type that the descriptor spells.
     pub field_type: Shared<FieldType>,
     pub is_static: bool,
     pub is_private: bool,
-    /// What initialisation stores, if the field is static.
+    /// The value that initialisation stores if the field is static.
     pub constant: Option<Loadable>,
 }
 
-/// The flags that calls ask of a method. A `<clinit>` keeps none, and is called as a static method all the
-/// same.
+/// The flags of a method that calls use. A `<clinit>` keeps none, and is called as a static method all the same.
 #[derive(Clone, Copy, Debug, PartialEq, Eq)]
 pub struct MethodFlags {
     pub is_static: bool,
@@ -105,12 +104,12 @@ pub struct MethodFlags {
     pub is_abstract: bool,
 }
 
-/// What a class keeps of a method.
+/// A method of a class.
 #[derive(Drop)]
 pub struct Method {
     pub name: Text,
     pub descriptor: Text,
-    /// What the descriptor spells.
+    /// The type that the descriptor spells.
     pub method_type: Shared<MethodType>,
     pub flags: MethodFlags,
     /// The classes that the method declares to throw.
@@ -118,7 +117,7 @@ pub struct Method {
     pub body: Option<Body>,
 }
 
-/// Which sort of class a class is.
+/// The sort of a class.
 #[derive(Clone, Copy, Debug, PartialEq, Eq)]
 pub enum ClassKind {
     Interface,

@@ -1,6 +1,6 @@
-//! The exceptions that the machine makes (JVMS 2.10).
+//! The exceptions that the machine throws by itself (JVMS 2.10).
 
-/// The classes of the exceptions that the machine makes.
+/// The class of an exception that the machine throws by itself.
 #[derive(Clone, Copy, Debug, PartialEq, Eq)]
 pub enum Thrown {
     ArithmeticException,

@@ -1,4 +1,5 @@
-//! The program `jvmx`: runs Java class files, one turn of one thread at a time, and tells whether methods were atomic.
+//! The program `jvmx`: runs Java class files, one turn of one thread at a time, and decides whether methods were
+//! atomic.
 #![tactic(auto)]
 
 ghost use Rattle.std.specs.Prelude.{◌≡◌, ◌<◌};
@@ -16,7 +17,7 @@ use std::sync::ledger::{Blank, Ledger};
 use std::thread::Threads;
 use trace::{Counted, Failures};
 
-/// The words behind the program's name.
+/// Returns the words after the program's name.
 fn words_of(rt: &HostRuntime) -> Result<Vec<String>, WordsFault> {
     let words = env::args(rt)?.skip(1).collect(rt.alloc())?;
     Ok(words)
@@ -30,8 +31,8 @@ fn terminal_of(rt: &HostRuntime) -> Terminal {
     }
 }
 
-/// The program over the system's files, standard input, standard output and standard error, whose failures
-/// these three ledgers count.
+/// Runs the program over the system's files, standard input, standard output and standard error. These three ledgers
+/// count their failures.
 fn counted<
     R: AllocGlobal + Clock + Eprint + Threads + Wait + Sync,
     I: Ledger,
@@ -58,7 +59,7 @@ fn counted<
     )
 }
 
-/// The exit status of the program on these words.
+/// Runs the program on these words, and returns its exit status.
 fn performed<R: AllocGlobal + Clock + Eprint + Threads + Wait + Sync>(
     host: &HostRuntime,
     rt: &R,
@@ -68,8 +69,8 @@ fn performed<R: AllocGlobal + Clock + Eprint + Threads + Wait + Sync>(
     counted::<R, Brand, Brand, Brand>(host, rt, words, input, output, errors)
 }
 
-/// Tells that the words couldn't be had, as where one isn't UTF-8: 2, but 3 for want of memory or where
-/// standard error fails.
+/// Reports that the words can't be read, and returns the exit status. It is 2 if a word isn't UTF-8, and 3 if memory
+/// ran out or standard error failed.
 fn refused(rt: &HostRuntime, fault: WordsFault) -> u8 {
     let told = eprintln!(rt; "jvmx: {fault}");
     if told.is_ok() && fault == WordsFault::Words {

@@ -1,4 +1,4 @@
--- What stands above names, by steps from class to superclass and superinterface.
+-- The classes above names, by steps from class to superclass and superinterface.
 use Rattle.std.proofs.Common.{◌≡◌, ℕ, zero, suc, ◌+◌, ◌-◌, ◌<◌, ◌≤◌, Bool, true, false, ◌||◌, ◌&&◌, eqb, ltb, leb, List, [], ◌∷◌, ◌++◌, length, get_or, Option, Some, None, refl, sym, ap, subst, ◌∙◌, ◌⊎◌, inl, inr, ⊎_elim, arith}
 use Rattle.std.specs.Prelude.{slice_get, unwrap_or}
 use Rattle.std.specs.Option.{option_map}
@@ -65,7 +65,7 @@ module _ (program : List Class) where
       ∙ ap (list_any (λ (d : Class). same_text d.name name)) (sym (flat_map-append (ancestry_within most program) c.interfaces (next ∷ [])))
       ∙ any_flat_map (λ (d : Class). same_text d.name name) (ancestry_within most program) (c.interfaces ++ next ∷ []))))
 
-  -- A class of a name stands in the ancestry of a class if it is this one, or above one of its supers.
+  -- A class of a name is in the ancestry of a class if it is this one, or above one of its supers.
   step : (most : ℕ) (name super : List ℕ) (c : Class) → class_named program super ≡ Some c
       → names_class name (ancestry_within (suc most) program super) ≡ (same_text c.name name || is_above program most name (supers_of c))
   step most name super c h = step_by most name super c c.superclass h refl
@@ -110,12 +110,12 @@ module _ (program : List Class) where
   grown_by (suc more) most name names there =
       let e : suc more + most ≡ suc (more + most) = omega arith in rw e (one_grown (more + most) name names (grown_by more most name names there))
 
-  -- What stands above so many classes up does so with more.
+  -- A class that is above at most `least` classes up is also above at most `most` classes up.
   pub grown : (least most : ℕ) (name : List ℕ) (names : List (List ℕ)) → least ≤ most → is_above program least name names ≡ true → is_above program most name names ≡ true
   grown least most name names h there =
       let e : (most - least) + least ≡ most = omega arith in subst (λ k. is_above program k name names ≡ true) e (grown_by (most - least) least name names there)
 
-  -- ---- What is kept up
+  -- ---- Properties that are kept up
 
   module _ (p : ℕ → Bool) (closed : (m : ℕ) (c : Class) → slice_get program m ≡ Some c → p m ≡ true → list_all p (super_numbers program c) ≡ true) where
     kept_in : (most : ℕ) (name super : List ℕ) (o : Option Class) → class_named program super ≡ o
@@ -134,7 +134,7 @@ module _ (program : List Class) where
         (λ above. more (supers_of c) (closed n c (named_at program super n number ∙ h) passes) above)
         (or_cases (same_text c.name name) (is_above program most name (supers_of c)) (sym (step most name super c h) ∙ there))
 
-    -- What holds of the classes of some names, and with each class of its supers, holds of all that stand above.
+    -- A property of the classes of some names that each class passes to its supers holds for all classes above.
     pub kept : (most : ℕ) (name : List ℕ) (names : List (List ℕ)) → list_all p (numbers_of program names) ≡ true → is_above program most name names ≡ true
         → (m : ℕ) × (class_number program name ≡ Some m) × (p m ≡ true)
     kept zero name names all there = absurd (false≢true (sym (none_above name names) ∙ there))
@@ -146,10 +146,10 @@ module _ (program : List Class) where
         (λ later. kept (suc most) name names parts.1 later)
         (or_cases (names_class name (ancestry_within (suc most) program super)) (is_above program (suc most) name names) there)
 
-  -- ---- What is reached
+  -- ---- Classes that are reached
 
-  -- The class of a number stands above names, so many classes up at most.
-  pub record IsReached (names : List (List ℕ)) (most n : ℕ) : Type 0 where
+  -- The class of a number is above names, at most `most` classes up.
+  pub record IsFastDecision (names : List (List ℕ)) (most n : ℕ) : Type 0 where
     pub name : List ℕ
     pub number : class_number program name ≡ Some n
     pub above : is_above program most name names ≡ true
@@ -164,7 +164,7 @@ module _ (program : List Class) where
       ∙ or_left (same_text c.name name) (is_above program most name (supers_of c)) (ap (λ n. same_text n name) (name_is program name c h) ∙ nat_list_eq_equiv.refl name)
 
   started_by : (super : List ℕ) (names : List (List ℕ)) (n : ℕ) (o : Option ℕ) → class_number program super ≡ o
-      → (is_in (numbers_of program names) n ≡ true → IsReached names 1 n) → is_in (to_list o ++ numbers_of program names) n ≡ true → IsReached (super ∷ names) 1 n
+      → (is_in (numbers_of program names) n ≡ true → IsFastDecision names 1 n) → is_in (to_list o ++ numbers_of program names) n ≡ true → IsFastDecision (super ∷ names) 1 n
   started_by super names n None h more there =
       let r = more there in
       record { name = r.name; number = r.number; above = or_right (names_class r.name (ancestry_within 1 program super)) (is_above program 1 r.name names) r.above }
@@ -183,7 +183,7 @@ module _ (program : List Class) where
       (or_cases (eqb n m) (is_in (numbers_of program names) n) there)
 
   -- The classes of the names themselves.
-  pub started : (names : List (List ℕ)) (n : ℕ) → is_in (numbers_of program names) n ≡ true → IsReached names 1 n
+  pub started : (names : List (List ℕ)) (n : ℕ) → is_in (numbers_of program names) n ≡ true → IsFastDecision names 1 n
   started [] n there = absurd (false≢true there)
   started (super ∷ names) n there = started_by super names n (class_number program super) refl (started names n) there
 
@@ -214,22 +214,22 @@ module _ (program : List Class) where
       (or_cases (names_class name (ancestry_within (suc most) program super)) (is_above program (suc most) name names) there)
 
   -- The supers of a class that is reached, one class further up.
-  pub next_reached : (names : List (List ℕ)) (most n m : ℕ) (c : Class) → slice_get program n ≡ Some c → IsReached names most n → is_in (super_numbers program c) m ≡ true → IsReached names (suc most) m
+  pub next_reached : (names : List (List ℕ)) (most n m : ℕ) (c : Class) → slice_get program n ≡ Some c → IsFastDecision names most n → is_in (super_numbers program c) m ≡ true → IsFastDecision names (suc most) m
   next_reached names most n m c at r there =
       let s = started (supers_of c) m there in
       record { name = s.name; number = s.number; above = more_above most r.name s.name c names (sym (named_at program r.name n r.number) ∙ at) s.above r.above }
 
-  -- ---- All that stands above
+  -- ---- All classes above
 
   same_when : (a b : Bool) → (a ≡ true → b ≡ true) → (b ≡ true → a ≡ true) → a ≡ b
   same_when true b to from = sym (to refl)
   same_when false true to from = absurd (false≢true (from refl))
   same_when false false to from = refl
 
-  -- Numbers that have those of the names and with each class those of its supers, and that are all reached.
+  -- Numbers that contain those of the names, contain those of each class's supers, and are all reached.
   pub all_above : (names : List (List ℕ)) (numbers : List ℕ) → list_all (is_in numbers) (numbers_of program names) ≡ true
       → ((m : ℕ) (c : Class) → slice_get program m ≡ Some c → is_in numbers m ≡ true → list_all (is_in numbers) (super_numbers program c) ≡ true)
-      → ((n : ℕ) → is_in numbers n ≡ true → IsReached names (length program) n)
+      → ((n : ℕ) → is_in numbers n ≡ true → IsFastDecision names (length program) n)
       → AreAllAbove program names numbers
   all_above names numbers start closed reached = record {
     all = λ name n number.
@@ -246,7 +246,7 @@ module _ (program : List Class) where
   all_true [] = refl
   all_true (n ∷ ns) = all_true ns
 
-  -- A class that isn't there stands above none.
+  -- A class that isn't there is above none.
   pub none_is_above : (most : ℕ) (name : List ℕ) (names : List (List ℕ)) → class_number program name ≡ None → is_above program most name names ≡ false
   none_is_above most name names absent = not_true (is_above program most name names) (λ there. let k = kept (λ n. true) (λ m c at passes. all_true (super_numbers program c)) most name names (all_true (numbers_of program names)) there in no_number k.0 (sym absent ∙ k.1))
     where
@@ -264,7 +264,7 @@ module _ (program : List Class) where
   row m c at =
       get_or-map (super_numbers program) program m c [] (slice_get_within program m c at) ∙ ap (super_numbers program) (get_or_from_slice_get program m c c at)
 
-  -- A class whose rank is above those of others doesn't stand above them, where ranks fall.
+  -- A class whose rank is above those of others isn't above them, if ranks fall.
   pub apart : (rows : List (List ℕ)) (ranks : List ℕ) (number limit : ℕ) (numbers : List ℕ) → rows ≡ super_rows program → Fall rows ranks → limit ≡ rank ranks number → list_all (λ n. ltb (rank ranks n) limit) numbers ≡ true
       → (name : List ℕ) (names : List (List ℕ)) → class_number program name ≡ Some number → numbers ≡ numbers_of program names → is_above program (length program) name names ≡ false
   apart rows ranks number limit numbers are falls here low name names there is =
@@ -284,7 +284,7 @@ module _ (program : List Class) where
       not_lower : (a : ℕ) → ltb a a ≡ true → ⊥
       not_lower a lt = grind (arith, nat_tests)
 
-  -- ---- Going up, one class after another
+  -- ---- Upward, one class after another
 
   number_within : (name : List ℕ) (n : ℕ) → class_number program name ≡ Some n → n < length program
   number_within name n number =
@@ -303,12 +303,12 @@ module _ (program : List Class) where
       let here = numbers_within_by (class_number program name) (number_within name) in
       list_all-append (λ n. ltb n (length program)) (to_list (class_number program name)) (numbers_of program names) ∙ (λ i. here i && numbers_within names i)
 
-  higher : (names : List (List ℕ)) (least most n : ℕ) → least ≤ most → IsReached names least n → IsReached names most n
+  higher : (names : List (List ℕ)) (least most n : ℕ) → least ≤ most → IsFastDecision names least n → IsFastDecision names most n
   higher names least most n h r = record { name = r.name; number = r.number; above = grown least most r.name names h r.above }
 
-  -- The numbers of a set, each reached so many classes up as it stands behind others.
+  -- Each number of a set is reached, at most as many classes up as its place in the set.
   pub record AreReached (names : List (List ℕ)) (numbers : List ℕ) : Type 0 where
-    pub reached : (j : ℕ) → j < length numbers → IsReached names (j + 1) (get_or numbers j 0)
+    pub reached : (j : ℕ) → j < length numbers → IsFastDecision names (j + 1) (get_or numbers j 0)
 
   pub reached_first : (names : List (List ℕ)) (numbers : List ℕ) → numbers ≡ numbers_of program names → AreReached names (with_numbers [] numbers)
   reached_first names numbers are = record {
@@ -329,7 +329,7 @@ module _ (program : List Class) where
       record {
         reached = λ j within.
             ⊎_elim
-            (λ (early : j < length numbers). subst (IsReached names (j + 1)) (sym (same_place numbers more j early)) (before.reached j early))
+            (λ (early : j < length numbers). subst (IsFastDecision names (j + 1)) (sym (same_place numbers more j early)) (before.reached j early))
             (λ (late : length numbers ≤ j).
             let m = get_or (with_numbers numbers more) j 0 in
             higher names (suc (place + 1)) (j + 1) m (omega arith)
@@ -337,7 +337,7 @@ module _ (program : List Class) where
             (cases_lt j (length numbers));
       }
 
-  -- The classes that were gone through have all their supers in the set.
+  -- The classes before this place have all their supers in the set.
   pub record AreClosed (numbers : List ℕ) (place : ℕ) : Type 0 where
     pub closed : (j : ℕ) → j < place → list_all (is_in numbers) (get_or (super_rows program) (get_or numbers j 0) []) ≡ true
 
@@ -361,7 +361,7 @@ module _ (program : List Class) where
             (cases_eq j place);
       }
 
-  -- Once all classes of the set were gone through, it has all that stands above.
+  -- If all classes of the set have their supers in it, it has all classes above.
   pub whole : (start numbers : List ℕ) (place : ℕ) → list_all (is_in numbers) start ≡ true → AreClosed numbers place → length numbers ≤ place → length numbers ≤ length program
       → (names : List (List ℕ)) → start ≡ numbers_of program names → AreReached names numbers → AreAllAbove program names numbers
   whole start numbers place begun closed done few names is reached =
@@ -371,7 +371,7 @@ module _ (program : List Class) where
       subst (λ (ns : List ℕ). list_all (is_in numbers) ns ≡ true) (ap (λ n. get_or (super_rows program) n []) p.2 ∙ row m c at) (closed.closed p.0 (omega (arith, p.1))))
       (λ n there.
       let p = place_of numbers n there in
-      higher names (p.0 + 1) (length program) n (omega (arith, p.1)) (subst (IsReached names (p.0 + 1)) p.2 (reached.reached p.0 p.1)))
+      higher names (p.0 + 1) (length program) n (omega (arith, p.1)) (subst (IsFastDecision names (p.0 + 1)) p.2 (reached.reached p.0 p.1)))
 
   within_by : (n : ℕ) (o : Option Class) → slice_get program n ≡ o → list_all (λ m. ltb m (length program)) (get_or (super_rows program) n []) ≡ true
   within_by n None at =

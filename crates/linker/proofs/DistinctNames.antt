@@ -18,7 +18,7 @@ use Rattle.jvms_program.specs.BuiltIn.{built_in_classes, is_built_in}
 use Rattle.linker.specs.declared.fault.LinkFault.{LinkFault}
 use Rattle.linker.specs.Linking.{names_of, repeats, repeated_name, built_in_name, refused, refusal, HaveDistinctNames}
 
--- ---- What no refusal says
+-- ---- The consequences of no refusal
 
 abbrev NoneOf : Option ℕ → Option ℕ → Type 0
 NoneOf a b = (a ≡ None) × (b ≡ None)
@@ -28,7 +28,7 @@ none_refused f g None None others passes = (refl, refl)
 none_refused f g None (Some n) others passes = absurd cc
 none_refused f g (Some n) b others passes = absurd cc
 
--- A range in which the first number that passes a test isn't found has none.
+-- A search that finds nothing fails at its first test, and at the others.
 cond_none : (b : Bool) (n : ℕ) (r : Option ℕ) → cond b (Some n) r ≡ None → (b ≡ false) × (r ≡ None)
 cond_none true n r none = absurd cc
 cond_none false n r none = (refl, none)
@@ -64,7 +64,7 @@ any_by_name : (name : List ℕ) (classes : List Class) → list_any (same_text n
 any_by_name name [] = refl
 any_by_name name (c ∷ classes) = rw (nat_list_eq_equiv.symm name c.name) (ap (λ b. same_text c.name name || b) (any_by_name name classes))
 
--- ---- Names that stand apart
+-- ---- Distinct names
 
 neither : (a b : Bool) → a ≡ false → b ≡ false → (a || b) ≡ false
 neither a b left right = rw (left, right) refl

@@ -1,4 +1,4 @@
--- The first name that an earlier one is, found by going over the names once.
+-- The first name that equals an earlier one, found in one pass over the names.
 use Rattle.std.proofs.Common.{◌≡◌, ℕ, zero, suc, ◌+◌, ◌<◌, ◌≤◌, Bool, true, false, cond, ◌||◌, List, [], ◌∷◌, length, get_or, take, Some, None, refl, sym, ap, ◌∙◌, arith, ⊎_elim}
 use Rattle.std.specs.List.{find, list_any, range_with_len}
 use Rattle.std.proofs.lemmas.Bool.{cases_eq}
@@ -33,7 +33,7 @@ first_passes f a (suc n) k from below passes fails =
 pub name_at : (classes : List Class) (i : ℕ) (c : Class) → i < length classes → c ≡ get_or classes i c → get_or (names_of classes) i [] ≡ c.name
 name_at classes i c within is = get_or-map (λ (x : Class). x.name) classes i c [] within ∙ ap (λ (x : Class). x.name) (sym is)
 
--- Whether a name was seen says whether its place repeats one.
+-- A name that was seen repeats one, and only such a name does.
 pub repeats_when : (names : List (List ℕ)) (i : ℕ) (name : List ℕ) (seen : Bool) → get_or names i [] ≡ name → seen ≡ list_any (same_text name) (take i names) → repeats names i ≡ seen
 repeats_when names i name seen is when = rw is (sym when)
 

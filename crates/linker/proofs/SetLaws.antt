@@ -55,7 +55,7 @@ or_false : (b : Bool) → (b || false) ≡ b
 or_false true = refl
 or_false false = refl
 
--- Whether a number is in a set with one more.
+-- A number is in a set with one more if it is in the set, or is the new one.
 pub is_in_push : (numbers : List ℕ) (m n : ℕ) → is_in (numbers ++ m ∷ []) n ≡ (is_in numbers n || eqb n m)
 is_in_push numbers m n = list_any-append (eqb n) numbers (m ∷ []) ∙ or_last (is_in numbers n) (eqb n m)
 
@@ -98,11 +98,11 @@ past_by : (numbers : List ℕ) (place : ℕ) (o : (place < length numbers) ⊎ (
 past_by numbers place (inl within) none = absurd (none-some (get_or numbers place 0) (none ∙ slice_get-get_or numbers place 0 within))
 past_by numbers place (inr past) none = past
 
--- Where there is no number the set has ended.
+-- A place without a number is at or after the end of the set.
 pub past_place : (numbers : List ℕ) (place : ℕ) → None ≡ slice_get numbers place → length numbers ≤ place
 past_place numbers place none = past_by numbers place (cases_lt place (length numbers)) none
 
--- The place at which a number of the set came.
+-- The place of a number of the set.
 pub place_of : (numbers : List ℕ) (n : ℕ) → is_in numbers n ≡ true → (j : ℕ) × (j < length numbers) × (get_or numbers j 0 ≡ n)
 place_of [] n there = absurd (false≢true there)
 place_of (m ∷ numbers) n there =
@@ -111,7 +111,7 @@ place_of (m ∷ numbers) n there =
     (λ later. let p = place_of numbers n later in (suc p.0, omega (arith, p.1), p.2))
     (or_cases (eqb n m) (is_in numbers n) there)
 
--- ---- One number more
+-- ---- One more number
 
 add_by : (b : Bool) (numbers : List ℕ) (m : ℕ) → is_in numbers m ≡ b → is_in (cond b numbers (numbers ++ m ∷ [])) m ≡ true
 add_by true numbers m e = e
@@ -133,7 +133,7 @@ came_by : (b : Bool) (numbers : List ℕ) (m j : ℕ) → length numbers ≤ j �
 came_by true numbers m j past within = absurd (omega arith)
 came_by false numbers m j past within = get_or_push numbers m 0 j (omega (arith, length_push numbers m))
 
--- ---- Numbers more
+-- ---- More numbers
 
 pub still_in : (numbers more : List ℕ) (n : ℕ) → is_in numbers n ≡ true → is_in (with_numbers numbers more) n ≡ true
 still_in numbers [] n there = there
@@ -162,7 +162,7 @@ or_right : (b c : Bool) → c ≡ true → (b || c) ≡ true
 or_right true c h = refl
 or_right false c h = h
 
--- What came is one of those that were put in.
+-- A number at a new place is one of those that were added.
 pub new_place : (numbers more : List ℕ) (j : ℕ) → length numbers ≤ j → j < length (with_numbers numbers more) → is_in more (get_or (with_numbers numbers more) j 0) ≡ true
 new_place numbers [] j past within = absurd (omega arith)
 new_place numbers (m ∷ more) j past within =
@@ -174,7 +174,7 @@ new_place numbers (m ∷ more) j past within =
     or_right (eqb (get_or (with_numbers numbers (m ∷ more)) j 0) m) (is_in more (get_or (with_numbers numbers (m ∷ more)) j 0)) (new_place (with_number numbers m) more j late within))
     (cases_lt j (length (with_number numbers m)))
 
--- All of some numbers that were in a set are in it with more.
+-- Numbers that are all in a set are all in it with more.
 pub still_all_in : (numbers more ns : List ℕ) → list_all (is_in numbers) ns ≡ true → list_all (is_in (with_numbers numbers more)) ns ≡ true
 still_all_in numbers more [] all = refl
 still_all_in numbers more (n ∷ ns) all =

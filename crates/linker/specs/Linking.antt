@@ -1,5 +1,5 @@
--- Linking (JVMS 5.3): the program of class files, or the first test that one of their classes fails. Each
--- test is made of all classes, in order, before the next.
+-- Linking (JVMS 5.3): the program of class files, or the first test that one of their classes fails. Each test is
+-- applied to all classes, in order, before the next test.
 use Rattle.std.specs.Prelude.{◌≡◌, ℕ, Bool, true, not, ◌||◌, ◌&&◌, List, [], ◌++◌, is_some, codes, map, length, take, Option, Some, None, Result, Ok, Err, slice_index_or}
 use Rattle.std.specs.List.{find, list_any, position, range_with_len, IsDistinct}
 use Rattle.jvms_file.specs.declared.class_file.ClassFile.{ClassFile}
@@ -22,7 +22,7 @@ names_of classes = map (λ c. c.name) classes
 abbrev pub HaveDistinctNames : List Class → Type 0
 HaveDistinctNames classes = IsDistinct same_text (names_of classes)
 
--- Whether the name at a place is that of an earlier place.
+-- The name at a place is that of an earlier place.
 abbrev pub repeats : List (List ℕ) → ℕ → Bool
 repeats names n = list_any (same_text (slice_index_or names n [])) (take n names)
 
@@ -36,11 +36,11 @@ built_in_name classes = position (λ c. is_built_in c.name) classes
 
 -- ---- Superclasses and superinterfaces (JVMS 5.3.5)
 
--- Its superclass or a superinterface isn't there.
+-- The superclass or a superinterface of a class isn't there.
 abbrev pub lacks_super : List Class → Class → Bool
 lacks_super program c = list_any (λ name. not (is_some (class_named program name))) (supers_of c)
 
--- The first place of a class that lacks one.
+-- The first place of a class whose superclass or a superinterface isn't there.
 abbrev pub missing_super : List Class → List Class → Option ℕ
 missing_super program classes = position (lacks_super program) classes
 
@@ -50,8 +50,8 @@ is_never_extended name =
     same_text name (codes "java/lang/String") || same_text name (codes "java/lang/Class")
     || same_text name (codes "java/lang/System") || same_text name (codes "java/io/PrintStream")
 
--- There is no superclass; or it is an interface, or one that no class extends; or the class is an interface and extends
--- another than java/lang/Object.
+-- The superclass of a class is missing or of a wrong kind. It is an interface, or one that no class extends, or the
+-- class is an interface and extends another class than java/lang/Object.
 abbrev pub has_wrong_superclass : List Class → Class → Bool
 has_wrong_superclass program c = is_wrong c.superclass
   where
@@ -68,12 +68,12 @@ has_wrong_interface program c = list_any (λ name. not (names_interface program 
 abbrev pub wrong_super : List Class → List Class → Option ℕ
 wrong_super program classes = position (λ c. has_wrong_superclass program c || has_wrong_interface program c) classes
 
--- A class that stands in the ancestry of one of its own: it is its own superclass or superinterface, over one or more
--- steps.
+-- A class is in the ancestry of its superclass or of a superinterface. So it is its own superclass or superinterface,
+-- over one or more steps.
 abbrev pub is_circular : List Class → Class → Bool
 is_circular program c = list_any (λ super. names_class c.name (ancestry program super)) (supers_of c)
 
--- The first place of such a class.
+-- The first place of a circular class.
 abbrev pub circular : List Class → List Class → Option ℕ
 circular program classes = position (is_circular program) classes
 
@@ -99,7 +99,7 @@ linked files = do
   _ ← refusal (map meaning files)
   Ok (program_of files)
 
--- What is answered is what was said, unless memory ran out.
+-- The result is the one of the definition, unless memory ran out.
 abbrev pub Answers : {X : Type 0} → Result X LinkFault → Result X LinkFault → Type 0
 Answers (Ok x) said = said ≡ Ok x
 Answers (Err fault.Memory) said = Unit {0}

@@ -1,4 +1,4 @@
-//! The test whether a class is its own superclass or superinterface, over one or more steps.
+//! Tests whether a class is its own superclass or superinterface, over one or more steps.
 
 ghost use Rattle.std.specs.Prelude.{◌≡◌, ◌<◌, ℕ, List, [], Some, slice_index_or, nat_le, nat_lt, true, false, length, IfOk};
 ghost use Rattle.std.specs.List.{list_all};
@@ -9,33 +9,33 @@ ghost use Rattle.linker.specs.Supers.{AreAllAbove, Fall, is_above};
 
 use crate::number_set::NumberSet;
 use classes::{ClassList, ranks_of, super_numbers, super_rows};
-use held::items::Items;
+use shared_data::items::Items;
 use jvms_program::program::Class;
 use std::alloc::{AllocError, Global};
 use std::marker::Model;
 
-/// The rank of the class of a number.
+/// Returns the rank of the class of a number.
 fn rank(ranks: &[usize], number: usize) -> usize
     ensures { result ≡ rank ranks.now number }
 {
     ranks.get(number).copied().unwrap_or(0)
 }
 
-/// Whether no class of these numbers has a rank above this one.
+/// Decides whether no class of these numbers has a rank above this one.
 fn none_is_above(ranks: &[usize], most: usize, numbers: &[usize]) -> bool
     ensures { result ≡ list_all (λ n. nat_le (rank ranks.now n) most) numbers.now }
 {
     numbers.iter().all(|number| rank(ranks, *number) <= most)
 }
 
-/// Whether all classes of these numbers have ranks below this one.
+/// Decides whether all classes of these numbers have ranks below this one.
 fn all_are_below(ranks: &[usize], limit: usize, numbers: &[usize]) -> bool
     ensures { result ≡ list_all (λ n. nat_lt (rank ranks.now n) limit) numbers.now }
 {
     numbers.iter().all(|number| rank(ranks, *number) < limit)
 }
 
-/// Whether no class has a superclass or superinterface of a higher rank, given their numbers.
+/// Returns true only if no class has a superclass or superinterface of a higher rank, given their numbers.
 fn fall(rows: &[Items<usize>], ranks: &[usize]) -> bool
     ensures { result ≡ true → Fall rows.now ranks.now }
 {
@@ -51,11 +51,11 @@ fn fall(rows: &[Items<usize>], ranks: &[usize]) -> bool
 #[derive(Drop)]
 struct Supers<'p> {
     program: &'p ClassList,
-    /// For each class the numbers of its superinterfaces and of its superclass.
+    /// The numbers of each class's superinterfaces and of its superclass.
     rows: Vec<Items<usize>>,
-    /// For each class its rank.
+    /// The rank of each class.
     ranks: Vec<usize>,
-    /// Whether no class has a superclass or superinterface of a higher rank.
+    /// True only if no class has a superclass or superinterface of a higher rank.
     falls: bool,
 }
 
@@ -72,7 +72,7 @@ impl<'p> Model for Supers<'p> {
 }
 
 impl<'p> Supers<'p> {
-    /// Those of a program.
+    /// Computes the superclasses and superinterfaces of a program.
     fn of(alloc: Global, program: &'p ClassList) -> Result<Self, AllocError>
         ensures { IfOk result (λ supers. supers ≡ program.now) }
     {
@@ -87,21 +87,21 @@ impl<'p> Supers<'p> {
         })
     }
 
-    /// The program.
+    /// Returns the program.
     fn program(&self) -> &'p ClassList
         ensures { result.now ≡ self.now }
     {
         self.program
     }
 
-    /// How many classes there are.
+    /// Returns the number of classes.
     fn len(&self) -> usize
         ensures { result ≡ length self.now }
     {
         self.program.classes().len()
     }
 
-    /// The numbers of the superinterfaces and the superclass of the class of a number.
+    /// Returns the numbers of the superinterfaces and the superclass of the class of a number.
     fn row(&self, number: usize) -> &[usize]
         requires { number < length self.now }
         ensures value { result.now ≡ slice_index_or (super_rows self.now) number [] }
@@ -110,7 +110,8 @@ impl<'p> Supers<'p> {
         self.rows[number].as_slice()
     }
 
-    /// The numbers of all classes that stand above names, given the numbers of the classes of these.
+    /// Returns the numbers of all classes that are in the ancestries of some names, given the numbers of the classes of
+    /// these names.
     fn all_above(&self, alloc: Global, numbers: &[usize]) -> Result<NumberSet, AllocError>
         requires { list_all (λ n. nat_lt n (length self.now)) numbers.now ≡ true }
         ensures { IfOk result (λ met. (names : List (List ℕ)) → numbers.now ≡ numbers_of self.now names → AreAllAbove self.now names met.numbers) }
@@ -123,20 +124,20 @@ impl<'p> Supers<'p> {
             };
             met.add_all(self.row(number))?;
         }
-        met.are_few();
+        met.few_classes_invariant();
         Ok(met)
     }
 
-    /// Whether the rank of a class says that it doesn't stand above classes of these numbers.
-    fn stands_apart(&self, number: usize, numbers: &[usize]) -> bool
+    /// Returns true only if the rank of a class shows that it isn't in the ancestries of classes of these numbers.
+    fn is_not_above(&self, number: usize, numbers: &[usize]) -> bool
         ensures { result ≡ true → (name : List ℕ) (names : List (List ℕ)) → class_number self.now name ≡ Some number → numbers.now ≡ numbers_of self.now names → is_above self.now (length self.now) name names ≡ false }
     {
         let ranks = self.ranks.as_slice();
         self.falls && all_are_below(ranks, rank(ranks, number), numbers)
     }
 
-    /// Whether a class stands in the ancestry of its superclass or of a superinterface. Where its rank doesn't say so,
-    /// all that stands above it is gone through.
+    /// Decides whether a class is in the ancestry of its superclass or of a superinterface. If its rank doesn't exclude
+    /// that, all classes above it are searched.
     fn is_circular(&self, alloc: Global, class: &Class) -> Result<bool, AllocError>
         ensures { IfOk result (λ is. is ≡ is_circular self.now class.now) }
     {
@@ -145,14 +146,14 @@ impl<'p> Supers<'p> {
             return Ok(false);
         };
         let supers = super_numbers(alloc, program, class)?;
-        if self.stands_apart(number, supers.as_slice()) {
+        if self.is_not_above(number, supers.as_slice()) {
             return Ok(false);
         }
         Ok(self.all_above(alloc, supers.as_slice())?.has(number))
     }
 }
 
-/// The first of these classes that stands in the ancestry of its superclass or of a superinterface.
+/// Returns the first of these classes that is in the ancestry of its superclass or of a superinterface.
 pub(crate) fn circular(
     alloc: Global,
     program: &ClassList,

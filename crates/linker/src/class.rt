@@ -1,4 +1,4 @@
-//! What a class file means: a class of a program (JVMS 4.1).
+//! The meaning of a class file: a class of a program (JVMS 4.1).
 
 ghost use Rattle.std.specs.Prelude.{◌≡◌, ◌==◌, None, Some, IfOk, if◌then◌else◌, map};
 ghost use Rattle.jvms_program.specs.Meaning.{class_text, kind_of, meaning};
@@ -8,14 +8,14 @@ use crate::method::methods_of;
 use crate::texts::Texts;
 use const_pool::Pool;
 use descriptor::Flags;
-use held::items::Items;
-use held::shared::Text;
+use shared_data::items::Items;
+use shared_data::shared::Text;
 use jvms_file::class_file::ClassFile;
 use jvms_program::program::{Class, ClassKind};
 use std::alloc::{AllocError, Global};
 use std::mem;
 
-/// Which sort of class these access flags say (JVMS table 4.1-A).
+/// Returns the sort of class with these access flags (JVMS table 4.1-A).
 fn kind_of(access: u16) -> ClassKind
     ensures { result ≡ kind_of access }
 {
@@ -29,7 +29,7 @@ fn kind_of(access: u16) -> ClassKind
     }
 }
 
-/// The superclass's name; 0 says that there is none.
+/// Returns the superclass's name, or `None` for number 0.
 fn superclass_of(texts: &Texts, number: u16) -> Result<Option<Text>, AllocError>
     ensures { IfOk result (λ name. name ≡ (if number == 0 then None else Some (class_text texts.now number))) }
 {
@@ -40,7 +40,7 @@ fn superclass_of(texts: &Texts, number: u16) -> Result<Option<Text>, AllocError>
     }
 }
 
-/// The names of a class, and of what is right above it.
+/// The names of a class, its superclass and its superinterfaces.
 #[derive(Drop)]
 struct ClassNames {
     name: Text,
@@ -48,7 +48,7 @@ struct ClassNames {
     interfaces: Items<Text>,
 }
 
-/// The names of the class that a class file means, whose pool has these texts.
+/// Returns the names of a class file's class, from the texts of its pool.
 fn names_of(alloc: Global, texts: &Texts, file: &ClassFile) -> Result<ClassNames, AllocError>
     ensures name { IfOk result (λ n. n.name ≡ class_text texts.now file.now.this_class) }
     ensures superclass { IfOk result (λ n. n.superclass ≡ (if file.now.super_class == 0 then None else Some (class_text texts.now file.now.super_class))) }
@@ -61,7 +61,7 @@ fn names_of(alloc: Global, texts: &Texts, file: &ClassFile) -> Result<ClassNames
     })
 }
 
-/// The class that a class file means, whose pool has these texts. The file is given up on the way.
+/// Returns the class that a class file means, from the texts of its pool. Drops the file.
 #[tactic(auto, unfolding(jvms_program::specs::Meaning::meaning))]
 fn class_of(alloc: Global, texts: &Texts, file: ClassFile) -> Result<Class, AllocError>
     ensures { IfOk result (λ c. c ≡ meaning (record file { pool = texts.now })) }
@@ -81,7 +81,7 @@ fn class_of(alloc: Global, texts: &Texts, file: ClassFile) -> Result<Class, Allo
     })
 }
 
-/// The class of a program that a class file means: itself, with texts in place of pool numbers.
+/// Returns the class that a class file means: with texts in place of pool numbers.
 #[tactic(auto, unfolding(jvms_program::specs::Meaning::meaning))]
 pub fn meaning(alloc: Global, file: ClassFile) -> Result<Class, AllocError>
     ensures { IfOk result (λ c. c ≡ meaning file) }

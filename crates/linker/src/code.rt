@@ -6,12 +6,12 @@ ghost use Rattle.jvms_program.specs.Meaning.{catch_of, handler_of, body_of, code
 
 use crate::instruction::instructions_of;
 use crate::texts::Texts;
-use held::items::Items;
+use shared_data::items::Items;
 use jvms_file::class_file::{Code, Handler, MethodAttribute};
 use jvms_program::program::{Body, Catch, ExceptionHandler};
 use std::alloc::{AllocError, Global};
 
-/// What a handler of this catch_type catches: all for 0.
+/// Returns the exceptions that a handler with this catch_type catches: all for 0.
 fn catch_of(texts: &Texts, catch_type: u16) -> Result<Catch, AllocError>
     ensures { IfOk result (λ c. c ≡ catch_of texts.now catch_type) }
 {
@@ -22,7 +22,7 @@ fn catch_of(texts: &Texts, catch_type: u16) -> Result<Catch, AllocError>
     }
 }
 
-/// A handler with the class that it catches.
+/// Returns a handler with the class that it catches.
 fn handler_of(texts: &Texts, handler: &Handler) -> Result<ExceptionHandler, AllocError>
     ensures { IfOk result (λ h. h ≡ handler_of texts.now handler.now) }
 {
@@ -34,7 +34,7 @@ fn handler_of(texts: &Texts, handler: &Handler) -> Result<ExceptionHandler, Allo
     })
 }
 
-/// The handlers of a method, in the order of its table.
+/// Returns the handlers of a method, in the order of its table.
 fn handlers_of(
     alloc: Global,
     texts: &Texts,
@@ -49,7 +49,7 @@ fn handlers_of(
     Ok(Items::from_vec(handlers))
 }
 
-/// The code of a method with what it names.
+/// Returns the code of a method, with the named items in place of pool numbers.
 fn body_of(alloc: Global, texts: &Texts, code: &Code) -> Result<Body, AllocError>
     ensures { IfOk result (λ b. b ≡ body_of texts.now code.now) }
 {
@@ -61,7 +61,7 @@ fn body_of(alloc: Global, texts: &Texts, code: &Code) -> Result<Body, AllocError
     })
 }
 
-/// The first Code among attributes.
+/// Returns the first Code among attributes.
 fn code_of(attributes: &[MethodAttribute]) -> Option<&Code>
     ensures { option_map (λ c. c.now) result ≡ code_of attributes.now }
 {
@@ -75,7 +75,7 @@ fn code_of(attributes: &[MethodAttribute]) -> Option<&Code>
     None
 }
 
-/// The code of a method that has these attributes, if one is Code.
+/// Returns the code of a method that has these attributes, if one is Code.
 pub(crate) fn body_among(
     alloc: Global,
     texts: &Texts,

@@ -6,12 +6,12 @@ ghost use Rattle.jvms_program.specs.Meaning.{constant_of, field_of};
 use crate::loadable::loadable_of;
 use crate::texts::Texts;
 use descriptor::Flags;
-use held::items::Items;
+use shared_data::items::Items;
 use jvms_file::class_file::{FieldAttribute, FieldInfo};
 use jvms_program::program::{Field, Loadable};
 use std::alloc::{AllocError, Global};
 
-/// What the first ConstantValue among attributes names (JVMS 4.7.2), if there is one.
+/// Returns the constant that the first ConstantValue among attributes names (JVMS 4.7.2), if there is one.
 fn constant_of(texts: &Texts, attributes: &[FieldAttribute]) -> Result<Option<Loadable>, AllocError>
     ensures { IfOk result (λ l. l ≡ constant_of texts.now attributes.now) }
 {
@@ -25,7 +25,7 @@ fn constant_of(texts: &Texts, attributes: &[FieldAttribute]) -> Result<Option<Lo
     Ok(None)
 }
 
-/// A field with its texts. The fields of an interface count as static.
+/// Returns a field with its texts. The fields of an interface count as static.
 fn field_of(texts: &Texts, in_interface: bool, info: &FieldInfo) -> Result<Field, AllocError>
     ensures { IfOk result (λ f. f ≡ field_of texts.now in_interface info.now) }
 {
@@ -41,7 +41,7 @@ fn field_of(texts: &Texts, in_interface: bool, info: &FieldInfo) -> Result<Field
     })
 }
 
-/// The fields of a class or an interface, in order.
+/// Returns the fields of a class or an interface, in order.
 pub(crate) fn fields_of(
     alloc: Global,
     texts: &Texts,

@@ -1,4 +1,4 @@
-//! Instructions with what they name in place of pool entries (JVMS 6.5).
+//! Instructions with the named items in place of pool numbers (JVMS 6.5).
 
 ghost use Rattle.std.specs.Prelude.{◌≡◌, IfOk, map};
 ghost use Rattle.jvms_program.specs.Meaning.{instruction_of};
@@ -6,14 +6,14 @@ ghost use Rattle.jvms_program.specs.Meaning.{instruction_of};
 use crate::loadable::loadable_of;
 use crate::reference::{field_reference_of, method_reference_of};
 use crate::texts::{Texts, copied};
-use held::boxed::Boxed;
+use shared_data::boxed::Boxed;
 use jvms_file::insn::{Insn, LookupSwitch, TableSwitch};
 use jvms_program::case_table::CaseTable;
 use jvms_program::instructions::Instructions;
 use jvms_program::program::Instruction;
 use std::alloc::{AllocError, Global};
 
-/// The same cases of a tableswitch.
+/// Copies the cases of a tableswitch.
 fn table_switch(alloc: Global, s: &TableSwitch) -> Result<TableSwitch, AllocError>
     ensures { IfOk result (λ copy. copy ≡ s.now) }
 {
@@ -24,7 +24,7 @@ fn table_switch(alloc: Global, s: &TableSwitch) -> Result<TableSwitch, AllocErro
     })
 }
 
-/// The same cases of a lookupswitch.
+/// Copies the cases of a lookupswitch into a table.
 fn lookup_switch(alloc: Global, s: &LookupSwitch) -> Result<CaseTable, AllocError>
     ensures { IfOk result (λ copy. copy ≡ s.now) }
 {
@@ -34,7 +34,7 @@ fn lookup_switch(alloc: Global, s: &LookupSwitch) -> Result<CaseTable, AllocErro
     }))
 }
 
-/// The instruction with what its number names.
+/// Returns the instruction with the named item in place of its pool number.
 fn instruction_of(alloc: Global, texts: &Texts, insn: &Insn) -> Result<Instruction, AllocError>
     ensures { IfOk result (λ i. i ≡ instruction_of texts.now insn.now) }
 {
@@ -68,7 +68,7 @@ fn instruction_of(alloc: Global, texts: &Texts, insn: &Insn) -> Result<Instructi
     }
 }
 
-/// The instructions of a method, in order.
+/// Returns the instructions of a method, in order.
 pub(crate) fn instructions_of(
     alloc: Global,
     texts: &Texts,

@@ -1,4 +1,4 @@
-//! Linking (JVMS 5.3): the program that class files and the built-in classes make, or why they make none.
+//! Linking (JVMS 5.3): makes a program of class files and the built-in classes, or refuses them.
 #![tactic(auto)]
 
 mod circles;

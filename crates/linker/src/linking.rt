@@ -16,7 +16,7 @@ use jvms_program::program::Class;
 use program::Program;
 use std::alloc::{AllocError, Global};
 
-/// The classes that class files mean, in order. Each file is given up as its class is made.
+/// Returns the classes that class files mean, in order. Drops each file as soon as it has its class.
 fn classes_of(alloc: Global, files: Vec<ClassFile>) -> Result<Vec<Class>, AllocError>
     ensures { IfOk result (λ classes. classes.items ≡ map meaning files.items) }
 {
@@ -27,7 +27,7 @@ fn classes_of(alloc: Global, files: Vec<ClassFile>) -> Result<Vec<Class>, AllocE
     Ok(classes)
 }
 
-/// Returns the last classes of a list, so many.
+/// Returns the last `count` classes of a list.
 fn last_classes(list: &ClassList, count: usize) -> &[Class]
     ensures { result.now ≡ drop (length list.now - count) list.now }
 {
@@ -35,8 +35,8 @@ fn last_classes(list: &ClassList, count: usize) -> &[Class]
     classes.split_at(classes.len().saturating_sub(count)).1
 }
 
-/// Runs the tests in order over all classes, which follow the built-in ones, and returns the first that fails, with the first
-/// class that fails it.
+/// Runs the tests in order over all classes, which follow the built-in ones. Returns the first that fails, with the
+/// first class that fails it.
 fn check(alloc: Global, list: &ClassList, classes: &[Class]) -> Result<(), LinkFault>
     requires { list.now ≡ built_in_classes ++ classes.now }
     ensures { Answers result (refusal classes.now) }
@@ -59,7 +59,7 @@ fn check(alloc: Global, list: &ClassList, classes: &[Class]) -> Result<(), LinkF
     Ok(())
 }
 
-/// Makes the program of classes that passed the tests. None of them is on a circle then, so that an order of them is found.
+/// Creates the program of classes that passed the tests. None of them is circular, so there is an order of them.
 fn program_of(alloc: Global, list: ClassList) -> Result<Program, LinkFault>
     ensures { MatchResult result (λ p. p ≡ list) (λ e. e ≡ fault.Memory) }
 {
@@ -69,8 +69,8 @@ fn program_of(alloc: Global, list: ClassList) -> Result<Program, LinkFault>
     }
 }
 
-/// Returns the program of class files with the built-in classes (JVMS 5.3), or the first test that one of their
-/// classes fails, want of memory aside.
+/// Links class files with the built-in classes (JVMS 5.3), or returns the first test that one of their classes fails. A
+/// lack of memory may be returned instead.
 #[tactic(auto, unfolding(crate::specs::Linking::linked, jvms_program::specs::Program::program_of), using(jvms_program::proofs::ProgramLaws::files_are_program))]
 pub fn link(alloc: Global, files: Vec<ClassFile>) -> Result<Program, LinkFault>
     // The built-in classes and those of the files in order, or the first test that fails.

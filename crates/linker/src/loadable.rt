@@ -1,4 +1,5 @@
-//! What instructions load from the constant pool (JVMS 6.5 ldc, ldc2_w) and fields begin with (JVMS 4.7.2).
+//! The constants that instructions load from the constant pool (JVMS 6.5 ldc, ldc2_w), and the first values of static
+//! fields (JVMS 4.7.2).
 
 ghost use Rattle.std.specs.Prelude.{◌≡◌, IfOk};
 ghost use Rattle.jvms_file.specs.ConstantPool.{entry};
@@ -9,7 +10,7 @@ use const_pool::Constant;
 use jvms_program::program::Loadable;
 use std::alloc::AllocError;
 
-/// What an entry gives that is loaded; where a number names no such entry, the int 0.
+/// Returns the constant of an entry, or the int 0 if the number names no such entry.
 pub(crate) fn loadable_of(texts: &Texts, number: u16) -> Result<Loadable, AllocError>
     ensures { IfOk result (λ l. l ≡ loadable_of texts.now (entry texts.now number)) }
 {

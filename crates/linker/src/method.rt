@@ -8,13 +8,13 @@ use crate::code::body_among;
 use crate::texts::Texts;
 use const_pool::Pool;
 use descriptor::{Flags, is_initializer_name};
-use held::items::Items;
-use held::shared::Text;
+use shared_data::items::Items;
+use shared_data::shared::Text;
 use jvms_file::class_file::{MethodAttribute, MethodInfo};
 use jvms_program::program::{Method, MethodFlags};
 use std::alloc::{AllocError, Global};
 
-/// The classes that the first Exceptions among attributes lists (JVMS 4.7.5).
+/// Returns the classes that the first Exceptions among attributes lists (JVMS 4.7.5).
 fn throws_of(
     alloc: Global,
     texts: &Texts,
@@ -32,7 +32,7 @@ fn throws_of(
     Ok(Items::new(alloc))
 }
 
-/// Whether a method of this name is a class's or an interface's initialization method (JVMS 2.9).
+/// Decides whether a method of this name is a class's or an interface's initialization method (JVMS 2.9).
 fn is_initializer(pool: &Pool, name: u16) -> bool
     ensures { result ≡ is_initializer pool.now name }
 {
@@ -42,7 +42,7 @@ fn is_initializer(pool: &Pool, name: u16) -> bool
     }
 }
 
-/// The flags that calls ask of a method (JVMS table 4.6-A). An initialization method has none.
+/// Returns the flags of a method that calls use (JVMS table 4.6-A). An initialization method has none.
 fn flags_of(is_initializer: bool, access: u16) -> MethodFlags
     ensures { result ≡ flags_of is_initializer access }
 {
@@ -56,7 +56,7 @@ fn flags_of(is_initializer: bool, access: u16) -> MethodFlags
     }
 }
 
-/// A method with its texts.
+/// Returns a method with its texts.
 fn method_of(alloc: Global, texts: &Texts, info: &MethodInfo) -> Result<Method, AllocError>
     ensures { IfOk result (λ m. m ≡ method_of texts.now info.now) }
 {
@@ -72,7 +72,7 @@ fn method_of(alloc: Global, texts: &Texts, info: &MethodInfo) -> Result<Method, 
     })
 }
 
-/// The methods of a class, in order. What the class file says of a method is given up as the method is made.
+/// Returns the methods of a class, in order. Drops each entry of the class file as soon as its method is made.
 pub(crate) fn methods_of(
     alloc: Global,
     texts: &Texts,

@@ -7,10 +7,10 @@ ghost use Rattle.linker.specs.Supers.{is_in, with_number, with_numbers};
 use std::alloc::{AllocError, Global};
 use std::marker::Model;
 
-/// Numbers below a limit, in the order in which they came, each of them once.
+/// Distinct numbers below a limit, in the order in which they were added.
 #[derive(Drop)]
 pub(crate) struct NumberSet {
-    /// Which numbers are in it.
+    /// True at the place of each number of the set.
     marks: Vec<bool>,
     order: Vec<usize>,
 }
@@ -26,7 +26,7 @@ impl Model for NumberSet {
     ghost invariant = { λ s. AreMarked s.marks.items s.order.items };
 }
 
-/// The number at a place.
+/// Returns the number at a place.
 fn item_at(numbers: &[usize], place: usize) -> Option<usize>
     ensures { result ≡ slice_get numbers.now place }
 {
@@ -34,7 +34,7 @@ fn item_at(numbers: &[usize], place: usize) -> Option<usize>
 }
 
 impl NumberSet {
-    /// No number below a limit.
+    /// Creates an empty set of numbers below a limit.
     pub(crate) fn new(alloc: Global, limit: usize) -> Result<Self, AllocError>
         ensures { IfOk result (λ set. set ≡ record { limit = limit; numbers = [] }) }
     {
@@ -44,14 +44,14 @@ impl NumberSet {
         })
     }
 
-    /// Whether a number is in it.
+    /// Decides whether a number is in the set.
     pub(crate) fn has(&self, number: usize) -> bool
         ensures { result ≡ is_in self.now.numbers number }
     {
         self.marks.get(number).copied().unwrap_or(false)
     }
 
-    /// The number that came at a place.
+    /// Returns the number at a place, in the order in which they were added.
     pub(crate) fn get(&self, place: usize) -> Option<usize>
         ensures value { result ≡ slice_get self.now.numbers place }
         ensures below { IfSome result (λ number. number < self.now.limit) }
@@ -59,7 +59,7 @@ impl NumberSet {
         item_at(self.order.as_slice(), place)
     }
 
-    /// Puts a number into it.
+    /// Adds a number.
     pub(crate) fn add(&mut self, number: usize) -> Result<(), AllocError>
         requires { number < self.old.limit }
         ensures { OnOk result (self.new ≡ record { limit = self.old.limit; numbers = with_number self.old.numbers number }) }
@@ -72,7 +72,7 @@ impl NumberSet {
         Ok(())
     }
 
-    /// Puts numbers into it.
+    /// Adds numbers.
     pub(crate) fn add_all(&mut self, numbers: &[usize]) -> Result<(), AllocError>
         requires { list_all (λ n. nat_lt n self.old.limit) numbers.now ≡ true }
         ensures { OnOk result (self.new ≡ record { limit = self.old.limit; numbers = with_numbers self.old.numbers numbers.now }) }
@@ -83,8 +83,8 @@ impl NumberSet {
         Ok(())
     }
 
-    /// There are no more numbers than the limit says.
-    pub(crate) fn are_few(&self)
+    /// States that there are no more numbers than the limit. It does nothing at run time.
+    pub(crate) fn few_classes_invariant(&self)
         ensures { length self.now.numbers ≤ self.now.limit }
     {
         let _ = &self.marks;

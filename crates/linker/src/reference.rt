@@ -9,7 +9,7 @@ use const_pool::Constant;
 use jvms_program::program::{FieldReference, MethodReference};
 use std::alloc::AllocError;
 
-/// The field of a class, by a NameAndType entry.
+/// Returns the field of a class, named by a NameAndType entry.
 fn field_reference(texts: &Texts, class: u16, member: u16) -> Result<FieldReference, AllocError>
     ensures { IfOk result (λ r. r ≡ field_reference texts.now class member) }
 {
@@ -22,7 +22,7 @@ fn field_reference(texts: &Texts, class: u16, member: u16) -> Result<FieldRefere
     })
 }
 
-/// The field that a Fieldref entry names (JVMS 4.4.2).
+/// Returns the field that a Fieldref entry names (JVMS 4.4.2).
 pub(crate) fn field_reference_of(texts: &Texts, number: u16) -> Result<FieldReference, AllocError>
     ensures { IfOk result (λ r. r ≡ field_reference_of texts.now (entry texts.now number)) }
 {
@@ -37,7 +37,7 @@ pub(crate) fn field_reference_of(texts: &Texts, number: u16) -> Result<FieldRefe
     }
 }
 
-/// The method of a class or an interface, by a NameAndType entry.
+/// Returns the method of a class or an interface, named by a NameAndType entry.
 fn method_reference(
     is_interface: bool,
     texts: &Texts,
@@ -56,7 +56,7 @@ fn method_reference(
     })
 }
 
-/// The method that a Methodref or an InterfaceMethodref entry names (JVMS 4.4.2).
+/// Returns the method that a Methodref or an InterfaceMethodref entry names (JVMS 4.4.2).
 pub(crate) fn method_reference_of(texts: &Texts, number: u16) -> Result<MethodReference, AllocError>
     ensures { IfOk result (λ r. r ≡ method_reference_of texts.now (entry texts.now number)) }
 {

@@ -1,4 +1,4 @@
-//! The tests of names, superclasses and superinterfaces, each of which finds the first class that fails it.
+//! The tests of names, superclasses and superinterfaces. Each returns the first class that fails it.
 
 ghost use Rattle.std.specs.Prelude.{◌≡◌, ◌||◌, IfOk, is_some, not};
 ghost use Rattle.std.specs.List.{list_any};
@@ -9,12 +9,12 @@ ghost use Rattle.linker.specs.Linking.{built_in_name, has_wrong_interface, has_w
 use built_in::{is_built_in, is_named};
 use classes::{ClassList, OBJECT};
 use descriptor::same_text;
-use held::shared::Text;
+use shared_data::shared::Text;
 use jvms_program::program::{Class, ClassKind};
 use std::alloc::{AllocError, Global};
 use std::collections::BTreeSet;
 
-/// The first class with the name of a built-in class.
+/// Returns the first class with the name of a built-in class.
 pub(crate) fn built_in_name(classes: &[Class]) -> Option<usize>
     ensures { result ≡ built_in_name classes.now }
 {
@@ -23,8 +23,8 @@ pub(crate) fn built_in_name(classes: &[Class]) -> Option<usize>
         .position(|class| is_built_in(class.name.as_slice()))
 }
 
-/// The first class with the name of one before it. The names stand in a tree, so that none can be chosen that
-/// are found slowly.
+/// Returns the first class with the name of one before it. The names are in a tree, so that no choice of names makes
+/// look-ups slow.
 pub(crate) fn repeated_name(alloc: Global, classes: &[Class]) -> Result<Option<usize>, AllocError>
     ensures { IfOk result (λ place. place ≡ repeated_name (names_of classes.now)) }
 {
@@ -37,14 +37,14 @@ pub(crate) fn repeated_name(alloc: Global, classes: &[Class]) -> Result<Option<u
     Ok(None)
 }
 
-/// Whether there is no class of a name.
+/// Decides whether there is no class of a name.
 fn is_missing(program: &ClassList, name: &Text) -> bool
     ensures { result ≡ not (is_some (class_named program.now name.now)) }
 {
     program.class_named(name.as_slice()).is_none()
 }
 
-/// Whether a superinterface of a class isn't there.
+/// Decides whether a superinterface of a class isn't there.
 fn lacks_interface(program: &ClassList, class: &Class) -> bool
     ensures { result ≡ list_any (λ name. not (is_some (class_named program.now name))) class.now.interfaces }
 {
@@ -52,7 +52,7 @@ fn lacks_interface(program: &ClassList, class: &Class) -> bool
     interfaces.iter().any(|name| is_missing(program, name))
 }
 
-/// Whether the superclass of a class or a superinterface isn't there.
+/// Decides whether the superclass or a superinterface of a class isn't there.
 fn lacks_super(program: &ClassList, class: &Class) -> bool
     ensures { result ≡ lacks_super program.now class.now }
 {
@@ -63,14 +63,14 @@ fn lacks_super(program: &ClassList, class: &Class) -> bool
     }
 }
 
-/// The first class whose superclass or a superinterface isn't there.
+/// Returns the first class whose superclass or a superinterface isn't there.
 pub(crate) fn missing_super(program: &ClassList, classes: &[Class]) -> Option<usize>
     ensures { result ≡ missing_super program.now classes.now }
 {
     classes.iter().position(|class| lacks_super(program, class))
 }
 
-/// Whether a class is one of those built-in ones that no class extends.
+/// Decides whether a class is one of the built-in ones that no class extends.
 fn is_never_extended(name: &[u16]) -> bool
     ensures { result ≡ is_never_extended name.now }
 {
@@ -80,7 +80,7 @@ fn is_never_extended(name: &[u16]) -> bool
         || is_named(name, "java/io/PrintStream")
 }
 
-/// Whether the superclass of a class is missing or of a wrong kind.
+/// Decides whether the superclass of a class is missing or of a wrong kind.
 fn has_wrong_superclass(program: &ClassList, class: &Class) -> bool
     ensures { result ≡ has_wrong_superclass program.now class.now }
 {
@@ -93,7 +93,7 @@ fn has_wrong_superclass(program: &ClassList, class: &Class) -> bool
         || (matches!(class.kind, ClassKind::Interface) && !same_text(name, &OBJECT))
 }
 
-/// Whether a superinterface of a class is no interface.
+/// Decides whether a superinterface of a class is no interface.
 fn has_wrong_interface(program: &ClassList, class: &Class) -> bool
     ensures { result ≡ has_wrong_interface program.now class.now }
 {
@@ -103,14 +103,14 @@ fn has_wrong_interface(program: &ClassList, class: &Class) -> bool
         .any(|name| !program.names_interface(name.as_slice()))
 }
 
-/// Whether the superclass of a class or a superinterface is of a wrong kind.
+/// Decides whether the superclass or a superinterface of a class is of a wrong kind.
 fn has_wrong_super(program: &ClassList, class: &Class) -> bool
     ensures { result ≡ (has_wrong_superclass program.now class.now || has_wrong_interface program.now class.now) }
 {
     has_wrong_superclass(program, class) || has_wrong_interface(program, class)
 }
 
-/// The first class whose superclass or a superinterface is of a wrong kind.
+/// Returns the first class whose superclass or a superinterface is of a wrong kind.
 pub(crate) fn wrong_super(program: &ClassList, classes: &[Class]) -> Option<usize>
     ensures { result ≡ wrong_super program.now classes.now }
 {

@@ -1,41 +1,41 @@
-//! A text of a constant pool, with the types that it is the descriptor of: each is made once, and then shared
-//! by all that name it.
+//! A text of a constant pool, with the types that it is the descriptor of. Each is made once, and shared by all that
+//! name it.
 
 ghost use Rattle.std.specs.Prelude.{◌≡◌, [], map, IfOk};
 ghost use Rattle.std.specs.Option.{option_map};
 ghost use Rattle.jvms_file.specs.ConstantPool.{utf8_of};
 ghost use Rattle.jvms_file.specs.Descriptors.{field_type as field_type_or_int, method_type as method_type_or_none};
-ghost use Rattle.linker.specs.Spelled.{spelled, spelled_of as spelled_of_entry};
+ghost use Rattle.linker.specs.Spelled.{spelled, typed_text_of as spelled_of_entry};
 
 use const_pool::Constant;
 use descriptor::{DescriptorFault, field_type, method_type, parse_field, parse_method};
-use held::items::Items;
-use held::shared::{Shared, Text};
+use shared_data::items::Items;
+use shared_data::shared::{Shared, Text};
 use jvms_file::descriptor::{FieldType, MethodType};
 use std::alloc::{AllocError, Global};
 
-/// A text and its types; those of a text that is no descriptor are those of the empty text.
+/// A text and its types. A text that is no descriptor has the types of the empty text.
 #[derive(Drop)]
-pub(crate) struct SpelledText {
+pub(crate) struct TypedText {
     pub(crate) text: Text,
     pub(crate) field_type: Shared<FieldType>,
     pub(crate) method_type: Shared<MethodType>,
 }
 
-/// What the empty text gives.
-pub(crate) fn spelled_by_nothing(alloc: Global) -> Result<SpelledText, AllocError>
+/// Returns the empty text with its types.
+pub(crate) fn spelled_by_nothing(alloc: Global) -> Result<TypedText, AllocError>
     ensures { IfOk result (λ s. s ≡ spelled []) }
 {
     let field = field_type(alloc, &[])?;
     let method = method_type(alloc, &[])?;
-    Ok(SpelledText {
+    Ok(TypedText {
         text: Shared::new(alloc, Items::new(alloc))?,
         field_type: Shared::new(alloc, field)?,
         method_type: Shared::new(alloc, method)?,
     })
 }
 
-/// The type of a field that a text spells, or else `other`.
+/// Parses a text as a field's type, or returns `other` if it spells none.
 #[tactic(auto, using(crate::proofs::SpelledTexts::no_field))]
 fn field_type_of(
     alloc: Global,
@@ -52,7 +52,7 @@ fn field_type_of(
     }
 }
 
-/// The type of a method that a text spells, or else `other`.
+/// Parses a text as a method's type, or returns `other` if it spells none.
 #[tactic(auto, using(crate::proofs::SpelledTexts::no_method))]
 fn method_type_of(
     alloc: Global,
@@ -69,48 +69,48 @@ fn method_type_of(
     }
 }
 
-/// What a text gives.
-fn spelled_by(alloc: Global, text: &[u16], nothing: &SpelledText) -> Result<SpelledText, AllocError>
+/// Returns a text with its types.
+fn typed_text_by(alloc: Global, text: &[u16], nothing: &TypedText) -> Result<TypedText, AllocError>
     requires { nothing.now ≡ spelled [] }
     ensures { IfOk result (λ s. s ≡ spelled text.now) }
 {
     let field_type = field_type_of(alloc, text, &nothing.field_type)?;
     let method_type = method_type_of(alloc, text, &nothing.method_type)?;
     let units = Vec::from_slice(alloc, text)?;
-    Ok(SpelledText {
+    Ok(TypedText {
         text: Shared::new(alloc, Items::from_vec(units))?,
         field_type,
         method_type,
     })
 }
 
-/// What an entry gives, if it is a Utf8.
-fn spelled_of(
+/// Returns the text of an entry with its types, if it is a Utf8.
+fn typed_text_of(
     alloc: Global,
     entry: &Constant,
-    nothing: &SpelledText,
-) -> Result<Option<SpelledText>, AllocError>
+    nothing: &TypedText,
+) -> Result<Option<TypedText>, AllocError>
     requires { nothing.now ≡ spelled [] }
     ensures { IfOk result (λ s. s ≡ spelled_of_entry entry.now) }
 {
     match entry {
-        Constant::Utf8(text) => Ok(Some(spelled_by(alloc, text.as_slice(), nothing)?)),
+        Constant::Utf8(text) => Ok(Some(typed_text_by(alloc, text.as_slice(), nothing)?)),
         _ => Ok(None),
     }
 }
 
-/// What entries give, in order.
-pub(crate) fn all_spelled(
+/// Returns the texts of entries with their types, in order.
+pub(crate) fn all_typed_texts(
     alloc: Global,
     entries: &[Constant],
-    nothing: &SpelledText,
-) -> Result<Vec<Option<SpelledText>>, AllocError>
+    nothing: &TypedText,
+) -> Result<Vec<Option<TypedText>>, AllocError>
     requires { nothing.now ≡ spelled [] }
     ensures { IfOk result (λ v. v.items ≡ map spelled_of_entry entries.now) }
 {
     let mut all = Vec::with_capacity(alloc, entries.len())?;
     for entry in entries {
-        all.push(spelled_of(alloc, entry, nothing)?)?;
+        all.push(typed_text_of(alloc, entry, nothing)?)?;
     }
     Ok(all)
 }

@@ -1,4 +1,4 @@
-//! Texts and types that numbers of pool entries name.
+//! The texts and types that numbers of pool entries name.
 
 ghost use Rattle.std.specs.Prelude.{◌≡◌, IfOk, map, slice_get};
 ghost use Rattle.std.specs.Option.{option_and_then, option_copied, option_map};
@@ -6,44 +6,44 @@ ghost use Rattle.jvms_file.specs.ConstantPool.{utf8_at};
 ghost use Rattle.jvms_program.specs.Meaning.{text_of, class_text, name_and_type};
 ghost use Rattle.linker.specs.Spelled.{spelled};
 
-use crate::spelled::{SpelledText, all_spelled, spelled_by_nothing};
+use crate::spelled::{TypedText, all_typed_texts, spelled_by_nothing};
 use const_pool::{Constant, Pool};
-use held::items::Items;
-use held::shared::Text;
+use shared_data::items::Items;
+use shared_data::shared::Text;
 use std::alloc::{AllocError, Global};
 use std::marker::Model;
 
-/// A class's constant pool, each of whose texts is held once for all that name it. Contracts see the list of
-/// its entries, as of a `Pool`.
+/// A class's constant pool, whose texts are shared by all that name them. Contracts see the list of its entries, as of
+/// a `Pool`.
 #[derive(Drop)]
 pub(crate) struct Texts {
     pool: Pool,
-    spelled: Vec<Option<SpelledText>>,
-    /// What stands for a text that isn't there.
-    nothing: SpelledText,
+    spelled: Vec<Option<TypedText>>,
+    /// The default for a text that isn't there.
+    nothing: TypedText,
 }
 
 impl Model for Texts {
     ghost use Rattle.std.specs.Prelude.{List, [], ◌≡◌, map};
     ghost use Rattle.jvms_file.specs.declared.class_file.Constant.{Constant};
-    ghost use Rattle.linker.specs.Spelled.{spelled as spelled_text, spelled_of};
+    ghost use Rattle.linker.specs.Spelled.{spelled as spelled_text, typed_text_of};
 
     ghost Value = { List Constant };
 
     ghost view = { λ t. t.pool };
 
-    ghost invariant = { λ t. (t.spelled.items ≡ map spelled_of t.pool) × (t.nothing ≡ spelled_text []) };
+    ghost invariant = { λ t. (t.spelled.items ≡ map typed_text_of t.pool) × (t.nothing ≡ spelled_text []) };
 }
 
-/// Items of their own that are the same.
+/// Copies items to a new list.
 pub(crate) fn copied<T: Copy>(alloc: Global, items: &[T]) -> Result<Items<T>, AllocError>
     ensures { IfOk result (λ copy. copy ≡ items.now) }
 {
     Ok(Items::from_vec(Vec::from_slice(alloc, items)?))
 }
 
-/// What the entry at a place gives, if it is a Utf8.
-fn at_place(spelled: &[Option<SpelledText>], place: usize) -> Option<&SpelledText>
+/// Returns the text of the entry at a place with its types, if it is a Utf8.
+fn at_place(spelled: &[Option<TypedText>], place: usize) -> Option<&TypedText>
     ensures { option_copied result ≡ option_and_then (λ s. s) (slice_get spelled.now place) }
 {
     match spelled.get(place) {
@@ -53,12 +53,12 @@ fn at_place(spelled: &[Option<SpelledText>], place: usize) -> Option<&SpelledTex
 }
 
 impl Texts {
-    /// The texts of a pool.
+    /// Creates the texts of a pool.
     pub(crate) fn of(alloc: Global, pool: Pool) -> Result<Self, AllocError>
         ensures { IfOk result (λ texts. texts ≡ pool) }
     {
         let nothing = spelled_by_nothing(alloc)?;
-        let spelled = all_spelled(alloc, pool.entries().as_slice(), &nothing)?;
+        let spelled = all_typed_texts(alloc, pool.entries().as_slice(), &nothing)?;
         Ok(Texts {
             pool,
             spelled,
@@ -66,16 +66,16 @@ impl Texts {
         })
     }
 
-    /// The pool.
+    /// Returns the pool.
     pub(crate) fn pool(&self) -> &Pool
         ensures { result.now ≡ self.now }
     {
         &self.pool
     }
 
-    /// What the text of a Utf8 entry gives (JVMS 4.4.7), if a number is one's.
+    /// Returns the text of a Utf8 entry with its types (JVMS 4.4.7), if a number is one's.
     #[tactic(auto, using(crate::proofs::SpelledTexts::spelled_at))]
-    fn found(&self, number: u16) -> Option<&SpelledText>
+    fn found(&self, number: u16) -> Option<&TypedText>
         ensures { option_copied result ≡ option_map spelled (utf8_at self.now number) }
     {
         if number == 0 {
@@ -84,9 +84,9 @@ impl Texts {
         at_place(&self.spelled, usize::from(number) - 1)
     }
 
-    /// What the text of a Utf8 entry gives; where a number names none, the empty text.
+    /// Returns the text of a Utf8 entry with its types, or the empty text if the number is none's.
     #[tactic(auto, using(crate::proofs::SpelledTexts::found_spelled))]
-    pub(crate) fn spelled(&self, number: u16) -> &SpelledText
+    pub(crate) fn spelled(&self, number: u16) -> &TypedText
         ensures { result.now ≡ spelled (text_of self.now number) }
     {
         match self.found(number) {
@@ -95,14 +95,14 @@ impl Texts {
         }
     }
 
-    /// The text of a Utf8 entry; where a number names none, the empty text.
+    /// Returns the text of a Utf8 entry, or the empty text if the number is none's.
     pub(crate) fn text(&self, number: u16) -> Result<Text, AllocError>
         ensures { IfOk result (λ text. text ≡ text_of self.now number) }
     {
         self.spelled(number).text.share()
     }
 
-    /// The name of a Class entry (JVMS 4.4.1); where a number names none, the empty text.
+    /// Returns the name of a Class entry (JVMS 4.4.1), or the empty text if the number is none's.
     pub(crate) fn class_name(&self, number: u16) -> Result<Text, AllocError>
         ensures { IfOk result (λ name. name ≡ class_text self.now number) }
     {
@@ -112,7 +112,7 @@ impl Texts {
         }
     }
 
-    /// The names of Class entries, in order.
+    /// Returns the names of Class entries, in order.
     pub(crate) fn class_names(
         &self,
         alloc: Global,
@@ -127,9 +127,9 @@ impl Texts {
         Ok(Items::from_vec(names))
     }
 
-    /// What the name and the descriptor of a NameAndType entry give (JVMS 4.4.6); where a number names none,
-    /// empty texts.
-    pub(crate) fn name_and_type(&self, number: u16) -> (&SpelledText, &SpelledText)
+    /// Returns the name and the descriptor of a NameAndType entry with their types (JVMS 4.4.6), or empty texts if the
+    /// number is none's.
+    pub(crate) fn name_and_type(&self, number: u16) -> (&TypedText, &TypedText)
         ensures name { result.0.now ≡ spelled (name_and_type self.now number).0 }
         ensures descriptor { result.1.now ≡ spelled (name_and_type self.now number).1 }
     {

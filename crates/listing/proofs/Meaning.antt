@@ -1,25 +1,25 @@
--- What the laws of listings say of a class that bytes spell.
+-- Applies the laws of listings to a class that bytes spell.
 use Rattle.std.proofs.Common.{◌≡◌, ℕ, true, List, map, Ok}
 use Rattle.std.specs.Str.Lines.{lines}
 use Rattle.jvms_file.specs.declared.class_file.ClassFile.{ClassFile}
 use Rattle.jasmin.specs.declared.source.Source.{Source}
 use Rattle.jasmin.specs.Sources.{units_of}
 use Rattle.class_file.specs.Spelled.{HasSpelling}
-use Rattle.listings.specs.TreeOf.{tree_of}
-use Rattle.listings.specs.Printed.{printed}
-use Rattle.listings.specs.Printable.{is_printable}
-use Rattle.listings.specs.Listable.{IsListable}
+use Rattle.listing_spec.specs.TreeOf.{tree_of}
+use Rattle.listing_spec.specs.Printed.{printed}
+use Rattle.listing_spec.specs.Printable.{is_printable}
+use Rattle.listing_spec.specs.Listable.{IsListable}
 use Rattle.listing.specs.Written.{MeansClass}
-use Rattle.tree_meaning.proofs.Classes.{tree_means}
-use Rattle.tree_forms.proofs.Classes.{tree_formed}
-use Rattle.tree_forms.proofs.Listed.{tree_listable}
-use Rattle.listing_is_read.proofs.Listed.{listed_is_read}
+use Rattle.tree_meaning_laws.proofs.Classes.{tree_means}
+use Rattle.tree_form_laws.proofs.Classes.{tree_formed}
+use Rattle.tree_form_laws.proofs.Listed.{tree_listable}
+use Rattle.listing_laws.proofs.Listed.{listed_is_read}
 
--- The tree of a class that bytes spell can be listed.
+-- The tree of a class that bytes spell is listable.
 pub is_listable : (c : ClassFile) (tree : Source) → HasSpelling c → tree_of c ≡ Ok tree → IsListable tree
 is_listable c tree spelled is = tree_listable spelled.0 c tree spelled.1 is
 
--- The text of its lines means the class.
+-- A text with its lines means the class.
 pub means_class : (text : List ℕ) (c : ClassFile) (tree : Source) → HasSpelling c → tree_of c ≡ Ok tree → is_printable tree ≡ true → map units_of (lines text) ≡ printed tree → MeansClass text c
 means_class text c tree spelled is printable same =
     (tree, listed_is_read text tree same printable (tree_formed spelled.0 c tree spelled.1 is) (is_listable c tree spelled is), tree_means spelled.0 c tree spelled.1 is)

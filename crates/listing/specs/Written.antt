@@ -1,4 +1,4 @@
--- Texts that mean a class.
+-- Defines which texts mean a class.
 use Rattle.std.specs.Prelude.{◌≡◌, ℕ, List, Ok}
 use Rattle.jvms_file.specs.declared.class_file.ClassFile.{ClassFile}
 use Rattle.jvms_program.specs.Meaning.{meaning}

@@ -1,8 +1,8 @@
-//! The listing of a class file: the text of a source that means what the class means.
+//! Lists a class file as the text of a source with the same meaning.
 #![tactic(auto)]
 
 mod listing;
 
 pub use class_file::ClassFile;
 pub use listing::list;
-pub use listings::fault::ListFault;
+pub use listing_spec::fault::ListFault;

@@ -1,4 +1,4 @@
--- What follows at an Ok and at an Err.
+-- Consequences of an `Ok` and of an `Err`.
 use Rattle.std.proofs.Common.{IfOk, OnOk, OnErr}
 use Rattle.std.specs.Prelude.{Result, Ok, Err}
 

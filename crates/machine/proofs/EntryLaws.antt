@@ -1,4 +1,4 @@
--- What the text of a descriptor says of the parameters of its type.
+-- The parameters of a descriptor's type, by its text.
 use Rattle.std.proofs.Common.{◌≡◌, ℕ, ℤ, pos, zero, suc, Bool, true, false, ◌&&◌, ◌==◌, List, [], ◌∷◌, ◌++◌, replicate, flat_map, Option, Some, None, unwrap_or, arith, refl, sym, ap, ◌∙◌}
 use Rattle.std.specs.Prelude.{is_some, map}
 use Rattle.std.proofs.lemmas.Bool.{ne_eqb}
@@ -24,7 +24,7 @@ use Rattle.machine.specs.Entries.{is_letter_of, has_letters, takes_all}
 suc_is_not_zero : (n : ℕ) → (suc n == 0) ≡ false
 suc_is_not_zero n = ne_eqb (suc n) 0 (λ same. omega (arith, same))
 
--- The first letter of a type's text: an int's, a byte's, a char's, a short's, a boolean's and a long's stand alone.
+-- The first letter of a type's text. The letters of int, byte, char, short, boolean and long are whole texts.
 record Front (t : FieldType) : Type 0 where
   letter : ℕ
   others : List ℕ
@@ -51,7 +51,7 @@ front_from zero (element.Primitive primitive.Boolean) = record { letter = 90; ot
 front_of : (t : FieldType) → Front t
 front_of t = front_from t.dimensions t.element
 
--- An argument is of a type.
+-- Decides whether an argument is of a type.
 abbrev is_taken : Argument → FieldType → Bool
 is_taken (argument.Int n) t = is_int_type t
 is_taken (argument.Long n) t = is_long_type t
@@ -74,7 +74,7 @@ text_is t ps rest f =
     ap (λ l. l ++ 41 ∷ rest) (flat_map-cons field_text t ps ∙ ap (λ l. l ++ flat_map field_text ps) f.text)
     ∙ append_assoc (f.letter ∷ f.others) (flat_map field_text ps) (41 ∷ rest)
 
--- The letter of each argument, then the parenthesis.
+-- The letters of the arguments, followed by the parenthesis.
 letters_are : (ps : List FieldType) (rest : List ℕ) (arguments : List Argument) → has_letters (flat_map field_text ps ++ 41 ∷ rest) arguments ≡ are_arguments_of ps arguments
 unfolding has_letters
 letters_are [] rest [] = refl
@@ -97,7 +97,7 @@ letters_are (t ∷ ps) rest (one ∷ arguments) =
         ap (λ b. b && has_letters (f.others ++ (flat_map field_text ps ++ 41 ∷ rest)) arguments) is
         ∙ sym (first_taken one t ps arguments ∙ ap (λ b. b && are_arguments_of ps arguments) is)
 
--- A text takes arguments where the type that it spells does.
+-- A text takes arguments if and only if the type that it spells does.
 abbrev takes_of : Option MethodType → List Argument → Bool
 takes_of o arguments = is_some o && are_arguments_of (unwrap_or o (record { parameters = []; result = result_type.Void })).parameters arguments
 
@@ -122,13 +122,13 @@ by_type d arguments (Some t) is =
 all_are_taken : (d : List ℕ) (arguments : List Argument) → takes_all d arguments ≡ (is_some (method_type_of d) && are_arguments_of (method_type d).parameters arguments)
 all_are_taken d arguments = told_is d arguments ∙ by_type d arguments (method_type_of d) refl
 
--- An entry takes its arguments exactly if its descriptor's text does.
+-- An entry takes its arguments if and only if its descriptor's text does.
 pub entry_takes : (e : Entry) (class name descriptor : List ℕ) (arguments : List Argument) (text : List ℕ) (handed : List Argument) → e ≡ entry.Static class name descriptor arguments → text ≡ descriptor → handed ≡ arguments
     → takes_all text handed ≡ takes_arguments e
 entry_takes e class name descriptor arguments text handed is text_is same =
     ap (λ d. takes_all d handed) text_is ∙ ap (takes_all descriptor) same ∙ all_are_taken descriptor arguments ∙ sym (ap takes_arguments is)
 
--- The places of an argument come before those of the others.
+-- The slots of an argument come before those of the others.
 pub places_of_first : (one : Argument) (arguments : List Argument) → places_of (map argument_value (one ∷ arguments)) ≡ places_of (argument_value one ∷ []) ++ places_of (map argument_value arguments)
 places_of_first (argument.Int n) arguments = refl
 places_of_first (argument.Long n) arguments = refl

@@ -12,15 +12,15 @@ use Rattle.jvms_machine.specs.declared.action.Effect.{Effect}
 use Rattle.jvms_machine.specs.declared.action.Effect.TheVariants as effect
 use Rattle.jvms_machine.specs.Status.{is_bad}
 use Rattle.jvms_program.specs.declared.program.Body.{Body}
-use Rattle.machine_parts.specs.Decided.{seen, seen_action, seen_effect}
-use Rattle.machine_parts.specs.Machine.{Machine, IsMachine, decision_of, row_of, with_state}
+use Rattle.machine_parts.specs.Decided.{seen, action_value, effect_value}
+use Rattle.machine_parts.specs.Machine.{Machine, IsMachine, decision_of, transition_of, with_state}
 use Rattle.machine_parts.specs.declared.decision.ActionText.{ActionText}
 use Rattle.machine.specs.declared.making.Turn.{Turn}
 use Rattle.machine.specs.Others.{IsLeft, IsQuietTurn, LeavesOthers}
 
--- ---- The texts of an action don't matter.
+-- ---- Quietness doesn't depend on the texts of an action
 
-effect_seen : (what : Effect ActionText) → is_quiet_effect (seen_effect what) ≡ is_quiet_effect what
+effect_seen : (what : Effect ActionText) → is_quiet_effect (effect_value what) ≡ is_quiet_effect what
 effect_seen effect.Nothing = refl
 effect_seen (effect.GetField r n) = refl
 effect_seen (effect.PutField r n v) = refl
@@ -36,7 +36,7 @@ effect_seen (effect.Starts r u) = refl
 effect_seen (effect.Joins u) = refl
 effect_seen (effect.Notifies r all) = refl
 
-action_seen : (act : Action (Bor Body) ActionText) → is_quiet (seen_action act) ≡ is_quiet act
+action_seen : (act : Action (Bor Body) ActionText) → is_quiet (action_value act) ≡ is_quiet act
 action_seen (action.Goes act) = refl
 action_seen (action.Reaches what act) = effect_seen what
 action_seen (action.Begins class) = refl
@@ -60,20 +60,20 @@ decision_seen : (d : Decision (Bor Body) ActionText) → is_quiet_decision (seen
 decision_seen (decision.Unmade o) = refl
 decision_seen (decision.Makes act) = action_seen act
 
--- The decision that was made is quiet.
+-- A quiet decision of the code is a quiet decision of the definitions.
 pub decided_quietly : (m : Machine) (t : ℕ) (what : Decision (Bor Body) ActionText) → seen what ≡ decision_of m t → is_quiet_decision what ≡ true → IsQuietTurn m t
 decided_quietly m t what told quiet = ap is_quiet_decision (sym told) ∙ decision_seen what ∙ quiet
 
 -- A quiet turn leaves each other thread as enabled as it was.
-pub quiet_leaves : (m after : Machine) (t : ℕ) → IsMachine m → IsQuietTurn m t → after ≡ with_state m (row_of m t).state → LeavesOthers m t after
+pub quiet_leaves : (m after : Machine) (t : ℕ) → IsMachine m → IsQuietTurn m t → after ≡ with_state m (transition_of m t).state → LeavesOthers m t after
 quiet_leaves m after t is quiet made = subst (LeavesOthers m t) (sym made) (λ u other fit. left u other fit)
   where
-    left : (u : ℕ) → u ≢ t → is_bad (row_of m u).outcome ≡ false → IsLeft m (with_state m (row_of m t).state) u
+    left : (u : ℕ) → u ≢ t → is_bad (transition_of m u).outcome ≡ false → IsLeft m (with_state m (transition_of m t).state) u
     left u other fit =
         let both = quiet_leaves_enabled m.program m.limits m.start m.state t u is.classes is.limits is.start is.sound other quiet fit in
         record { enabled = both.0; fit = both.1 }
 
--- So it is of a machine that is seen so, in a turn for which there was memory.
-pub others_left : {E : Type 0} (seen m after : Machine) (t : ℕ) (r : Result Turn E) → seen ≡ m → IsMachine seen → IfOk r (λ turn. turn.is_quiet ≡ true → IsQuietTurn seen t) → OnOk r (after ≡ with_state seen (row_of seen t).state) → IfOk r (λ turn. turn.is_quiet ≡ true → LeavesOthers m t after)
+-- A quiet turn with enough memory leaves each other thread as enabled as it was.
+pub others_left : {E : Type 0} (seen m after : Machine) (t : ℕ) (r : Result Turn E) → seen ≡ m → IsMachine seen → IfOk r (λ turn. turn.is_quiet ≡ true → IsQuietTurn seen t) → OnOk r (after ≡ with_state seen (transition_of seen t).state) → IfOk r (λ turn. turn.is_quiet ≡ true → LeavesOthers m t after)
 others_left seen m after t (Ok turn) same is tells made = λ quiet. subst (λ (n : Machine). LeavesOthers n t after) same (quiet_leaves seen after t is (tells quiet) made)
 others_left seen m after t (Err e) same is tells made = tt

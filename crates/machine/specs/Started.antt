@@ -1,4 +1,4 @@
--- The start of a machine, as its entry says.
+-- The start of a machine, by its entry.
 use Rattle.std.specs.Prelude.{◌≡◌, MatchResult, Result, Ok, Err, List, IsTrue, is_ok}
 use Rattle.jvms_machine.specs.declared.machine.Entry.{Entry}
 use Rattle.jvms_machine.specs.declared.machine.Limits.{Limits}
@@ -13,17 +13,17 @@ use Rattle.machine_parts.specs.Machine.{Machine}
 abbrev pub with_arguments : Entry → MethodNumber → Start
 with_arguments e n = record { method = n; arguments = entry_arguments e }
 
--- A machine at its opening.
+-- Returns a machine at its opening.
 abbrev pub opened : List Class → Limits → Start → Machine
 opened program limits start = record { program = program; limits = limits; start = start; state = opening program }
 
--- What a machine that isn't made says: the entry is looked at first, then the limits, then there is no memory.
+-- The fault of a machine that isn't made: the entry is tested first, then the limits, and then memory can run out.
 abbrev pub IsNotMade : List Class → Limits → Entry → MachineFault → Type 0
 IsNotMade program limits e fault.NoEntry = made program limits e ≡ Err no_entry
 IsNotMade program limits e fault.Limits = made program limits e ≡ Err no_limits
 IsNotMade program limits e fault.Memory = IsTrue (is_ok (made program limits e))
 
--- A machine is made at its opening, where it starts as the entry says.
+-- The result is a machine at its opening with the start of the entry, or the fault.
 abbrev pub IsNew : List Class → Limits → Entry → Result Machine MachineFault → Type 0
 IsNew program limits e result =
     MatchResult result (λ m. (start : Start) × (made program limits e ≡ Ok start) × (m ≡ opened program limits start)) (IsNotMade program limits e)

@@ -1,4 +1,4 @@
--- Parts of a machine's state, as they are asked for.
+-- The parts of a machine's state that its functions return.
 use Rattle.std.specs.Prelude.{ℕ, Bool, true, List, Option, Some, None, slice_get}
 use Rattle.std.specs.Option.{option_and_then}
 use Rattle.jvms_machine.specs.declared.state.StackFrame.TheVariants as stack_frame
@@ -10,15 +10,15 @@ use Rattle.machine_parts.specs.Machine.{Machine}
 
 -- ---- Threads
 
--- The thread of a number, if it was started.
+-- Returns the thread of a number, if it was started.
 abbrev pub thread_at : Machine → ℕ → Option Thread
 thread_at m t = slice_get m.state.threads t
 
--- The frame of a thread at a depth, from 0 at the top.
+-- Returns the frame of a thread at a depth, where the top has depth 0.
 abbrev pub frame_at : Machine → ℕ → ℕ → Option Frame
 frame_at m t depth = option_and_then (λ x. slice_get x.frames depth) (thread_at m t)
 
--- The frame that a view shows.
+-- Returns the frame of a view.
 abbrev pub shown : FrameView → Frame
 shown (frame_view.Call frame) = stack_frame.Call frame.now
 shown (frame_view.Initialisation class called) = stack_frame.Initialisation class called
@@ -29,6 +29,6 @@ abbrev pub uncaught_in : List Object → Bool → Option ℕ → Option (List �
 uncaught_in heap true (Some exception) = class_at heap exception
 uncaught_in heap _ _ = None
 
--- The class of the exception with which a thread ended.
+-- Returns the class of the exception with which a thread ended.
 abbrev pub uncaught : Machine → ℕ → Option (List ℕ)
 uncaught m t = option_and_then (λ x. uncaught_in m.state.heap x.ended x.pending) (thread_at m t)

@@ -1,4 +1,4 @@
-//! Why a machine was not made.
+//! The reasons for which a machine can't be made.
 
 ghost use Rattle.std.specs.Prelude.{◌≡◌};
 ghost use Rattle.machine.specs.declared.fault.MachineFault.TheVariants.{Memory};
@@ -6,10 +6,10 @@ ghost use Rattle.machine.specs.declared.fault.MachineFault.TheVariants.{Memory};
 use std::alloc::{AllocError, AllocFailed};
 use thiserror::Error;
 
-/// Why a machine was not made. They are tested in this order.
+/// The reason for which a machine wasn't made. The reasons are tested in this order.
 #[derive(Clone, Copy, Debug, PartialEq, Eq, Error)]
 pub enum MachineFault {
-    /// The entry names no static method but `<clinit>`, or it doesn't take the arguments.
+    /// The entry names no static method but `<clinit>`, or the method doesn't take the arguments.
     #[error("M01 NoEntry")]
     NoEntry,
     /// A limit is out of its range.

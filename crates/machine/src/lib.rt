@@ -1,5 +1,4 @@
-//! The machine (JVMS 2): from the opening state on, each choice of a thread is one turn, by the instruction
-//! table.
+//! The machine (JVMS 2). From the opening state on, each choice of a thread is one turn, by the instruction table.
 #![tactic(auto)]
 
 mod fault;

@@ -1,11 +1,11 @@
-//! The limits of a run.
+//! The ranges of a run's limits.
 
 ghost use Rattle.std.specs.Prelude.{◌≡◌};
 ghost use Rattle.jvms_machine.specs.Limits.{are_limits as in_range};
 
 use jvms_machine::machine::Limits;
 
-/// The most objects, elements, threads and frames.
+/// The highest numbers of objects, elements, threads and frames.
 const MOST: Limits = Limits {
     objects: 16_777_216,
     elements: 268_435_456,
@@ -13,7 +13,7 @@ const MOST: Limits = Limits {
     frames: 65_536,
 };
 
-/// Whether each limit is in its range.
+/// Decides whether each limit is in its range.
 pub(crate) fn are_limits(limits: Limits) -> bool
     ensures { result ≡ in_range limits }
 {

@@ -3,9 +3,9 @@
 ghost use Rattle.std.specs.Prelude.{◌≡◌, ◌≤◌, ◌++◌, length, IsOk, IsTrue, IfOk, OnOk, OnErr, is_ok};
 ghost use Rattle.jvms_machine.specs.Opening.{made as made_by};
 ghost use Rattle.jvms_machine.specs.State.{Sound};
-ghost use Rattle.machine_parts.specs.Machine.{row_of, with_state, TakesNone};
+ghost use Rattle.machine_parts.specs.Machine.{transition_of, with_state, TakesNone};
 ghost use Rattle.machine.specs.Others.{LeavesOthers};
-ghost use Rattle.machine.specs.Runs.{RanOn};
+ghost use Rattle.machine.specs.Runs.{AreRunTurns};
 ghost use Rattle.machine.specs.Started.{IsNew};
 ghost use Rattle.trace.specs.Recording.{recorded};
 
@@ -14,7 +14,7 @@ use crate::limits::are_limits;
 use crate::making::{Turn, step};
 use crate::opening::open;
 use crate::peek::peek;
-use crate::running::step_on;
+use crate::running::step_consecutive;
 use crate::start::start_of;
 use jvms_machine::machine::{Entry, Limits, Outcome, ThreadId};
 use jvms_machine::value::Value;
@@ -24,17 +24,16 @@ use std::alloc::{AllocError, Global};
 use std::marker::Model;
 use trace::{Recording, Trace};
 
-/// Whether a machine of this program can be made with these limits and this entry: the entry's method is
-/// there, is static and isn't `<clinit>`, and takes the arguments, and each limit is in its range. It takes
-/// no memory.
+/// Decides whether a machine can be made of this program with these limits and this entry. The entry's method must
+/// exist, be static, not be `<clinit>`, and take the arguments. Each limit must be in its range. Takes no memory.
 pub fn admits(program: &Program, limits: Limits, entry: &Entry) -> bool
     ensures { result ≡ is_ok (made_by program.now limits entry.now) }
 {
     start_of(program, entry).is_some() && are_limits(limits)
 }
 
-/// A machine: a program, the limits of its run, where it starts, and its state (JVMS 2.5). Contracts see
-/// these; every state that it shows is sound.
+/// A machine: a program, the limits of its run, its start, and its state (JVMS 2.5). Contracts see these. Its state is
+/// always sound.
 #[derive(Drop)]
 pub struct Machine<'p> {
     pub(crate) parts: Parts<'p>,
@@ -51,8 +50,8 @@ impl<'p> Model for Machine<'p> {
 }
 
 impl<'p> Machine<'p> {
-    /// A machine at the opening of a run. `NoEntry` comes before `Limits`, and `Memory` only where neither of
-    /// them stands.
+    /// Returns a machine at the opening of a run. The error is `NoEntry` before `Limits`, and `Memory` only if neither
+    /// applies.
     pub fn new(
         alloc: Global,
         program: &'p Program,
@@ -67,12 +66,12 @@ impl<'p> Machine<'p> {
         if !are_limits(limits) {
             return Err(MachineFault::Limits);
         }
-        program.is_program();
+        program.program_invariant();
         let parts = open(alloc, program, limits, method, entry)?;
         Ok(Machine { parts })
     }
 
-    /// A machine with the same program, limits and start, in the same state. Both go on from there, each for itself.
+    /// Returns a copy with the same program, limits, start and state. Both continue independently.
     pub fn copy(&self) -> Result<Machine<'p>, AllocError>
         ensures { IfOk result (λ machine. machine ≡ self.now) }
     {
@@ -81,15 +80,15 @@ impl<'p> Machine<'p> {
         })
     }
 
-    /// Makes the turn of a thread, as its row of the instruction table says: the outcome, the state
-    /// afterwards, and the items that are put behind those of the trace. Without memory nothing changes.
+    /// Takes the turn of a thread, by its transition in the instruction table, and returns its outcome. The state
+    /// changes by the transition, and its items are appended to the trace. If there is no memory, nothing changes.
     pub fn step(&mut self, t: ThreadId, trace: &mut Trace) -> Result<Outcome, AllocError>
-        ensures outcome { IfOk result (λ o. o ≡ (row_of self.old t).outcome) }
-        ensures state { OnOk result (self.new ≡ with_state self.old (row_of self.old t).state) }
-        ensures items { OnOk result (trace.new ≡ trace.old ++ (row_of self.old t).items) }
+        ensures outcome { IfOk result (λ o. o ≡ (transition_of self.old t).outcome) }
+        ensures state { OnOk result (self.new ≡ with_state self.old (transition_of self.old t).state) }
+        ensures items { OnOk result (trace.new ≡ trace.old ++ (transition_of self.old t).items) }
         ensures kept { OnErr result (self.new ≡ self.old) }
         ensures no_items { OnErr result (trace.new ≡ trace.old) }
-        // A turn that pushes no frame, makes no object and gives no item takes no memory.
+        // A turn that pushes no frame, creates no object, gives no item and prints nothing takes no memory.
         ensures none { TakesNone self.old t → IsOk result }
     {
         let mut recording = Recording::taken_from(self.parts.alloc, trace);
@@ -98,15 +97,15 @@ impl<'p> Machine<'p> {
         outcome
     }
 
-    /// The same. The items are put behind those that are kept, if any are.
+    /// Takes the turn of a thread as `step` does, and records its items if items are recorded.
     pub fn step_recorded(
         &mut self,
         t: ThreadId,
         recording: &mut Recording,
     ) -> Result<Outcome, AllocError>
-        ensures outcome { IfOk result (λ o. o ≡ (row_of self.old t).outcome) }
-        ensures state { OnOk result (self.new ≡ with_state self.old (row_of self.old t).state) }
-        ensures items { OnOk result (recording.new ≡ recorded recording.old (row_of self.old t).items) }
+        ensures outcome { IfOk result (λ o. o ≡ (transition_of self.old t).outcome) }
+        ensures state { OnOk result (self.new ≡ with_state self.old (transition_of self.old t).state) }
+        ensures items { OnOk result (recording.new ≡ recorded recording.old (transition_of self.old t).items) }
         ensures kept { OnErr result (self.new ≡ self.old) }
         ensures no_items { OnErr result (recording.new ≡ recording.old) }
         ensures none { TakesNone self.old t → IsOk result }
@@ -115,28 +114,28 @@ impl<'p> Machine<'p> {
         Ok(turn.outcome)
     }
 
-    /// Makes turns of a thread one after another, at most so many, and tells how many. Each ran, and behind one that
-    /// started a thread there is none; their items are put behind those that are kept, if any are. It stops before a turn
-    /// that comes to anything else, and before one for which there is no memory.
-    pub fn step_on(&mut self, t: ThreadId, most: u64, recording: &mut Recording) -> u64
+    /// Takes consecutive turns of a thread, at most `most`, and returns their number. Each completes with `Ran`, and
+    /// none follows a turn that starts a thread. Their items are recorded if items are. It stops before a turn with any
+    /// other outcome, and before one without memory.
+    pub fn step_consecutive(&mut self, t: ThreadId, most: u64, recording: &mut Recording) -> u64
         ensures most { result ≤ most }
-        ensures ran { RanOn result t (length self.old.state.threads) self.old recording.old self.new recording.new }
+        ensures ran { AreRunTurns result t (length self.old.state.threads) self.old recording.old self.new recording.new }
     {
-        step_on(&mut self.parts, t, most, recording)
+        step_consecutive(&mut self.parts, t, most, recording)
     }
 
-    /// Takes the turn of a thread as `step_recorded` does, and returns its outcome and whether it was quiet: each other
-    /// thread whose turn isn't Bad is then as enabled as it was, and its turn isn't Bad. Without memory nothing
-    /// changes.
+    /// Takes the turn of a thread as `step_recorded` does, and returns its outcome and whether it was quiet. A quiet
+    /// turn leaves each other thread whose turn isn't Bad as enabled as it was, and no such turn becomes Bad. If there
+    /// is no memory, nothing changes.
     #[inline(always)]
     pub fn step_watched(
         &mut self,
         t: ThreadId,
         recording: &mut Recording,
     ) -> Result<Turn, AllocError>
-        ensures outcome { IfOk result (λ turn. turn.outcome ≡ (row_of self.old t).outcome) }
-        ensures state { OnOk result (self.new ≡ with_state self.old (row_of self.old t).state) }
-        ensures items { OnOk result (recording.new ≡ recorded recording.old (row_of self.old t).items) }
+        ensures outcome { IfOk result (λ turn. turn.outcome ≡ (transition_of self.old t).outcome) }
+        ensures state { OnOk result (self.new ≡ with_state self.old (transition_of self.old t).state) }
+        ensures items { OnOk result (recording.new ≡ recorded recording.old (transition_of self.old t).items) }
         ensures others { IfOk result (λ turn. IsTrue turn.is_quiet → LeavesOthers self.old t self.new) }
         ensures kept { OnErr result (self.new ≡ self.old) }
         ensures no_items { OnErr result (recording.new ≡ recording.old) }
@@ -145,36 +144,36 @@ impl<'p> Machine<'p> {
         step(&mut self.parts, t, recording)
     }
 
-    /// What the turn of a thread would come to, with nothing changed. It takes no memory.
+    /// Returns the outcome of a thread's next turn, with nothing changed. Takes no memory.
     #[tactic(auto, using(crate::proofs::Callers::threads_are_numbered, crate::proofs::Sites::have_their_code))]
     pub fn peek(&self, t: ThreadId) -> Outcome
-        ensures { result ≡ (row_of self.now t).outcome }
+        ensures { result ≡ (transition_of self.now t).outcome }
     {
         peek(&self.parts, t as usize)
     }
 
-    /// The state of every machine is sound. Nothing is done.
+    /// Proves that the state of every machine is sound. Does nothing.
     pub fn state_is_sound(&self)
         ensures { Sound self.now.program self.now.limits self.now.state }
     {
         let _ = &self.parts;
     }
 
-    /// The bytes that were written so far.
+    /// Returns the bytes that were printed.
     pub fn output(&self) -> &[u8]
         ensures { result.now ≡ self.now.state.output }
     {
         self.parts.output.as_slice()
     }
 
-    /// What thread 0's entry method returned, if it has returned a value.
+    /// Returns the result of thread 0's entry method, if it has returned a value.
     pub fn result(&self) -> Option<Value>
         ensures { result ≡ self.now.state.result }
     {
         self.parts.result
     }
 
-    /// How many threads were ever started, thread 0 included.
+    /// Returns the number of threads that were ever started, thread 0 included.
     pub fn thread_count(&self) -> usize
         ensures { result ≡ length self.now.state.threads }
     {

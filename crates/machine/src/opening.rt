@@ -19,10 +19,10 @@ use monitors::{Monitors, Waiters};
 use program::Program;
 use std::alloc::{AllocError, Global};
 
-/// The reference of main's argument, an array of no strings.
+/// The reference of the argument of `main`, an array of no strings.
 const NO_STRINGS: u32 = 4;
 
-/// Appends the places of an argument: a long has two.
+/// Appends the slots of an argument. A long has two.
 fn put_argument(places: &mut Vec<Value>, argument: Argument) -> Result<(), AllocError>
     ensures { OnOk result (places.new.items ≡ places.old.items ++ places_of (argument_value argument ∷ [])) }
 {
@@ -36,7 +36,7 @@ fn put_argument(places: &mut Vec<Value>, argument: Argument) -> Result<(), Alloc
     Ok(())
 }
 
-/// Returns the places of all arguments.
+/// Returns the slots of all arguments.
 #[tactic(auto, using(crate::proofs::EntryLaws::places_of_first))]
 fn argument_places(alloc: Global, arguments: &[Argument]) -> Result<Vec<Value>, AllocError>
     ensures { IfOk result (λ places. places.items ≡ places_of (map argument_value arguments.now)) }
@@ -48,7 +48,7 @@ fn argument_places(alloc: Global, arguments: &[Argument]) -> Result<Vec<Value>, 
     Ok(places)
 }
 
-/// The arguments of an entry's method.
+/// Returns the arguments of an entry's method, in slots.
 fn arguments(alloc: Global, entry: &Entry) -> Result<Vec<Value>, AllocError>
     ensures { IfOk result (λ values. values.items ≡ entry_arguments entry.now) }
 {
@@ -58,7 +58,8 @@ fn arguments(alloc: Global, entry: &Entry) -> Result<Vec<Value>, AllocError>
     }
 }
 
-/// Returns how far the initialisation of a class has come at the opening: built-in classes are initialised, and no other is.
+/// Returns the state of a class's initialisation at the opening. Built-in classes are initialised, and no other class
+/// is.
 fn initialisation(program: &Program, number: usize, _class: &Class) -> Initialisation
     requires { slice_get program.now number ≡ Some _class.now }
     ensures { result ≡ opening_initialisation _class.now }
@@ -70,7 +71,7 @@ fn initialisation(program: &Program, number: usize, _class: &Class) -> Initialis
     }
 }
 
-/// Returns how far the initialisation of each class has come at the opening.
+/// Returns the state of each class's initialisation at the opening.
 fn initialisations(alloc: Global, program: &Program) -> Result<Vec<Initialisation>, AllocError>
     ensures { IfOk result (λ marks. marks.items ≡ map opening_initialisation program.now) }
 {
@@ -81,7 +82,7 @@ fn initialisations(alloc: Global, program: &Program) -> Result<Vec<Initialisatio
     Ok(marks)
 }
 
-/// The lists of a machine.
+/// The lists of a machine at its opening.
 #[derive(Drop)]
 struct OpeningLists<'p> {
     arguments: Vec<Value>,
@@ -89,7 +90,7 @@ struct OpeningLists<'p> {
     threads: Vec<Thread<'p>>,
 }
 
-/// The lists of a machine at its opening: thread 0 has no frame yet.
+/// Returns the lists of a machine at its opening. Thread 0 has no frame yet.
 fn opening_lists<'p>(
     alloc: Global,
     program: &'p Program,
@@ -106,7 +107,7 @@ fn opening_lists<'p>(
     })
 }
 
-/// The heap and the static fields at the opening.
+/// Returns the heap and the static fields at the opening.
 fn memory<'p>(alloc: Global, program: &'p Program) -> Result<(Heap<'p>, Statics<'p>), AllocError>
     ensures heap { IfOk result (λ m. m.0 ≡ record { program = program.now; objects = opening_heap program.now; elements = 0 }) }
     ensures statics { IfOk result (λ m. m.1 ≡ record { program = program.now; fields = map opening_static (static_fields program.now) }) }
@@ -115,7 +116,7 @@ fn memory<'p>(alloc: Global, program: &'p Program) -> Result<(Heap<'p>, Statics<
     Ok((heap, Statics::opening(alloc, program)?))
 }
 
-/// The parts of a machine at its opening.
+/// Returns the parts of a machine at its opening.
 #[tactic(auto, unfolding(jvms_machine::specs::Opening::opening))]
 pub(crate) fn open<'p>(
     alloc: Global,

@@ -1,4 +1,4 @@
-//! Runs: the turns of a list of choices, one after another.
+//! Runs: consecutive turns by a list of choices.
 
 ghost use Rattle.std.specs.Prelude.{◌≡◌, ◌<◌, take, length, IfOk, IfErr, Some};
 ghost use Rattle.machine.specs.Runs.{IsRun};
@@ -7,17 +7,16 @@ use crate::machine::Machine;
 use jvms_machine::machine::{Outcome, ThreadId};
 use trace::{Recording, Trace};
 
-/// Memory ran out in a run: as many turns were made as there are outcomes, and no more.
+/// The error that memory ran out in a run. The number of turns taken is that of the outcomes.
 #[derive(Debug, Drop)]
 pub struct RunStop {
-    /// The outcomes of the choices whose turns were made.
+    /// The outcomes of the turns that were taken.
     pub outcomes: Vec<Outcome>,
 }
 
 impl Machine<'_> {
-    /// Makes the turns of these choices of threads, one after another, and answers their outcomes; their
-    /// items are put behind those of the trace. Where memory runs out, machine and trace are those after as
-    /// many choices as the `RunStop` has outcomes.
+    /// Takes the turns of these choices of threads, and returns their outcomes. Their items are appended to the trace.
+    /// If memory runs out, machine and trace are those after as many choices as the `RunStop` has outcomes.
     pub fn run(&mut self, choices: &[ThreadId], trace: &mut Trace) -> Result<Vec<Outcome>, RunStop>
         ensures run { IfOk result (λ v. IsRun self.old choices.now v.items self.new (Some trace.old) (Some trace.new)) }
         ensures fewer { IfErr result (λ s. length s.outcomes.items < length choices.now) }
@@ -29,7 +28,7 @@ impl Machine<'_> {
         outcomes
     }
 
-    /// The same. The items are put behind those that are kept, if any are.
+    /// Takes the turns of these choices as `run` does, and records their items if items are recorded.
     fn run_recorded(
         &mut self,
         choices: &[ThreadId],

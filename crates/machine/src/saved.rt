@@ -1,4 +1,4 @@
-//! Machines that are saved. They share the objects that did not change from one machine to the next.
+//! Saved machines. Consecutive saved machines share the objects that did not change.
 
 ghost use Rattle.std.specs.Prelude.{◌≡◌, IfOk};
 
@@ -7,7 +7,7 @@ use machine_parts::SavedParts;
 use std::alloc::AllocError;
 use std::marker::Model;
 
-/// A machine, saved. Contracts see the machine itself.
+/// A saved machine. Contracts see the machine itself.
 #[derive(Drop)]
 pub struct SavedMachine<'p> {
     parts: SavedParts<'p>,
@@ -23,13 +23,13 @@ impl<'p> Model for SavedMachine<'p> {
     ghost invariant = { λ m. IsMachine m.parts };
 }
 
-/// Returns the parts of a saved machine, or none.
+/// Returns the parts of a saved machine, if there is one.
 fn parts_of<'a, 'p>(saved: Option<&'a SavedMachine<'p>>) -> Option<&'a SavedParts<'p>> {
     Some(&saved?.parts)
 }
 
 impl<'p> Machine<'p> {
-    /// Saves the machine. Objects that are as in an earlier saved machine are shared with it.
+    /// Saves the machine. Objects that equal those of an earlier saved machine are shared with it.
     pub fn save(&self, before: Option<&SavedMachine<'p>>) -> Result<SavedMachine<'p>, AllocError>
         ensures { IfOk result (λ saved. saved ≡ self.now) }
     {
@@ -40,7 +40,7 @@ impl<'p> Machine<'p> {
 }
 
 impl<'p> SavedMachine<'p> {
-    /// Makes a machine in the saved state. The saved one stays as it is.
+    /// Returns a machine in the saved state. The saved machine stays as it is.
     pub fn restore(&self) -> Result<Machine<'p>, AllocError>
         ensures { IfOk result (λ machine. machine ≡ self.now) }
     {

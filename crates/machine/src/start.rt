@@ -1,4 +1,4 @@
-//! Where a run begins.
+//! The start of a run.
 
 ghost use Rattle.std.specs.Prelude.{◌≡◌};
 ghost use Rattle.std.specs.Option.{option_map};
@@ -13,7 +13,7 @@ use jvms_machine::machine::{Argument, Entry};
 use jvms_program::number::MethodNumber;
 use program::Program;
 
-/// The name of an entry that is a class, `main`.
+/// The method name of an entry that names a class, `main`.
 const MAIN: [u16; 4] = [109, 97, 105, 110];
 
 /// Its descriptor, `([Ljava/lang/String;)V`.
@@ -25,7 +25,7 @@ const MAIN_DESCRIPTOR: [u16; 22] = [
 /// The letter of a long.
 const LONG: u16 = b'J' as u16;
 
-/// Returns whether a unit is the letter of an argument's type: of an int, byte, char, short or boolean, or of a long.
+/// Decides whether a unit is the letter of an argument's type: of an int, byte, char, short or boolean, or of a long.
 fn is_letter_of(argument: Argument, unit: u16) -> bool
     ensures { result ≡ is_letter_of argument unit }
 {
@@ -35,7 +35,7 @@ fn is_letter_of(argument: Argument, unit: u16) -> bool
     }
 }
 
-/// Returns whether a text has such a letter for each argument and then a closing parenthesis at its front.
+/// Decides whether a text begins with such a letter for each argument and then a closing parenthesis.
 #[tactic(auto, unfolding(crate::specs::Entries::has_letters))]
 fn has_letters(text: &[u16], arguments: &[Argument]) -> bool
     ensures { result ≡ has_letters text.now arguments.now }
@@ -49,7 +49,7 @@ fn has_letters(text: &[u16], arguments: &[Argument]) -> bool
     }
 }
 
-/// Returns whether a descriptor's parameters are of the types of the arguments.
+/// Decides whether a descriptor's parameters are of the types of the arguments.
 fn takes_all(descriptor: &[u16], arguments: &[Argument]) -> bool
     ensures { result ≡ takes_all descriptor.now arguments.now }
 {
@@ -59,7 +59,7 @@ fn takes_all(descriptor: &[u16], arguments: &[Argument]) -> bool
     }
 }
 
-/// Whether the method that an entry names takes its arguments.
+/// Decides whether the method that an entry names takes its arguments.
 fn takes_arguments(entry: &Entry) -> bool
     ensures { result ≡ takes entry.now }
 {
@@ -73,7 +73,7 @@ fn takes_arguments(entry: &Entry) -> bool
     }
 }
 
-/// The names of an entry's method, as by a Methodref.
+/// Returns the names of an entry's method in the form of a Methodref.
 fn names(entry: &Entry) -> MethodNames<'_>
     ensures { reference result ≡ entry_reference entry.now }
 {
@@ -98,8 +98,7 @@ fn names(entry: &Entry) -> MethodNames<'_>
     }
 }
 
-/// Where a run begins: the entry's method resolves, is static and isn't `<clinit>`, and takes the
-/// arguments.
+/// Returns the method in which a run begins. It must resolve, be static, not be `<clinit>`, and take the arguments.
 #[tactic(auto, unfolding(jvms_machine::specs::Start::start_of))]
 pub(crate) fn start_of(program: &Program, entry: &Entry) -> Option<MethodNumber>
     ensures { option_map (with_arguments entry.now) result ≡ start_of program.now entry.now }

@@ -15,28 +15,28 @@ use program::Program;
 pub use threads::FrameView;
 
 impl<'p> Machine<'p> {
-    /// The program.
+    /// Returns the program.
     pub fn program(&self) -> &'p Program
         ensures { result.now ≡ self.now.program }
     {
         self.parts.program()
     }
 
-    /// The limits of the run.
+    /// Returns the limits of the run.
     pub fn limits(&self) -> Limits
         ensures { result ≡ self.now.limits }
     {
         self.parts.limits
     }
 
-    /// How far the initialisation of the class of a number has come (JVMS 5.5).
+    /// Returns the state of the initialisation of a class (JVMS 5.5).
     pub fn initialisation(&self, class: usize) -> Option<Initialisation>
         ensures { result ≡ slice_get self.now.state.initialisations class }
     {
         self.parts.initialisation(class)
     }
 
-    /// The value of a static field. There is none where no class has such a static field.
+    /// Returns the value of a static field, or `None` if no class has such a static field.
     pub fn static_value(&self, key: &FieldName) -> Option<Value>
         ensures { result ≡ value_of key.now self.now.state.statics }
     {

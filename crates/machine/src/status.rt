@@ -1,4 +1,4 @@
-//! How a machine stands.
+//! The status of a machine.
 
 ghost use Rattle.std.specs.Prelude.{◌≡◌, drop};
 ghost use Rattle.std.specs.List.{list_all};
@@ -12,7 +12,7 @@ use crate::peek::peek;
 use jvms_machine::machine::{Outcome, Status};
 use machine_parts::Parts;
 
-/// Whether a thread whose next turn comes to this is enabled: the turn can be made.
+/// Decides whether a thread whose next turn has this outcome is enabled: the turn can be taken.
 #[inline]
 pub fn is_enabled(outcome: Outcome) -> bool
     ensures { result ≡ enabled outcome }
@@ -24,7 +24,7 @@ pub fn is_enabled(outcome: Outcome) -> bool
     }
 }
 
-/// Whether a thread whose next turn comes to this can't go on.
+/// Decides whether a thread whose next turn has this outcome is stuck, because the turn is Bad.
 #[inline]
 pub fn is_bad(outcome: Outcome) -> bool
     ensures { result ≡ bad outcome }
@@ -32,8 +32,8 @@ pub fn is_bad(outcome: Outcome) -> bool
     matches!(outcome, Outcome::Bad { .. })
 }
 
-/// Whether all threads have ended.
-fn all_ended(parts: &Parts) -> bool
+/// Decides whether all threads have ended.
+fn text_of_lines(parts: &Parts) -> bool
     ensures { result ≡ list_all (λ x. x.ended) parts.now.state.threads }
 {
     parts
@@ -43,7 +43,7 @@ fn all_ended(parts: &Parts) -> bool
         .all(|thread| thread.has_ended())
 }
 
-/// Whether a thread from number `t` on is enabled.
+/// Decides whether a thread from number `t` on is enabled.
 fn any_enabled(parts: &Parts, t: usize) -> bool
     requires numbered { AreNumbered parts.now.state }
     requires code { HaveTheirCode parts.now }
@@ -55,7 +55,7 @@ fn any_enabled(parts: &Parts, t: usize) -> bool
     is_enabled(peek(parts, t)) || any_enabled(parts, t + 1)
 }
 
-/// Whether a thread from number `t` on can't go on.
+/// Decides whether the next turn of a thread from number `t` on is Bad.
 fn any_bad(parts: &Parts, t: usize) -> bool
     requires numbered { AreNumbered parts.now.state }
     requires code { HaveTheirCode parts.now }
@@ -67,14 +67,14 @@ fn any_bad(parts: &Parts, t: usize) -> bool
     is_bad(peek(parts, t)) || any_bad(parts, t + 1)
 }
 
-/// How the machine stands.
+/// Returns the status of the machine.
 #[tactic(auto, using(crate::proofs::StatusLaws::any_is), unfolding(jvms_machine::specs::Status::status_of))]
 fn standing(parts: &Parts) -> Status
     requires numbered { AreNumbered parts.now.state }
     requires code { HaveTheirCode parts.now }
     ensures { result ≡ status_of parts.now.program parts.now.limits parts.now.start parts.now.state }
 {
-    if all_ended(parts) {
+    if text_of_lines(parts) {
         Status::Finished
     } else if any_enabled(parts, 0) {
         Status::Running
@@ -86,8 +86,8 @@ fn standing(parts: &Parts) -> Status
 }
 
 impl Machine<'_> {
-    /// How the machine stands: finished, if all threads have ended; running, if one is enabled; stalled, if
-    /// one can't go on; else deadlocked. It takes no memory.
+    /// Returns the status of the machine. It is finished if all threads have ended, else running if one is enabled,
+    /// else stalled if the turn of one is Bad, else deadlocked. Takes no memory.
     #[tactic(auto, using(crate::proofs::Callers::threads_are_numbered, crate::proofs::Sites::have_their_code))]
     pub fn status(&self) -> Status
         ensures { result ≡ status_of self.now.program self.now.limits self.now.start self.now.state }

@@ -1,4 +1,4 @@
--- The strings of constants that have no object yet are listed, and counted, field by field.
+-- The strings of constants that have no object yet, listed and counted field by field.
 use Rattle.std.proofs.Common.{◌≡◌, ℕ, ◌+◌, ◌<◌, Bool, true, false, cond, not, ◌&&◌, ◌||◌, List, [], ◌∷◌, ◌++◌, length, take, Option, Some, None, if◌then◌else◌, refl, sym, ap, ◌∙◌, get_or, add-one, add-zero}
 use Rattle.std.proofs.Math.Seq.{take-suc}
 use Rattle.std.proofs.lemmas.List.{append-nil, length-append}
@@ -18,7 +18,7 @@ use Rattle.jvms_file.specs.declared.descriptor.FieldType.{FieldType}
 use Rattle.jvms_machine.specs.Actions.{constant_value, with_constants}
 use Rattle.machine_parts.specs.Constants.{text_constant, constant_text, has_constant_text, is_new, is_new_text, behind, text_where, text_to_make, text_value}
 
--- ---- One string more
+-- ---- One more string
 
 found_further : {X : Type 0} (p : X → Bool) (b : Bool) (i : ℕ) (xs : List X) (y : X) → is_some (position_from p (i + 1) (xs ++ y ∷ [])) ≡ (is_some (position_from p (i + 1) xs) || p y)
     → is_some (cond b (Some i) (position_from p (i + 1) (xs ++ y ∷ []))) ≡ (is_some (cond b (Some i) (position_from p (i + 1) xs)) || p y)
@@ -38,7 +38,7 @@ held_with heap v u = found_with (is_text u) 1 heap (text v)
 
 -- ---- The first of some fields
 
--- What the string of a field adds, with those of others behind it.
+-- Returns what a field's string adds, together with the strings of the constants after it.
 abbrev texts_by : List Object → Option (List ℕ) → List Loadable → List (List ℕ)
 texts_by heap None constants = new_texts heap constants
 texts_by heap (Some units) constants =
@@ -58,12 +58,12 @@ first_by heap f fields true (Some (loadable.Class name)) is given = rw is (rw gi
 first_texts : (heap : List Object) (f : Field) (fields : List Field) → new_texts heap (constants_of (f ∷ fields)) ≡ texts_by heap (constant_text f) (constants_of fields)
 first_texts heap f fields = first_by heap f fields f.is_static f.constant refl refl
 
--- ---- One field more
+-- ---- One more field
 
 abbrev texts : List Object → List Field → List (List ℕ)
 texts heap fields = new_texts heap (constants_of fields)
 
--- What a field adds, whose string is new or not.
+-- Returns what a field adds, where its string is new or not.
 abbrev pub new_of : Bool → Option (List ℕ) → List (List ℕ)
 new_of true (Some units) = units ∷ []
 new_of _ _ = []
@@ -79,7 +79,7 @@ text_alone heap (Some units) = by (is_some (text_reference heap units)) units
     by true units = refl
     by false units = refl
 
--- A string that is held is new nowhere, and neither is one that stands before.
+-- A string that exists, or that an earlier field has, is not new.
 new_behind_held : (heap : List Object) (v : List ℕ) (rest : List Field) (o : Option (List ℕ)) (g : Field) → constant_text g ≡ Some v → is_some (text_reference heap v) ≡ true
     → is_new heap (g ∷ rest) o ≡ is_new heap rest o
 new_behind_held heap v rest None g is held = refl
@@ -128,7 +128,7 @@ module _ (f : Field) where
       first_texts heap g (rest ++ f ∷ []) ∙ more_by heap g rest (constant_text g) refl (λ h. one_more h rest)
       ∙ ap (λ l. l ++ added heap (g ∷ rest)) (sym (first_texts heap g rest))
 
--- The strings of so many fields and one more.
+-- The strings of the first i fields and of one more.
 pub texts_further : (heap : List Object) (fields : List Field) (i : ℕ) (f : Field) → i < length fields → f ≡ get_or fields i f
     → texts heap (take (i + 1) fields) ≡ texts heap (take i fields) ++ new_of (is_new_text heap (take i fields) f) (constant_text f)
 texts_further heap fields i f within there =
@@ -136,9 +136,9 @@ texts_further heap fields i f within there =
     ap (λ k. take k fields) (add-one i) ∙ take-suc fields i f within ∙ ap (λ g. take i fields ++ g ∷ []) (sym there) in
     ap (texts heap) further ∙ one_more f heap (take i fields)
 
--- ---- How many they are
+-- ---- The number of strings
 
--- A field that has no string adds none.
+-- A field without a string adds none.
 never_new : (heap : List Object) (before : List Field) (o : Option (List ℕ)) → length (new_of (is_new heap before o) o) ≡ one_if (is_new heap before o)
 never_new heap before None = refl
 never_new heap before (Some units) = by (is_new heap before (Some units))
@@ -164,7 +164,7 @@ pub counted_old : (heap : List Object) (fields : List Field) (i n m : ℕ) (f : 
     → new ≡ false → m ≡ n → m ≡ length (texts heap (take (i + 1) fields))
 counted_old heap fields i n m f new within there so_far is was none = none ∙ sym (add-zero n) ∙ ap (λ b. n + one_if b) (sym was) ∙ next_by heap fields i n f new within there so_far is
 
--- The string that a field adds is put behind those so far.
+-- The string that a field adds is appended to those before it.
 added_behind : (xs : List (List ℕ)) (new : Bool) (o : Option (List ℕ)) → behind xs (text_where new o) ≡ xs ++ new_of new o
 added_behind xs true (Some units) = refl
 added_behind xs true None = sym (append-nil xs)
@@ -176,13 +176,13 @@ texts_behind heap fields i xs ys f within there so_far is =
     is ∙ ap (λ l. behind l (text_to_make heap (take i fields) f)) so_far
     ∙ added_behind (texts heap (take i fields)) (is_new_text heap (take i fields) f) (constant_text f) ∙ sym (texts_further heap fields i f within there)
 
--- ---- Constants that are stored
+-- ---- Stored constants
 
 constants_of_more : (heap : List Object) (c : Class) (fields : List Field) (f : Field) (statics : List (FieldKey × Value)) → with_constants heap c (fields ++ f ∷ []) statics ≡ with_constants heap c (f ∷ []) (with_constants heap c fields statics)
 constants_of_more heap c [] f statics = refl
 constants_of_more heap c (g ∷ fields) f statics = constants_of_more heap c fields f (with_constants heap c (g ∷ []) statics)
 
--- Those of so many fields and one more.
+-- The constants of the first i fields and of one more.
 pub constants_further : (heap : List Object) (c : Class) (fields : List Field) (i : ℕ) (f : Field) (statics : List (FieldKey × Value)) → i < length fields → f ≡ get_or fields i f
     → with_constants heap c (f ∷ []) (with_constants heap c (take i fields) statics) ≡ with_constants heap c (take (i + 1) fields) statics
 constants_further heap c fields i f statics within there =

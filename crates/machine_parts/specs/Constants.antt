@@ -1,4 +1,4 @@
--- The strings that the initialisation of a class stores in its static fields, told field by field.
+-- The strings that the initialisation of a class stores in its static fields, field by field.
 use Rattle.std.specs.Prelude.{ℕ, Bool, true, false, not, ◌&&◌, List, [], ◌∷◌, ◌++◌, Option, Some, None, is_some}
 use Rattle.std.specs.List.{list_any}
 use Rattle.jvms_file.specs.Names.{same_text}
@@ -9,7 +9,7 @@ use Rattle.jvms_machine.specs.declared.value.Value.{Value}
 use Rattle.jvms_machine.specs.declared.value.Value.TheVariants as value
 use Rattle.jvms_machine.specs.State.{Object, text_reference}
 
--- The units of a static field's constant, if it is a string.
+-- Returns the units of a static field's constant, if it is a string.
 abbrev pub text_constant : Bool → Option Loadable → Option (List ℕ)
 text_constant true (Some (loadable.String units)) = Some units
 text_constant _ _ = None
@@ -28,12 +28,12 @@ abbrev pub is_new : List Object → List Field → Option (List ℕ) → Bool
 is_new heap before None = false
 is_new heap before (Some units) = not (is_some (text_reference heap units)) && not (list_any (has_constant_text units) before)
 
--- A string as a value, by its reference, if it has one.
+-- Returns a string as a value: its reference, or null if it has none.
 abbrev pub text_value : Option ℕ → Value
 text_value None = value.Null
 text_value (Some r) = value.Reference r
 
--- The string that a field adds to those of the fields before it.
+-- Returns the string that a field adds to those of the fields before it.
 abbrev pub text_where : Bool → Option (List ℕ) → Option (List ℕ)
 text_where true (Some units) = Some units
 text_where _ _ = None
@@ -41,11 +41,11 @@ text_where _ _ = None
 abbrev pub text_to_make : List Object → List Field → Field → Option (List ℕ)
 text_to_make heap before f = text_where (is_new heap before (constant_text f)) (constant_text f)
 
--- Strings with the one that a field adds, if it adds one.
+-- Appends the string that a field adds, if it adds one.
 abbrev pub behind : List (List ℕ) → Option (List ℕ) → List (List ℕ)
 behind texts None = texts
 behind texts (Some units) = texts ++ units ∷ []
 
--- A field's string has no object yet, and no field before it has the same.
+-- Decides whether a field's string has no object yet, and no field before it has the same string.
 abbrev pub is_new_text : List Object → List Field → Field → Bool
 is_new_text heap before f = is_new heap before (constant_text f)

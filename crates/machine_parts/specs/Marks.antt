@@ -8,7 +8,7 @@ use Rattle.jvms_machine.specs.declared.trace.Item.{Item}
 use Rattle.jvms_program.specs.BuiltIn.{is_built_in}
 use Rattle.jvms_program.specs.Program.{key_of}
 
--- At most one item.
+-- Returns an optional item as a list.
 abbrev pub listed : Option Item → List Item
 listed None = []
 listed (Some i) = i ∷ []
@@ -16,6 +16,6 @@ listed (Some i) = i ∷ []
 abbrev pub is_built_in_number : List Class → ℕ → Bool
 is_built_in_number program class = unwrap_or (option_map (λ c. is_built_in c.name) (slice_get program class)) false
 
--- The key of a method for its marks.
+-- Returns the key of a method for its marks. A method of a built-in class has none.
 abbrev pub marked_key : List Class → MethodNumber → Option MethodKey
 marked_key program n = if is_built_in_number program n.class then None else key_of program n

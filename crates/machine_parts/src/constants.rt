@@ -14,13 +14,13 @@ use crate::parts::Parts;
 use crate::stored::stored_in_field;
 use classes::FieldName;
 use descriptor::same_text;
-use held::shared::Text;
+use shared_data::shared::Text;
 use jvms_file::descriptor::FieldType;
 use jvms_machine::value::Value;
 use jvms_program::program::{Class, Field, Loadable};
 use std::alloc::AllocError;
 
-/// The string that initialisation stores in a field, if it stores one.
+/// Returns the string that initialisation stores in a field, if the field is static and its constant is a string.
 fn stored_text(field: &Field) -> Option<&Text>
     ensures { option_map (λ units. units.now) result ≡ constant_text field.now }
 {
@@ -30,7 +30,7 @@ fn stored_text(field: &Field) -> Option<&Text>
     }
 }
 
-/// Whether a field stores the string of these units.
+/// Decides whether initialisation stores the string of these units in a field.
 fn stores(field: &Field, units: &[u16]) -> bool
     ensures { result ≡ has_constant_text units.now field.now }
 {
@@ -40,7 +40,7 @@ fn stores(field: &Field, units: &[u16]) -> bool
     }
 }
 
-/// Whether one of these fields stores the string of these units.
+/// Decides whether initialisation stores the string of these units in one of these fields.
 fn any_stores(fields: &[Field], units: &[u16]) -> bool
     ensures { result ≡ list_any (has_constant_text units.now) fields.now }
 {
@@ -48,7 +48,7 @@ fn any_stores(fields: &[Field], units: &[u16]) -> bool
 }
 
 impl<'p> Parts<'p> {
-    /// Whether a string has no object yet, and none of these fields stores it.
+    /// Decides whether a string has no object yet, and none of these fields stores it.
     fn is_new(&self, before: &[Field], units: &[u16]) -> bool
         ensures { result ≡ is_new self.now.state.heap before.now (Some units.now) }
     {
@@ -56,7 +56,7 @@ impl<'p> Parts<'p> {
         !is_held && !any_stores(before, units)
     }
 
-    /// Whether a field stores a string that has no object yet, and that none of the fields before it stores.
+    /// Decides whether a field stores a string that has no object yet and that no field before it stores.
     fn is_new_text(&self, before: &[Field], field: &Field) -> bool
         ensures { result ≡ is_new_text self.now.state.heap before.now field.now }
     {
@@ -66,7 +66,7 @@ impl<'p> Parts<'p> {
         }
     }
 
-    /// How many strings of a class's constants have no object yet, each counted once.
+    /// Returns the number of distinct strings among a class's constants that have no object yet.
     #[tactic(auto, using(crate::proofs::ConstantTexts::counted_new, crate::proofs::ConstantTexts::counted_old))]
     pub(crate) fn new_texts(&self, class: &Class) -> usize
         ensures { result ≡ length (new_texts self.now.state.heap (constants_of class.now.fields)) }
@@ -81,7 +81,7 @@ impl<'p> Parts<'p> {
         count
     }
 
-    /// The string that a field adds to those before it, if it adds one.
+    /// Returns the string of a field's constant if it has no object yet and no field before it stores it.
     fn text_to_make<'f>(&self, before: &[Field], field: &'f Field) -> Option<&'f Text>
         ensures { option_map (λ units. units.now) result ≡ text_to_make self.now.state.heap before.now field.now }
     {
@@ -93,7 +93,7 @@ impl<'p> Parts<'p> {
         }
     }
 
-    /// Puts the string that a field adds behind those of the fields before it.
+    /// Appends the string that a field adds to those of the fields before it, if it adds one.
     fn add_text(
         &self,
         texts: &mut Vec<Text>,
@@ -108,7 +108,7 @@ impl<'p> Parts<'p> {
         Ok(())
     }
 
-    /// The strings of these fields' constants that have no object yet, each once.
+    /// Returns the distinct strings among these fields' constants that have no object yet.
     #[tactic(auto, using(crate::proofs::ConstantTexts::texts_behind))]
     fn texts_of(&self, fields: &[Field]) -> Result<Vec<Text>, AllocError>
         ensures { IfOk result (λ texts. texts.items ≡ new_texts self.now.state.heap (constants_of fields.now)) }
@@ -120,7 +120,7 @@ impl<'p> Parts<'p> {
         Ok(texts)
     }
 
-    /// The strings that the initialisation of the class of a number makes.
+    /// Returns the strings for which the initialisation of a class creates objects.
     pub fn texts_to_make(&self, class: usize) -> Result<Vec<Text>, AllocError>
         ensures { IfOk result (λ texts. texts.items ≡ texts_to_make self.now.state.heap (slice_get self.now.program class)) }
     {
@@ -130,7 +130,7 @@ impl<'p> Parts<'p> {
         }
     }
 
-    /// The string of these units.
+    /// Returns the string of these units as a value: its reference, or null if it has no object.
     fn text_value(&self, units: &[u16]) -> Value
         ensures { result ≡ text_value (text_reference self.now.state.heap units.now) }
     {
@@ -152,7 +152,7 @@ impl<'p> Parts<'p> {
         }
     }
 
-    /// Stores the constant of a class's field, if it is static and has one.
+    /// Stores the constant of a field if it is static and has one.
     fn store_constant(&mut self, class: &Class, field: &Field)
         ensures { self.new ≡ with_statics (with_constants self.old.state.heap class.now (field.now ∷ []) self.old.state.statics) self.old }
     {

@@ -1,42 +1,43 @@
-//! Words of decisions: what a turn comes to, before it is made.
+//! Types and helpers of decisions: what a turn will do, before it is applied.
 
 ghost use Rattle.std.specs.Prelude.{◌≡◌, ◌+◌, ◌<◌, ◌^◌, Some};
 ghost use Rattle.jvms_machine.specs.Activations.{has_depth as is_deep};
 ghost use Rattle.jvms_machine.specs.Decisions.{bad as bad_turn, never_seen as no_turn, outcome_of};
 ghost use Rattle.jvms_machine.specs.Fields.{reaches as reaching, read as reads, taking as takes_on};
-ghost use Rattle.machine_parts.specs.Decided.{seen, seen_effect};
+ghost use Rattle.machine_parts.specs.Decided.{seen, effect_value};
 
 use frames::Frame;
-use held::shared::Text;
+use shared_data::shared::Text;
 use jvms_file::insn::ArrayType;
 use jvms_machine::action::{Action, Decision, Effect, FrameAction};
 use jvms_machine::machine::{BadCause, Outcome};
 use jvms_machine::value::Value;
 use jvms_program::program::Body;
 
-/// A text of an action: one that stands in the program, or the class of an array that is told by one, which no turn
-/// makes before it is needed.
+/// A text of an action: one of the program, or the name of an array class. The name is built only when the turn is
+/// applied.
 #[derive(Clone, Copy)]
 pub enum ActionText<'p> {
-    /// The text as it stands in the program.
+    /// A text of the program.
     Of(&'p Text),
-    /// The class of arrays whose components are of a primitive type.
+    /// The name of the class of arrays with components of a primitive type.
     ArrayOfType(ArrayType),
-    /// The class of arrays whose components are of the class of this name.
+    /// The name of the class of arrays with components of the named class.
     ArrayOfClass(&'p Text),
 }
 
-/// What an instruction comes to that reaches beyond its frame and runs: its effect, and what it makes of the frame.
+/// The decision on an instruction that reaches beyond its frame and completes normally: its effect, and the action on
+/// its frame.
 #[derive(Clone, Copy)]
 pub struct Reached<'p> {
     pub effect: Effect<ActionText<'p>>,
     pub action: FrameAction,
 }
 
-/// What a turn comes to, with the code and the texts where they stand in the program.
+/// The decision on a turn, which borrows code and texts from the program.
 pub type Decided<'p> = Decision<&'p Body, ActionText<'p>>;
 
-/// The turn can't be made.
+/// Returns the decision that the turn can't be taken, with its cause.
 #[inline(always)]
 pub fn bad<'p>(cause: BadCause) -> Decided<'p>
     ensures { seen result ≡ bad_turn cause }
@@ -44,7 +45,7 @@ pub fn bad<'p>(cause: BadCause) -> Decided<'p>
     Decision::Unmade(Outcome::Bad { cause })
 }
 
-/// What stands for what never comes, as a class or a method that isn't there. In a sound state each is.
+/// Returns the decision for cases that a sound state excludes, such as a missing class or method.
 #[inline(always)]
 pub fn never_seen<'p>() -> Decided<'p>
     ensures { seen result ≡ no_turn }
@@ -52,7 +53,7 @@ pub fn never_seen<'p>() -> Decided<'p>
     bad(BadCause::OutOfProfile)
 }
 
-/// Whether so many operands are there to take, and those after success fit `max_stack`.
+/// Decides whether there are `takes` operands, and whether `gives` in their place fit `max_stack`.
 #[inline(always)]
 pub fn has_depth(frame: &Frame, takes: u8, gives: u8) -> bool
     ensures { result ≡ is_deep frame.now.body takes gives frame.now.activation }
@@ -60,15 +61,16 @@ pub fn has_depth(frame: &Frame, takes: u8, gives: u8) -> bool
     exec::has_depth(frame, takes, gives)
 }
 
-/// The call on top goes on, with this effect.
+/// Returns the decision that the top call continues, with this effect.
 #[inline(always)]
 pub fn reaches<'p>(effect: Effect<ActionText<'p>>, action: FrameAction) -> Decided<'p>
-    ensures { seen result ≡ reaching (seen_effect effect.entry) action }
+    ensures { seen result ≡ reaching (effect_value effect.entry) action }
 {
     Decision::Makes(Action::Reaches(effect, action))
 }
 
-/// A value that is read, in place of n operands, if there is room for its places.
+/// Decides to replace the topmost `takes` operands by a value that is read. Stops with `Depth` if the value doesn't fit
+/// `max_stack`.
 #[inline(always)]
 pub fn read<'p>(
     frame: &Frame,
@@ -76,7 +78,7 @@ pub fn read<'p>(
     takes: u8,
     value: Value,
 ) -> Decided<'p>
-    ensures { seen result ≡ reads frame.now (seen_effect effect.entry) takes (Some value) }
+    ensures { seen result ≡ reads frame.now (effect_value effect.entry) takes (Some value) }
 {
     if has_depth(frame, takes, exec::value_size(value)) {
         reaches(effect, FrameAction::Push { takes, value })
@@ -85,7 +87,7 @@ pub fn read<'p>(
     }
 }
 
-/// On to the next instruction, with so many operands taken.
+/// Returns the action that removes `takes` operands and moves on to the next instruction.
 #[inline(always)]
 pub fn taking(takes: u16, frame: &Frame) -> FrameAction
     requires { frame.now.activation.place + 1 < 2 ^ 64 }
@@ -97,7 +99,7 @@ pub fn taking(takes: u16, frame: &Frame) -> FrameAction
     }
 }
 
-/// The outcome of what was decided.
+/// Returns the outcome of a decision.
 #[inline(always)]
 pub fn outcome(decision: Decided<'_>) -> Outcome
     ensures { result ≡ outcome_of (seen decision.entry) }

@@ -13,13 +13,13 @@ use jvms_program::thrown::Thrown;
 use machine_thread::Thread;
 use program::Program;
 
-/// The error of too many objects.
+/// The `OutOfMemoryError` object that every heap has.
 const OUT_OF_MEMORY: Exception = Exception::Held { reference: 1 };
 
-/// The error of too many frames.
+/// The `StackOverflowError` object that every heap has.
 const STACK_OVERFLOW: Exception = Exception::Held { reference: 2 };
 
-/// The place of an exception's class among the built-in classes.
+/// Returns the index of an exception's class in the list of built-in classes.
 #[tactic(auto, unfolding(jvms_program::specs::BuiltIn::built_in_classes, jvms_machine::specs::Exceptions::thrown_class))]
 fn built_in_place(class: Thrown) -> usize
     ensures { option_map (λ c. c.name) (slice_get built_in_classes result) ≡ Some (thrown_class class) }
@@ -46,29 +46,29 @@ fn built_in_place(class: Thrown) -> usize
     }
 }
 
-/// The number of an exception's class, which every program has.
+/// Returns the number of an exception's class in a program. Every program has that class.
 #[tactic(auto, using(crate::proofs::HeapLaws::named_there))]
 pub fn thrown_number(program: &Program, class: Thrown) -> usize
     ensures { option_map (λ c. c.name) (slice_get program.now result) ≡ Some (thrown_class class) }
 {
-    program.is_program();
+    program.program_invariant();
     built_in_place(class)
 }
 
 impl<'p> Parts<'p> {
-    /// Whether there is room for one object more.
+    /// Decides whether the limits allow one more object.
     pub fn has_room(&self) -> bool
         ensures exact { result ≡ has_room_for 1 self.now.limits self.now.state }
-        // The reference of one more has a number.
+        // One more reference fits 32 bits.
         ensures number { IsTrue result → length self.now.state.heap + 1 < 2 ^ 32 }
     {
         self.heap.count() < self.limits.objects as usize
     }
 
-    /// Whether there is room for so many objects more.
+    /// Decides whether the limits allow `count` more objects.
     pub fn has_room_for(&self, count: usize) -> bool
         ensures exact { result ≡ has_room_for count self.now.limits self.now.state }
-        // Each of their references has a number.
+        // Each of their references fits 32 bits.
         ensures number { IsTrue result → length self.now.state.heap + count < 2 ^ 32 }
     {
         let most = self.limits.objects as usize;
@@ -76,7 +76,8 @@ impl<'p> Parts<'p> {
         held <= most && count <= most - held
     }
 
-    /// Which object is thrown.
+    /// Returns the object to throw for an exception's class. Without room for a new object it is the
+    /// `OutOfMemoryError`.
     pub fn exception_of(&self, class: Thrown) -> Exception
         ensures { result ≡ thrown_as self.now.limits self.now.state class }
     {
@@ -93,7 +94,7 @@ impl<'p> Parts<'p> {
         }
     }
 
-    /// The turn of this thread throws an exception of this class.
+    /// Returns the decision that a thread's turn throws an exception of this class.
     #[tactic(auto, unfolding(jvms_machine::specs::Exceptions::throws))]
     pub fn throws(&self, thread: &Thread, class: Thrown) -> Decided<'p>
         ensures { seen result ≡ throwing self.now.limits self.now.state thread.now class }

@@ -1,4 +1,4 @@
-//! How far the initialisation of classes has come, and what a turn that asks for it comes to (JVMS 5.5).
+//! The progress of class initialisation, and the decision on a turn that requires it (JVMS 5.5).
 
 ghost use Rattle.std.specs.Prelude.{◌≡◌, IsTrue, slice_get};
 ghost use Rattle.jvms_machine.specs.Decisions.{TurnDecision};
@@ -16,14 +16,14 @@ use jvms_program::thrown::Thrown;
 use machine_thread::Thread;
 
 impl<'p> Parts<'p> {
-    /// How far the initialisation of the class of a number has come.
+    /// Returns the state of the initialisation of a class.
     pub fn initialisation(&self, class: usize) -> Option<Initialisation>
         ensures { result ≡ slice_get self.now.state.initialisations class }
     {
         self.initialisations.as_slice().get(class).copied()
     }
 
-    /// Whether a turn that asks for the initialisation of a class is known to go on at once.
+    /// Fast path of `asking`: reports that a turn which requires the initialisation of a class continues.
     #[inline(always)]
     pub fn goes_on(&self, t: usize, class: usize) -> bool
         ensures { (thread : SeenThread) (go_on : TurnDecision) → IsTrue result → asks self.now.program self.now.limits self.now.state t thread class go_on ≡ go_on }
@@ -35,7 +35,8 @@ impl<'p> Parts<'p> {
         }
     }
 
-    /// The initialisation of a class begins, if there is room for the strings of its constants, and for its frame.
+    /// Decides the start of a class's initialisation. Throws if there is no room for the strings of its constants, or
+    /// for its frame.
     fn begin_decision(&self, thread: &Thread, class: usize) -> Decided<'p>
         ensures { seen result ≡ begins self.now.limits self.now.state thread.now class (slice_get self.now.program class) }
     {
@@ -51,7 +52,8 @@ impl<'p> Parts<'p> {
         Decision::Makes(Action::Begins { class })
     }
 
-    /// What a turn that asks for the initialisation of a class comes to before it goes on, if it doesn't go on at once.
+    /// Decides a turn that requires the initialisation of a class. Returns `None` if the turn continues, else the
+    /// decision instead of it.
     pub fn asking(&self, t: usize, thread: &Thread, class: usize) -> Option<Decided<'p>>
         ensures { (go_on : TurnDecision) → first_or go_on result ≡ asks self.now.program self.now.limits self.now.state t thread.now class go_on }
     {

@@ -1,4 +1,4 @@
-//! The kind of value that a type's values are on the stack, and the places that they take (JVMS 2.11.1).
+//! The kinds of the values of types, and their sizes in slots (JVMS 2.11.1).
 
 ghost use Rattle.std.specs.Prelude.{◌≡◌, ◌≤◌};
 ghost use Rattle.jvms_file.specs.Descriptors.{units_of};
@@ -21,7 +21,7 @@ fn kind_of_element(element: &Element) -> Kind
     }
 }
 
-/// The kind of value that a type's values are on the stack.
+/// Returns the kind of the values of a type on the operand stack.
 #[inline(always)]
 pub fn kind_of_type(t: &FieldType) -> Kind
     ensures { result ≡ type_kind t.now }
@@ -33,7 +33,7 @@ pub fn kind_of_type(t: &FieldType) -> Kind
     }
 }
 
-/// Returns how many places the values of a type take.
+/// Returns the number of slots of a type's values.
 #[inline(always)]
 pub fn type_size(t: &FieldType) -> u8
     ensures exact { result ≡ units_of t.now }

@@ -1,5 +1,5 @@
-//! The parts of a machine (JVMS 2.5): program, limits, heap, static fields, threads, monitors; the words of decisions, and
-//! what instructions of several families ask of the parts and make of them. No turn is decided or made here.
+//! The parts of a machine (JVMS 2.5): program, limits, heap, static fields, threads and monitors. Types of decisions,
+//! and helpers that instructions of several families share. No turn is decided or applied here.
 #![tactic(auto)]
 
 mod constants;

@@ -1,4 +1,4 @@
-//! What entering and leaving monitors makes of a machine (JVMS 2.11.10).
+//! Entering and leaving monitors (JVMS 2.11.10).
 
 ghost use Rattle.std.specs.Prelude.{◌≡◌, [], IsOk, IfOk, OnOk, OnErr};
 ghost use Rattle.jvms_machine.specs.declared.action.Effect.TheVariants as effects;
@@ -12,15 +12,15 @@ ghost use Rattle.trace.specs.Recording.{recorded};
 
 use crate::marks::push_listed;
 use crate::parts::Parts;
-use held::items::Items;
-use held::shared::{Shared, Text};
+use shared_data::items::Items;
+use shared_data::shared::{Shared, Text};
 use jvms_machine::action::{Lock, MonitorUse};
 use jvms_machine::machine::ThreadId;
 use jvms_machine::trace::Item;
 use std::alloc::AllocError;
 use trace::Recording;
 
-/// The event of entering a monitor: only the outermost entry is one.
+/// Returns the item of entering a monitor. Only the outermost entry has one.
 pub fn acquire_item(thread: ThreadId, monitor: MonitorUse) -> Option<Item>
     ensures { listed result ≡ acquire_items thread monitor }
 {
@@ -31,7 +31,7 @@ pub fn acquire_item(thread: ThreadId, monitor: MonitorUse) -> Option<Item>
     Some(Item::Acquire { thread, reference })
 }
 
-/// The event of leaving a monitor: only the exit that frees it is one.
+/// Returns the item of leaving a monitor. Only the exit that frees the monitor has one.
 pub fn release_item(thread: ThreadId, monitor: MonitorUse) -> Option<Item>
     ensures { listed result ≡ release_items thread monitor }
 {
@@ -42,7 +42,7 @@ pub fn release_item(thread: ThreadId, monitor: MonitorUse) -> Option<Item>
     Some(Item::Release { thread, reference })
 }
 
-/// The event of what a call locks.
+/// Returns the item of what a call locks.
 pub(crate) fn lock_item(thread: ThreadId, lock: Lock) -> Option<Item>
     ensures { listed result ≡ lock_items thread lock }
 {
@@ -53,7 +53,7 @@ pub(crate) fn lock_item(thread: ThreadId, lock: Lock) -> Option<Item>
     }
 }
 
-/// The event of what a call unlocks.
+/// Returns the item of what a call unlocks.
 pub(crate) fn unlock_item(thread: ThreadId, unlock: Option<MonitorUse>) -> Option<Item>
     ensures { listed result ≡ unlock_items thread unlock }
 {
@@ -61,7 +61,7 @@ pub(crate) fn unlock_item(thread: ThreadId, unlock: Option<MonitorUse>) -> Optio
 }
 
 impl Parts<'_> {
-    /// The name of the class of a number.
+    /// Returns the name of the class of a number, or an empty text if there is no such class.
     fn class_name(&self, class: usize) -> Result<Text, AllocError>
         ensures { IfOk result (λ name. name ≡ class_name_at self.now.program class) }
     {
@@ -71,7 +71,7 @@ impl Parts<'_> {
         }
     }
 
-    /// The object of a class is made, and its monitor, which is free, is entered.
+    /// Creates the object of a class, and enters its monitor, which is free. If there is no memory, nothing changes.
     #[tactic(auto, using(crate::proofs::MonitorLaws::entry_undone))]
     fn lock_new_class(
         &mut self,
@@ -92,7 +92,7 @@ impl Parts<'_> {
         Ok(())
     }
 
-    /// What a call locks is entered. Without memory nothing changes.
+    /// Enters the monitor that a call locks. If there is no memory, nothing changes.
     #[inline(always)]
     pub fn lock(&mut self, t: ThreadId, lock: Lock) -> Result<(), AllocError>
         requires { CanBeLocked self.old.state lock }
@@ -106,7 +106,7 @@ impl Parts<'_> {
         }
     }
 
-    /// A call leaves the monitor of its frame, if it has one.
+    /// Leaves the monitor that a call unlocks, if there is one.
     pub fn unlock(&mut self, unlock: Option<MonitorUse>)
         ensures { self.new ≡ with_state self.old (with_unlock self.old.state unlock) }
     {
@@ -115,7 +115,7 @@ impl Parts<'_> {
         }
     }
 
-    /// JVMS 6.5 monitorenter, with its event. Without memory nothing changes.
+    /// Applies JVMS 6.5 `monitorenter`, and records its item. If there is no memory, nothing changes.
     #[tactic(auto, using(trace::proofs::Recorded::cut_recorded))]
     pub fn enter_monitor(
         &mut self,
@@ -139,7 +139,7 @@ impl Parts<'_> {
         Ok(())
     }
 
-    /// JVMS 6.5 monitorexit, with its event.
+    /// Applies JVMS 6.5 `monitorexit`, and records its item. If there is no memory, nothing changes.
     pub fn exit_monitor(
         &mut self,
         t: ThreadId,

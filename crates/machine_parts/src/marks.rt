@@ -1,4 +1,4 @@
-//! The marks of calls in a trace.
+//! The marks of calls in a trace, and helpers that append items.
 
 ghost use Rattle.std.specs.Prelude.{◌≡◌, ◌++◌, [], None, IsOk, IfOk, OnOk, OnErr};
 ghost use Rattle.jvms_machine.specs.Actions.{enter_items, exit_items, lock_items, unlock_items};
@@ -15,7 +15,7 @@ use jvms_program::number::MethodNumber;
 use std::alloc::AllocError;
 use trace::Recording;
 
-/// Puts at most one item behind the others.
+/// Appends at most one item.
 #[inline(always)]
 #[tactic(auto, using(trace::proofs::Recorded::recorded_none))]
 pub fn push_listed(trace: &mut Recording, item: Option<Item>) -> Result<(), AllocError>
@@ -29,7 +29,7 @@ pub fn push_listed(trace: &mut Recording, item: Option<Item>) -> Result<(), Allo
     }
 }
 
-/// Puts at most two items behind the others, or none where there is no memory for both.
+/// Appends at most two items, or none if there is no memory for both.
 #[inline(always)]
 #[tactic(auto, using(trace::proofs::Recorded::recorded_both, trace::proofs::Recorded::cut_recorded))]
 fn push_both(
@@ -51,7 +51,7 @@ fn push_both(
 }
 
 impl Parts<'_> {
-    /// The key of a method for its marks: there is none of a method of a built-in class.
+    /// Returns the key of a method for its marks. A method of a built-in class has none.
     fn mark_key(&self, method: MethodNumber) -> Result<Option<MethodKey>, AllocError>
         ensures key { IfOk result (λ key. key ≡ marked_key self.now.program method) }
         ensures none { marked_key self.now.program method ≡ None → IsOk result }
@@ -62,7 +62,7 @@ impl Parts<'_> {
         self.program().key(method)
     }
 
-    /// The mark of a method's entry.
+    /// Returns the mark of a method's entry.
     #[inline(always)]
     pub fn enter_item(&self, t: ThreadId, method: MethodNumber) -> Result<Option<Item>, AllocError>
         ensures item { IfOk result (λ item. listed item ≡ enter_items self.now.program t method) }
@@ -73,7 +73,7 @@ impl Parts<'_> {
         Ok(Some(Item::Enter { thread: t, method }))
     }
 
-    /// The mark of a method's exit.
+    /// Returns the mark of a method's exit.
     #[inline(always)]
     pub fn exit_item(&self, t: ThreadId, method: MethodNumber) -> Result<Option<Item>, AllocError>
         ensures item { IfOk result (λ item. listed item ≡ exit_items self.now.program t method) }
@@ -85,7 +85,7 @@ impl Parts<'_> {
         Ok(Some(Item::Exit { thread: t, method }))
     }
 
-    /// Puts the mark of a method's entry and the event of what its call locks behind the other items, if any are kept.
+    /// Appends the mark of a method's entry, and the item of what its call locks, if items are recorded.
     #[inline(always)]
     pub fn record_entry(
         &self,
@@ -104,7 +104,7 @@ impl Parts<'_> {
         push_both(trace, item, lock_item(t, lock))
     }
 
-    /// Puts the event of what a call unlocks and the mark of its method's exit behind the other items, if any are kept.
+    /// Appends the item of what a call unlocks, and the mark of its method's exit, if items are recorded.
     #[inline(always)]
     pub fn record_exit(
         &self,

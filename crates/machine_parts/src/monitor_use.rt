@@ -1,4 +1,4 @@
-//! Monitors (JVMS 2.11.10): how a turn enters and leaves them.
+//! Decisions on entering and leaving monitors (JVMS 2.11.10).
 
 ghost use Rattle.std.specs.Prelude.{◌≡◌, Option, Some, drop};
 ghost use Rattle.jvms_machine.specs.declared.action.Lock.{Lock as Locked};
@@ -8,7 +8,7 @@ ghost use Rattle.jvms_machine.specs.Decisions.{TurnDecision};
 ghost use Rattle.jvms_machine.specs.Heap.{class_name_at};
 ghost use Rattle.jvms_machine.specs.Monitors.{entering as enters, entering_held as enters_held, leaving as leaves, class_locking as locks_class, locking as locks, object_locking as locks_object, unlocking as unlocks, fails_to_unlock as fails};
 ghost use Rattle.jvms_machine.specs.State.{class_reference};
-ghost use Rattle.machine_parts.specs.Before.{made_by_entry, made_by_exit, made_by_lock};
+ghost use Rattle.machine_parts.specs.Before.{turn_by_entry, turn_by_exit, turn_by_lock};
 ghost use Rattle.machine_parts.specs.Decided.{seen};
 
 use crate::decision::{Decided, never_seen};
@@ -22,34 +22,35 @@ use jvms_program::program::Method;
 use jvms_program::thrown::Thrown;
 use machine_thread::Thread;
 
-/// What entering a monitor comes to.
+/// The decision on entering a monitor.
 #[derive(Clone, Copy)]
 pub enum Entering<'p> {
     Enters(MonitorUse),
-    /// The turn comes to this before.
+    /// The turn does this instead.
     Stops(Decided<'p>),
 }
 
-/// What a call comes to by what it locks.
+/// The decision on what a call locks.
 #[derive(Clone, Copy)]
 pub enum Locking<'p> {
     Locks(Lock),
-    /// The turn comes to this before.
+    /// The turn does this instead.
     Stops(Decided<'p>),
 }
 
-/// How a call leaves the monitor of its frame.
+/// The decision on how a call leaves the monitor of its frame.
 #[derive(Clone, Copy)]
 pub enum Unlocking {
     Leaves(Option<MonitorUse>),
-    /// Its thread isn't the owner.
+    /// The thread isn't the owner of the monitor.
     Fails,
 }
 
 impl<'p> Parts<'p> {
-    /// A monitor that is held: its owner enters it once more, another thread waits.
+    /// Decides the entry of a held monitor. Its owner enters it again, and any other thread blocks. Throws
+    /// `OutOfMemoryError` if the entry count is at its maximum.
     fn entering_held(&self, t: usize, thread: &Thread, reference: u32, hold: Hold) -> Entering<'p>
-        ensures { (make : Used → TurnDecision) → made_by_entry make result ≡ enters_held self.now.limits self.now.state t thread.now reference (Some hold) make }
+        ensures { (make : Used → TurnDecision) → turn_by_entry make result ≡ enters_held self.now.limits self.now.state t thread.now reference (Some hold) make }
     {
         if hold.owner as usize != t {
             let on = BlockedOn::Monitor {
@@ -67,9 +68,9 @@ impl<'p> Parts<'p> {
         })
     }
 
-    /// The monitor of an object is entered.
+    /// Decides the entry of an object's monitor.
     pub fn entering(&self, t: usize, thread: &Thread, reference: u32) -> Entering<'p>
-        ensures { (make : Used → TurnDecision) → made_by_entry make result ≡ enters self.now.limits self.now.state t thread.now reference make }
+        ensures { (make : Used → TurnDecision) → turn_by_entry make result ≡ enters self.now.limits self.now.state t thread.now reference make }
     {
         match self.monitor(reference) {
             None => Entering::Enters(MonitorUse {
@@ -80,7 +81,7 @@ impl<'p> Parts<'p> {
         }
     }
 
-    /// How a thread leaves a monitor, if it is the owner.
+    /// Returns how a thread leaves a monitor, or `None` if it isn't the owner.
     pub fn leaving(&self, t: usize, reference: u32) -> Option<MonitorUse>
         ensures { result ≡ leaves self.now.state t reference }
     {
@@ -94,9 +95,9 @@ impl<'p> Parts<'p> {
         })
     }
 
-    /// A call locks an object that is there.
+    /// Decides the locking of an existing object by a call.
     fn object_locking(&self, t: usize, thread: &Thread, reference: u32) -> Locking<'p>
-        ensures { (make : Locked → TurnDecision) → made_by_lock make result ≡ locks_object self.now.limits self.now.state t thread.now (Some reference) make }
+        ensures { (make : Locked → TurnDecision) → turn_by_lock make result ≡ locks_object self.now.limits self.now.state t thread.now (Some reference) make }
     {
         match self.entering(t, thread, reference) {
             Entering::Enters(monitor) => Locking::Locks(Lock::Monitor(monitor)),
@@ -104,7 +105,7 @@ impl<'p> Parts<'p> {
         }
     }
 
-    /// A call locks the object of a class, which is made at its first use.
+    /// Decides the locking of a class's object by a call. The object is created at its first use.
     fn class_locking(
         &self,
         t: usize,
@@ -112,7 +113,7 @@ impl<'p> Parts<'p> {
         class: usize,
         held: Option<u32>,
     ) -> Locking<'p>
-        ensures { (make : Locked → TurnDecision) → made_by_lock make result ≡ locks_class self.now.limits self.now.state t thread.now class held make }
+        ensures { (make : Locked → TurnDecision) → turn_by_lock make result ≡ locks_class self.now.limits self.now.state t thread.now class held make }
     {
         match held {
             Some(reference) => self.object_locking(t, thread, reference),
@@ -127,7 +128,7 @@ impl<'p> Parts<'p> {
         }
     }
 
-    /// The object of the class of a number, if it is there.
+    /// Returns the object of the class of a number, if it exists.
     fn class_object(&self, class: usize) -> Option<u32>
         ensures { result ≡ class_reference self.now.state.heap (class_name_at self.now.program class) }
     {
@@ -137,7 +138,7 @@ impl<'p> Parts<'p> {
         }
     }
 
-    /// What a call of a method locks: of a synchronized method the receiver, or the object of its class.
+    /// Decides what a call of a method locks: the receiver or the class object of a synchronized method, else nothing.
     pub fn locking(
         &self,
         t: usize,
@@ -146,7 +147,7 @@ impl<'p> Parts<'p> {
         method: &Method,
         receiver: Option<u32>,
     ) -> Locking<'p>
-        ensures { (make : Locked → TurnDecision) → made_by_lock make result ≡ locks self.now.program self.now.limits self.now.state t thread.now n method.now receiver make }
+        ensures { (make : Locked → TurnDecision) → turn_by_lock make result ≡ locks self.now.program self.now.limits self.now.state t thread.now n method.now receiver make }
     {
         if !method.flags.is_synchronized {
             return Locking::Locks(Lock::Nothing);
@@ -160,9 +161,9 @@ impl<'p> Parts<'p> {
         }
     }
 
-    /// A call leaves the monitor of its frame, if it has one.
+    /// Decides how a call leaves the monitor of its frame, if it has one.
     pub fn unlocking(&self, t: usize, frame: &Frame) -> Unlocking
-        ensures { (fails : TurnDecision) (make : Option Used → TurnDecision) → made_by_exit fails make result ≡ unlocks self.now.state t frame.now.monitor fails make }
+        ensures { (fails : TurnDecision) (make : Option Used → TurnDecision) → turn_by_exit fails make result ≡ unlocks self.now.state t frame.now.monitor fails make }
     {
         match frame.monitor() {
             None => Unlocking::Leaves(None),
@@ -173,7 +174,7 @@ impl<'p> Parts<'p> {
         }
     }
 
-    /// The call of this frame, which is on top, can't leave its monitor.
+    /// Returns the decision that the top call fails to leave its monitor, with an `IllegalMonitorStateException`.
     pub fn fails_to_unlock(&self, thread: &Thread, frame: &Frame) -> Decided<'p>
         ensures { seen result ≡ fails self.now.limits self.now.state frame.now.method (drop 1 thread.now.frames) }
     {

@@ -17,7 +17,7 @@ use program::Program;
 use std::alloc::{AllocError, Global};
 use std::marker::Model;
 
-/// The parts of a machine, also in the middle of a turn. The program is that of the heap.
+/// The parts of a machine, valid also in the middle of a turn. The program is that of the heap.
 #[derive(Drop)]
 pub struct Parts<'p> {
     pub alloc: Global,
@@ -61,7 +61,7 @@ impl<'p> Model for Parts<'p> {
     ghost invariant = { λ m. m.statics.program ≡ m.heap.program };
 }
 
-/// The same threads once more.
+/// Returns copies of the threads.
 fn copied_threads<'p>(alloc: Global, threads: &[Thread<'p>]) -> Result<Vec<Thread<'p>>, AllocError>
     ensures { IfOk result (λ copies. copies.items ≡ threads.now) }
 {
@@ -72,7 +72,7 @@ fn copied_threads<'p>(alloc: Global, threads: &[Thread<'p>]) -> Result<Vec<Threa
     Ok(copies)
 }
 
-/// Makes a heap with no objects, and copies the static fields.
+/// Returns a heap without objects, and a copy of the static fields.
 fn fields_without_objects<'p>(
     alloc: Global,
     heap: &Heap<'p>,
@@ -84,7 +84,7 @@ fn fields_without_objects<'p>(
     Ok((empty, statics.copy(alloc)?))
 }
 
-/// The same monitors, held alike, and the same threads that wait, once more.
+/// Returns copies of the held monitors and of the waiting threads.
 fn copied_monitors(
     alloc: Global,
     monitors: &Monitors,
@@ -97,7 +97,7 @@ fn copied_monitors(
 }
 
 impl<'p> Parts<'p> {
-    /// Copies all parts but the objects of the heap. The copy has none.
+    /// Copies all parts except the objects of the heap. The copy has none.
     pub(crate) fn copy_without_objects(&self) -> Result<Parts<'p>, AllocError>
         ensures { IfOk result (λ parts. parts ≡ without_objects self.now) }
     {
@@ -134,14 +134,14 @@ impl<'p> Parts<'p> {
         Ok(parts)
     }
 
-    /// The program.
+    /// Returns the program.
     pub fn program(&self) -> &'p Program
         ensures { result.now ≡ self.now.program }
     {
         self.heap.program()
     }
 
-    /// The thread that was started of a Thread object.
+    /// Returns the index of the thread that was started by a Thread object.
     pub fn thread_of(&self, reference: u32) -> Option<usize>
         ensures { result ≡ thread_of self.now.state.threads reference }
     {
@@ -151,14 +151,14 @@ impl<'p> Parts<'p> {
             .position(|thread| thread.is_of(reference))
     }
 
-    /// Whether a thread waits and wasn't notified.
+    /// Decides whether a thread waits and wasn't notified.
     pub fn is_waiter(&self, t: usize) -> bool
         ensures { result ≡ is_waiter t self.now.state.waiters }
     {
         self.waiters.contains(t)
     }
 
-    /// How the monitor of an object is held, if it is.
+    /// Returns the owner and the entry count of an object's monitor, or `None` if it isn't held.
     pub fn monitor(&self, reference: u32) -> Option<Hold>
         ensures { result ≡ monitor_at self.now.state.monitors reference }
     {

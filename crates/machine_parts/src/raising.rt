@@ -1,4 +1,4 @@
-//! What an exception makes of a machine (JVMS 2.10).
+//! Raising an exception in a machine (JVMS 2.10).
 
 ghost use Rattle.std.specs.Prelude.{◌≡◌, IsOk, IsTrue, IfOk, OnOk, OnErr};
 ghost use Rattle.jvms_machine.specs.declared.action.Action.TheVariants as action;
@@ -15,7 +15,8 @@ use jvms_machine::machine::ThreadId;
 use std::alloc::AllocError;
 
 impl Parts<'_> {
-    /// Makes the object of an exception, unless it is there, and gives its reference.
+    /// Creates the object of an exception unless it exists, and returns its reference. If there is no memory, nothing
+    /// changes.
     #[tactic(auto, using(crate::proofs::HeapLaws::of_its_name))]
     pub fn throw(&mut self, exception: Exception) -> Result<u32, AllocError>
         requires { HasReference self.old.state }
@@ -35,7 +36,7 @@ impl Parts<'_> {
         }
     }
 
-    /// An exception is pending.
+    /// Makes an exception pending in a thread. If there is no memory, nothing changes.
     #[tactic(auto, unfolding(jvms_machine::specs::Actions::applied_to))]
     pub fn raise(&mut self, t: ThreadId, exception: Exception) -> Result<(), AllocError>
         requires { HasReference self.old.state }
@@ -50,7 +51,7 @@ impl Parts<'_> {
         Ok(())
     }
 
-    /// The first call throws an exception, and its thread ends.
+    /// Ends a thread whose first call throws an exception. If there is no memory, nothing changes.
     #[tactic(auto, unfolding(jvms_machine::specs::Actions::applied_to))]
     pub fn fail(&mut self, t: ThreadId, exception: Exception) -> Result<(), AllocError>
         requires { HasReference self.old.state }

@@ -1,4 +1,4 @@
-//! The parts of machines that are saved. They share the objects that did not change from one machine to the next.
+//! The saved parts of machines. Consecutive saved machines share the objects that did not change.
 
 ghost use Rattle.std.specs.Prelude.{◌≡◌, IfOk};
 
@@ -7,10 +7,10 @@ use heap::SavedHeap;
 use std::alloc::AllocError;
 use std::marker::Model;
 
-/// The parts of a machine, saved. Contracts see the parts themselves.
+/// The saved parts of a machine. Contracts see the parts themselves.
 #[derive(Drop)]
 pub struct SavedParts<'p> {
-    /// All parts but the objects, of which there are none.
+    /// All parts except the objects. Its heap is empty.
     rest: Parts<'p>,
     heap: SavedHeap<'p>,
 }
@@ -24,17 +24,17 @@ impl<'p> Model for SavedParts<'p> {
 
     ghost view = { λ s. with_objects s.heap s.rest };
 
-    // The objects are of the program of the other parts.
+    // The saved heap is of the same program as the other parts.
     ghost invariant = { λ s. s.rest.program ≡ s.heap.program };
 }
 
-/// Returns the heap of saved parts, or none.
+/// Returns the heap of saved parts, if there are any.
 fn heap_of<'a, 'p>(saved: Option<&'a SavedParts<'p>>) -> Option<&'a SavedHeap<'p>> {
     Some(&saved?.heap)
 }
 
 impl<'p> Parts<'p> {
-    /// Saves the parts. Objects that are as in earlier saved parts, in groups, are shared with them.
+    /// Saves the parts. Groups of objects that equal those of the earlier saved parts are shared with them.
     pub fn save(&self, before: Option<&SavedParts<'p>>) -> Result<SavedParts<'p>, AllocError>
         ensures { IfOk result (λ saved. saved ≡ self.now) }
     {
@@ -45,7 +45,7 @@ impl<'p> Parts<'p> {
 }
 
 impl<'p> SavedParts<'p> {
-    /// Makes parts that are as the saved ones. Those stay as they are.
+    /// Returns parts equal to the saved ones, which stay as they are.
     pub fn restore(&self) -> Result<Parts<'p>, AllocError>
         ensures { IfOk result (λ parts. parts ≡ self.now) }
     {

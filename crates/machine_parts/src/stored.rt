@@ -1,17 +1,17 @@
-//! What is kept of a value that is stored in a field, or in an array's element (JVMS 2.3).
+//! The form of a value in a field or in an array element (JVMS 2.3).
 
 ghost use Rattle.std.specs.Prelude.{◌≡◌};
 ghost use Rattle.jvms_file.specs.declared.descriptor.Element.TheVariants as element;
 ghost use Rattle.jvms_machine.specs.Heap.{narrowed_to, stored_as};
 ghost use Rattle.descriptor.specs.Scanning.{type_of};
 
-use descriptor::{Innermost, Spelled};
+use descriptor::{ParsedElement, ParsedType};
 use jvm_num::narrow;
 use jvms_file::descriptor::{Element, FieldType, Primitive};
 use jvms_file::insn::Narrow;
 use jvms_machine::value::Value;
 
-/// What is kept of an int in a variable of a primitive type.
+/// Returns an int narrowed to a primitive type.
 #[inline(always)]
 fn narrowed_to(primitive: Primitive, n: i32) -> i32
     ensures { result ≡ narrowed_to (element.Primitive primitive) n }
@@ -25,7 +25,7 @@ fn narrowed_to(primitive: Primitive, n: i32) -> i32
     }
 }
 
-/// What is kept of a value in a field of a type.
+/// Returns a value in the form that a field of a type stores.
 #[inline(always)]
 pub fn stored_in_field(t: &FieldType, value: Value) -> Value
     ensures { result ≡ stored_as t.now value }
@@ -38,13 +38,13 @@ pub fn stored_in_field(t: &FieldType, value: Value) -> Value
     }
 }
 
-/// What is kept of a value in an element of an array whose components are of a type.
+/// Returns a value in the form that an array with components of a type stores.
 #[inline(always)]
-pub fn stored_in_component(t: Spelled<'_>, value: Value) -> Value
+pub fn stored_in_component(t: ParsedType<'_>, value: Value) -> Value
     ensures { result ≡ stored_as (type_of t.entry) value }
 {
     match (value, t.innermost) {
-        (Value::Int(n), Innermost::Primitive(primitive)) if t.dimensions == 0 => {
+        (Value::Int(n), ParsedElement::Primitive(primitive)) if t.dimensions == 0 => {
             Value::Int(narrowed_to(primitive, n))
         }
         _ => value,

@@ -1,4 +1,4 @@
-//! What waits and notifications make of a machine (JLS 17.2).
+//! Waits and notifications of a machine (JLS 17.2).
 
 ghost use Rattle.std.specs.Prelude.{◌≡◌, ◌∷◌, [], OnOk, OnErr};
 ghost use Rattle.jvms_machine.specs.declared.action.Effect.TheVariants as effects;
@@ -15,8 +15,8 @@ use std::alloc::AllocError;
 use trace::Recording;
 
 impl Parts<'_> {
-    /// A thread frees the monitor of an object, and is the last of those that wait for it, with its event. Without memory
-    /// nothing changes.
+    /// Frees the monitor of an object, and appends its thread to the waiters of the object. Records the release. If
+    /// there is no memory, nothing changes.
     #[tactic(auto, using(trace::proofs::Recorded::cut_recorded))]
     pub fn free_to_wait(
         &mut self,
@@ -43,7 +43,8 @@ impl Parts<'_> {
         Ok(())
     }
 
-    /// A thread takes the monitor again that it had freed, with its event. Without memory nothing changes.
+    /// Gives a thread the monitor that it had freed for its wait, and records the acquire. If there is no memory,
+    /// nothing changes.
     #[tactic(auto, using(trace::proofs::Recorded::cut_recorded))]
     pub fn retake_monitor(
         &mut self,

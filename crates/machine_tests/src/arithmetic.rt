@@ -1,10 +1,10 @@
-//! Arithmetic on ints: worked values, each by the text of an instruction (JVMS 6.5).
+//! Tests arithmetic on ints by worked values, each from the description of an instruction (JVMS 6.5).
 
 use jvm_num::{binary, divide, narrow, neg, wrap};
 use jvms_file::insn::{Binary, Division, Narrow};
 use std::process::Abort;
 
-/// Operations on two ints.
+/// Operations on two ints, with their results.
 const RESULTS: [(Binary, i32, i32, i32); 18] = [
     (Binary::Add, 2147483647, 1, -2147483648),
     (Binary::Add, 6, 4, 10),
@@ -26,7 +26,7 @@ const RESULTS: [(Binary, i32, i32, i32); 18] = [
     (Binary::ExclusiveOr, 6, 4, 2),
 ];
 
-/// Divisions of two ints.
+/// Divisions of two ints, with their results, if there are any.
 const QUOTIENTS: [(Division, i32, i32, Option<i32>); 8] = [
     (Division::Quotient, -2147483648, -1, Some(-2147483648)),
     (Division::Remainder, -2147483648, -1, Some(0)),
@@ -38,7 +38,7 @@ const QUOTIENTS: [(Division, i32, i32, Option<i32>); 8] = [
     (Division::Remainder, 1, 0, None),
 ];
 
-/// Ints in the range of a smaller type.
+/// Ints, with their values in the range of a smaller type.
 const NARROWED: [(Narrow, i32, i32); 4] = [
     (Narrow::Byte, 200, -56),
     (Narrow::Char, -1, 65535),

@@ -1,5 +1,5 @@
-//! The machine's calls that no row asks for: which entries are admitted, consecutive turns, what an opening has, and
-//! copies.
+//! Tests the machine's calls that no data of rules covers: which entries are admitted, consecutive turns, the state of
+//! a new machine, and copies.
 
 use crate::programs::{LIMITS, entry, program_of};
 use crate::results::results_after;
@@ -11,7 +11,7 @@ use std::process::Abort;
 use std::test::Fail;
 use trace::Recording;
 
-/// A class whose method is five instructions, the first four of which touch their frame alone.
+/// A class whose method has five instructions. The first four access their frame only.
 const ADDS: &str = "
 .class public R
 .method static add(II)I
@@ -25,8 +25,8 @@ const ADDS: &str = "
 .end method
 ";
 
-/// A class whose method enters the monitor of a string, makes an array of as many ints as its first argument says, and
-/// adds their number, by way of a static field, to the second.
+/// A class whose method enters the monitor of a string, and makes an array of as many ints as its first argument. It
+/// adds this length to the second argument by way of a static field.
 const COUNTS: &str = "
 .class public P
 .field static count I
@@ -58,7 +58,8 @@ fn admitted(
     Ok(admits(program, Limits { threads, ..LIMITS }, &entry))
 }
 
-/// Returns whether what can be run is admitted, and what has no thread, no class, or too few arguments.
+/// Returns whether an entry is admitted that can be run, and entries without a thread, without the class, and with too
+/// few arguments.
 fn all_admitted(alloc: Global, program: &Program) -> Result<[bool; 4], AllocError> {
     let two = [Argument::Int(20), Argument::Int(22)];
     let one = [Argument::Int(20)];
@@ -70,32 +71,32 @@ fn all_admitted(alloc: Global, program: &Program) -> Result<[bool; 4], AllocErro
     ])
 }
 
-/// Returns whether there is no such text, no such class object, and a first thread that hasn't ended.
+/// Decides whether a new machine has no such text, no such class object, and a first thread that hasn't ended.
 fn is_bare(machine: &Machine<'_>) -> bool {
     machine.text_reference(&[97]).is_none()
         && machine.class_reference(&[82]).is_none()
         && machine.has_ended(0) == Some(false)
 }
 
-/// Takes consecutive turns of a thread that isn't there, then at most three and at most nine of thread 0. Returns how
-/// many were taken each time, and the outcome of the next one.
+/// Takes consecutive turns of a thread that doesn't exist, then at most three and at most nine of thread 0. Returns the
+/// number of turns taken each time, and the outcome of the next one.
 fn consecutive(machine: &mut Machine<'_>, recording: &mut Recording) -> ([u64; 3], Outcome) {
     let taken = [
-        machine.step_on(7, 9, recording),
-        machine.step_on(0, 3, recording),
-        machine.step_on(0, 9, recording),
+        machine.step_consecutive(7, 9, recording),
+        machine.step_consecutive(0, 3, recording),
+        machine.step_consecutive(0, 9, recording),
     ];
     (taken, machine.peek(0))
 }
 
-/// Returns whether the opening is bare, and what those turns from it return.
+/// Returns whether the new machine is bare, and what those turns from it return.
 fn answers_of(machine: &mut Machine<'_>) -> (bool, ([u64; 3], Outcome)) {
     let opening_is_bare = is_bare(machine);
     let taken = consecutive(machine, &mut Recording::of_nothing());
     (opening_is_bare, taken)
 }
 
-/// Opens a machine and returns what it answers.
+/// Makes a machine, and returns what its calls return.
 fn answers(
     alloc: Global,
     program: &Program,
@@ -105,8 +106,8 @@ fn answers(
     Ok(answers_of(&mut machine))
 }
 
-/// Two turns initialise the class, and the third is the call. Four instructions continue it, and the fifth ends the
-/// thread.
+/// Asserts what a machine's calls return. Two turns initialise the class, and the third is the call. Four instructions
+/// continue it, and the fifth ends the thread.
 fn assert_answers(rt: &impl Abort, alloc: Global, program: &Program) -> Result<(), Fail> {
     let admitted = all_admitted(alloc, program)?;
     assert_eq!(rt; admitted, [true, false, false, false]);
@@ -130,8 +131,8 @@ fn a_machine_answers(rt: HostRuntime) -> Result<(), Fail> {
     assert_answers(&rt, rt.alloc(), &program)
 }
 
-/// Asserts that a machine and a copy of it return 7, whenever the copy is made. After nine turns there are a string,
-/// its monitor, an array and a static field with a value.
+/// Asserts that a machine and a copy of it return 7, after any number of turns before the copy. After nine turns there
+/// are a string, its monitor, an array and a static field with a value.
 fn assert_copies(rt: &impl Abort, alloc: Global, program: &Program) -> Result<(), Fail> {
     let entry = entry(
         alloc,

@@ -1,5 +1,5 @@
-//! Hierarchies of many classes: linking ends on each, and so does a turn that asks whether a class is below another.
-//! `bench/hierarchies.py` measures larger ones.
+//! Tests hierarchies of many classes. Linking terminates for each, and so does a turn that decides whether a class is a
+//! subtype of another. `bench/hierarchies.py` measures larger ones.
 
 use crate::programs::{class_of, entry};
 use crate::results::results_after;
@@ -10,7 +10,7 @@ use std::alloc::Global;
 use std::process::Abort;
 use std::test::Fail;
 
-/// A method of an interface that names a field which isn't there.
+/// A method of an interface that names a missing field.
 const REFERENCE: &str = "
 .method static <clinit>()V
 getstatic I0/nope I
@@ -19,7 +19,7 @@ return
 .end method
 ";
 
-/// Circles by their number of interfaces, each interface with this method.
+/// Cycles, by their number of interfaces. Each interface has this method.
 const CIRCLES: [(usize, &str); 6] = [
     (1, ""),
     (1, REFERENCE),
@@ -29,15 +29,15 @@ const CIRCLES: [(usize, &str); 6] = [
     (37, REFERENCE),
 ];
 
-/// Diamonds by their number of levels, each interface with this method, and how many classes their program has. Of
-/// these, 37 are built in.
+/// Diamonds, by their number of levels. Each interface has this method. The last number is that of the program's
+/// classes, 37 of which are built in.
 const DIAMONDS: [(usize, &str, usize); 2] = [(30, "", 97), (30, REFERENCE, 97)];
 
 /// The number of interfaces of the chain.
 const DEPTH: usize = 2_000;
 
-/// A class below all interfaces of the chain. It names a field which isn't there, and asks whether it is below the
-/// topmost interface, and below one that it isn't below: f returns 1 shifted by 0.
+/// A class below all interfaces of the chain, which also names a missing field. f decides whether it is a subtype of
+/// the topmost interface, which it is, and of Runnable, which it isn't. It returns 1 shifted left by 0.
 const LOWEST: &str = "
 .class C
 .implements I1999
@@ -78,7 +78,7 @@ fn interface(
     class_of(alloc, text.as_str())
 }
 
-/// Assembles `count` interfaces, each above the one before and the last above the first.
+/// Assembles `count` interfaces, each above the one before and the first above the last.
 fn circle(alloc: Global, count: usize, method: &str) -> Result<Vec<ClassFile>, Fail> {
     let mut files = Vec::new(alloc);
     for number in 0..count {
@@ -102,7 +102,7 @@ fn assert_circles(rt: &impl Abort, alloc: Global, circles: &[(usize, &str)]) -> 
     Ok(())
 }
 
-/// Assembles `levels` levels of two interfaces, both below both of the level before.
+/// Assembles `levels` levels of two interfaces, each below both interfaces of the level before.
 fn diamonds(alloc: Global, levels: usize, method: &str) -> Result<Vec<ClassFile>, Fail> {
     let mut files = Vec::new(alloc);
     for number in 0..levels.saturating_mul(2) {
@@ -114,7 +114,7 @@ fn diamonds(alloc: Global, levels: usize, method: &str) -> Result<Vec<ClassFile>
     Ok(files)
 }
 
-/// Returns how many classes a program of diamonds has.
+/// Returns the number of classes of a program of diamonds.
 fn linked_diamonds(alloc: Global, levels: usize, method: &str) -> Result<usize, Fail> {
     let files = diamonds(alloc, levels, method)?;
     let program = link(alloc, files)?;
@@ -157,7 +157,7 @@ fn chain_program(alloc: Global) -> Result<Program, Fail> {
     Ok(link(alloc, files)?)
 }
 
-/// The method f returns 1 to a machine, and to a copy of it.
+/// Asserts that the method f returns 1 to a machine, and to a copy of it.
 fn assert_run(rt: &impl Abort, alloc: Global, program: &Program) -> Result<(), Fail> {
     let entry = entry(alloc, "C", "f", "()I", &[])?;
     let results = results_after(alloc, program, &entry, 0)?;

@@ -2,9 +2,9 @@
 //! proved once. Expected values are from the Java Virtual Machine Specification (JVMS), never from the program's
 //! answers.
 //!
-//! Only what no clause says is tested: that the definitions agree with it, and that public calls succeed with ample
-//! memory. The instruction table is tested by the data of `row_cases`, turn by turn, and what a run prints by that
-//! of `command_cases`.
+//! Only what no clause states is tested: that the definitions agree with the specification, and that public calls
+//! succeed with ample memory. The data of `row_cases` tests the rules of instructions turn by turn, and the data of
+//! `command_cases` tests what a run prints.
 #![tactic(auto)]
 
 #[cfg(test)]

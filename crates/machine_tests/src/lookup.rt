@@ -1,4 +1,4 @@
-//! What is looked up in programs, by the Java Virtual Machine Specification (JVMS 5.4.3, 6.5).
+//! Tests look-ups in programs, by the Java Virtual Machine Specification (JVMS 5.4.3, 6.5).
 
 use crate::programs::program_of;
 use built_in::is_built_in;
@@ -12,13 +12,13 @@ use std::alloc::Global;
 use std::process::Abort;
 use std::test::Fail;
 
-/// Names of classes.
+/// The names of classes.
 const A: [u16; 1] = [65];
 
 const C: [u16; 1] = [67];
 
-/// 37, A, extends 38, B, extends Object, and 39, I, extends Runnable; A has the static `own`, B has `up`. 40, C,
-/// extends A and implements I.
+/// The classes after the built-in ones, by their numbers. A (37) extends B (38), which extends Object. I (39) extends
+/// Runnable. C (40) extends A and implements I. A has the static method `own`, and B has `up`.
 const SOURCES: [&str; 4] = [
     ".class A\n.super B\n.method static own()V\nreturn\n.end method",
     ".class B\n.method up()V\nreturn\n.end method",
@@ -26,7 +26,7 @@ const SOURCES: [&str; 4] = [
     ".class C\n.super A\n.implements I",
 ];
 
-/// Returns how many classes there are, the number of class A, and whether it and its method are found.
+/// Returns the number of classes, the number of class A, and whether it and its method are found.
 fn found(program: &Program) -> (usize, Option<usize>, bool, bool) {
     let own = MethodNumber {
         class: 37,
@@ -96,7 +96,7 @@ fn selects_methods(rt: &impl Abort, alloc: Global, program: &Program) -> Result<
     Ok(())
 }
 
-/// Makes each of these calls once.
+/// Tests each of these calls once.
 fn looks_up(rt: &impl Abort, alloc: Global, program: &Program) -> Result<(), Fail> {
     looks_up_by_name(rt, program);
     resolves_methods(rt, alloc, program)?;

@@ -1,4 +1,5 @@
-//! Outcomes are returned as they were put in: one of each kind, since no program asks a list for all of its outcomes.
+//! Tests that outcomes are returned as they were appended to a list. Each kind is tested here, as no program needs a
+//! list with all of its outcomes.
 
 use jvms_machine::machine::{BadCause, BlockedOn, Outcome};
 use outcome_list::OutcomeList;
@@ -6,7 +7,7 @@ use std::alloc::{AllocError, Global};
 use std::process::Abort;
 use std::test::Fail;
 
-/// Outcomes of every kind, and some once more with other names.
+/// Outcomes of every kind. Some kinds are repeated with other numbers.
 const OUTCOMES: [Outcome; 17] = [
     Outcome::Ran,
     Outcome::Blocked {

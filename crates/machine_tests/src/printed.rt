@@ -1,4 +1,4 @@
-//! What is printed of some texts and numbers.
+//! Tests what is printed of texts and numbers.
 
 use jvms_machine::action::Printed;
 use printing::{put_line, put_text};
@@ -6,7 +6,7 @@ use std::alloc::{AllocError, Global};
 use std::process::Abort;
 use std::test::Fail;
 
-/// UTF-16 code units, and what is printed of them. Half of a supplementary character is a question mark.
+/// UTF-16 code units, with the bytes that are printed. Half of a supplementary character is printed as a question mark.
 const TEXTS: [(&[u16], &[u8]); 4] = [
     (&[], b""),
     (&[0x0000, 0xd83d, 0xde00], &[0x00, 0xf0, 0x9f, 0x98, 0x80]),

@@ -1,8 +1,9 @@
-//! Programs of sources in Jasmin, and their entries, for other tests: none builds a class instruction by instruction.
+//! Provides programs of Jasmin sources and their entries to other tests, so that none builds a class instruction by
+//! instruction.
 
 use assembler::assemble;
 use fixtures::texts::units;
-use held::items::Items;
+use shared_data::items::Items;
 use jasmin_reader::read;
 use linker::{ClassFile, link};
 use machine::{Argument, Entry, Limits};
@@ -10,7 +11,7 @@ use program::Program;
 use std::alloc::{AllocError, Global};
 use std::test::Fail;
 
-/// Limits of one thread. What runs under them needs little else.
+/// Limits of one thread. Other resources are limited to 10.
 pub const LIMITS: Limits = Limits {
     objects: 10,
     elements: 10,
@@ -24,7 +25,7 @@ pub fn class_of(alloc: Global, text: &str) -> Result<ClassFile, Fail> {
     Ok(assemble(alloc, &source)?.into_class())
 }
 
-/// Links the program of these sources, in order. A fault of one of them, or of their linking, is that of the test.
+/// Links the program of these sources, in order. A fault of a source or of linking is that of the test.
 pub fn program_of(alloc: Global, sources: &[&str]) -> Result<Program, Fail> {
     let mut files = Vec::new(alloc);
     for text in sources {
@@ -33,7 +34,7 @@ pub fn program_of(alloc: Global, sources: &[&str]) -> Result<Program, Fail> {
     Ok(link(alloc, files)?)
 }
 
-/// Returns the entry by a static method, with arguments.
+/// Returns the entry of a static method, with arguments.
 pub fn entry(
     alloc: Global,
     class: &str,

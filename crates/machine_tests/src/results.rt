@@ -1,4 +1,4 @@
-//! Results of machines, for other tests: what a copy of one returns, and what it returns itself.
+//! Provides the results of machines to other tests: those of a copy, and of the machine itself.
 
 use crate::programs::LIMITS;
 use jvms_machine::value::Value;
@@ -11,7 +11,7 @@ use trace::Recording;
 /// Runs thread 0 to its end and returns the result.
 fn result_of(machine: &mut Machine<'_>) -> Result<Option<Value>, AllocError> {
     let mut recording = Recording::of_nothing();
-    let _ = machine.step_on(0, 99, &mut recording);
+    let _ = machine.step_consecutive(0, 99, &mut recording);
     let _ = machine.step_watched(0, &mut recording)?;
     Ok(machine.result())
 }
@@ -26,12 +26,12 @@ fn results_of(
 
 /// Takes `turns` turns and makes a copy. Runs the copy to its end, then the machine itself, and returns their results.
 fn results_of_both(machine: &mut Machine<'_>, turns: u64) -> Result<[Option<Value>; 2], Fail> {
-    let _ = machine.step_on(0, turns, &mut Recording::of_nothing());
+    let _ = machine.step_consecutive(0, turns, &mut Recording::of_nothing());
     let mut copy = machine.copy()?;
     results_of(&mut copy, machine)
 }
 
-/// Opens a machine and returns those results.
+/// Makes a machine and returns those results.
 pub fn results_after(
     alloc: Global,
     program: &Program,

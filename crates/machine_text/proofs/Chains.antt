@@ -1,4 +1,4 @@
--- The way up the superclasses of a class, from the class on.
+-- The chain of a class: the class and its superclasses.
 use Rattle.std.proofs.Common.{◌≡◌, ℕ, zero, suc, ◌+◌, List, [], ◌∷◌, ◌++◌, map, Option, Some, None, Bor, refl, sym, ap, arith}
 use Rattle.std.proofs.lemmas.List.{append_assoc, map-append}
 use Rattle.std.specs.Option.{option_and_then, option_copied}
@@ -10,7 +10,7 @@ use Rattle.jvms_program.specs.Resolution.{chain_within}
 abbrev pub superclass_of : List Class → Class → Option Class
 superclass_of program c = option_and_then (class_named program) c.superclass
 
--- A class, if it is there, its superclass, and so on, up to n classes.
+-- Returns a class and its superclasses, at most n classes.
 abbrev pub chain_from : List Class → ℕ → Option Class → List Class
 chain_from program zero o = []
 chain_from program (suc most) None = []
@@ -45,7 +45,7 @@ unfolding chain_within
 found program most name None so h = rw (← h) refl
 found program most name (Some c) so h = above program most name c c.superclass so h refl
 
--- The chain of a class, from the class on.
+-- The chain of a named class begins with that class.
 pub of_class : (program : List Class) (most : ℕ) (name : List ℕ) →
     chain_within most program name ≡ chain_from program most (class_named program name)
 unfolding chain_within
@@ -54,7 +54,7 @@ of_class program (suc most) name = found program most name (class_named program 
 
 pub ruleset ways = (of_none, of_some, of_class)
 
--- One more class, where there are more.
+-- One more class of a chain, if there is another.
 pub one_more : (program : List Class) (most less : ℕ) (classes more : List (Bor Class)) (next above : Option (Bor Class))
     (c : Bor Class) (all : List Class) →
     most ≡ less + 1 → more ≡ classes ++ c ∷ [] → next ≡ Some c → option_copied above ≡ superclass_of program c.now →

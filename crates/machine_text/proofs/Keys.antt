@@ -29,7 +29,7 @@ lines_by_class line test (c ∷ classes) =
     )
     refl
 
--- What holds of all items holds of the one at a place.
+-- A property of all items of a list is one of the item at an index.
 at_place : {X : Type 0} (P : X → Type 0) (xs : List X) (i : ℕ) (x : X) →
     slice_get xs i ≡ Some x → AllByRecursion P xs → P x
 at_place P [] i x h all = absurd cc

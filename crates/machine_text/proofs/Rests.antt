@@ -1,11 +1,11 @@
--- What is left of a list, and its texts.
+-- The rest of a list from an index, and its texts.
 use Rattle.std.proofs.Common.{◌≡◌, ℕ, zero, suc, ◌+◌, List, [], ◌∷◌, ◌++◌, drop, flat_map, refl, sym, add-one}
 use Rattle.std.proofs.lemmas.List.{append_assoc}
 use Rattle.std.specs.List.{enumerate_from, slice_get}
 use Rattle.machine_text.specs.Parts.{if_there}
 
 module _ {X : Type 0} where
-  -- The texts of what is left are that of its first item and those of the rest.
+  -- The texts of a rest are that of its first item and those after it.
   first_of_rest : (f : X → List ℕ) (xs : List X) (i : ℕ) →
       flat_map f (drop i xs) ≡ if_there f (slice_get xs i) ++ flat_map f (drop (suc i) xs)
   first_of_rest f [] zero = refl
@@ -24,14 +24,14 @@ module _ {X : Type 0} where
   next_rest : (xs : List X) (i : ℕ) → drop (i + 1) xs ≡ drop (suc i) xs
   next_rest xs i = rw add-one refl
 
-  -- The text of one more item, and those of the items that are left after it.
+  -- The text of one more item, followed by those of the rest after it.
   pub one_more : (f : X → List ℕ) (xs : List X) (i : ℕ) (before now all : List ℕ) →
       now ≡ before ++ if_there f (slice_get xs i) → before ++ flat_map f (drop i xs) ≡ all →
       now ++ flat_map f (drop (i + 1) xs) ≡ all
   one_more f xs i before now all h so_far =
       rw (h, next_rest, append_assoc, sym (first_of_rest f xs i)) so_far
 
-  -- The same of items with their numbers.
+  -- The text of one more numbered item, followed by those of the rest after it.
   pub one_more_numbered : (f : ℕ × X → List ℕ) (xs : List X) (i : ℕ) (before now all : List ℕ) →
       now ≡ before ++ if_there (λ x. f (i, x)) (slice_get xs i) →
       before ++ flat_map f (enumerate_from i (drop i xs)) ≡ all →

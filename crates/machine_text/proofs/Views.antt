@@ -1,4 +1,4 @@
--- What a machine tells of its threads.
+-- The parts of a machine's threads.
 use Rattle.std.proofs.Common.{◌≡◌, ℕ, zero, suc, ◌<◌, List, [], ◌∷◌, length, Option, Some, None, refl, arith}
 use Rattle.std.specs.List.{slice_get}
 use Rattle.std.specs.Option.{option_and_then}
@@ -14,13 +14,13 @@ pub frame_is : (o : Option Thread) (depth : ℕ) →
 frame_is None depth = refl
 frame_is (Some thread) depth = refl
 
--- A list has an item at each number below its length.
+-- A list has an item at each index below its length.
 there : {X : Type 0} (xs : List X) (i : ℕ) → i < length xs → (x : X) × (slice_get xs i ≡ Some x)
 there [] i h = absurd (omega arith)
 there (x ∷ xs) zero h = (x, refl)
 there (x ∷ xs) (suc i) h = there xs i (omega arith)
 
--- The line of a thread that was started, from its parts.
+-- The line of a started thread, by its parts.
 pub line_is : (m : Machine) (t : ℕ) → t < length m.state.threads →
     line_of_thread m t ≡ if_there (thread_line m t) (thread_at m t)
 line_is m t h = let found = there m.state.threads t h in rw found.1 refl

@@ -1,4 +1,4 @@
--- The texts that the functions of this crate append, from what they ask of a machine.
+-- The texts that the functions of this crate append, by the machine's parts that they read.
 use Rattle.std.specs.Prelude.{◌≡◌, ℕ, Bool, not, List, [], ◌++◌, codes, length, Option, Some, None}
 use Rattle.std.specs.Fmt.{decimal}
 use Rattle.std.specs.List.{filter, flat_map}
@@ -9,7 +9,7 @@ use Rattle.jvms_program.specs.declared.key.FieldKey.{FieldKey}
 use Rattle.jvms_program.specs.declared.program.Class.{Class}
 use Rattle.jvms_program.specs.declared.program.Field.{Field}
 use Rattle.jvms_program.specs.Program.{field_key}
-use Rattle.machine.specs.Machine.{Machine, row_of}
+use Rattle.machine.specs.Machine.{Machine, transition_of}
 use Rattle.machine.specs.Views.{frame_at, thread_at}
 use Rattle.machine_text.specs.declared.fields.Keeper.{Keeper}
 use Rattle.machine_text.specs.declared.fields.Keeper.TheVariants as keeper
@@ -19,17 +19,17 @@ use Rattle.machine_text.specs.Objects.{field_line}
 use Rattle.machine_text.specs.Outcomes.{outcome_text}
 use Rattle.machine_text.specs.Threads.{pending_text, top_text}
 
--- The text of something, or nothing where it isn't there.
+-- The text of an optional value, or nothing.
 abbrev pub if_there : {X : Type 0} → (X → List ℕ) → Option X → List ℕ
 if_there text_of None = []
 if_there text_of (Some x) = text_of x
 
 -- ---- Threads
 
--- The line of a thread, from its parts.
+-- The line of a thread, by its parts.
 abbrev pub line_of_thread : Machine → ℕ → List ℕ
 line_of_thread m t =
-    codes "thread " ++ decimal t ++ codes " " ++ outcome_text m.program (row_of m t).outcome
+    codes "thread " ++ decimal t ++ codes " " ++ outcome_text m.program (transition_of m t).outcome
     ++ top_text m.program (frame_at m t 0) ++ pending_text (option_and_then (λ x. x.pending) (thread_at m t)) ++ codes "\n"
 
 -- The frames of a thread, if it was started.
@@ -39,7 +39,7 @@ frames_of (Some thread) = thread.frames
 
 -- ---- Objects
 
--- The elements of an array, none of another object.
+-- The elements of an array. Another object has none.
 abbrev pub elements_of : Option Object → List Value
 elements_of (Some (array class elements)) = elements
 elements_of _ = []
@@ -47,7 +47,7 @@ elements_of _ = []
 abbrev pub elements_at : Machine → ℕ → List Value
 elements_at m r = elements_of (object_at m.state.heap r)
 
--- The fields of an instance, none of another object.
+-- The fields of an instance. Another object has none.
 abbrev pub fields_of : Option Object → List (FieldKey × Value)
 fields_of (Some (instance class fields)) = fields
 fields_of _ = []
@@ -55,7 +55,7 @@ fields_of _ = []
 abbrev pub fields_at : Machine → ℕ → List (FieldKey × Value)
 fields_at m r = fields_of (object_at m.state.heap r)
 
--- What is shown of an object.
+-- The view shows the object.
 abbrev pub Shows : Option ObjectView → Option Object → Type 0
 Shows None o = o ≡ None
 Shows (Some (view.Instance class)) o = (fields : List (FieldKey × Value)) × (o ≡ Some (instance class.now fields))
@@ -66,16 +66,16 @@ Shows (Some (view.ClassObject name)) o = o ≡ Some (class_object name.now)
 
 -- ---- Fields
 
--- Whether a field is one of those that are kept there.
+-- Decides whether a field is one of the keeper's.
 abbrev pub is_in : Keeper → Field → Bool
 is_in keeper.Classes f = f.is_static
 is_in (keeper.Instance r) f = not f.is_static
 
--- The fields that are kept there, with their values.
+-- The fields of the keeper, with their values.
 abbrev pub fields_in : Machine → Keeper → List (FieldKey × Value)
 fields_in m keeper.Classes = m.state.statics
 fields_in m (keeper.Instance r) = fields_at m r
 
--- The lines of those fields of a class that are kept there.
+-- The lines of a class's fields that are the keeper's.
 abbrev pub fields_text : Machine → Keeper → Class → List ℕ
 fields_text m k class = flat_map (λ f. field_line (fields_in m k) (field_key class f)) (filter (is_in k) class.fields)

@@ -1,4 +1,4 @@
--- Classes, and places in methods, as the debugger writes them (own).
+-- Classes, and positions in methods, as the debugger writes them (own).
 use Rattle.std.specs.Prelude.{ℕ, List, [], ◌++◌, codes, slice_get, unwrap_or}
 use Rattle.std.specs.Fmt.{decimal}
 use Rattle.std.specs.Option.{option_map}
@@ -12,6 +12,6 @@ use Rattle.escapes.specs.Keys.{method_text}
 abbrev pub class_name_text : List Class → ℕ → List ℕ
 class_name_text program c = unwrap_or (option_map (λ class. spelled class.name) (slice_get program c)) []
 
--- `C.m.D @i`: an instruction of a method.
+-- The text `C.m.D @i` of an instruction of a method.
 abbrev pub place_text : List Class → MethodNumber → ℕ → List ℕ
 place_text program n i = unwrap_or (option_map method_text (key_of program n)) [] ++ codes " @" ++ decimal i

@@ -18,7 +18,7 @@ fn superclass<'p>(program: &'p Program, class: &Class) -> Option<&'p Class>
     program.class_named(superclass_name(class)?)
 }
 
-/// Returns the class of a name, its superclass, and so on.
+/// Returns the class of a name and its superclasses, the class itself first.
 #[tactic(auto, using(crate::proofs::Chains::ways))]
 fn chain_of<'p>(
     alloc: Global,

@@ -13,7 +13,7 @@ use jvms_program::program::Class;
 use machine::Machine;
 use std::alloc::{AllocError, Global};
 
-/// Appends how far the initialisation of a class has come.
+/// Appends the state of a class's initialisation.
 fn put_initialisation(out: &mut String, initialisation: Initialisation) -> Result<(), AllocError>
     ensures { OnOk result (string_bytes out.new ≡ string_bytes out.old
         ++ initialisation_text initialisation) }
@@ -46,7 +46,7 @@ fn put_class(
     put_fields(out, machine, Keeper::Classes, class)
 }
 
-/// Returns the lines of the class of a number. The text is empty where there is no such class.
+/// Returns the lines of the class of a number, or an empty text if there is no such class.
 pub fn class_text(alloc: Global, machine: &Machine, class: usize) -> Result<String, AllocError>
     ensures { IfOk result (λ s. string_bytes s ≡ text_of_class machine.now class) }
 {

@@ -18,7 +18,7 @@ use jvms_program::program::{Class, Field};
 use machine::Machine;
 use std::alloc::AllocError;
 
-/// Where the values of fields are kept.
+/// The owner of the values of fields.
 #[derive(Clone, Copy)]
 pub(crate) enum Keeper {
     /// The static fields of all classes.
@@ -27,7 +27,7 @@ pub(crate) enum Keeper {
     Instance(u32),
 }
 
-/// Returns whether a field is one of those that are kept there.
+/// Decides whether a field is one of the keeper's.
 fn keeps(keeper: Keeper, field: &Field) -> bool
     ensures { result ≡ is_in keeper field.now }
 {
@@ -37,7 +37,7 @@ fn keeps(keeper: Keeper, field: &Field) -> bool
     }
 }
 
-/// Returns the value of the field of a key.
+/// Returns the value of the keeper's field with a key.
 fn value_in(machine: &Machine, keeper: Keeper, key: &FieldName) -> Option<Value>
     ensures { result ≡ value_of key.now (fields_in machine.now keeper) }
 {
@@ -90,7 +90,7 @@ fn put_kept(
     put_line(out, &key, value)
 }
 
-/// Appends the lines of those fields of a class that are kept there.
+/// Appends the lines of a class's fields that are the keeper's.
 pub(crate) fn put_fields(
     out: &mut String,
     machine: &Machine,

@@ -20,7 +20,7 @@ use jvms_program::program::Class;
 use machine::Machine;
 use std::alloc::{AllocError, Global};
 
-/// What a reference leads to.
+/// An object, with what its lines show.
 #[derive(Clone, Copy)]
 enum ObjectView<'m> {
     /// An object of a class.
@@ -33,7 +33,7 @@ enum ObjectView<'m> {
     ClassObject(&'m [u16]),
 }
 
-/// Returns what a reference leads to.
+/// Returns the view of the object of a reference.
 fn view_of<'m>(machine: &'m Machine, reference: u32) -> Option<ObjectView<'m>>
     ensures { Shows result (object_at machine.entry.now.state.heap reference) }
 {
@@ -50,7 +50,7 @@ fn view_of<'m>(machine: &'m Machine, reference: u32) -> Option<ObjectView<'m>>
     }
 }
 
-/// Appends the line of an array's element. Appends nothing where the array ends before the index.
+/// Appends the line of an array's element. Appends nothing if the index is beyond the array's end.
 fn put_element(
     out: &mut String,
     machine: &Machine,
@@ -87,7 +87,7 @@ fn put_elements(
     Ok(())
 }
 
-/// Appends an array: its class, how many elements it has, and these.
+/// Appends an array: its class, its length, and its elements.
 fn put_array(
     out: &mut String,
     machine: &Machine,
@@ -105,7 +105,7 @@ fn put_array(
     put_elements(out, machine, reference, count)
 }
 
-/// Appends the lines of an instance's fields, those that these classes declare.
+/// Appends the lines of an instance's fields that these classes declare.
 fn put_declared(
     out: &mut String,
     machine: &Machine,
@@ -163,7 +163,7 @@ fn put_class_object(out: &mut String, name: &[u16]) -> Result<(), AllocError>
     out.push_str("\n")
 }
 
-/// Appends what a reference leads to.
+/// Appends the object of a reference.
 fn put_object(
     alloc: Global,
     out: &mut String,
@@ -183,8 +183,7 @@ fn put_object(
     }
 }
 
-/// Appends which thread holds a monitor, and how often it entered it.
-/// Appends nothing where the monitor is free.
+/// Appends the owner of a monitor and its entry count. Appends nothing if the monitor is free.
 fn put_hold(out: &mut String, machine: &Machine, reference: u32) -> Result<(), AllocError>
     ensures { OnOk result (string_bytes out.new ≡ string_bytes out.old
         ++ hold_line (monitor_at machine.now.state.monitors reference)) }
@@ -208,7 +207,7 @@ fn put_waiters(out: &mut String, threads: &[ThreadId]) -> Result<(), AllocError>
     Ok(())
 }
 
-/// Appends which threads wait for an object. Appends nothing where none does.
+/// Appends the threads that wait for an object. Appends nothing if none waits.
 fn put_waiting(
     alloc: Global,
     out: &mut String,
@@ -246,8 +245,7 @@ fn put_lines(
     put_waiting(alloc, out, machine, reference)
 }
 
-/// Returns the lines of the object of a reference.
-/// The text is empty where the reference leads to nothing.
+/// Returns the lines of the object of a reference, or an empty text if there is none.
 pub fn object_text(alloc: Global, machine: &Machine, reference: u32) -> Result<String, AllocError>
     ensures { IfOk result (λ s. string_bytes s ≡ text_of_object machine.now reference) }
 {

@@ -54,8 +54,8 @@ fn put_blocked(out: &mut String, program: &Program, on: BlockedOn) -> Result<(),
     }
 }
 
-/// Appends an outcome, with what a blocked thread waits for and why a turn can't be made.
-/// Without memory the text may end in a part of it.
+/// Appends an outcome, with what a blocked thread waits for and the cause of a Bad turn. If there is no memory, part of
+/// the text may have been appended.
 pub(crate) fn put_outcome(
     out: &mut String,
     program: &Program,
@@ -80,7 +80,7 @@ pub(crate) fn put_outcome(
     }
 }
 
-/// Returns the text of an outcome, with what a blocked thread waits for and why a turn can't be made.
+/// Returns the text of an outcome, with what a blocked thread waits for and the cause of a Bad turn.
 pub fn outcome_text(
     alloc: Global,
     program: &Program,

@@ -46,7 +46,7 @@ fn put_digits(out: &mut String, bytes: &[u8]) -> Result<(), AllocError>
     Ok(())
 }
 
-/// Appends a space and the hexadecimal digits of bytes. Appends nothing where there are none.
+/// Appends a space and the hexadecimal digits of bytes. Appends nothing if there are none.
 fn put_bytes(out: &mut String, bytes: &[u8]) -> Result<(), AllocError>
     ensures { OnOk result (string_bytes out.new ≡ string_bytes out.old ++ bytes_text bytes.now) }
 {
@@ -57,7 +57,7 @@ fn put_bytes(out: &mut String, bytes: &[u8]) -> Result<(), AllocError>
     put_digits(out, bytes)
 }
 
-/// Returns the line of the bytes written so far: their number and their hexadecimal digits.
+/// Returns the line of the printed bytes: their number and their hexadecimal digits.
 pub fn output_text(alloc: Global, machine: &Machine) -> Result<String, AllocError>
     ensures { IfOk result (λ s. string_bytes s ≡ text_of_output machine.now) }
 {

@@ -1,4 +1,4 @@
-//! Classes and places in methods, as the debugger writes them.
+//! Classes and positions in methods, as the debugger writes them.
 
 ghost use Rattle.std.specs.Prelude.{◌≡◌, ◌++◌, [], IfOk, OnOk, codes, unwrap_or};
 ghost use Rattle.std.specs.Option.{option_map};
@@ -13,7 +13,7 @@ use jvms_program::number::MethodNumber;
 use program::Program;
 use std::alloc::{AllocError, Global};
 
-/// Appends the name of the class of a number. Appends nothing where there is no such class.
+/// Appends the name of the class of a number. Appends nothing if there is no such class.
 fn put_class_name(out: &mut String, program: &Program, class: usize) -> Result<(), AllocError>
     ensures { OnOk result (string_bytes out.new ≡ string_bytes out.old
         ++ class_name_text program.now class) }
@@ -37,7 +37,7 @@ pub(crate) fn put_initialisation(
     put_class_name(out, program, class)
 }
 
-/// Appends the key of the method of a number. Appends nothing where there is no such method.
+/// Appends the key of the method of a number. Appends nothing if there is no such method.
 fn put_key(out: &mut String, program: &Program, method: MethodNumber) -> Result<(), AllocError>
     ensures { OnOk result (string_bytes out.new ≡ string_bytes out.old
         ++ unwrap_or (option_map method_text (key_of program.now method)) []) }
@@ -48,8 +48,7 @@ fn put_key(out: &mut String, program: &Program, method: MethodNumber) -> Result<
     }
 }
 
-/// Appends an instruction of a method: `C.m.D @i`.
-/// Without memory the text may end in a part of it.
+/// Appends an instruction of a method: `C.m.D @i`. If there is no memory, part of the text may have been appended.
 pub fn put_place(
     out: &mut String,
     program: &Program,

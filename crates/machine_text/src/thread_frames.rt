@@ -15,7 +15,7 @@ use machine::{FrameView, Machine};
 use program::Program;
 use std::alloc::{AllocError, Global};
 
-/// Appends where a frame is: `C.m.D @i` of a call, or `init C`.
+/// Appends the position of a frame: `C.m.D @i` of a call, or `init C`.
 pub(crate) fn put_frame(
     out: &mut String,
     program: &Program,
@@ -30,7 +30,7 @@ pub(crate) fn put_frame(
     }
 }
 
-/// Appends the line of a call, with its local variables and its operands, the bottom first.
+/// Appends the line of a call, with its local variables and its operands, the topmost last.
 fn put_call(out: &mut String, program: &Program, call: &Frame) -> Result<(), AllocError>
     ensures { OnOk result (string_bytes out.new ≡ string_bytes out.old
         ++ frame_line program.now (stack_frame.Call call.now)) }
@@ -57,7 +57,7 @@ fn put_frame_line(out: &mut String, program: &Program, frame: &FrameView) -> Res
     }
 }
 
-/// Appends the line of a thread's frame at a depth. Appends nothing where there is no such frame.
+/// Appends the line of a thread's frame at a depth. Appends nothing if there is no such frame.
 fn put_frame_at(
     out: &mut String,
     machine: &Machine,

@@ -19,13 +19,13 @@ use std::alloc::{AllocError, Global};
 pub fn thread_count(machine: &Machine) -> ThreadId
     ensures { result ≡ length machine.now.state.threads }
 {
-    // There are no more threads than the limit, a number of 32 bits.
+    // The number of threads is within the limit, which is a 32-bit number.
     machine.state_is_sound();
     let _limits = machine.limits();
     machine.thread_count() as ThreadId
 }
 
-/// Appends where the top frame of a thread is. Appends nothing where it has no frame.
+/// Appends the position of a thread's top frame. Appends nothing if the thread has no frame.
 fn put_top(out: &mut String, machine: &Machine, t: ThreadId) -> Result<(), AllocError>
     ensures { OnOk result (string_bytes out.new ≡ string_bytes out.old
         ++ top_text machine.now.program (frame_at machine.now t 0)) }

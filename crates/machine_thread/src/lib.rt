@@ -1,4 +1,4 @@
-//! A thread of the machine (JVMS 2.5): its stack of frames, and what turns make of it alone.
+//! A thread of the machine (JVMS 2.5): its stack of frames, and the changes that a turn applies to the thread itself.
 #![tactic(auto)]
 
 mod thread;

@@ -1,4 +1,4 @@
--- What the tree of holds keeps is what the definitions say of their list.
+-- The entries of the tree of holds equal the list that the definitions give.
 use Rattle.std.proofs.Common.{◌≡◌, ℕ, Bool, true, false, cond, List, [], ◌∷◌, Some, None, refl, sym, ap, ◌∙◌, arith, nat_lt, ◌==◌, Less, Equal, Greater}
 use Rattle.std.specs.Prelude.{Option, IsSome, if◌then◌else◌, ◌+◌, ◌-◌}
 use Rattle.std.specs.Map.{lookup, remove_entry, set_value, keys_of}
@@ -20,7 +20,7 @@ use Rattle.jvms_machine.specs.Waiting.{retaken_monitor}
 abbrev pub Holds : Type 0
 Holds = List (ℕ × Hold)
 
--- Which of two references is asked for doesn't matter.
+-- The lookup in the tree and the lookup in the list compare the same two references.
 at_is : (r q : ℕ) → is_at (nat_cmp r) q ≡ (q == r)
 at_is r q = grind (arith, nat_tests)
 
@@ -35,7 +35,7 @@ pub removed : (r : ℕ) (holds : Holds) → remove_entry (is_at (nat_cmp r)) hol
 removed r [] = refl
 removed r (e ∷ holds) = rw (at_is r e.0, removed r holds) refl
 
--- ---- A hold that is put
+-- ---- Insertion of a new entry
 
 same_place : (r k : ℕ) → (r == k) ≡ true → r ≡ k
 same_place r k same = grind (arith, nat_tests)
@@ -55,7 +55,7 @@ pub inserted : (r : ℕ) (h : Hold) (holds : Holds) → insert_entry nat_cmp hol
 inserted r h [] = refl
 inserted r h (e ∷ holds) = rw (inserted r h holds) (placed r h e holds (nat_lt r e.0) (r == e.0) refl refl)
 
--- ---- A hold that is written in its place
+-- ---- Replacement of an entry
 
 not_above : (r k : ℕ) → nat_lt r k ≡ true → nat_cmp r k ≡ Less
 not_above r k less = rw less refl
@@ -97,7 +97,7 @@ pub retakes : (thread : ℕ) (wait : Wait) (old new : Holds) → new ≡ insert_
     → new ≡ retaken_monitor thread wait old
 retakes thread wait old new put = put ∙ inserted wait.reference (record { owner = thread; count = wait.count }) old
 
--- A monitor that isn't found in the tree isn't held.
+-- If the tree has no entry for an object, its monitor isn't held.
 pub not_held : (r : ℕ) (holds : Holds) → lookup (is_at (nat_cmp r)) holds ≡ None → IsSome (monitor_at holds r) → ⊥
 not_held r holds absent = rw (← looked_up r holds, absent) (λ (held : false ≡ true). cc)
 

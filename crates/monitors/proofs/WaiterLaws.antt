@@ -1,4 +1,4 @@
--- The place of the first that waits for an object, and what is left without it.
+-- The index of the first thread that waits for an object, and the list without that thread.
 use Rattle.std.proofs.Common.{◌≡◌, ℕ, suc, ◌+◌, ◌==◌, Bool, true, false, cond, List, [], ◌∷◌, ◌++◌, take, drop, Option, Some, None, refl, sym, ap, ◌∙◌, arith}
 use Rattle.std.specs.List.{position, position_from}
 use Rattle.std.specs.Map.{remove_entry}
@@ -22,11 +22,11 @@ none_from : (r i : ℕ) (ws : List (ℕ × ℕ)) → position_from (waits r) i w
 none_from r i [] none = refl
 none_from r i (w ∷ ws) none = none_by r i (waits r w) w ws refl (none_from r (i + 1) ws) none
 
--- Where none waits for the object, all are left.
+-- If no thread waits for the object, the list stays as it is.
 pub none_is_taken : (r : ℕ) (ws : List (ℕ × ℕ)) → position (waits r) ws ≡ None → ws ≡ without_first r ws
 none_is_taken r ws none = sym (none_from r 0 ws (sym (position_from-zero (waits r) ws) ∙ none))
 
--- A place behind another.
+-- The list without its item at index `n` is the list without the first waiter for `r`.
 abbrev IsAt : ℕ → ℕ → List (ℕ × ℕ) → Type 0
 IsAt r n ws = take n ws ++ drop (suc n) ws ≡ without_first r ws
 
@@ -43,7 +43,7 @@ place_from : (r i n : ℕ) (ws : List (ℕ × ℕ)) → position_from (waits r) 
 place_from r i n [] is = absurd (none-some n is)
 place_from r i n (w ∷ ws) is = place_by r i n (waits r w) w ws refl (λ m at. place_from r (i + 1) m ws at) is
 
--- Where one is found, it alone is taken.
+-- Removing the item that the search finds removes the first waiter only.
 pub oldest_is_taken : (r n : ℕ) (ws : List (ℕ × ℕ)) → position (waits r) ws ≡ Some n → take n ws ++ drop (n + 1) ws ≡ without_first r ws
 oldest_is_taken r n ws is =
     let found = place_from r 0 n ws (sym (position_from-zero (waits r) ws) ∙ is) in

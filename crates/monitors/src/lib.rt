@@ -1,5 +1,5 @@
-//! The monitors that are held (JVMS 2.11.10): by the reference of their object, its owner and how often it was entered. The
-//! threads that wait for objects (JLS 17.2).
+//! The held monitors (JVMS 2.11.10), each with its owner and the number of its entries, and the threads that wait for
+//! objects (JLS 17.2).
 #![tactic(auto)]
 
 mod monitors;

@@ -1,4 +1,4 @@
-//! Monitors by reference.
+//! The table of held monitors, by the reference of their object.
 
 ghost use Rattle.std.specs.Prelude.{◌≡◌, ℕ, ◌+◌, ◌^◌, ◌<◌, [], length, IsTrue, ◌↔◌, IfOk, IsSome, IfSome, IsOk, OnOk, OnErr};
 ghost use Rattle.jvms_machine.specs.Monitors.{entered_monitor, left_monitor};
@@ -11,8 +11,7 @@ use std::alloc::{AllocError, Global};
 use std::collections::BTreeMap;
 use std::marker::Model;
 
-/// The monitors that are held. Contracts see the list of them, each under the reference of its object, in the order of
-/// the references.
+/// The held monitors. Contracts see a list of pairs of a reference and its hold, in the order of the references.
 #[derive(Drop)]
 pub struct Monitors {
     holds: BTreeMap<u32, Hold>,
@@ -28,7 +27,7 @@ impl Model for Monitors {
 }
 
 impl Monitors {
-    /// No monitor is held. Takes no memory.
+    /// Returns a table in which no monitor is held. Takes no memory.
     pub fn new(alloc: Global) -> Self
         ensures { result ≡ [] }
     {
@@ -37,7 +36,7 @@ impl Monitors {
         }
     }
 
-    /// The same monitors, held alike.
+    /// Returns a copy of the table.
     pub fn copy(&self) -> Result<Monitors, AllocError>
         ensures { IfOk result (λ m. m ≡ self.now) }
     {
@@ -46,29 +45,30 @@ impl Monitors {
         })
     }
 
-    /// How many monitors are held.
+    /// Returns the number of held monitors.
     pub fn len(&self) -> usize
         ensures { result ≡ length self.now }
     {
         self.holds.len()
     }
 
-    /// Whether none is held.
+    /// Decides whether no monitor is held.
     pub fn is_empty(&self) -> bool
         ensures { IsTrue result ↔ (self.now ≡ []) }
     {
         self.holds.is_empty()
     }
 
-    /// How the monitor of an object is held, if it is.
+    /// Returns the owner and the entry count of an object's monitor, or `None` if it isn't held.
     pub fn hold(&self, reference: u32) -> Option<Hold>
         ensures { result ≡ monitor_at self.now reference }
     {
         self.holds.get(&reference).copied()
     }
 
-    /// A thread enters the monitor of an object. Where it is held already its owner has entered it once more, whichever
-    /// thread is named. Only a monitor that wasn't held takes memory, and without it nothing changes.
+    /// Enters the monitor of an object for a thread (JVMS 6.5 `monitorenter`). If the monitor is held, adds one to the
+    /// entry count of its owner, whichever thread is named. Only a monitor that isn't held takes memory. If there is
+    /// none, nothing changes.
     pub fn enter(&mut self, reference: u32, thread: ThreadId) -> Result<(), AllocError>
         requires { IfSome (monitor_at self.old reference) (λ h. h.count + 1 < 2 ^ 32) }
         ensures ok { OnOk result (self.new ≡ entered_monitor thread reference self.old) }
@@ -89,7 +89,8 @@ impl Monitors {
         Ok(())
     }
 
-    /// The owner of the monitor of an object leaves it once; where no thread holds it nothing changes. Takes no memory.
+    /// Leaves the monitor of an object once, for its owner (JVMS 6.5 `monitorexit`). If no thread holds it, nothing
+    /// changes. Takes no memory.
     pub fn leave(&mut self, reference: u32)
         ensures { self.new ≡ left_monitor reference self.old }
     {
@@ -103,15 +104,15 @@ impl Monitors {
         }
     }
 
-    /// The owner of the monitor of an object leaves it, however often it was entered. Takes no memory.
+    /// Frees the monitor of an object, whatever its entry count. Takes no memory.
     pub fn free(&mut self, reference: u32)
         ensures { self.new ≡ freed_monitor reference self.old }
     {
         self.holds.remove(&reference);
     }
 
-    /// A thread that has waited takes the monitor of the object again, entered as often as before. Without memory nothing
-    /// changes.
+    /// Gives the monitor of an object back to a thread that has waited, with the entry count from before the wait. If
+    /// there is no memory, nothing changes.
     pub fn retake(&mut self, thread: ThreadId, wait: Wait) -> Result<(), AllocError>
         ensures ok { OnOk result (self.new ≡ retaken_monitor thread wait self.old) }
         ensures err { OnErr result (self.new ≡ self.old) }

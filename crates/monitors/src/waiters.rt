@@ -1,4 +1,4 @@
-//! Those that wait, in the order in which they began.
+//! The waiting threads, in the order in which they began to wait.
 
 ghost use Rattle.std.specs.Prelude.{◌≡◌, ◌==◌, ◌<◌, ◌∷◌, ◌++◌, [], length, not, IfOk, IfSome, OnErr, OnOk};
 ghost use Rattle.std.specs.List.{filter, position};
@@ -9,8 +9,8 @@ use jvms_machine::machine::ThreadId;
 use std::alloc::{AllocError, Global};
 use std::marker::Model;
 
-/// The threads that wait for an object and weren't notified. Contracts see the list of them, each with the reference of the
-/// object, the one that has waited longest first.
+/// The threads that wait for an object and weren't notified. Contracts see a list of pairs of the object's reference
+/// and the thread, the longest wait first.
 #[derive(Drop)]
 pub struct Waiters {
     waiters: Vec<(u32, ThreadId)>,
@@ -25,7 +25,7 @@ impl Model for Waiters {
 }
 
 impl Waiters {
-    /// No thread waits. Takes no memory.
+    /// Returns a list in which no thread waits. Takes no memory.
     pub fn new(alloc: Global) -> Self
         ensures { result ≡ [] }
     {
@@ -34,7 +34,7 @@ impl Waiters {
         }
     }
 
-    /// The same threads, in the same order.
+    /// Returns a copy of the list, in the same order.
     pub fn copy(&self, alloc: Global) -> Result<Waiters, AllocError>
         ensures { IfOk result (λ w. w ≡ self.now) }
     {
@@ -43,7 +43,7 @@ impl Waiters {
         })
     }
 
-    /// Whether a thread waits and wasn't notified.
+    /// Decides whether a thread waits and wasn't notified.
     pub fn contains(&self, thread: usize) -> bool
         ensures { result ≡ is_waiter thread self.now }
     {
@@ -53,7 +53,7 @@ impl Waiters {
             .any(|waiter| waiter.1 as usize == thread)
     }
 
-    /// The threads that wait for an object, the one that has waited longest first.
+    /// Returns the threads that wait for an object, the longest wait first.
     pub fn of(&self, alloc: Global, reference: u32) -> Result<Vec<ThreadId>, AllocError>
         ensures { IfOk result (λ threads. threads.items ≡ waiters_of reference self.now) }
     {
@@ -67,7 +67,7 @@ impl Waiters {
         Ok(threads)
     }
 
-    /// A thread begins to wait for an object. Without memory nothing changes.
+    /// Adds a thread that begins to wait for an object. If there is no memory, nothing changes.
     pub fn wait(&mut self, reference: u32, thread: ThreadId) -> Result<(), AllocError>
         ensures ok { OnOk result (self.new ≡ self.old ++ (reference, thread) ∷ []) }
         ensures err { OnErr result (self.new ≡ self.old) }
@@ -76,7 +76,7 @@ impl Waiters {
         Ok(())
     }
 
-    /// The place of the thread that has waited longest for an object.
+    /// Returns the index of the thread that has waited longest for an object.
     fn oldest(&self, reference: u32) -> Option<usize>
         ensures place { result ≡ position (λ w. w.0 == reference) self.now }
         ensures within { IfSome result (λ n. n < length self.now) }
@@ -87,7 +87,7 @@ impl Waiters {
             .position(|waiter| waiter.0 == reference)
     }
 
-    /// Takes out the thread that has waited longest for an object, if there is one.
+    /// Removes the thread that has waited longest for an object, if there is one.
     fn notify_oldest(&mut self, reference: u32)
         ensures { self.new ≡ remove_entry (λ q. q == reference) self.old }
     {
@@ -96,15 +96,15 @@ impl Waiters {
         }
     }
 
-    /// Takes out all threads that wait for an object.
+    /// Removes all threads that wait for an object.
     fn notify_all(&mut self, reference: u32)
         ensures { self.new ≡ filter (λ w. not (w.0 == reference)) self.old }
     {
         self.waiters.retain(|waiter| waiter.0 != reference);
     }
 
-    /// Notifies the thread that has waited longest for an object, or all that wait for it: they wait no more in this list.
-    /// Where none waits nothing changes. Takes no memory.
+    /// Notifies the thread that has waited longest for an object, or all that wait for it. Removes the notified threads
+    /// from the list. If none waits, nothing changes. Takes no memory.
     pub fn notify(&mut self, reference: u32, all: bool)
         ensures { self.new ≡ without_notified reference all self.old }
     {

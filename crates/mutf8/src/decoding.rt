@@ -1,4 +1,4 @@
-//! Reading a text from its bytes.
+//! Decodes a text from its bytes.
 
 ghost use Rattle.std.specs.Prelude.{◌≡◌, ◌≤◌, ◌<◌, ℕ, List, Ok, option_map, IfOk, IfErr};
 ghost use Rattle.jvms_file.specs.Texts.{Codes, is_continuation, after_lead_of_two, after_lead_of_three, unit_at, decoded};
@@ -8,14 +8,14 @@ use crate::Units;
 use crate::fault::Fault;
 use std::alloc::Global;
 
-/// Whether a byte may stand behind the first of a unit.
+/// Decides whether a byte may follow the first byte of a unit.
 fn is_behind_lead(byte: u8) -> bool
     ensures { result ≡ is_continuation byte }
 {
     0x80 <= byte && byte < 0xc0
 }
 
-/// The unit that this first byte of two and what follows it spell, and the bytes behind the unit.
+/// Decodes a unit of two bytes from its first byte and the bytes that follow, and returns it with the bytes after it.
 fn unit_of_two(lead: u8, rest: &[u8]) -> Option<(u16, &[u8])>
     requires from { 0xc0 ≤ lead }
     requires below { lead < 0xe0 }
@@ -35,7 +35,7 @@ fn unit_of_two(lead: u8, rest: &[u8]) -> Option<(u16, &[u8])>
     }
 }
 
-/// The unit that this first byte of three and what follows it spell, and the bytes behind the unit.
+/// Decodes a unit of three bytes from its first byte and the bytes that follow, and returns it with the bytes after it.
 fn unit_of_three(lead: u8, rest: &[u8]) -> Option<(u16, &[u8])>
     requires from { 0xe0 ≤ lead }
     requires below { lead < 0xf0 }
@@ -56,7 +56,7 @@ fn unit_of_three(lead: u8, rest: &[u8]) -> Option<(u16, &[u8])>
     }
 }
 
-/// The unit that the bytes begin with, and the bytes behind it.
+/// Decodes the unit at the front of the bytes and returns it with the bytes after it.
 #[tactic(auto, unfolding(jvms_file::specs::Texts::unit_at))]
 fn front_unit(bytes: &[u8]) -> Option<(u16, &[u8])>
     ensures { option_map (λ x. (x.0, x.1.now)) result ≡ unit_at bytes.now }
@@ -72,7 +72,7 @@ fn front_unit(bytes: &[u8]) -> Option<(u16, &[u8])>
     }
 }
 
-/// Reads unit after unit, up to the end or the first place where none begins.
+/// Decodes units up to the end of the bytes, or up to the first byte at which none begins.
 fn all_units(alloc: Global, bytes: &[u8]) -> Result<Units, Fault>
     ensures { Gives result (decoded bytes.now) }
 {
@@ -90,15 +90,15 @@ fn all_units(alloc: Global, bytes: &[u8]) -> Result<Units, Fault>
     Ok(units)
 }
 
-/// The text that the bytes code.
+/// Decodes a text from its bytes, or reports the first byte at which no unit begins.
 pub fn decode(alloc: Global, bytes: &[u8]) -> Result<Units, Fault>
     // The text, or the first place where the bytes are wrong.
     ensures exact { Gives result (decoded bytes.now) }
-    // What is read is spelled so.
+    // A text that is returned is spelled by the bytes.
     ensures found { IfOk result (λ us. Codes bytes.now us) }
-    // What is spelled so is read, unless memory runs out.
+    // A text that the bytes spell is returned, unless memory runs out.
     ensures only { (us : List ℕ) → Codes bytes.now us → Gives result (Ok us) }
-    // Where a fault lies, a text ends and no unit begins.
+    // A fault is at a place where a text ends and no unit begins.
     ensures bad { IfErr result (λ fault. Places bytes.now fault) }
 {
     all_units(alloc, bytes)

@@ -1,11 +1,11 @@
-//! Writing the bytes of a text.
+//! Encodes a text as bytes.
 
 ghost use Rattle.std.specs.Prelude.{◌≡◌, ◌++◌, OnOk, IfOk};
 ghost use Rattle.jvms_file.specs.Texts.{unit_bytes, encoded};
 
 use std::alloc::{AllocError, Global};
 
-/// Puts the bytes of a unit behind the others.
+/// Appends the bytes of a unit.
 fn push_unit(bytes: &mut Vec<u8>, unit: u16) -> Result<(), AllocError>
     ensures { OnOk result (bytes.new.items ≡ bytes.old.items ++ unit_bytes unit) }
 {
@@ -23,7 +23,7 @@ fn push_unit(bytes: &mut Vec<u8>, unit: u16) -> Result<(), AllocError>
     Ok(())
 }
 
-/// The bytes of a text. Any units have some, so only memory can be wanting.
+/// Encodes a text as bytes. Any units have bytes, so it fails only without memory.
 #[tactic(auto, unfolding(jvms_file::specs::Texts::encoded))]
 pub fn encode(alloc: Global, units: &[u16]) -> Result<Vec<u8>, AllocError>
     ensures { IfOk result (λ v. v.items ≡ encoded units.now) }

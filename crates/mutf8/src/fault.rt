@@ -1,4 +1,4 @@
-//! Why bytes were not read as a text.
+//! Why bytes were not decoded as a text.
 
 ghost use Rattle.std.specs.Prelude.{◌≡◌};
 ghost use Rattle.mutf8.specs.declared.fault.Fault.TheVariants.{Memory};
@@ -6,13 +6,13 @@ ghost use Rattle.mutf8.specs.declared.fault.Fault.TheVariants.{Memory};
 use std::alloc::{AllocError, AllocFailed};
 use thiserror::Error;
 
-/// Why bytes were not read as a text.
+/// The reason why bytes were not decoded as a text.
 #[derive(Debug, Drop, Error)]
 pub enum Fault {
-    /// The bytes are no Modified UTF-8: this is the first byte at which a unit should begin and none does.
+    /// The bytes are no Modified UTF-8. A unit should begin at byte `at`, the first at which none does.
     #[error("no Modified UTF-8 at byte {at}")]
     BadUtf8 { at: usize },
-    /// There was no memory for the units.
+    /// Memory ran out.
     #[error("out of memory")]
     Memory,
 }

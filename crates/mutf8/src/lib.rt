@@ -1,5 +1,4 @@
-//! The texts of class files: lists of 16-bit units, and the bytes that code them in Modified UTF-8
-//! (JVMS 4.4.7).
+//! The texts of class files: lists of UTF-16 code units, and the bytes that code them in Modified UTF-8 (JVMS 4.4.7).
 #![tactic(auto)]
 
 mod decoding;
@@ -9,7 +8,7 @@ mod fault;
 pub use decoding::decode;
 pub use encoding::encode;
 pub use fault::Fault;
-use held::items::Items;
+use shared_data::items::Items;
 
-/// A text: its 16-bit units in order.
+/// A text as the list of its UTF-16 code units.
 pub type Units = Items<u16>;

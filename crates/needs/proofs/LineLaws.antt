@@ -6,7 +6,7 @@ module _ {X : Type 0} where
   next_rest : (xs : List X) (k : ℕ) → drop (k + 1) xs ≡ drop (suc k) xs
   next_rest xs k = rw add-one refl
 
-  -- The lines of what is left are those of its first item and those of the others.
+  -- The lines of the remaining items are those of the first one and those of the others.
   first_of_rest : (f : ℕ × X → List ℕ) (xs : List X) (k n : ℕ) (d : X) → k < length xs →
       flat_map f (enumerate_from n (drop k xs))
       ≡ f (n, get_or xs k d) ++ flat_map f (enumerate_from (n + 1) (drop (suc k) xs))
@@ -14,7 +14,7 @@ module _ {X : Type 0} where
   first_of_rest f (x ∷ xs) zero n d below = refl
   first_of_rest f (x ∷ xs) (suc k) n d below = first_of_rest f xs k n d (omega (arith, below))
 
-  -- The lines of one more item, and those of the items that are left after it.
+  -- The lines of one more item, and those of the items after it.
   pub one_more : (f : ℕ × X → List ℕ) (xs : List X) (k : ℕ) (x : X) (before now all : List ℕ) →
       k < length xs → x ≡ get_or xs k x →
       now ≡ before ++ f (k, x) → before ++ flat_map f (enumerate_from k (drop k xs)) ≡ all →
@@ -28,7 +28,7 @@ module _ {X : Type 0} where
       ∙ so_far
       )
 
--- Three parts are put one after another.
+-- Three parts are appended one after another.
 pub three_parts : (start one two three a b c : List ℕ) → one ≡ start ++ a → two ≡ one ++ b → three ≡ two ++ c → three ≡ start ++ (a ++ b ++ c)
 three_parts start one two three a b c first second third =
     third

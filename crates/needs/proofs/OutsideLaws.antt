@@ -34,7 +34,7 @@ use Rattle.needs.specs.Outside.{is_outside, is_outside_constant, is_outside_loca
 abbrev stop : FrameDecision
 stop = decision.Stops cause.OutOfProfile
 
--- Of the two ways of a test of a kind, a kind outside of the profile takes the second.
+-- A kind outside of the profile takes the second of the two branches of its test.
 kind_is_outside : {A : Type 0} (is_inside : Bool) (inside outside : A) → not is_inside ≡ true → (if is_inside then inside else outside) ≡ outside
 kind_is_outside true inside outside e = absurd (cc)
 kind_is_outside false inside outside e = refl
@@ -63,13 +63,13 @@ constant_stops body (loadable.Double n) a e = refl
 constant_stops body (loadable.String units) a e = absurd (cc)
 constant_stops body (loadable.Class name) a e = absurd (cc)
 
--- A return is decided by the method that returns.
+-- The returning method decides a return.
 return_stops : (limits : Limits) (s : State) (t : ℕ) (frame : MethodFrame) (below : List Frame) (m : Method) (how : ReturnInsn) → is_outside_return how ≡ true
     → method_return_decision limits s t frame below how (Some m) ≡ bad cause.OutOfProfile
 return_stops limits s t frame below m returns.Void e = absurd (cc)
 return_stops limits s t frame below m (returns.Value k) e = kind_is_outside (is_profile_kind k) _ (bad cause.OutOfProfile) e
 
--- What a frame decides to stop is stopped.
+-- If a frame decides to stop, the turn stops.
 stops : (program : List Class) (limits : Limits) (s : State) (t : ℕ) (thread : Thread) (frame : MethodFrame) (below : List Frame) (i : Instruction) (d : FrameDecision)
     → d ≡ stop → instruction_decision program limits s t thread frame below i d ≡ bad cause.OutOfProfile
 stops program limits s t thread frame below i d e = ap (instruction_decision program limits s t thread frame below i) e

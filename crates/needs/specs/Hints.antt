@@ -1,4 +1,4 @@
--- Why a compiler may have put an instruction there that isn't in the source (own).
+-- Defines hints why a compiler may have added an instruction that isn't in the source (own).
 use Rattle.std.specs.Prelude.{ℕ, Bool, true, false, ◌==◌, ◌&&◌, ◌||◌, List, [], codes, if◌then◌else◌}
 use Rattle.std.specs.List.{list_any}
 use Rattle.jvms_program.specs.declared.thrown.Thrown.TheVariants as thrown
@@ -31,13 +31,14 @@ is_boxing member =
     || same_text member (codes "shortValue") || same_text member (codes "byteValue")
     || same_text member (codes "charValue") || same_text member (codes "booleanValue")
 
--- Of an instruction that names neither a class nor a member: outside of the profile are those of floats and doubles.
+-- Returns the hint for an instruction that names neither a class nor a member. Outside of the profile are those of
+-- floats and doubles.
 abbrev pub unnamed_hint : Lack → List ℕ
 unnamed_hint lack.OutOfProfile = codes " (float or double)"
 unnamed_hint _ = []
 
--- Of a class and a member's name, which is empty where no member is named. A class with a dollar sign in its name is one
--- that a compiler put into a file of its own.
+-- Returns the hint for a class and the name of a member, which is empty if no member is named. A compiler puts a class
+-- with a dollar sign in its name into a file of its own.
 abbrev pub hint_of : Lack → List ℕ → List ℕ → List ℕ
 hint_of lack class member =
     if is_text_builder class then codes " (+ on strings)"

@@ -1,5 +1,5 @@
--- What an instruction needs that isn't there (own). What it names is resolved first (JVMS 5.4.3), then the profile is
--- looked at.
+-- Defines why an instruction can't run (own). What it names is resolved first (JVMS 5.4.3), and the profile is
+-- checked second.
 use Rattle.std.specs.Prelude.{ℕ, Bool, true, false, List, Option, Some, None, if◌then◌else◌}
 use Rattle.std.specs.Result.{result_err}
 use Rattle.jvms_program.specs.declared.program.Class.{Class}
@@ -16,16 +16,16 @@ use Rattle.needs.specs.declared.lack.Lack.{Lack}
 use Rattle.needs.specs.declared.lack.Lack.TheVariants as lack
 use Rattle.needs.specs.Outside.{is_outside}
 
--- What is thrown where a class isn't there.
+-- Returns the error that is thrown if a class is missing.
 abbrev pub absence : List Class → List ℕ → Option Thrown
 absence program name = if class_exists program name then None else Some thrown.NoClassDefFoundError
 
--- ldc
+-- Returns the error of `ldc` of a class.
 abbrev pub constant_error : List Class → Loadable → Option Thrown
 constant_error program (loadable.Class name) = absence program name
 constant_error program _ = None
 
--- What is thrown where what an instruction names can't be resolved.
+-- Returns the error that is thrown if what an instruction names can't be resolved.
 abbrev pub resolution_error : List Class → Instruction → Option Thrown
 resolution_error program (instruction.Field how r) = result_err (resolved_field program (is_static_use how) r)
 resolution_error program (instruction.Invoke how r) = result_err (resolved_method program (is_static_call how) r)
@@ -39,6 +39,6 @@ first_lack (Some error) outside = Some (lack.Unresolved error)
 first_lack None true = Some lack.OutOfProfile
 first_lack None false = None
 
--- What an instruction needs, if it needs anything.
+-- Returns the reason why an instruction can't run, if there is one.
 abbrev pub lack_of : List Class → Instruction → Option Lack
 lack_of program i = first_lack (resolution_error program i) (is_outside i)

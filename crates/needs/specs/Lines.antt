@@ -1,6 +1,6 @@
--- The lines of what the classes of a program need that isn't there (own): of the classes that aren't built in in their
--- order, of their methods in their order, and of these methods' instructions in their order. The class files of the last
--- classes tell places in sources: the class of the first of them has the number `first`.
+-- Defines the lines of the instructions that can't run (own). They follow the order of the classes that aren't
+-- built in, of their methods, and of the instructions. The class files of the last classes have the places in sources.
+-- The class of the first file has number `first`.
 use Rattle.std.specs.Prelude.{ℕ, List, [], ◌++◌, Option, Some, None, codes, if◌then◌else◌}
 use Rattle.std.specs.Fmt.{decimal}
 use Rattle.std.specs.List.{enumerate_from, flat_map}
@@ -24,7 +24,7 @@ use Rattle.needs.specs.Hints.{hint_of, is_absence, unnamed_hint}
 use Rattle.needs.specs.Lacks.{lack_of}
 use Rattle.needs.specs.Named.{class_named, member_named}
 
--- Resolution throws no other.
+-- Returns the name of an error. Resolution throws no others.
 abbrev pub error_text : Thrown → List ℕ
 error_text thrown.NoClassDefFoundError = codes "NoClassDefFoundError"
 error_text thrown.NoSuchFieldError = codes "NoSuchFieldError"
@@ -36,7 +36,7 @@ abbrev pub lack_text : Lack → List ℕ
 lack_text (lack.Unresolved error) = error_text error
 lack_text lack.OutOfProfile = codes "OutOfProfile"
 
--- What is named, after a space: of a class that isn't there itself, else the member, if there is one.
+-- Returns what is named, after a space: the class if it is missing, else the member, if there is one.
 abbrev pub named_text : Lack → Option (List ℕ) → Option (List ℕ × List ℕ) → List ℕ
 named_text lack None member = []
 named_text lack (Some class) None = codes " " ++ spelled class
@@ -48,11 +48,11 @@ hint_text lack None member = unnamed_hint lack
 hint_text lack (Some class) None = hint_of lack class []
 hint_text lack (Some class) (Some member) = hint_of lack class member.0
 
--- `NoSuchMethodError C.m.D`, what is needed of a class and a member.
+-- Returns the reason with a class and a member, as `NoSuchMethodError C.m.D`.
 abbrev pub reason_of : Lack → Option (List ℕ) → Option (List ℕ × List ℕ) → List ℕ
 reason_of lack class member = lack_text lack ++ named_text lack class member ++ hint_text lack class member
 
--- What an instruction needs.
+-- Returns the reason why an instruction can't run.
 abbrev pub reason_text : Lack → Instruction → List ℕ
 reason_text lack i = reason_of lack (class_named i) (member_named i)
 
@@ -60,15 +60,15 @@ abbrev pub need_if : Instruction → Option Lack → List ℕ
 need_if i None = []
 need_if i (Some lack) = codes " " ++ reason_text lack i
 
--- ` NoSuchMethodError C.m.D`, what an instruction needs, if it needs what isn't there.
+-- Returns the reason why an instruction can't run, as ` NoSuchMethodError C.m.D`. It is empty if it can run.
 abbrev pub need_text : List Class → Instruction → List ℕ
 need_text program i = need_if i (lack_of program i)
 
--- `C.m.D @i`, a method's instruction, from 0.
+-- Returns `C.m.D @i` for a method's instruction. Instructions count from 0.
 abbrev pub instruction_text : MethodKey → ℕ → List ℕ
 instruction_text method place = method_text method ++ codes " @" ++ decimal place
 
--- `C.m.D @i (F.java:12) `, with its place in the source.
+-- Returns `C.m.D @i (F.java:12) `, with the place in the source.
 abbrev pub place_text : ℕ → List ClassFile → MethodNumber → MethodKey → ℕ → List ℕ
 place_text first files number method place =
     instruction_text method place ++ source_place first files number place ++ codes " "
@@ -76,14 +76,14 @@ place_text first files number method place =
 abbrev pub need_line : List ℕ → Instruction → Lack → List ℕ
 need_line place i lack = place ++ reason_text lack i ++ codes "\n"
 
--- The line of the instruction at a place, if it needs what isn't there.
+-- Returns the line of the instruction at a place, if it can't run.
 abbrev pub line_if : List ℕ → Instruction → Option Lack → List ℕ
 line_if place i None = []
 line_if place i (Some lack) = need_line place i lack
 
--- Instructions, methods and classes have their numbers with them, from 0.
+-- Instructions, methods and classes come with their numbers, from 0.
 
--- The line of an instruction, given the text of each place.
+-- Returns the line of an instruction. `text_of` is the text of each place.
 abbrev pub instruction_line : List Class → (ℕ → List ℕ) → ℕ × Instruction → List ℕ
 instruction_line program text_of i = line_if (text_of i.0) i.1 (lack_of program i.1)
 
@@ -91,7 +91,7 @@ abbrev pub body_lines : List Class → (ℕ → List ℕ) → Option Body → Li
 body_lines program text_of None = []
 body_lines program text_of (Some body) = flat_map (instruction_line program text_of) (enumerate_from 0 body.instructions)
 
--- The lines of a method of a class.
+-- Returns the lines of a method of a class.
 abbrev pub method_lines : List Class → ℕ → List ClassFile → ℕ × Class → ℕ × Method → List ℕ
 method_lines program first files c m =
     body_lines program (place_text first files (record { class = c.0; method = m.0 }) (key_in c.1 m.1)) m.1.body

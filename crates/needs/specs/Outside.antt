@@ -1,4 +1,5 @@
--- The instructions of floats and doubles, and `new` of the classes of which no object is made: those that jvmx doesn't run.
+-- Defines the instructions outside of the profile: those of floats and doubles, and `new` of classes that `new` can't
+-- instantiate.
 use Rattle.std.specs.Prelude.{Bool, true, false, not}
 use Rattle.jvms_file.specs.declared.insn.LocalUse.{LocalUse}
 use Rattle.jvms_file.specs.declared.insn.LocalUse.TheVariants as local_use
@@ -29,7 +30,7 @@ abbrev pub is_outside_return : ReturnInsn → Bool
 is_outside_return returns.Void = false
 is_outside_return (returns.Value k) = not (is_profile_kind k)
 
--- Of the instructions that name neither a class nor a member.
+-- Decides it for an instruction that names neither a class nor a member.
 abbrev pub is_outside_simple : Simple → Bool
 is_outside_simple (simple.Push p) = is_outside_push p
 is_outside_simple (simple.Local how n) = is_outside_local how
@@ -43,7 +44,7 @@ is_outside_constant (loadable.Float n) = true
 is_outside_constant (loadable.Double n) = true
 is_outside_constant _ = false
 
--- Whether a turn stops at an instruction with OutOfProfile, whatever its operands are.
+-- Decides whether a turn stops at an instruction with OutOfProfile, whatever its operands are.
 abbrev pub is_outside : Instruction → Bool
 is_outside (instruction.Simple s) = is_outside_simple s
 is_outside (instruction.Constant c) = is_outside_constant c

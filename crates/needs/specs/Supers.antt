@@ -1,6 +1,6 @@
--- The lines of superclasses and superinterfaces that class files name and that aren't there (own): of the classes in the
--- order of the files, of each its superclass before its superinterfaces in their order. There are none exactly where
--- linking finds none that is missing (JVMS 5.3.5).
+-- Defines the lines of missing superclasses and superinterfaces of class files (own). They follow the order of the
+-- files, and in each the superclass precedes the superinterfaces. There are none if and only if linking finds none that
+-- is missing (JVMS 5.3.5).
 use Rattle.std.specs.Prelude.{ℕ, List, [], ◌∷◌, ◌++◌, None, Some, codes, if◌then◌else◌, is_some, map}
 use Rattle.std.specs.List.{flat_map}
 use Rattle.std.specs.Option.{option_to_list}
@@ -14,16 +14,16 @@ use Rattle.needs.specs.declared.lack.Lack.{Lack}
 use Rattle.needs.specs.declared.lack.Lack.TheVariants as lack
 use Rattle.needs.specs.Lines.{reason_of}
 
--- `C NoClassDefFoundError D`, and why a compiler may have put D there.
+-- Returns `C NoClassDefFoundError D`, with a hint why a compiler may have put D there.
 abbrev pub super_line : List ℕ → List ℕ → List ℕ
 super_line class name =
     spelled class ++ codes " " ++ reason_of (lack.Unresolved thrown.NoClassDefFoundError) (Some name) None ++ codes "\n"
 
--- The line of a class's super of this name, if there is no such class.
+-- Returns the line of a superclass or superinterface of this name, if it is missing.
 abbrev pub line_of_super : List Class → List ℕ → List ℕ → List ℕ
 line_of_super program class name = if is_some (class_named program name) then [] else super_line class name
 
--- The superclass, then the superinterfaces.
+-- Returns the names of the superclass and of the superinterfaces, in this order.
 abbrev pub named_supers : Class → List (List ℕ)
 named_supers c = option_to_list c.superclass ++ c.interfaces
 

@@ -1,4 +1,4 @@
--- The lines of a specification that speak of no method of a program's classes, but for the built-in classes (own).
+-- Defines the lines of a specification that match no method of a program's classes, except built-in ones (own).
 use Rattle.std.specs.Prelude.{ℕ, Bool, not, ◌&&◌, List, [], ◌++◌, codes, if◌then◌else◌}
 use Rattle.std.specs.List.{flat_map, list_any}
 use Rattle.atom_spec.specs.Lines.{line_text}
@@ -11,21 +11,21 @@ use Rattle.velodrome.specs.declared.specification.SpecificationLine.{Specificati
 use Rattle.velodrome.specs.Specification.{Specification, is_of}
 use Rattle.needs.specs.Lines.{needs_text}
 
--- Whether a pattern speaks of a method of a class.
+-- Decides whether a pattern matches a method of a class that isn't built in.
 abbrev pub matches_in : Pattern → Class → Bool
 matches_in p c = not (is_built_in c.name) && list_any (λ m. is_of p (key_in c m)) c.methods
 
--- `spec atomic C.m matches no method`
+-- Returns a line such as `spec atomic C.m matches no method`.
 abbrev pub no_match_line : SpecificationLine → List ℕ
 no_match_line l = codes "spec " ++ line_text l ++ codes " matches no method\n"
 
 abbrev pub unmatched_line : List Class → SpecificationLine → List ℕ
 unmatched_line program l = if list_any (matches_in l.pattern) program then [] else no_match_line l
 
--- The lines of those of a specification's lines that speak of no method.
+-- Returns the lines for those lines of a specification that match no method.
 abbrev pub unmatched_lines : List Class → Specification → List ℕ
 unmatched_lines program lines = flat_map (unmatched_line program) lines
 
--- What is missing: for the classes of a program, then for a specification.
+-- Returns all that is missing: first for the classes of a program, then for a specification.
 abbrev pub missing_text : List Class → ℕ → List ClassFile → Specification → List ℕ
 missing_text program first files lines = needs_text program first files ++ unmatched_lines program lines

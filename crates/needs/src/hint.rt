@@ -1,4 +1,4 @@
-//! Why a compiler may have put an instruction there that isn't in the source.
+//! Hints why a compiler may have added an instruction that isn't in the source.
 
 ghost use Rattle.std.specs.Prelude.{◌≡◌, ◌==◌};
 ghost use Rattle.std.specs.List.{list_any};
@@ -8,17 +8,17 @@ use crate::lack::Lack;
 use built_in::is_named;
 use jvms_program::thrown::Thrown;
 
-/// The unit `$`.
+/// The UTF-16 code unit of `$`.
 const DOLLAR: u16 = 36;
 
-/// Returns whether a class isn't there.
+/// Returns whether the reason is a missing class.
 pub(crate) fn is_absence(lack: Lack) -> bool
     ensures { result ≡ absence lack }
 {
     matches!(lack, Lack::Unresolved(Thrown::NoClassDefFoundError))
 }
 
-/// Returns what is said of an instruction that names neither a class nor a member.
+/// Returns the hint for an instruction that names neither a class nor a member.
 pub(crate) fn unnamed_hint(lack: Lack) -> &'static str
     ensures { result.now ≡ said_unnamed lack }
 {
@@ -28,14 +28,14 @@ pub(crate) fn unnamed_hint(lack: Lack) -> &'static str
     }
 }
 
-/// Returns whether `+` on strings uses a class.
+/// Returns whether a compiler uses this class for `+` on strings.
 fn is_text_builder(class: &[u16]) -> bool
     ensures { result ≡ text_builder class.now }
 {
     is_named(class, "java/lang/StringBuilder") || is_named(class, "java/lang/StringBuffer")
 }
 
-/// Returns whether `assert` uses a class, or a member of it.
+/// Returns whether a compiler uses this class, or this member of it, for `assert`.
 fn is_assertion(class: &[u16], member: &[u16]) -> bool
     ensures { result ≡ assertion class.now member.now }
 {
@@ -43,7 +43,7 @@ fn is_assertion(class: &[u16], member: &[u16]) -> bool
         || is_named(class, "java/lang/Class") && is_named(member, "desiredAssertionStatus")
 }
 
-/// Returns whether the objects of a class are numbers, characters or truth values.
+/// Returns whether a class boxes numbers, characters or truth values.
 fn is_box(class: &[u16]) -> bool
     ensures { result ≡ box_class class.now }
 {
@@ -55,7 +55,7 @@ fn is_box(class: &[u16]) -> bool
         || is_named(class, "java/lang/Boolean")
 }
 
-/// Returns whether a method of this name makes such an object, or takes the value out of one.
+/// Returns whether a method of this name boxes or unboxes a value.
 fn is_boxing(member: &[u16]) -> bool
     ensures { result ≡ boxing member.now }
 {
@@ -75,7 +75,8 @@ fn has_dollar(name: &[u16]) -> bool
     name.iter().any(|unit| *unit == DOLLAR)
 }
 
-/// Returns why a compiler may have put an instruction there that names a class, and a member of this name or an empty one.
+/// Returns a hint why a compiler may have added an instruction that names this class, and a member of this name. The
+/// name is empty if the instruction names no member.
 pub(crate) fn hint_of(lack: Lack, class: &[u16], member: &[u16]) -> &'static str
     ensures { result.now ≡ hint_of lack class.now member.now }
 {

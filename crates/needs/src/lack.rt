@@ -1,4 +1,4 @@
-//! What an instruction needs that isn't there.
+//! Decides why an instruction can't run.
 
 ghost use Rattle.std.specs.Prelude.{◌≡◌};
 ghost use Rattle.std.specs.Result.{result_err};
@@ -13,16 +13,16 @@ use jvms_program::program::{FieldReference, Instruction, Loadable, MethodReferen
 use jvms_program::thrown::Thrown;
 use program::Program;
 
-/// Why an instruction doesn't run.
+/// A reason why an instruction can't run.
 #[derive(Clone, Copy, Debug, PartialEq, Eq)]
 pub enum Lack {
-    /// What it names can't be resolved: an error of this class is thrown.
+    /// An error of resolution: what the instruction names can't be resolved, and an error of this class is thrown.
     Unresolved(Thrown),
-    /// It is outside of the profile.
+    /// The instruction is outside of the profile.
     OutOfProfile,
 }
 
-/// Returns what is thrown if no class has this name.
+/// Returns the error that is thrown if no class has this name.
 fn absence(program: &Program, name: &[u16]) -> Option<Thrown>
     ensures { result ≡ absence program.now name.now }
 {
@@ -33,7 +33,7 @@ fn absence(program: &Program, name: &[u16]) -> Option<Thrown>
     }
 }
 
-/// Returns what is thrown if what a constant names isn't there.
+/// Returns the error that is thrown if a constant names a missing class.
 fn constant_error(program: &Program, constant: &Loadable) -> Option<Thrown>
     ensures { result ≡ constant_error program.now constant.now }
 {
@@ -67,21 +67,21 @@ fn error_of(resolved: Result<(usize, usize), Thrown>) -> Option<Thrown>
     }
 }
 
-/// Returns what is thrown if a field can't be resolved.
+/// Returns the error that is thrown if a field can't be resolved.
 fn field_error(program: &Program, how: FieldUse, field: &FieldReference) -> Option<Thrown>
     ensures { result ≡ result_err (resolved_field program.now (static_use how) field.now) }
 {
     error_of(program.resolve_field(is_static_use(how), field))
 }
 
-/// Returns what is thrown if a method can't be resolved.
+/// Returns the error that is thrown if a method can't be resolved.
 fn method_error(program: &Program, how: Invoke, method: &MethodReference) -> Option<Thrown>
     ensures { result ≡ result_err (resolved_method program.now (static_call how) method.now) }
 {
     error_of(program.resolve_method(is_static_call(how), method))
 }
 
-/// Returns what is thrown if what an instruction names can't be resolved.
+/// Returns the error that is thrown if resolution of what an instruction names fails.
 fn resolution_error(program: &Program, instruction: &Instruction) -> Option<Thrown>
     ensures { result ≡ resolution_error program.now instruction.now }
 {
@@ -96,7 +96,7 @@ fn resolution_error(program: &Program, instruction: &Instruction) -> Option<Thro
     }
 }
 
-/// Returns the first of two reasons why an instruction doesn't run.
+/// Returns the first of two reasons why an instruction can't run: an error, else that it is outside of the profile.
 fn first_lack(error: Option<Thrown>, is_outside: bool) -> Option<Lack>
     ensures { result ≡ first_lack error is_outside }
 {
@@ -107,7 +107,7 @@ fn first_lack(error: Option<Thrown>, is_outside: bool) -> Option<Lack>
     }
 }
 
-/// Returns what an instruction needs that isn't there, if it needs anything.
+/// Returns the reason why an instruction can't run, if there is one.
 pub(crate) fn lack_of(program: &Program, instruction: &Instruction) -> Option<Lack>
     ensures { result ≡ lack_of program.now instruction.now }
 {

@@ -1,4 +1,4 @@
-//! Laws about the definitions, owed to the gate: each is the contract of a function that does nothing.
+//! Laws about the definitions. Each is the contract of a function that does nothing.
 
 ghost use Rattle.std.specs.Prelude.{◌≡◌, ℕ, List, Some, true};
 ghost use Rattle.jvms_machine.specs.declared.machine.BadCause.TheVariants as cause;
@@ -12,8 +12,8 @@ ghost use Rattle.jvms_program.specs.declared.program.Method.{Method};
 ghost use Rattle.jvms_program.specs.Program.{method_at};
 ghost use Rattle.needs.specs.Outside.{is_outside};
 
-/// The turn of a call of a program's method that is at an instruction outside of the profile stops with OutOfProfile,
-/// whatever its operands are.
+/// Proves that the turn of a program's method at an instruction outside of the profile stops with OutOfProfile,
+/// whatever the operands are.
 pub fn a_turn_outside_of_the_profile_stops()
     ensures { (program : List Class) (limits : Limits) (s : State) (t : ℕ) (thread : Thread) (frame : MethodFrame)
         (below : List Frame) (m : Method) (i : Instruction) →

@@ -1,5 +1,5 @@
-//! What the classes of a program use that isn't there: classes, members, and instructions outside of the profile; which
-//! superclasses of class files aren't there; and which lines of a specification speak of no method.
+//! Lists what a program lacks. Its classes may use missing classes or members, or instructions outside of the profile.
+//! Class files may name missing superclasses. Lines of a specification may match no method.
 #![tactic(auto)]
 
 mod hint;

@@ -1,4 +1,4 @@
-//! The line of an instruction that needs what isn't there.
+//! Writes the line of an instruction that can't run.
 
 ghost use Rattle.std.specs.Prelude.{◌≡◌, ◌++◌, OnOk};
 ghost use Rattle.std.specs.Option.{option_map};
@@ -30,7 +30,7 @@ fn error_name(error: Thrown) -> &'static str
     }
 }
 
-/// Returns the name of what an instruction needs.
+/// Returns the name of a reason why an instruction can't run.
 fn lack_name(lack: Lack) -> &'static str
     ensures { result.now ≡ lack_text lack }
 {
@@ -56,7 +56,7 @@ pub(crate) fn put_member(
     put_name(out, descriptor)
 }
 
-/// Appends what is named after a space: a class, or a member if its class is there.
+/// Appends what is named, after a space: the class if it is missing, else the member, if there is one.
 fn put_named(
     out: &mut String,
     lack: Lack,
@@ -76,7 +76,7 @@ fn put_named(
     }
 }
 
-/// Returns why a compiler may have put an instruction there.
+/// Returns the hint why a compiler may have added an instruction.
 fn hint_text(lack: Lack, class: Option<&[u16]>, member: Option<(&[u16], &[u16])>) -> &'static str
     ensures { result.now
         ≡ hint_text lack (option_map (λ c. c.now) class.entry) (option_map (λ m. (m.0.now, m.1.now)) member.entry) }
@@ -88,7 +88,7 @@ fn hint_text(lack: Lack, class: Option<&[u16]>, member: Option<(&[u16], &[u16])>
     }
 }
 
-/// Appends what is needed of a class and a member.
+/// Appends the reason, with the class and the member that are named.
 pub(crate) fn put_reason_of(
     out: &mut String,
     lack: Lack,
@@ -103,7 +103,7 @@ pub(crate) fn put_reason_of(
     out.push_str(hint_text(lack, class, member))
 }
 
-/// Appends what an instruction needs.
+/// Appends the reason why an instruction can't run.
 fn put_reason(out: &mut String, lack: Lack, instruction: &Instruction) -> Result<(), AllocError>
     ensures { OnOk result (string_bytes out.new ≡ string_bytes out.old ++ reason_text lack instruction.now) }
 {
@@ -112,7 +112,7 @@ fn put_reason(out: &mut String, lack: Lack, instruction: &Instruction) -> Result
     put_reason_of(out, lack, class, member)
 }
 
-/// Appends what an instruction needs that isn't there, after a space. Appends nothing if it needs nothing.
+/// Appends the reason why an instruction can't run, after a space. Appends nothing if it can run.
 pub fn put_need(
     out: &mut String,
     program: &Program,
@@ -130,7 +130,7 @@ pub fn put_need(
     }
 }
 
-/// A method of a program, by its number and by its key.
+/// A method of a program, with its number and its key.
 #[derive(Drop)]
 pub(crate) struct NumberedMethod {
     pub(crate) number: MethodNumber,
@@ -164,7 +164,7 @@ fn put_place_of(
     Ok(())
 }
 
-/// Appends the line of a method's instruction that needs what isn't there.
+/// Appends the line of a method's instruction that can't run.
 pub(crate) fn put_need_line(
     out: &mut String,
     sources: &SourceFiles,

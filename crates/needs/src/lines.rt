@@ -1,4 +1,4 @@
-//! The lines of what the classes of a program need that isn't there.
+//! Writes the lines of all instructions of a program that can't run.
 
 ghost use Rattle.std.specs.Prelude.{◌≡◌, ◌++◌, IfOk, OnOk};
 ghost use Rattle.std.specs.List.{enumerate_from, flat_map};
@@ -17,7 +17,7 @@ use program::Program;
 use source_lines::SourceFiles;
 use std::alloc::AllocError;
 
-/// Returns a method with the class that declares it.
+/// Returns the key of a method, with the class that declares it.
 fn key_in(class: &Class, method: &Method) -> Result<MethodKey, AllocError>
     ensures { IfOk result (λ key. key ≡ key_in class.now method.now) }
 {
@@ -28,7 +28,7 @@ fn key_in(class: &Class, method: &Method) -> Result<MethodKey, AllocError>
     })
 }
 
-/// Appends the line of an instruction, if it needs what isn't there.
+/// Appends the line of an instruction, if it can't run.
 fn put_instruction(
     out: &mut String,
     program: &Program,
@@ -108,7 +108,7 @@ fn put_method_lines(
     )
 }
 
-/// Appends the lines of all methods of the class of a number.
+/// Appends the lines of all methods of class `number`.
 fn put_methods(
     out: &mut String,
     program: &Program,
@@ -131,7 +131,7 @@ fn put_methods(
     Ok(())
 }
 
-/// Appends the lines of the class of a number, if it isn't built in.
+/// Appends the lines of class `number`, if it isn't built in.
 fn put_class(
     out: &mut String,
     program: &Program,

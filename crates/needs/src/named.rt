@@ -1,4 +1,4 @@
-//! What an instruction names.
+//! Returns what an instruction names.
 
 ghost use Rattle.std.specs.Prelude.{◌≡◌};
 ghost use Rattle.std.specs.Option.{option_map};
@@ -6,7 +6,7 @@ ghost use Rattle.needs.specs.Named.{class_named, class_of_constant, member_named
 
 use jvms_program::program::{Instruction, Loadable};
 
-/// Returns the class that a constant is.
+/// Returns the class that a constant names.
 fn class_of_constant(constant: &Loadable) -> Option<&[u16]>
     ensures { option_map (λ c. c.now) result ≡ class_of_constant constant.now }
 {
@@ -16,7 +16,7 @@ fn class_of_constant(constant: &Loadable) -> Option<&[u16]>
     }
 }
 
-/// Returns the name of the class that an instruction names, also as that of a member.
+/// Returns the name of the class that an instruction names, alone or with a member.
 pub(crate) fn class_named(instruction: &Instruction) -> Option<&[u16]>
     ensures { option_map (λ c. c.now) result ≡ class_named instruction.now }
 {

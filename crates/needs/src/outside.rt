@@ -1,4 +1,5 @@
-//! Which instructions are outside of the profile: those of floats and doubles, and `new` of some built-in classes.
+//! Decides which instructions are outside of the profile: those of floats and doubles, and `new` of some built-in
+//! classes.
 
 ghost use Rattle.std.specs.Prelude.{◌≡◌, not};
 ghost use Rattle.std.specs.List.{list_any};
@@ -9,7 +10,7 @@ ghost use Rattle.jvms_machine.specs.Profile.{is_never_new as never_new, is_outsi
 ghost use Rattle.needs.specs.Outside.{is_outside as outside, is_outside_constant as outside_constant, is_outside_local as outside_local, is_outside_push as outside_push, is_outside_return as outside_return, is_outside_simple as outside_simple};
 
 use built_in::is_named;
-use descriptor::{Innermost, field_in, is_array_name};
+use descriptor::{ParsedElement, field_in, is_array_name};
 use jvms_file::descriptor::{Element, FieldType, MethodType, Primitive, ResultType};
 use jvms_file::insn::{
     ArrayInsn, ArrayKind, ArrayType, ClassUse, Kind, LocalUse, Push, ReturnInsn, Simple,
@@ -33,7 +34,7 @@ fn is_outside_type(t: &FieldType) -> bool
     }
 }
 
-/// Returns whether a method gives a float or a double, or an array of them.
+/// Returns whether a method returns a float or a double, or an array of them.
 fn is_outside_result(given: &ResultType) -> bool
     ensures { result ≡ outside_result given.now }
 {
@@ -60,12 +61,12 @@ fn is_outside_method(t: &MethodType) -> bool
 }
 
 /// Returns whether the innermost components of an array are floats or doubles.
-fn is_outside_innermost(innermost: Innermost) -> bool
+fn is_outside_innermost(innermost: ParsedElement) -> bool
     ensures { result ≡ outside_element (element_of innermost.entry) }
 {
     match innermost {
-        Innermost::Primitive(primitive) => is_outside_primitive(primitive),
-        Innermost::Object(_) => false,
+        ParsedElement::Primitive(primitive) => is_outside_primitive(primitive),
+        ParsedElement::Object(_) => false,
     }
 }
 
@@ -96,7 +97,7 @@ fn is_outside_component(component: ArrayType) -> bool
     matches!(component, ArrayType::Float | ArrayType::Double)
 }
 
-/// Returns whether an instruction loads, stores or makes floats or doubles of an array.
+/// Returns whether an array instruction loads or stores a float or a double, or makes an array of them.
 fn is_outside_array(what: ArrayInsn) -> bool
     ensures { result ≡ outside_array what }
 {
@@ -107,7 +108,7 @@ fn is_outside_array(what: ArrayInsn) -> bool
     }
 }
 
-/// Returns whether `new` makes no object of the class of a name.
+/// Returns whether `new` is outside of the profile for the class of this name.
 #[tactic(auto, unfolding(jvms_machine::specs::Profile::is_never_new))]
 fn is_never_new(name: &[u16]) -> bool
     ensures { result ≡ never_new name.now }
@@ -118,7 +119,7 @@ fn is_never_new(name: &[u16]) -> bool
         || is_named(name, "java/io/PrintStream")
 }
 
-/// Returns whether an instruction makes what is outside of the profile, of the class of a name.
+/// Returns whether an instruction makes an object outside of the profile, of the class of this name.
 fn is_outside_use(how: ClassUse, name: &[u16]) -> bool
     ensures { result ≡ outside_use how name.now }
 {

@@ -1,4 +1,4 @@
-//! The lines of superclasses and superinterfaces that aren't there.
+//! Writes the lines of missing superclasses and superinterfaces.
 
 ghost use Rattle.std.specs.Prelude.{◌≡◌, ◌++◌, ◌-◌, IfOk, OnOk, drop, length, map};
 ghost use Rattle.std.specs.List.{flat_map};
@@ -12,14 +12,14 @@ use crate::lack::Lack;
 use crate::line::put_reason_of;
 use classes::{ClassList, superclass_name};
 use escapes::put_name;
-use held::shared::Text;
+use shared_data::shared::Text;
 use jvms_file::class_file::ClassFile;
 use jvms_program::program::Class;
 use jvms_program::thrown::Thrown;
 use linker::meaning;
 use std::alloc::{AllocError, Global};
 
-/// Appends the line of a class's super that isn't there.
+/// Appends the line of a missing superclass or superinterface.
 fn put_super_line(out: &mut String, class: &[u16], name: &[u16]) -> Result<(), AllocError>
     ensures { OnOk result (string_bytes out.new ≡ string_bytes out.old ++ super_line class.now name.now) }
 {
@@ -30,7 +30,7 @@ fn put_super_line(out: &mut String, class: &[u16], name: &[u16]) -> Result<(), A
     out.push_str("\n")
 }
 
-/// Appends the line of a class's super of this name, if there is no such class.
+/// Appends the line of a superclass or superinterface of this name, if it is missing.
 fn put_super(
     out: &mut String,
     list: &ClassList,
@@ -46,7 +46,7 @@ fn put_super(
     put_super_line(out, class.name.as_slice(), name)
 }
 
-/// Appends the line of a class's superclass, if there is no such class.
+/// Appends the line of a class's superclass, if it is missing.
 fn put_superclass(out: &mut String, list: &ClassList, class: &Class) -> Result<(), AllocError>
     ensures { OnOk result (string_bytes out.new ≡ string_bytes out.old
         ++ flat_map (line_of_super list.now class.now.name) (option_to_list class.now.superclass)) }
@@ -57,7 +57,7 @@ fn put_superclass(out: &mut String, list: &ClassList, class: &Class) -> Result<(
     }
 }
 
-/// Appends the line of a class's superinterface, if there is no such class.
+/// Appends the line of a class's superinterface, if it is missing.
 fn put_interface(
     out: &mut String,
     list: &ClassList,
@@ -70,7 +70,7 @@ fn put_interface(
     put_super(out, list, class, name.as_slice())
 }
 
-/// Appends the lines of a class's superinterfaces of these names.
+/// Appends the lines of the missing superinterfaces among these names.
 fn put_interfaces(
     out: &mut String,
     list: &ClassList,
@@ -86,7 +86,7 @@ fn put_interfaces(
     Ok(())
 }
 
-/// Appends the lines of a class's superclass and its superinterfaces.
+/// Appends the lines of a class's missing superclass and superinterfaces.
 fn put_supers(out: &mut String, list: &ClassList, class: &Class) -> Result<(), AllocError>
     ensures { OnOk result (string_bytes out.new ≡ string_bytes out.old
         ++ lines_of_supers list.now class.now) }
@@ -95,7 +95,7 @@ fn put_supers(out: &mut String, list: &ClassList, class: &Class) -> Result<(), A
     put_interfaces(out, list, class, class.interfaces.as_slice())
 }
 
-/// Appends the lines of classes' superclasses and superinterfaces.
+/// Appends the lines of the missing superclasses and superinterfaces of classes.
 fn put_all_supers(out: &mut String, list: &ClassList, classes: &[Class]) -> Result<(), AllocError>
     ensures { OnOk result (string_bytes out.new ≡ string_bytes out.old
         ++ flat_map (lines_of_supers list.now) classes.now) }
@@ -106,7 +106,7 @@ fn put_all_supers(out: &mut String, list: &ClassList, classes: &[Class]) -> Resu
     Ok(())
 }
 
-/// Returns the classes that class files mean, in order.
+/// Returns the classes of class files, in order.
 fn classes_of(alloc: Global, files: Vec<ClassFile>) -> Result<Vec<Class>, AllocError>
     ensures { IfOk result (λ classes. classes.items ≡ map meaning files.items) }
 {
@@ -125,8 +125,8 @@ fn last_classes(list: &ClassList, count: usize) -> &[Class]
     classes.split_at(classes.len().saturating_sub(count)).1
 }
 
-/// Returns a line for each superclass and superinterface that class files name and that neither they nor the built-in
-/// classes are. The text is empty if all are there.
+/// Returns a line for each superclass and superinterface that class files name and that is neither among them nor built
+/// in. The text is empty if none is missing.
 #[tactic(auto, unfolding(jvms_program::specs::Program::program_of), using(jvms_program::proofs::ProgramLaws::files_are_program))]
 pub fn missing_supers(alloc: Global, files: Vec<ClassFile>) -> Result<String, AllocError>
     ensures { IfOk result (λ text. string_bytes text ≡ missing_supers files.items) }

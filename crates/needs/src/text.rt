@@ -1,4 +1,4 @@
-//! All that is missing.
+//! Writes all that a program lacks.
 
 ghost use Rattle.std.specs.Prelude.{◌≡◌, IfOk};
 ghost use Rattle.std.specs.String.{string_bytes};
@@ -11,8 +11,8 @@ use program::Program;
 use source_lines::SourceFiles;
 use std::alloc::{AllocError, Global};
 
-/// Returns what is missing: a line for each instruction of the classes that aren't built in that needs what isn't there,
-/// and a line for each of a specification's lines that speaks of none of their methods. The text is empty if nothing is
+/// Returns all that is missing. The classes that aren't built in have a line for each instruction that can't run. The
+/// specification has one for each of its lines that matches none of their methods. The text is empty if nothing is
 /// missing.
 pub fn missing_text(
     alloc: Global,
@@ -29,7 +29,7 @@ pub fn missing_text(
     Ok(text)
 }
 
-/// Returns a line for each of a specification's lines that speaks of no method of the classes that aren't built in.
+/// Returns a line for each line of a specification that matches no method of the classes that aren't built in.
 pub fn unmatched_text(
     alloc: Global,
     program: &Program,

@@ -1,4 +1,4 @@
-//! The lines of a specification that speak of no method of a program's classes.
+//! Finds the lines of a specification that match no method of a program's classes.
 
 ghost use Rattle.std.specs.Prelude.{◌≡◌, ◌++◌, OnOk};
 ghost use Rattle.std.specs.List.{list_any};
@@ -18,14 +18,14 @@ use jvms_program::program::{Class, Method};
 use program::Program;
 use std::alloc::AllocError;
 
-/// Returns whether a method of a class has this name.
+/// Returns whether a method is of the class `named` and has this name.
 fn has_name(class: &Class, method: &Method, named: &[u16], name: &[u16]) -> bool
     ensures { result ≡ pattern_is_of (pattern_case.Named named.now name.now) (key_in class.now method.now) }
 {
     same_text(class.name.as_slice(), named) && same_text(method.name.as_slice(), name)
 }
 
-/// Returns whether a pattern speaks of a method of a class.
+/// Returns whether a pattern matches a method of a class.
 fn is_of(pattern: &Pattern, class: &Class, method: &Method) -> bool
     ensures { result ≡ pattern_is_of pattern.now (key_in class.now method.now) }
 {
@@ -46,7 +46,7 @@ fn is_of(pattern: &Pattern, class: &Class, method: &Method) -> bool
     }
 }
 
-/// Returns whether a pattern speaks of one of a class's methods.
+/// Returns whether a pattern matches one of a class's methods.
 fn is_of_one(pattern: &Pattern, class: &Class) -> bool
     ensures { result ≡ list_any (λ m. pattern_is_of pattern.now (key_in class.now m)) class.now.methods }
 {
@@ -57,21 +57,21 @@ fn is_of_one(pattern: &Pattern, class: &Class) -> bool
         .any(|method| is_of(pattern, class, method))
 }
 
-/// Returns whether a pattern speaks of a method of a class that isn't built in.
+/// Returns whether a pattern matches a method of a class that isn't built in.
 fn matches_in(pattern: &Pattern, class: &Class) -> bool
     ensures { result ≡ pattern_matches_in pattern.now class.now }
 {
     !is_built_in(class.name.as_slice()) && is_of_one(pattern, class)
 }
 
-/// Returns whether a pattern speaks of a method of one of these classes.
+/// Returns whether a pattern matches a method of one of these classes.
 fn is_matched(pattern: &Pattern, classes: &[Class]) -> bool
     ensures { result ≡ list_any (pattern_matches_in pattern.now) classes.now }
 {
     classes.iter().any(|class| matches_in(pattern, class))
 }
 
-/// Returns what a line says of methods.
+/// Returns the word of a line: `atomic` or `plain`.
 fn word_of(is_atomic: bool) -> &'static str
     ensures { result.now ≡ word_text is_atomic }
 {
@@ -115,7 +115,7 @@ fn put_line(out: &mut String, line: &SpecificationLine) -> Result<(), AllocError
     put_pattern(out, &line.pattern)
 }
 
-/// Appends what is said of a line that speaks of no method.
+/// Appends that a line matches no method.
 fn put_no_match(out: &mut String, line: &SpecificationLine) -> Result<(), AllocError>
     ensures { OnOk result (string_bytes out.new ≡ string_bytes out.old ++ no_match_line line.now) }
 {
@@ -125,7 +125,7 @@ fn put_no_match(out: &mut String, line: &SpecificationLine) -> Result<(), AllocE
     Ok(())
 }
 
-/// Appends what is said of a line if it speaks of no method.
+/// Appends that a line matches no method, if it does not.
 fn put_unmatched_line(
     out: &mut String,
     program: &Program,
@@ -140,7 +140,7 @@ fn put_unmatched_line(
     put_no_match(out, line)
 }
 
-/// Appends what is said of the lines that speak of no method.
+/// Appends that lines match no method, for those that do not.
 pub(crate) fn put_unmatched(
     out: &mut String,
     program: &Program,

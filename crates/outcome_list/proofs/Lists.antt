@@ -1,4 +1,4 @@
--- Outcomes by their kinds and names: one more, and one after another.
+-- Lists of outcomes by kinds and names: one more outcome, and several.
 use Rattle.std.proofs.Common.{◌≡◌, ℕ, zero, suc, ◌+◌, ◌-◌, ◌≤◌, List, [], ◌∷◌, ◌++◌, length, replicate, refl, ap, sym, ◌∙◌, subst, arith, true, false, length-append}
 use Rattle.std.specs.List.{sum_by}
 use Rattle.std.proofs.lemmas.List.{append-nil, append_assoc, drop-append-le, length-drop, nil_from_length, replicate-append-replicate}
@@ -13,7 +13,7 @@ use Rattle.outcome_list.specs.Kinds.{kind_of}
 use Rattle.outcome_list.specs.Names.{Names, no_names, followed, names_in}
 use Rattle.outcome_list.specs.Held.{Fit, first, threads_of, references_of, classes_of, outcome_by, names_behind, outcomes_by}
 
--- An outcome's own kind and names tell it.
+-- An outcome is determined by its kind and its names.
 told_whole : (o : Outcome) → outcome_by (kind_of o) (names_in o) ≡ o
 told_whole outcome.Ran = refl
 told_whole outcome.Raised = refl
@@ -30,7 +30,7 @@ told_whole (outcome.Bad bad_cause.Depth) = refl
 told_whole (outcome.Bad bad_cause.Kind) = refl
 told_whole (outcome.Bad bad_cause.Local) = refl
 
--- They are as many names as the kind says.
+-- The names in an outcome are as many as its kind has.
 one_fits : (o : Outcome) → Fit (kind_of o ∷ []) (names_in o)
 one_fits outcome.Ran = record { threads = refl; references = refl; classes = refl }
 one_fits outcome.Raised = record { threads = refl; references = refl; classes = refl }
@@ -47,7 +47,7 @@ one_fits (outcome.Bad bad_cause.Depth) = record { threads = refl; references = r
 one_fits (outcome.Bad bad_cause.Kind) = record { threads = refl; references = refl; classes = refl }
 one_fits (outcome.Bad bad_cause.Local) = record { threads = refl; references = refl; classes = refl }
 
--- One more fits behind those that fit.
+-- The names fit after one more outcome.
 pub more_fit : (kinds : List Kind) (names : Names) (o : Outcome) → Fit kinds names → Fit (kinds ++ kind_of o ∷ []) (followed names (names_in o))
 more_fit kinds names o fit =
     let own = one_fits o in
@@ -57,13 +57,13 @@ more_fit kinds names o fit =
       classes = length-append names.classes (names_in o).classes ∙ ap (λ n. n + length (names_in o).classes) fit.classes ∙ ap (λ n. sum_by classes_of kinds + n) own.classes ∙ sym (sum_by-append classes_of kinds (kind_of o ∷ []));
     }
 
--- ---- The names of an outcome stand first, also before others
+-- ---- The names of an outcome come first, also before others
 
 first_before : (xs ys : List ℕ) → 1 ≤ length xs → first (xs ++ ys) ≡ first xs
 first_before [] ys some = absurd (omega arith)
 first_before (x ∷ xs) ys some = refl
 
--- There are enough names for an outcome.
+-- There are enough names for an outcome of a kind.
 record Enough (k : Kind) (names : Names) : Type 0 where
   pub threads : threads_of k ≤ length names.threads
   pub references : references_of k ≤ length names.references
@@ -121,7 +121,7 @@ none_left names fit =
 none_before : (names : Names) → followed no_names names ≡ names
 none_before names = refl
 
--- One more outcome behind those that there are.
+-- One more outcome after those of the list.
 pub one_more : (kinds : List Kind) (names : Names) (o : Outcome) → Fit kinds names → outcomes_by (kinds ++ kind_of o ∷ []) (followed names (names_in o)) ≡ outcomes_by kinds names ++ o ∷ []
 one_more [] names o fit =
     ap (λ (n : Names). outcome_by (kind_of o) (followed n (names_in o)) ∷ []) (none_left names fit) ∙ ap (λ x. x ∷ []) (told_whole o)
@@ -131,12 +131,12 @@ one_more (k ∷ kinds) names o fit =
     ∙ ap (λ n. outcome_by k names ∷ outcomes_by (kinds ++ kind_of o ∷ []) n) (behind_before k names (names_in o) is)
     ∙ ap (λ l. outcome_by k names ∷ l) (one_more kinds (names_behind k names) o (behind_fits k kinds names fit))
 
--- As many outcomes as kinds.
+-- There are as many outcomes as kinds.
 pub as_many : (kinds : List Kind) (names : Names) → length (outcomes_by kinds names) ≡ length kinds
 as_many [] names = refl
 as_many (k ∷ kinds) names = ap suc (as_many kinds (names_behind k names))
 
--- ---- Turns that ran, which name nothing
+-- ---- Turns that ran, which have no names
 
 none_behind : (names : Names) → followed names no_names ≡ names
 none_behind names = rw (append-nil names.threads, append-nil names.references, append-nil names.classes) refl
@@ -150,7 +150,7 @@ ran_fit (suc times) kinds names fit =
     subst (λ l. Fit l names) (append_assoc kinds (kind.Ran ∷ []) (replicate times kind.Ran))
     (ran_fit times (kinds ++ kind.Ran ∷ []) names (one_ran kinds names fit))
 
--- So many outcomes more.
+-- A number of outcomes `Ran` after those of the list.
 pub ran_more : (times : ℕ) (kinds : List Kind) (names : Names) → Fit kinds names
     → outcomes_by (kinds ++ replicate times kind.Ran) names ≡ outcomes_by kinds names ++ replicate times outcome.Ran
 ran_more zero kinds names fit = ap (λ l. outcomes_by l names) (append-nil kinds) ∙ sym (append-nil (outcomes_by kinds names))
@@ -160,7 +160,7 @@ ran_more (suc times) kinds names fit =
     ∙ ap (λ l. l ++ replicate times outcome.Ran) (ap (outcomes_by (kinds ++ kind.Ran ∷ [])) (sym (none_behind names)) ∙ one_more kinds names outcome.Ran fit)
     ∙ append_assoc (outcomes_by kinds names) (outcome.Ran ∷ []) (replicate times outcome.Ran)
 
--- One more of the same.
+-- One more kind `Ran`.
 pub once_more : (times : ℕ) (kinds : List Kind) → (kinds ++ replicate times kind.Ran) ++ kind.Ran ∷ [] ≡ kinds ++ replicate (times + 1) kind.Ran
 once_more times kinds =
     append_assoc kinds (replicate times kind.Ran) (kind.Ran ∷ []) ∙ ap (λ l. kinds ++ l) (replicate-append-replicate times 1 kind.Ran)

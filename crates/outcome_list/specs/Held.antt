@@ -1,4 +1,4 @@
--- Outcomes by their kinds and the names of them all.
+-- Lists of outcomes, by their kinds and all their names.
 use Rattle.std.specs.Prelude.{◌≡◌, ℕ, List, [], ◌∷◌, length, drop, true, false}
 use Rattle.std.specs.List.{sum_by}
 use Rattle.jvms_machine.specs.declared.machine.Outcome.{Outcome}
@@ -9,7 +9,7 @@ use Rattle.outcome_list.specs.declared.kind.Kind.{Kind}
 use Rattle.outcome_list.specs.declared.kind.Kind.TheVariants as kind
 use Rattle.outcome_list.specs.Names.{Names}
 
--- How many threads an outcome of a kind names, how many references, and how many classes.
+-- Return the numbers of threads, references and classes that an outcome of a kind names.
 abbrev pub threads_of : Kind → ℕ
 threads_of kind.Monitor = 1
 threads_of kind.Initialisation = 1
@@ -25,18 +25,18 @@ abbrev pub classes_of : Kind → ℕ
 classes_of kind.Initialisation = 1
 classes_of _ = 0
 
--- The names are those of outcomes of these kinds: as many as they name, and no more.
+-- The names fit the kinds: there are exactly as many as outcomes of these kinds have.
 pub record Fit (kinds : List Kind) (names : Names) : Type 0 where
   pub threads : length names.threads ≡ sum_by threads_of kinds
   pub references : length names.references ≡ sum_by references_of kinds
   pub classes : length names.classes ≡ sum_by classes_of kinds
 
--- The first of some names; there is one, where names fit.
+-- Returns the first name, which exists if the names fit.
 abbrev pub first : List ℕ → ℕ
 first [] = 0
 first (name ∷ names) = name
 
--- The outcome of a kind that has the first of these names.
+-- Returns the outcome of a kind with the first of these names.
 abbrev pub outcome_by : Kind → Names → Outcome
 outcome_by kind.Ran names = outcome.Ran
 outcome_by kind.Raised names = outcome.Raised
@@ -53,7 +53,7 @@ outcome_by kind.Initialisation names = outcome.Blocked (blocked_on.Initialisatio
 outcome_by kind.Join names = outcome.Blocked (blocked_on.Join (first names.threads))
 outcome_by kind.Wait names = outcome.Blocked (blocked_on.Wait (first names.references))
 
--- The names that an outcome of a kind leaves to those behind it.
+-- Returns the names without those of an outcome of a kind.
 abbrev pub names_behind : Kind → Names → Names
 names_behind k names =
     record {
@@ -62,7 +62,7 @@ names_behind k names =
       classes = drop (classes_of k) names.classes;
     }
 
--- The outcomes of these kinds, each with the next of the names.
+-- Returns the outcomes of these kinds, each with the next of the names.
 abbrev pub outcomes_by : List Kind → Names → List Outcome
 outcomes_by [] names = []
 outcomes_by (k ∷ kinds) names = outcome_by k names ∷ outcomes_by kinds (names_behind k names)

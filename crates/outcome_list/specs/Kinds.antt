@@ -1,4 +1,4 @@
--- The kind of an outcome: what it came to, without the thread, the reference and the class that it names.
+-- The kind of an outcome, without the thread, the reference and the class that it names.
 use Rattle.std.specs.Prelude.{true, false}
 use Rattle.jvms_machine.specs.declared.machine.Outcome.{Outcome}
 use Rattle.jvms_machine.specs.declared.machine.Outcome.TheVariants as outcome

@@ -1,4 +1,4 @@
--- What outcomes name: threads, references and classes, each kind of name in the order of the outcomes.
+-- The names in outcomes: threads, references and classes, each in the order of the outcomes.
 use Rattle.std.specs.Prelude.{ℕ, List, [], ◌∷◌, ◌++◌}
 use Rattle.jvms_machine.specs.declared.machine.Outcome.{Outcome}
 use Rattle.jvms_machine.specs.declared.machine.Outcome.TheVariants as outcome
@@ -13,7 +13,7 @@ pub record Names : Type 0 where
 abbrev pub no_names : Names
 no_names = record { threads = []; references = []; classes = [] }
 
--- Names, and others behind them.
+-- Appends other names to names.
 abbrev pub followed : Names → Names → Names
 followed names others =
     record {
@@ -22,15 +22,15 @@ followed names others =
       classes = names.classes ++ others.classes;
     }
 
--- What a blocked thread waits for names an owner or a thread, and maybe a reference or a class. A wait for a notification
--- names a reference alone.
+-- Returns the names in what a blocked thread waits for: an owner or a thread, and maybe a reference or a class. A wait
+-- for a notification has a reference alone.
 abbrev pub names_of : BlockedOn → Names
 names_of (blocked_on.Monitor reference owner) = record { threads = owner ∷ []; references = reference ∷ []; classes = [] }
 names_of (blocked_on.Initialisation class owner) = record { threads = owner ∷ []; references = []; classes = class ∷ [] }
 names_of (blocked_on.Join thread) = record { threads = thread ∷ []; references = []; classes = [] }
 names_of (blocked_on.Wait reference) = record { threads = []; references = reference ∷ []; classes = [] }
 
--- No other outcome names anything.
+-- Returns the names in an outcome. Only a Blocked outcome has any.
 abbrev pub names_in : Outcome → Names
 names_in (outcome.Blocked on) = names_of on
 names_in outcome.Ran = no_names

@@ -1,4 +1,4 @@
-//! What a turn came to, without the thread, the reference and the class that it names.
+//! The kind of an outcome, without the thread, the reference and the class that it names.
 
 ghost use Rattle.std.specs.Prelude.{◌≡◌};
 ghost use Rattle.outcome_list.specs.Kinds.{kind_of};
@@ -10,7 +10,7 @@ use jvms_machine::machine::{BadCause, BlockedOn, Outcome};
 pub(crate) enum Kind {
     Ran,
     Raised,
-    /// The thread has ended in this very turn.
+    /// The thread ended in this turn.
     Last,
     /// The thread had ended before.
     Ended,
@@ -32,7 +32,7 @@ pub(crate) enum Kind {
 
 const _: () = prove!(size_of::<Kind>() == 1);
 
-/// The kind of what a turn can't be made for.
+/// Returns the kind of a Bad outcome with this cause.
 fn bad_kind(cause: BadCause) -> Kind
     ensures { result ≡ kind_of (Outcome.Bad cause) }
 {
@@ -45,7 +45,7 @@ fn bad_kind(cause: BadCause) -> Kind
     }
 }
 
-/// The kind of what a thread waits for.
+/// Returns the kind of a Blocked outcome.
 fn blocked_kind(on: BlockedOn) -> Kind
     ensures { result ≡ kind_of (Outcome.Blocked on) }
 {
@@ -58,7 +58,7 @@ fn blocked_kind(on: BlockedOn) -> Kind
 }
 
 impl Kind {
-    /// The kind of an outcome.
+    /// Returns the kind of an outcome.
     pub(crate) fn of(outcome: Outcome) -> Kind
         ensures { result ≡ kind_of outcome }
     {

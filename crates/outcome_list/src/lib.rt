@@ -1,4 +1,4 @@
-//! Outcomes of turns, held in few bytes.
+//! Outcomes of turns in a compact form.
 #![tactic(auto)]
 
 mod kind;

@@ -4,13 +4,13 @@ ghost use Rattle.std.specs.Prelude.{◌≡◌, ◌++◌, ◌∷◌, [], length, 
 
 use crate::kind::Kind;
 use crate::names::Names;
-use held::items::Items;
+use shared_data::items::Items;
 use jvms_machine::machine::Outcome;
 use std::alloc::{AllocError, Global};
 use std::marker::Model;
 
-/// A list of outcomes, which contracts see as the list itself. An outcome that names nothing takes one byte, one that is
-/// blocked by a monitor 9, by an initialisation 13, and by a thread that has not ended or by a wait 5.
+/// A list of outcomes, which contracts see as the list itself. An outcome without names takes one byte. One blocked on
+/// a monitor takes 9 bytes, on an initialisation 13, and on a join or a wait 5.
 #[derive(Debug, Drop)]
 pub struct OutcomeList {
     kinds: Vec<Kind>,
@@ -30,7 +30,7 @@ impl Model for OutcomeList {
     ghost invariant = { λ l. Fit l.kinds.items l.names };
 }
 
-/// Puts the kind of a turn that ran behind the others, so many times.
+/// Appends the kind `Ran` a number of times.
 #[tactic(auto, using(crate::proofs::Lists::once_more))]
 fn put_ran(kinds: &mut Vec<Kind>, times: usize) -> Result<(), AllocError>
     ensures ok { OnOk result (kinds.new.items ≡ kinds.old.items ++ replicate times Kind.Ran) }
@@ -44,7 +44,7 @@ fn put_ran(kinds: &mut Vec<Kind>, times: usize) -> Result<(), AllocError>
 }
 
 impl OutcomeList {
-    /// A list with no outcomes.
+    /// Returns a list without outcomes.
     pub fn new(alloc: Global) -> OutcomeList
         ensures { result ≡ [] }
     {
@@ -54,7 +54,7 @@ impl OutcomeList {
         }
     }
 
-    /// How many outcomes there are.
+    /// Returns the number of outcomes.
     #[tactic(auto, using(crate::proofs::Lists::as_many))]
     pub fn len(&self) -> usize
         ensures { result ≡ length self.now }
@@ -62,7 +62,7 @@ impl OutcomeList {
         self.kinds.len()
     }
 
-    /// Whether there are none.
+    /// Decides whether there are no outcomes.
     #[tactic(auto, using(crate::proofs::Lists::as_many))]
     pub fn is_empty(&self) -> bool
         ensures { result ≡ (length self.now == 0) }
@@ -70,7 +70,7 @@ impl OutcomeList {
         self.kinds.is_empty()
     }
 
-    /// Puts an outcome behind the others. Without memory for it nothing changes.
+    /// Appends an outcome. If there is no memory, nothing changes.
     pub fn push(&mut self, outcome: Outcome) -> Result<(), AllocError>
         ensures ok { OnOk result (self.new ≡ self.old ++ outcome ∷ []) }
         ensures err { OnErr result (self.new ≡ self.old) }
@@ -81,7 +81,7 @@ impl OutcomeList {
         Ok(())
     }
 
-    /// Puts the outcomes of so many turns that ran behind the others. Without memory for them nothing changes.
+    /// Appends the outcome `Ran` a number of times. If there is no memory, nothing changes.
     pub fn push_ran(&mut self, times: usize) -> Result<(), AllocError>
         ensures ok { OnOk result (self.new ≡ self.old ++ replicate times Outcome.Ran) }
         ensures err { OnErr result (self.new ≡ self.old) }
@@ -90,7 +90,7 @@ impl OutcomeList {
         Ok(())
     }
 
-    /// The outcomes in order.
+    /// Returns the outcomes in order.
     pub fn outcomes(&self, alloc: Global) -> Result<Items<Outcome>, AllocError>
         ensures { IfOk result (λ outcomes. outcomes ≡ self.now) }
     {

@@ -1,4 +1,4 @@
-//! What outcomes name, in the order of the outcomes.
+//! The names in outcomes, in the order of the outcomes.
 
 ghost use Rattle.std.specs.Prelude.{◌≡◌, drop, OnOk, OnErr};
 ghost use Rattle.outcome_list.specs.Names.{no_names, followed, names_in, names_of};
@@ -26,7 +26,7 @@ impl Model for Names {
 }
 
 impl Names {
-    /// No names.
+    /// Returns an empty record of names.
     pub(crate) fn new(alloc: Global) -> Names
         ensures { result ≡ no_names }
     {
@@ -37,7 +37,7 @@ impl Names {
         }
     }
 
-    /// Puts what a blocked thread waits for behind the others. Without memory for it nothing changes.
+    /// Appends the names in what a blocked thread waits for. If there is no memory, nothing changes.
     fn push_blocked(&mut self, on: BlockedOn) -> Result<(), AllocError>
         ensures ok { OnOk result (self.new ≡ followed self.old (names_of on)) }
         ensures err { OnErr result (self.new ≡ self.old) }
@@ -58,7 +58,7 @@ impl Names {
         Ok(())
     }
 
-    /// Puts the names of an outcome behind the others. Without memory for them nothing changes.
+    /// Appends the names in an outcome. If there is no memory, nothing changes.
     pub(crate) fn push(&mut self, outcome: Outcome) -> Result<(), AllocError>
         ensures ok { OnOk result (self.new ≡ followed self.old (names_in outcome)) }
         ensures err { OnErr result (self.new ≡ self.old) }
@@ -69,7 +69,7 @@ impl Names {
         }
     }
 
-    /// All names, to be taken one after another.
+    /// Returns all names, to be read from the first on.
     pub(crate) fn all(&self) -> NamesLeft<'_>
         ensures { result ≡ self.now }
     {
@@ -81,14 +81,14 @@ impl Names {
     }
 }
 
-/// What a turn can't be made for.
+/// Returns the Bad outcome with this cause.
 fn bad(cause: BadCause) -> Outcome
     ensures { result ≡ Outcome.Bad cause }
 {
     Outcome::Bad { cause }
 }
 
-/// The names that are not yet taken.
+/// The names that are still to be read.
 #[derive(Drop)]
 pub(crate) struct NamesLeft<'n> {
     threads: &'n [ThreadId],
@@ -105,7 +105,7 @@ impl<'n> Model for NamesLeft<'n> {
 }
 
 impl<'n> NamesLeft<'n> {
-    /// Takes the next thread.
+    /// Removes the next thread and returns it.
     fn next_thread(&mut self) -> ThreadId
         ensures name { result ≡ first self.old.threads }
         ensures left { self.new ≡ record self.old { threads = drop 1 self.old.threads } }
@@ -117,7 +117,7 @@ impl<'n> NamesLeft<'n> {
         *thread
     }
 
-    /// Takes the next reference.
+    /// Removes the next reference and returns it.
     fn next_reference(&mut self) -> u32
         ensures name { result ≡ first self.old.references }
         ensures left { self.new ≡ record self.old { references = drop 1 self.old.references } }
@@ -129,7 +129,7 @@ impl<'n> NamesLeft<'n> {
         *reference
     }
 
-    /// Takes the next class.
+    /// Removes the next class and returns it.
     fn next_class(&mut self) -> usize
         ensures name { result ≡ first self.old.classes }
         ensures left { self.new ≡ record self.old { classes = drop 1 self.old.classes } }
@@ -141,7 +141,7 @@ impl<'n> NamesLeft<'n> {
         *class
     }
 
-    /// The outcome of a kind that has the next of these names.
+    /// Returns the outcome of a kind with the next of these names, which it removes.
     pub(crate) fn next_outcome(&mut self, kind: Kind) -> Outcome
         ensures outcome { result ≡ outcome_by kind self.old }
         ensures left { self.new ≡ names_behind kind self.old }

@@ -1,4 +1,4 @@
--- The rows of a picture (own): the events of a trace, each with its transaction.
+-- Defines the rows of a picture (own): the events of a trace, each with its transaction.
 use Rattle.std.specs.Prelude.{ℕ, ◌+◌, Bool, ◌==◌, ◌||◌, cond, nat_lt, List, [], ◌∷◌, length, take}
 use Rattle.std.specs.List.{filter, list_any}
 use Rattle.jvms_machine.specs.declared.trace.Item.{Item}
@@ -6,11 +6,12 @@ use Rattle.velodrome.specs.Transactions.{is_event}
 use Rattle.velodrome.specs.declared.verdict.ConflictingPair.{ConflictingPair}
 use Rattle.pictures.specs.declared.rows.Row.{Row}
 
--- How many events a picture shows at most.
+-- The maximum number of events that a picture shows.
 abbrev pub most_rows : ℕ
 most_rows = 200
 
--- The events among items, the first of which has this number and its item this place, given the transaction of each.
+-- Returns the events among items, with the transaction of each. The first event has number n, and the first item is at
+-- `place`.
 abbrev pub rows_from : ℕ → ℕ → List Item → List ℕ → List Row
 rows_from n place [] ts = []
 rows_from n place (i ∷ items) [] = []
@@ -22,15 +23,16 @@ rows_from n place (i ∷ items) (t ∷ ts) =
 abbrev pub is_chosen : List ℕ → Row → Bool
 is_chosen cycle row = list_any (λ t. t == row.transaction) cycle
 
--- The event of a row is one of an edge's two.
+-- An edge joins the event of the row.
 abbrev pub is_joined : List ConflictingPair → Row → Bool
 is_joined edges row = list_any (λ (p : ConflictingPair). p.earlier == row.event || p.later == row.event) edges
 
--- Of more rows than a picture shows, those that pass a test.
+-- Returns the rows that pass a test if there are more rows than a picture shows, else all.
 abbrev pub thinned : (Row → Bool) → List Row → List Row
 thinned test rows = cond (nat_lt most_rows (length rows)) (filter test rows) rows
 
--- Of many rows those of a cycle are shown, if there is one; of many of these, those that its edges join.
+-- Returns the rows of a cycle if there are too many rows, and those that its edges join if these are still too many.
+-- Without a cycle it returns all rows.
 abbrev pub rows_in : List ℕ → List ConflictingPair → List Row → List Row
 rows_in cycle edges rows =
     cond (nat_lt 0 (length cycle)) (thinned (is_joined edges) (thinned (is_chosen cycle) rows)) rows

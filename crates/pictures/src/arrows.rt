@@ -5,16 +5,16 @@ use crate::layout::{Layout, Point, thread_at};
 use crate::rows::place_of;
 use std::alloc::{AllocError, Global};
 
-/// How much an arrow is bent at least.
+/// The least bend of an arrow.
 const BEND: usize = 12;
 
-/// How much an arrow is bent more for each edge before it.
+/// The additional bend of an arrow for each edge before it.
 const BEND_FOR_EDGE: usize = 2;
 
-/// How much an arrow within a column is bent more for its length, at most.
+/// The greatest additional bend of an arrow within a column, for its length.
 const BEND_FOR_LENGTH: usize = 48;
 
-/// An arrow: it begins as if it led to `towards`, and ends as if it came from there.
+/// An arrow: it starts in the direction of `towards`, and ends as if it came from there.
 #[derive(Clone, Copy)]
 struct Arrow {
     from: Point,
@@ -48,7 +48,7 @@ fn arrow_across(from: Point, to: Point, bend: usize) -> Arrow {
     Arrow { from, towards, to }
 }
 
-/// Returns the arrow between two ends of rows. The higher the number of its edge, the more it is bent.
+/// Returns the arrow between two ends of rows. A higher number of its edge bends it more.
 fn arrow_between(from: Point, to: Point, edge: usize) -> Arrow {
     let bend = edge.saturating_mul(BEND_FOR_EDGE).saturating_add(BEND);
     if from.x == to.x {
@@ -74,8 +74,8 @@ fn put_path(alloc: Global, out: &mut String, class: &str, arrow: Arrow) -> Resul
 }
 
 impl Layout<'_> {
-    /// Returns where an arrow from one row to another begins and ends. It covers neither a number nor a text of the
-    /// two rows: it joins the sides that face each other, or the left sides within a column.
+    /// Returns the two ends of an arrow from one row to another. It covers neither a number nor a text of the two rows:
+    /// it joins the sides that face each other, or the left sides within a column.
     fn ends(
         &self,
         alloc: Global,
@@ -96,7 +96,7 @@ impl Layout<'_> {
         Ok(Some((start, end)))
     }
 
-    /// Appends the arrow from one row to another. Its edge has this number, from 0.
+    /// Appends the arrow from one row to another. `edge` is the number of its edge, from 0.
     fn put_arrow(
         &self,
         alloc: Global,
@@ -145,9 +145,9 @@ impl Layout<'_> {
         self.edges.iter().any(|edge| edge.earlier == first.event && edge.later == last.event)
     }
 
-    /// Returns the row from which a grey arrow leads to another one: the last row before it that conflicts with it
-    /// and is of another thread. There is none if an earlier event of its thread is after that too, or if a red arrow
-    /// joins the two.
+    /// Returns the row from which a grey arrow leads to another one: the last row before it that conflicts with it and
+    /// is of another thread. Returns `None` if an event between the two, of the later one's thread, conflicts with the
+    /// earlier one. Returns `None` also if a red arrow joins the two.
     fn conflicting(&self, place: usize) -> Option<usize> {
         let from = self.last_conflicting(place)?;
         if self.is_implied(from, place) || self.is_edge(from, place) {

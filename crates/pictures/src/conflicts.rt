@@ -1,9 +1,9 @@
-//! Whether two events conflict (Velodrome, section 3).
+//! Decides whether two events conflict (Velodrome, section 3).
 
 ghost use Rattle.std.specs.Prelude.{◌≡◌};
 ghost use Rattle.std.specs.Option.{option_map};
 ghost use Rattle.jvms_program.specs.Slots.{same_key};
-ghost use Rattle.velodrome.specs.Conflicts.{conflict, is_write, monitor_of, on_one_variable, same_number, same_variable, touched_by, variable_of};
+ghost use Rattle.velodrome.specs.Conflicts.{conflict, is_write, monitor_of, on_one_variable, same_number, same_variable, started_or_joined, variable_of};
 
 use crate::labels::item_at;
 use crate::rows::Row;
@@ -41,8 +41,8 @@ fn is_write(item: &Item) -> bool
 }
 
 /// Returns the thread that an event starts, or whose end it waited for.
-fn touched_by(item: &Item) -> Option<ThreadId>
-    ensures { result ≡ touched_by item.now }
+fn started_or_joined(item: &Item) -> Option<ThreadId>
+    ensures { result ≡ started_or_joined item.now }
 {
     match item {
         Item::Fork { started, .. } => Some(*started),
@@ -51,7 +51,7 @@ fn touched_by(item: &Item) -> Option<ThreadId>
     }
 }
 
-/// Returns whether both are there, and are the same.
+/// Returns whether both numbers exist and are equal.
 fn same_number(one: Option<u32>, other: Option<u32>) -> bool
     ensures { result ≡ same_number one other }
 {
@@ -61,14 +61,14 @@ fn same_number(one: Option<u32>, other: Option<u32>) -> bool
     }
 }
 
-/// Returns whether two keys of fields are the same.
+/// Returns whether two keys of fields are equal.
 fn same_key(one: &FieldKey, other: &FieldKey) -> bool
     ensures { result ≡ same_key one.now other.now }
 {
     one.class == other.class && one.name == other.name && one.descriptor == other.descriptor
 }
 
-/// Returns whether two variables are the same.
+/// Returns whether two variables are equal.
 fn same_variable(one: &Variable, other: &Variable) -> bool
     ensures { result ≡ same_variable one.now other.now }
 {
@@ -104,8 +104,8 @@ fn on_one_variable(one: &Item, other: &Item) -> bool
     }
 }
 
-/// Returns whether two events conflict: they are of one thread, on one monitor, on one variable with a write among them, or
-/// one starts or joins the other's thread.
+/// Returns whether two events conflict. They do if they belong to one thread or use one monitor. They do if they use
+/// one variable and one of them writes it, or if one starts or joins the other's thread.
 #[tactic(auto, unfolding(velodrome::specs::Conflicts::conflict))]
 pub fn conflict(one: &Item, other: &Item) -> bool
     ensures { result ≡ conflict one.now other.now }
@@ -113,8 +113,8 @@ pub fn conflict(one: &Item, other: &Item) -> bool
     thread_of(one) == thread_of(other)
         || same_number(monitor_of(one), monitor_of(other))
         || (on_one_variable(one, other) && (is_write(one) || is_write(other)))
-        || same_number(touched_by(one), Some(thread_of(other)))
-        || same_number(Some(thread_of(one)), touched_by(other))
+        || same_number(started_or_joined(one), Some(thread_of(other)))
+        || same_number(Some(thread_of(one)), started_or_joined(other))
 }
 
 /// Returns whether the events of two rows conflict.

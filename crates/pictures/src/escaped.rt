@@ -1,14 +1,14 @@
-//! Texts inside of a picture.
+//! Escapes and shortens texts inside of a picture.
 
 use std::alloc::AllocError;
 
-/// The most characters of a text in SVG. A longer one is cut.
+/// The maximum number of characters of a text in SVG. A longer one is cut.
 const MOST_CHARACTERS: usize = 34;
 
-/// The most characters of a text in DOT.
+/// The maximum number of characters of a text in DOT. A longer one is cut.
 const MOST_QUOTED: usize = 100;
 
-/// What follows a text that is cut.
+/// The text that follows a text that is cut.
 const CUT: &str = "..";
 
 /// Appends a character of a text in XML.
@@ -33,7 +33,7 @@ pub(crate) fn put_short(out: &mut String, text: &str) -> Result<(), AllocError> 
     Ok(())
 }
 
-/// Returns how many characters `put_short` shows of an ASCII text.
+/// Returns how many characters of an ASCII text `put_short` shows.
 pub(crate) fn shown_length(text: &str) -> usize {
     let length = text.len();
     if length > MOST_CHARACTERS {

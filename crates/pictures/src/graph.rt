@@ -81,7 +81,7 @@ fn put_edge(
 }
 
 /// Returns the row of an event, if it is shown.
-fn row_of(rows: &[Row], event: u64) -> Option<&Row> {
+fn transition_of(rows: &[Row], event: u64) -> Option<&Row> {
     rows.get(place_of(rows, event)?)
 }
 
@@ -104,7 +104,7 @@ fn put_cycle_edge(
     rows: &[Row],
     edge: ConflictingPair,
 ) -> Result<(), AllocError> {
-    let (Some(earlier), Some(later)) = (row_of(rows, edge.earlier), row_of(rows, edge.later)) else {
+    let (Some(earlier), Some(later)) = (transition_of(rows, edge.earlier), transition_of(rows, edge.later)) else {
         return Ok(());
     };
     let (from, to) = (earlier.transaction, later.transaction);
@@ -151,7 +151,7 @@ fn put_edges(
 
 /// Returns a sketch as a graph in DOT. A node is a transaction that is shown. An edge leads into each event's
 /// transaction from that of the last event that conflicts with it. The edges of the cycle are red and have their two
-/// events as a label. `strict` makes one edge of those that repeat, with what the last says of it.
+/// events as a label. `strict` merges equal edges, with the attributes of the last.
 pub fn dot(alloc: Global, checker: &Checker, sketch: &Sketch) -> Result<String, AllocError> {
     let title = title_of(alloc, checker, sketch)?;
     let mut out = String::new(alloc);

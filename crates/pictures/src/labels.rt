@@ -1,10 +1,10 @@
-//! What events and transactions are called in a picture.
+//! Labels of events and transactions in a picture.
 
 use crate::rows::Row;
 use accesses::thread_of;
 use atom_graph::Checker;
 use escapes::put_method;
-use held::shared::Shared;
+use shared_data::shared::Shared;
 use jvms_machine::machine::ThreadId;
 use jvms_machine::trace::Item;
 use jvms_program::key::MethodKey;
@@ -40,7 +40,7 @@ pub(crate) fn event_label(
     format!(in alloc; "{event} {line}", event = row.event)
 }
 
-/// Appends or removes a thread's open method, as an item says.
+/// Appends or removes an open method of a thread, according to an item.
 fn follow<'a>(
     methods: &mut Vec<&'a MethodKey>,
     item: &'a Item,
@@ -72,7 +72,7 @@ fn open_methods(
     Ok(methods)
 }
 
-/// Returns the method that a transaction is named by, whose first event is at a place: the outermost atomic one that is
+/// Returns the method that names the transaction whose first event is at a place: the outermost atomic one that is
 /// open, or the innermost if none is atomic.
 fn naming_method<'a>(
     alloc: Global,
@@ -92,7 +92,7 @@ fn naming_method<'a>(
     Ok(methods.as_slice().last().copied())
 }
 
-/// Returns the number of a transaction, and the method that it is named by. Its first event is at a place.
+/// Returns the number of a transaction, and the method that names it. Its first event is at `place`.
 pub(crate) fn transaction_label(
     alloc: Global,
     checker: &Checker,

@@ -1,5 +1,5 @@
-//! Where the parts of a picture are, in pixels. A thread has a column, and an event a row. In its column a row has,
-//! from the left, the event's number, its dot and its text.
+//! The positions of the parts of a picture, in pixels. A thread has a column, and an event a row. In its column a row
+//! has, from the left, the event's number, its dot and its text.
 
 use crate::escaped::shown_length;
 use crate::labels::{item_at, item_label};
@@ -11,53 +11,53 @@ use jvms_machine::machine::ThreadId;
 use std::alloc::{AllocError, Global};
 use velodrome::verdict::ConflictingPair;
 
-/// What is free left of the first column.
+/// The free space left of the first column.
 pub(crate) const MARGIN: usize = 60;
 
-/// What is free above the first row.
+/// The free space above the first row.
 pub(crate) const TOP: usize = 60;
 
 /// The height of a row.
 pub(crate) const ROW: usize = 34;
 
-/// What is free between two columns.
+/// The free space between two columns.
 const GAP: usize = 44;
 
-/// The room of a text, with the dot.
+/// The width of a text, with the dot.
 const TEXT: usize = 256;
 
-/// What is free between a dot's middle and the texts at its sides.
+/// The free space between a dot's middle and the texts at its sides.
 pub(crate) const BESIDE_DOT: usize = 8;
 
-/// What is free between a text and an arrow.
+/// The free space between a text and an arrow.
 const BESIDE_TEXT: usize = 4;
 
-/// The room of a digit.
+/// The width of a digit.
 const DIGIT: usize = 7;
 
-/// What is free at the sides of a number, the dot's side included.
+/// The free space at the sides of a number, including the dot's side.
 const BESIDE_NUMBER: usize = 14;
 
 /// The width of three characters of a text.
 const THREE_CHARACTERS: usize = 20;
 
-/// A place in a picture, from its left and from its top.
+/// A point of a picture, from its left and from its top.
 #[derive(Clone, Copy)]
 pub(crate) struct Point {
     pub(crate) x: usize,
     pub(crate) y: usize,
 }
 
-/// Where the parts of a picture are.
+/// The positions of the parts of a picture.
 #[derive(Drop)]
 pub(crate) struct Layout<'a> {
     pub(crate) checker: &'a Checker,
     pub(crate) rows: &'a [Row],
     pub(crate) cycle: &'a [u64],
     pub(crate) edges: &'a [ConflictingPair],
-    /// The threads of the rows, in rising order.
+    /// The threads of the rows, in ascending order.
     pub(crate) threads: Vec<ThreadId>,
-    /// The room of the events' numbers.
+    /// The width of the events' numbers.
     numbers: usize,
 }
 
@@ -69,7 +69,7 @@ pub(crate) fn thread_at(checker: &Checker, row: &Row) -> ThreadId {
     }
 }
 
-/// Returns the threads of rows, in rising order.
+/// Returns the threads of rows, in ascending order.
 fn threads_of(alloc: Global, checker: &Checker, rows: &[Row]) -> Result<Vec<ThreadId>, AllocError> {
     let mut threads = Vec::new(alloc);
     for row in rows {
@@ -82,7 +82,7 @@ fn threads_of(alloc: Global, checker: &Checker, rows: &[Row]) -> Result<Vec<Thre
     Ok(threads)
 }
 
-/// Returns the room of the numbers of rows. The last number is the greatest.
+/// Returns the width of the numbers of rows. The last number is the greatest.
 fn room_of_numbers(alloc: Global, rows: &[Row]) -> Result<usize, AllocError> {
     let greatest = match rows.last() {
         Some(row) => row.event,
@@ -111,7 +111,7 @@ pub(crate) fn layout_of<'a>(
     })
 }
 
-/// Returns how far down the middle of a row is.
+/// Returns the vertical position of the middle of a row.
 pub(crate) fn y_of(place: usize) -> usize {
     place.saturating_mul(ROW).saturating_add(TOP + ROW)
 }
@@ -122,13 +122,13 @@ impl Layout<'_> {
         self.numbers.saturating_add(TEXT)
     }
 
-    /// Returns where a column begins. Columns are counted from 0.
+    /// Returns the horizontal position where a column begins. Columns are counted from 0.
     fn start_of(&self, column: usize) -> usize {
         let step = self.column_width().saturating_add(GAP);
         column.saturating_mul(step).saturating_add(MARGIN)
     }
 
-    /// Returns the width of the picture. It has a column also if there is no thread.
+    /// Returns the width of the picture. Without a thread it has the width of one column.
     pub(crate) fn width(&self) -> usize {
         self.start_of(self.threads.len().max(1))
     }
@@ -138,7 +138,7 @@ impl Layout<'_> {
         y_of(self.rows.len()).saturating_add(ROW)
     }
 
-    /// Returns where the column of a thread begins.
+    /// Returns the horizontal position where the column of a thread begins.
     fn start_of_thread(&self, thread: ThreadId) -> usize {
         let column = self
             .threads
@@ -147,7 +147,7 @@ impl Layout<'_> {
         self.start_of(column)
     }
 
-    /// Returns where the dots of a thread are.
+    /// Returns the horizontal position of the dots of a thread.
     pub(crate) fn dots_of(&self, thread: ThreadId) -> usize {
         self.start_of_thread(thread).saturating_add(self.numbers)
     }

@@ -1,15 +1,15 @@
-//! The rows of a picture: an event each.
+//! The rows of a picture, one for each event.
 
 ghost use Rattle.std.specs.Prelude.{◌≡◌, ◌+◌, IfOk};
 ghost use Rattle.pictures.specs.Rows.{chosen_rows, is_chosen, is_joined, rows_from, thinned};
 
-use held::shared::Shared;
+use shared_data::shared::Shared;
 use jvms_machine::trace::Item;
 use report::is_event;
 use std::alloc::{AllocError, Global};
 use velodrome::verdict::ConflictingPair;
 
-/// How many events a picture shows at most.
+/// The maximum number of events that a picture shows.
 const MOST_ROWS: usize = 200;
 
 /// An event of a picture.
@@ -23,14 +23,14 @@ pub struct Row {
     pub transaction: u64,
 }
 
-/// Returns the number after another. There is memory for no row of the last number.
+/// Returns the next number. Fails if there is none.
 fn number_after(number: u64) -> Result<u64, AllocError>
     ensures { IfOk result (λ next. next ≡ number + 1) }
 {
     number.checked_add(1).ok_or(AllocError)
 }
 
-/// Returns the events among items, given the transaction of each.
+/// Returns the events among items. `transactions` has the transaction of each.
 pub(crate) fn rows_of(
     alloc: Global,
     items: &[Shared<Item>],
@@ -66,7 +66,7 @@ fn is_chosen(cycle: &[u64], row: &Row) -> bool
     cycle.contains(&row.transaction)
 }
 
-/// Returns whether the event of a row is one of an edge's two.
+/// Returns whether an edge joins the event of a row.
 fn is_joined(edges: &[ConflictingPair], row: &Row) -> bool
     ensures { result ≡ is_joined edges.now row.now }
 {
@@ -107,8 +107,8 @@ fn thinned_by_edges(
     Ok(chosen)
 }
 
-/// Returns the rows that a picture shows, at most 200: all if they are few. Of more, those of the cycle are shown. If
-/// these are still more, only those that its edges join are. Without a cycle the first ones are shown.
+/// Returns the rows that a picture shows, at most 200. If there are more, only those of the cycle are shown. If these
+/// are still more, only those that its edges join are shown. Without a cycle the first ones are shown.
 pub(crate) fn chosen_rows(
     alloc: Global,
     rows: Vec<Row>,

@@ -1,4 +1,4 @@
-//! What a picture shows of a trace and its verdict.
+//! The parts of a trace and its verdict that a picture shows.
 
 ghost use Rattle.std.specs.Prelude.{◌≡◌, IfOk, take};
 ghost use Rattle.pictures.specs.Sketches.{IsSketch, cycle_length, cycle_of, edges_of};
@@ -8,25 +8,25 @@ use atom_graph::Checker;
 use std::alloc::{AllocError, Global};
 use velodrome::verdict::{ConflictingPair, Verdict};
 
-/// How many edges of a cycle a picture shows at most.
+/// The maximum number of edges of a cycle that a picture shows.
 const MOST_EDGES: usize = 64;
 
-/// Says what a picture shows.
+/// The contents of a picture.
 #[derive(Debug, Drop)]
 pub struct Sketch {
     /// The events that are shown, in order.
     pub rows: Vec<Row>,
     /// The number of events of the trace.
     pub events: usize,
-    /// The number of transactions of the cycle, 0 if there is no cycle.
+    /// The number of transactions of the cycle, or 0 if there is no cycle.
     pub transactions: usize,
-    /// The transactions that the edges join, none if there is no cycle.
+    /// The transactions that the edges join. It is empty if there is no cycle.
     pub cycle: Vec<u64>,
     /// The first edges of the cycle, each by its two events.
     pub edges: Vec<ConflictingPair>,
 }
 
-/// Returns the first items of a list, this number of them, or all if there are no more.
+/// Returns the first `count` items of a list, or all if there are no more.
 fn first<T>(items: &[T], count: usize) -> &[T]
     ensures { result.now ≡ take count items.now }
 {
@@ -69,9 +69,9 @@ fn edges_of(alloc: Global, verdict: &Verdict) -> Result<Vec<ConflictingPair>, Al
     }
 }
 
-/// Returns what a picture shows of the items that a checker was fed, and of its verdict: the first 64 edges of the
-/// cycle, the transactions that they join, and at most 200 events. Of more events those of these transactions are
-/// shown. If these are still more, only those that the edges join are.
+/// Returns the contents of a picture of the items that a checker was fed, and of its verdict. It has the first 64 edges
+/// of the cycle, the transactions that they join, and at most 200 events. If there are more events, only those of these
+/// transactions are shown. If these are still more, only those that the edges join are shown.
 pub fn sketch_of(alloc: Global, checker: &Checker, verdict: &Verdict) -> Result<Sketch, AllocError>
     ensures { IfOk result (IsSketch checker.now verdict.now) }
 {

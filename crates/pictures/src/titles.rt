@@ -1,15 +1,15 @@
-//! What a picture is called.
+//! The title of a picture.
 
 use crate::sketches::Sketch;
 use accesses::thread_of;
 use atom_graph::Checker;
-use held::shared::Shared;
+use shared_data::shared::Shared;
 use jvms_machine::trace::Item;
 use report::is_event;
 use std::alloc::{AllocError, Global};
 use std::collections::BTreeSet;
 
-/// Returns how many threads the events among items have.
+/// Returns the number of threads of the events among items.
 fn threads_among(alloc: Global, items: &[Shared<Item>]) -> Result<usize, AllocError> {
     let mut threads = BTreeSet::new(alloc);
     for item in items {
@@ -21,7 +21,7 @@ fn threads_among(alloc: Global, items: &[Shared<Item>]) -> Result<usize, AllocEr
     Ok(threads.len())
 }
 
-/// Returns the title of a picture: how many events and threads the trace has, and how many transactions its cycle, if
+/// Returns the title of a picture: the number of events and threads of the trace, and of transactions of its cycle, if
 /// there is one. It needs no escapes in XML or DOT.
 pub(crate) fn title_of(
     alloc: Global,

@@ -22,7 +22,7 @@ markerUnits=\"userSpaceOnUse\" orient=\"auto\"><path fill=\"#c0392b\" d=\"M0 1L8
 .a{stroke:#8a94a3;marker-end:url(#grey)}.e{stroke:#c0392b;stroke-width:2;marker-end:url(#red)}</style>
 ";
 
-/// Appends the start of the picture, its title, which screen readers say, and its styles.
+/// Appends the start of the picture, its title for screen readers, and its styles.
 fn put_start(
     alloc: Global,
     out: &mut String,
@@ -124,7 +124,7 @@ fn put_event(
     out.push_str("</text>\n")
 }
 
-/// Appends how many of the trace's events aren't shown, if any.
+/// Appends the number of the trace's events that aren't shown, if there are any.
 fn put_rest(
     alloc: Global,
     out: &mut String,
@@ -155,7 +155,7 @@ fn put_parts(alloc: Global, out: &mut String, layout: &Layout<'_>) -> Result<(),
     Ok(())
 }
 
-/// Returns a sketch as SVG, with a note of how many events aren't shown. Its size is bounded.
+/// Returns a sketch as SVG, with the number of events that aren't shown. Its size is bounded.
 pub fn svg(alloc: Global, checker: &Checker, sketch: &Sketch) -> Result<String, AllocError> {
     let title = title_of(alloc, checker, sketch)?;
     let layout = layout_of(alloc, checker, sketch)?;

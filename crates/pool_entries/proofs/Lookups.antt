@@ -1,4 +1,4 @@
--- What a pool's numbers name, in a pool that keeps its entries.
+-- The items that a pool's numbers name, in a pool that keeps its entries.
 use Rattle.std.proofs.Common.{◌≡◌, ℕ, List, Option, None, Some, refl}
 use Rattle.std.proofs.lemmas.Option.{none-some}
 use Rattle.std.specs.Option.{option_and_then}
@@ -13,7 +13,7 @@ IsKept-reflexive pool = record { stays = λ n c is. is }
 pub IsKept-transitive : (a b c : List Constant) → IsKept a b → IsKept b c → IsKept a c
 IsKept-transitive a b c first second = record { stays = λ n k is. second.stays n k (first.stays n k is) }
 
--- ---- What stands in an entry stands there in the other pool
+-- ---- An entry is the same in the other pool
 
 kept_by : {A : Type 0} (old new : List Constant) (f : Constant → Option A) (n : ℕ) (x : A) (r : Option Constant) → IsKept old new → entry old n ≡ r
     → option_and_then f r ≡ Some x → option_and_then f (entry new n) ≡ Some x

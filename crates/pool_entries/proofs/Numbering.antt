@@ -16,7 +16,7 @@ use Rattle.pool_entries.specs.declared.fault.EntryFault.TheVariants as fault
 use Rattle.pool_entries.specs.Entries.{is_same as is_same_constant, numbers_of, number_from as number_in, constant_entry, IsShort, AreShort, IsProper, AreProper, Gives}
 use Rattle.pool_entries.specs.Faults.{fault_of}
 
--- Two entries are one exactly where they are one constant.
+-- Two entries are equal exactly if their constants are.
 one_constant : (a b : Entry) → is_same_constant (constant_of a) (constant_of b) ≡ is_same a b
 one_constant (entry.Utf8 a) (entry.Utf8 b) = refl
 one_constant (entry.Integer a) (entry.Integer b) = refl
@@ -41,9 +41,9 @@ usable _ = refl
 behind_two : (n : ℕ) (r : ℕ → Option ℕ) → r (n + 1 + 1) ≡ r (n + 2)
 behind_two n r = let far : n + 1 + 1 ≡ n + 2 = omega arith in ap r far
 
-number_behind : (n : ℕ) (x e : Entry) (pool : List Constant)
+number_after_tag : (n : ℕ) (x e : Entry) (pool : List Constant)
     → number_in n (constants_of x ++ pool) (constant_of e) ≡ cond (is_same e x) (Some n) (number_in (n + width x) pool (constant_of e))
-number_behind n x e pool =
+number_after_tag n x e pool =
     elim (takes_two (constant_of x)) as (λ two. number_in n (cond two (constant_of x ∷ constant.Unusable ∷ []) (constant_of x ∷ []) ++ pool) (constant_of e) ≡ cond (is_same e x) (Some n) (number_in (n + cond two 2 1) pool (constant_of e))) [
       | true ↦ rw (one_constant e x, usable e) (ap (cond (is_same e x) (Some n)) (behind_two n (λ m. number_in m pool (constant_of e))))
       | false ↦ rw (one_constant e x) refl
@@ -52,11 +52,11 @@ number_behind n x e pool =
 same_number : (n : ℕ) (es : List Entry) (e : Entry) → number_in n (pool_of es) (constant_of e) ≡ number_from n es e
 same_number n [] e = refl
 same_number n (x ∷ es) e =
-    number_behind n x e (pool_of es) ∙ ap (cond (is_same e x) (Some n)) (same_number (n + width x) es e)
+    number_after_tag n x e (pool_of es) ∙ ap (cond (is_same e x) (Some n)) (same_number (n + width x) es e)
 
 -- ---- Interning
 
--- An answer of interning, over the pool.
+-- A result of interning, over the pool.
 abbrev in_pool : Result (ℕ × List Entry) PoolFault → Result (ℕ × List Constant) EntryFault
 in_pool (Ok (n, es)) = Ok (n, pool_of es)
 in_pool (Err f) = Err (fault_of f)
@@ -86,7 +86,7 @@ pub gives_fault : (es new : List Entry) (e : Entry) (f : PoolFault) (pool : List
 gives_fault es new e pool_fault.PoolFull pool is = constant_entry-pool_of es e ∙ ap in_pool is.0
 gives_fault es new e pool_fault.Memory pool is = tt
 
--- ---- What holds of each entry goes on to hold
+-- ---- A property of each entry is kept
 
 holds_push : (P : Constant → Type 0) (xs ys : List Constant) → AllByRecursion P xs → AllByRecursion P ys → AllByRecursion P (xs ++ ys)
 holds_push P [] ys are more = more
@@ -114,7 +114,7 @@ holds_on : (P : Constant → Type 0) (es new : List Entry) (e : Entry) (n : ℕ)
 unfolding holds_in
 holds_on P es new e n unusable one are is = subst (holds_in P) is (holds_by P es e (number_from 1 es e) refl unusable one are)
 
--- Texts stay short, and their units of 16 bits.
+-- Texts stay short, and their units stay within 16 bits.
 pub stays_short : (es new : List Entry) (e : Entry) (n : ℕ) → IsShort (constant_of e) → AreShort (pool_of es) → interned es e ≡ Ok (n, new) → AreShort (pool_of new)
 stays_short es new e n short are is = holds_on IsShort es new e n tt short are is
 

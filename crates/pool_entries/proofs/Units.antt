@@ -1,4 +1,4 @@
--- The units of a slice are of 16 bits.
+-- The units of a slice have 16 bits.
 use Rattle.std.proofs.Common.{ℕ, zero, suc, List, [], ◌∷◌, get_or, Fits, w16, arith}
 use Rattle.jvms_file.specs.Texts.{IsText}
 

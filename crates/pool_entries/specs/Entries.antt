@@ -1,5 +1,5 @@
 -- The entries of a class that is being written: each that a name, a member or a constant needs, numbered by first use
--- (JVMS 4.4). What an entry names comes before it, and a member's class before its name and descriptor.
+-- (JVMS 4.4). Entries that an entry names come before it. A member's class comes before its name and descriptor.
 use Rattle.std.specs.Prelude.{◌≡◌, ℕ, ◌+◌, Bool, false, ◌==◌, ◌&&◌, nat_le, if◌then◌else◌, List, [], ◌∷◌, ◌++◌, length, Option, Some, None, Result, Ok, Err, ℤ, IsTrue}
 use Rattle.std.specs.List.{AllByRecursion}
 use Rattle.std.specs.Ordering.{int_eq}
@@ -16,7 +16,7 @@ use Rattle.pool_entries.specs.declared.kind.MethodKind.TheVariants as kind
 
 -- ---- One entry
 
--- Two entries are one: they have one tag, and the same stands behind it.
+-- Two entries are equal: they have the same tag and the same content.
 abbrev pub is_same : Constant → Constant → Bool
 is_same (constant.Utf8 a) (constant.Utf8 b) = same_text a b
 is_same (constant.Integer a) (constant.Integer b) = int_eq a b
@@ -31,7 +31,7 @@ is_same (constant.InterfaceMethod a m) (constant.InterfaceMethod b n) = a == b &
 is_same (constant.NameAndType a m) (constant.NameAndType b n) = a == b && m == n
 is_same _ _ = false
 
--- The numbers of an entry: behind a long or a double stands an unusable one (JVMS 4.4.5).
+-- The constants of an entry: itself, and an unusable one after a long or a double (JVMS 4.4.5).
 abbrev pub numbers_of : Constant → List Constant
 numbers_of c = if takes_two c then c ∷ constant.Unusable ∷ [] else c ∷ []
 
@@ -40,18 +40,18 @@ abbrev pub number_from : ℕ → List Constant → Constant → Option ℕ
 number_from n [] c = None
 number_from n (x ∷ pool) c = if is_same c x then Some n else number_from (n + 1) pool c
 
--- The number of an entry, and the pool with it. An entry that is there keeps its number; a new one stands behind the
--- others. No number is above 65534, since constant_pool_count is at most 65535 (JVMS 4.1).
+-- The number of an entry, and the pool with it. An entry that is there keeps its number. A new one is appended. No
+-- number is above 65534, since constant_pool_count is at most 65535 (JVMS 4.1).
 unfoldable pub constant_entry : List Constant → Constant → Result (ℕ × List Constant) EntryFault
-constant_entry pool c = there_or_behind (number_from 1 pool c)
+constant_entry pool c = found_or_appended (number_from 1 pool c)
   where
-    there_or_behind : Option ℕ → Result (ℕ × List Constant) EntryFault
-    there_or_behind (Some n) = Ok (n, pool)
-    there_or_behind None = if nat_le (length pool + length (numbers_of c)) 65534 then Ok (length pool + 1, pool ++ numbers_of c) else Err fault.PoolFull
+    found_or_appended : Option ℕ → Result (ℕ × List Constant) EntryFault
+    found_or_appended (Some n) = Ok (n, pool)
+    found_or_appended None = if nat_le (length pool + length (numbers_of c)) 65534 then Ok (length pool + 1, pool ++ numbers_of c) else Err fault.PoolFull
 
 -- ---- Texts, names and constants
 
--- The bytes of a text are counted by two bytes (JVMS 4.4.7).
+-- A text has at most 65535 bytes, so that two bytes count them (JVMS 4.4.7).
 abbrev pub is_short : List ℕ → Bool
 is_short units = nat_le (length (encoded units)) 65535
 
@@ -63,7 +63,7 @@ IsShort _ = Unit {0}
 abbrev pub AreShort : List Constant → Type 0
 AreShort pool = AllByRecursion IsShort pool
 
--- The units of a text are of 16 bits.
+-- The units of a text have 16 bits.
 abbrev pub IsProper : Constant → Type 0
 IsProper (constant.Utf8 units) = IsText units
 IsProper _ = Unit {0}
@@ -100,7 +100,7 @@ name_and_type_entry pool name descriptor = do
   second ← text_entry first.1 descriptor
   constant_entry second.1 (constant.NameAndType first.0 second.0)
 
--- A member of a class; `make` is the kind of its entry.
+-- The number of the entry of a member, and the pool with it. `make` is the kind of its entry (JVMS 4.4.2).
 unfoldable pub member_entry : (ℕ → ℕ → Constant) → List Constant → List ℕ → List ℕ → List ℕ → Result (ℕ × List Constant) EntryFault
 member_entry make pool class name descriptor = do
   owner ← class_entry pool class
@@ -118,15 +118,15 @@ method_constant kind.OfInterface c m = constant.InterfaceMethod c m
 abbrev pub method_entry : MethodKind → List Constant → List ℕ → List ℕ → List ℕ → Result (ℕ × List Constant) EntryFault
 method_entry how = member_entry (method_constant how)
 
--- ---- Answers
+-- ---- Results
 
--- A fault that is answered is the definition's, but for want of memory.
+-- A fault is the definition's, except for a lack of memory.
 abbrev pub Fails : {A : Type 0} → EntryFault → Result A EntryFault → Type 0
 Fails fault.TooLong asked = asked ≡ Err fault.TooLong
 Fails fault.PoolFull asked = asked ≡ Err fault.PoolFull
 Fails fault.Memory asked = Unit {0}
 
--- A number that is answered is the definition's, and so is the pool that stands then.
+-- A number is the definition's, and so is the pool after it.
 abbrev pub Gives : Result (ℕ × List Constant) EntryFault → Result ℕ EntryFault → List Constant → Type 0
 Gives asked (Ok n) new = asked ≡ Ok (n, new)
 Gives asked (Err e) new = Fails e asked

@@ -1,4 +1,4 @@
--- How a pool's faults are those of entries.
+-- The fault of an entry that corresponds to a fault of the pool.
 use Rattle.const_pool.specs.declared.builder.PoolFault.{PoolFault}
 use Rattle.const_pool.specs.declared.builder.PoolFault.TheVariants as pool_fault
 use Rattle.pool_entries.specs.declared.fault.EntryFault.{EntryFault}

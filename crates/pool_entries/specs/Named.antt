@@ -1,4 +1,4 @@
--- What a number of a pool names, through the numbers of other entries.
+-- The items that a number of a pool names, through the numbers of other entries.
 use Rattle.std.specs.Prelude.{◌≡◌, ℕ, List, Some}
 use Rattle.jvms_file.specs.declared.class_file.Constant.{Constant}
 use Rattle.jvms_file.specs.declared.class_file.Constant.TheVariants as constant
@@ -10,7 +10,7 @@ pub record IsString (pool : List Constant) (n : ℕ) (text : List ℕ) : Type 0 
   pub here : entry pool n ≡ Some (constant.String number)
   pub names : utf8_at pool number ≡ Some text
 
--- A number is the entry's of a member of this class, with this name and descriptor; `make` is the kind of the
+-- A number is that of the entry of a member of this class, with this name and descriptor. `make` is the kind of the
 -- entry (JVMS 4.4.2).
 pub record IsMember (make : ℕ → ℕ → Constant) (pool : List Constant) (n : ℕ) (class name descriptor : List ℕ) : Type 0 where
   pub class_number : ℕ

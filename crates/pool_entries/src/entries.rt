@@ -1,4 +1,4 @@
-//! The entries of a class that is being written.
+//! The pool entries of a class that is being written.
 
 ghost use Rattle.std.specs.Prelude.{◌≡◌, ◌≤◌, false, [], length, Some, IfOk};
 ghost use Rattle.jvms_file.specs.declared.class_file.Constant.TheVariants as constant;
@@ -15,11 +15,10 @@ use const_pool::{Entry, Pool, PoolBuilder};
 use std::alloc::{AllocError, Global};
 use std::marker::Model;
 
-/// The entries of a class that is being written: each stands once, numbered from 1 by first use, behind those
-/// that it names. Contracts see their list.
+/// The pool entries of a class that is being written. Each is there once, after those that it names, numbered from 1 by
+/// first use. Contracts see the list of them.
 ///
-/// A call that gives no number may have put some of the entries that it needed; those that were there keep
-/// their numbers.
+/// A call that fails may have added some of the entries that it needed. Those that were there keep their numbers.
 #[derive(Debug, Drop)]
 pub struct Entries {
     builder: PoolBuilder,
@@ -39,7 +38,7 @@ impl Model for Entries {
 }
 
 impl Entries {
-    /// No entries.
+    /// Creates a list without entries.
     pub fn new(alloc: Global) -> Self
         ensures { result ≡ [] }
     {
@@ -48,7 +47,7 @@ impl Entries {
         }
     }
 
-    /// The number of an entry, which is put behind the others if it isn't there.
+    /// Returns the number of an entry, and appends the entry if it isn't there.
     pub(crate) fn constant(&mut self, entry: Entry) -> Result<u16, EntryFault>
         requires short { IsShort (constant_of entry) }
         requires proper { IsProper (constant_of entry) }
@@ -59,7 +58,7 @@ impl Entries {
         Ok(self.builder.intern(entry)?)
     }
 
-    /// The number of a text (JVMS 4.4.7).
+    /// Returns the number of a text's entry, and appends it if it isn't there (JVMS 4.4.7).
     #[tactic(auto, unfolding(crate::specs::Entries::text_entry))]
     pub fn text(&mut self, alloc: Global, units: &[u16]) -> Result<u16, EntryFault>
         ensures exact { Gives (text_entry (pool_of self.old) units.now) result (pool_of self.new) }
@@ -73,7 +72,8 @@ impl Entries {
         self.constant(Entry::Utf8(text))
     }
 
-    /// The number of a class, or of an array's descriptor (JVMS 4.4.1).
+    /// Returns the number of the entry of a class, or of an array's descriptor, and appends it if it isn't there (JVMS
+    /// 4.4.1).
     #[tactic(auto, unfolding(crate::specs::Entries::class_entry))]
     pub fn class(&mut self, alloc: Global, name: &[u16]) -> Result<u16, EntryFault>
         ensures exact { Gives (class_entry (pool_of self.old) name.now) result (pool_of self.new) }
@@ -84,7 +84,7 @@ impl Entries {
         self.constant(Entry::Class { name })
     }
 
-    /// The number of a string (JVMS 4.4.3).
+    /// Returns the number of a string's entry, and appends it if it isn't there (JVMS 4.4.3).
     #[tactic(auto, unfolding(crate::specs::Entries::string_entry))]
     pub fn string(&mut self, alloc: Global, units: &[u16]) -> Result<u16, EntryFault>
         ensures exact { Gives (string_entry (pool_of self.old) units.now) result (pool_of self.new) }
@@ -95,7 +95,7 @@ impl Entries {
         self.constant(Entry::String { text })
     }
 
-    /// The number of an int (JVMS 4.4.4).
+    /// Returns the number of an int's entry, and appends it if it isn't there (JVMS 4.4.4).
     pub fn integer(&mut self, number: i32) -> Result<u16, EntryFault>
         ensures exact { Gives (integer_entry (pool_of self.old) number) result (pool_of self.new) }
         ensures names { IfOk result (λ n. entry_at (pool_of self.new) n ≡ Some (constant.Integer number)) }
@@ -104,7 +104,8 @@ impl Entries {
         self.constant(Entry::Integer(number))
     }
 
-    /// The number of a long, which takes the next number too (JVMS 4.4.5).
+    /// Returns the number of a long's entry, and appends it if it isn't there. It takes the next number too (JVMS
+    /// 4.4.5).
     pub fn long(&mut self, number: i64) -> Result<u16, EntryFault>
         ensures exact { Gives (long_entry (pool_of self.old) number) result (pool_of self.new) }
         ensures names { IfOk result (λ n. entry_at (pool_of self.new) n ≡ Some (constant.Long number)) }
@@ -113,9 +114,9 @@ impl Entries {
         self.constant(Entry::Long(number))
     }
 
-    /// The pool of these entries. It can be written: constant_pool_count is at most 65535, behind each long and
-    /// double, and nowhere else, stands an unusable entry (JVMS 4.4.5), two bytes count each text's, and its units are
-    /// of 16 bits.
+    /// Returns the pool of these entries. It can be written: constant_pool_count is at most 65535, and an unusable
+    /// entry is after each long and double and nowhere else (JVMS 4.4.5). Each text has at most 65535 bytes, and its
+    /// units have 16 bits.
     pub fn into_pool(self, alloc: Global) -> Result<Pool, AllocError>
         ensures exact { IfOk result (λ pool. pool ≡ pool_of self) }
         ensures numbered { IfOk result (IsNumbered false) }

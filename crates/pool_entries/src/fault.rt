@@ -8,7 +8,7 @@ use const_pool::PoolFault;
 use std::alloc::AllocError;
 use thiserror::Error;
 
-/// Why a name, a member or a constant has no number.
+/// The reason why a name, a member or a constant has no number.
 #[derive(Clone, Copy, Debug, PartialEq, Eq, Error)]
 pub enum EntryFault {
     /// A text would have more than 65535 bytes of Modified UTF-8 (JVMS 4.4.7).
@@ -17,7 +17,7 @@ pub enum EntryFault {
     /// A number above 65534 would be needed (JVMS 4.1).
     #[error("the constant pool is full")]
     PoolFull,
-    /// There was no memory for an entry.
+    /// Memory ran out.
     #[error("out of memory")]
     Memory,
 }

@@ -1,6 +1,6 @@
 //! The two kinds of methods that entries name.
 
-/// Whose method an entry names (JVMS 4.4.2).
+/// The owner of the method that an entry names (JVMS 4.4.2).
 #[derive(Clone, Copy, Debug, PartialEq, Eq)]
 pub enum MethodKind {
     /// A method of a class: a Methodref.

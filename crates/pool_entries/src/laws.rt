@@ -1,4 +1,4 @@
-//! Laws for the crates above, owed to the gate: each is the contract of a function that does nothing.
+//! Laws for the crates above. Each is the contract of an empty function, so that the gate proves it.
 
 ghost use Rattle.std.specs.Prelude.{◌≡◌, ℕ, List, Some};
 ghost use Rattle.jvms_file.specs.declared.class_file.Constant.{Constant};
@@ -6,13 +6,13 @@ ghost use Rattle.jvms_file.specs.ConstantPool.{utf8_at, class_name_at, name_and_
 ghost use Rattle.pool_entries.specs.Kept.{IsKept};
 ghost use Rattle.pool_entries.specs.Named.{IsString, IsMember};
 
-/// A pool keeps its own entries, and what two pools keep, one after the other, is kept.
-pub fn keeping_goes_on()
+/// Proves that a pool keeps its own entries, and that keeping is transitive.
+pub fn keeping_is_transitive()
     ensures reflexive { (pool : List Constant) → IsKept pool pool }
     ensures transitive { (a b c : List Constant) → IsKept a b → IsKept b c → IsKept a c }
 {}
 
-/// What a number names in a pool it names in each pool that keeps the entries.
+/// Proves that a number names the same in each pool that keeps the entries.
 pub fn names_are_kept()
     ensures texts { (old new : List Constant) (n : ℕ) (text : List ℕ) → IsKept old new → utf8_at old n ≡ Some text → utf8_at new n ≡ Some text }
     ensures classes { (old new : List Constant) (n : ℕ) (name : List ℕ) → IsKept old new → class_name_at old n ≡ Some name → class_name_at new n ≡ Some name }

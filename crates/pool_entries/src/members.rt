@@ -15,7 +15,8 @@ use const_pool::Entry;
 use std::alloc::Global;
 
 impl Entries {
-    /// The number of a member's name and descriptor (JVMS 4.4.6).
+    /// Returns the number of the entry of a member's name and descriptor, and appends it if it isn't there (JVMS
+    /// 4.4.6).
     #[tactic(auto, unfolding(crate::specs::Entries::name_and_type_entry))]
     pub fn name_and_type(
         &mut self,
@@ -32,7 +33,7 @@ impl Entries {
         self.constant(Entry::NameAndType { name, descriptor })
     }
 
-    /// The number of a field of a class (JVMS 4.4.2).
+    /// Returns the number of the entry of a class's field, and appends it if it isn't there (JVMS 4.4.2).
     #[tactic(auto, unfolding(crate::specs::Entries::member_entry))]
     pub fn field(
         &mut self,
@@ -53,7 +54,8 @@ impl Entries {
         })
     }
 
-    /// The number of a method of a class or of an interface (JVMS 4.4.2).
+    /// Returns the number of the entry of a method of a class or of an interface, and appends it if it isn't there
+    /// (JVMS 4.4.2).
     #[tactic(auto, unfolding(crate::specs::Entries::member_entry))]
     pub fn method(
         &mut self,

@@ -4,10 +4,10 @@ ghost use Rattle.std.specs.Prelude.{◌≡◌, length};
 ghost use Rattle.jvms_file.specs.Texts.{unit_bytes};
 ghost use Rattle.pool_entries.specs.Entries.{is_short as is_short_text};
 
-/// The most bytes of Modified UTF-8 that a text has: they are counted by two bytes (JVMS 4.4.7).
+/// The greatest number of bytes of a text in Modified UTF-8: its length has two bytes (JVMS 4.4.7).
 const MOST_BYTES: usize = 65535;
 
-/// How many bytes a unit has in Modified UTF-8.
+/// Returns the number of bytes of a unit in Modified UTF-8.
 fn byte_count(unit: u16) -> usize
     ensures { result ≡ length (unit_bytes unit) }
 {
@@ -18,7 +18,7 @@ fn byte_count(unit: u16) -> usize
     }
 }
 
-/// Whether a text has no more bytes than a class file can count. Nothing is written for it.
+/// Decides whether a text has at most 65535 bytes, without encoding it.
 #[tactic(auto, unfolding(jvms_file::specs::Texts::encoded))]
 pub(crate) fn is_short(text: &[u16]) -> bool
     ensures { result ≡ is_short_text text.now }

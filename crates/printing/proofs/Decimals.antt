@@ -25,14 +25,14 @@ number_written : (n : ℤ) → 0 < length (signed_decimal n)
 number_written (pos n) = has_digit n
 number_written (negsuc n) = omega arith
 
--- So an int isn't printed as nothing.
+-- So an int has a byte when it is printed.
 pub int_printed : {T E : Type 0} (heap : List Object) (what : Printed) (n : ℤ) (r : Result T E) → what ≡ printed.Int n → printed_bytes heap what ≡ [] → IsOk r
 int_printed heap what n r is none =
     let some = number_written n in
     let e : signed_decimal n ≡ [] = ap (printed_bytes heap) (sym is) ∙ none in
     absurd (omega (arith, ap length e))
 
--- Nor is a long.
+-- So a long has a byte when it is printed.
 pub long_printed : {T E : Type 0} (heap : List Object) (what : Printed) (n : ℤ) (r : Result T E) → what ≡ printed.Long n → printed_bytes heap what ≡ [] → IsOk r
 long_printed heap what n r is none =
     let some = number_written n in

@@ -1,4 +1,4 @@
--- The string that is printed.
+-- The string that is printed (own).
 use Rattle.std.specs.Prelude.{◌≡◌, ℕ, List, Option, Some, None}
 use Rattle.jvms_machine.specs.declared.action.Printed.{Printed}
 use Rattle.jvms_machine.specs.declared.action.Printed.TheVariants as printed

@@ -1,25 +1,25 @@
-//! The characters of 16-bit units, and their bytes in UTF-8.
+//! Converts UTF-16 code units to characters, and to their bytes in UTF-8.
 
 ghost use Rattle.std.specs.Prelude.{◌≡◌, ◌+◌, ◌-◌, ◌*◌, ◌<◌, ◌≤◌, ◌∷◌, ◌++◌, [], length, take, IsOk, OnOk, OnErr, IsTrue, if◌then◌else◌, encode_utf8};
 ghost use Rattle.jvms_machine.specs.Output.{is_high, is_low, characters, text_bytes};
 
 use std::alloc::AllocError;
 
-/// Whether a unit is the first half of a supplementary character.
+/// Decides whether a unit is a high surrogate.
 fn is_high(unit: u16) -> bool
     ensures { result ≡ is_high unit }
 {
     0xd800 <= unit && unit <= 0xdbff
 }
 
-/// Whether a unit is the second half of a supplementary character.
+/// Decides whether a unit is a low surrogate.
 fn is_low(unit: u16) -> bool
     ensures { result ≡ is_low unit }
 {
     0xdc00 <= unit && unit <= 0xdfff
 }
 
-/// The supplementary character of two halves.
+/// Returns the supplementary character of a surrogate pair.
 fn joined(high: u16, low: u16) -> char
     requires high { IsTrue (is_high high) }
     requires low { IsTrue (is_low low) }
@@ -29,14 +29,14 @@ fn joined(high: u16, low: u16) -> char
     char::from_u32(code).unwrap()
 }
 
-/// The character of a unit that isn't joined with another. A half has none, so it's a question mark.
+/// Returns the character of a unit that is in no surrogate pair. A lone surrogate gives a question mark.
 fn alone(unit: u16) -> char
     ensures { result ≡ (if is_high unit then 63 else (if is_low unit then 63 else unit)) }
 {
     char::from_u32(u32::from(unit)).unwrap_or('?')
 }
 
-/// The character that a text of these units begins with, and the units behind it.
+/// Returns the first character of a text of these units, with the units after it.
 fn front_character(first: u16, rest: &[u16]) -> (char, &[u16])
     ensures front { characters (first ∷ rest.now) ≡ result.0 ∷ characters result.1.now }
     ensures behind { length result.1.now ≤ length rest.now }
@@ -49,7 +49,7 @@ fn front_character(first: u16, rest: &[u16]) -> (char, &[u16])
     }
 }
 
-/// Puts a character's bytes behind the others.
+/// Appends a character's bytes.
 fn put_character(out: &mut Vec<u8>, character: char) -> Result<(), AllocError>
     ensures ok { OnOk result (out.new.items ≡ out.old.items ++ encode_utf8 character) }
     ensures err { OnErr result (out.new.items ≡ out.old.items) }
@@ -59,7 +59,7 @@ fn put_character(out: &mut Vec<u8>, character: char) -> Result<(), AllocError>
     out.extend_from_slice(character.encode_utf8(&mut buffer).as_bytes())
 }
 
-/// Puts a text's bytes behind the others, up to the first character that there is no memory for.
+/// Appends a text's bytes, up to the first character for which memory runs out.
 fn put_characters(out: &mut Vec<u8>, units: &[u16]) -> Result<(), AllocError>
     ensures ok { OnOk result (out.new.items ≡ out.old.items ++ text_bytes units.now) }
     ensures front { take (length out.old.items) out.new.items ≡ out.old.items }
@@ -74,11 +74,11 @@ fn put_characters(out: &mut Vec<u8>, units: &[u16]) -> Result<(), AllocError>
     Ok(())
 }
 
-/// Puts a text in UTF-8 behind the other bytes. Without memory for it nothing changes.
+/// Appends a text in UTF-8. Without memory for it nothing changes.
 pub fn put_text(out: &mut Vec<u8>, units: &[u16]) -> Result<(), AllocError>
     ensures ok { OnOk result (out.new.items ≡ out.old.items ++ text_bytes units.now) }
     ensures err { OnErr result (out.new.items ≡ out.old.items) }
-    // Where there is nothing to put it takes no memory.
+    // A text without bytes doesn't fail.
     ensures none { text_bytes units.now ≡ [] → IsOk result }
 {
     let before = out.len();

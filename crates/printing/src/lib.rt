@@ -1,4 +1,4 @@
-//! What a program prints: an int or a long in decimal, a string in UTF-8, null as its name; and the end of a line.
+//! The output of a program: an int or a long in decimal, a string in UTF-8, or null as its name. A line end may follow.
 #![tactic(auto)]
 
 mod characters;

@@ -1,4 +1,4 @@
-//! What is printed, and the end of its line.
+//! Appends output and its line end.
 
 ghost use Rattle.std.specs.Prelude.{◌≡◌, ◌∷◌, ◌++◌, [], List, length, take, IsOk, OnOk, OnErr, codes};
 ghost use Rattle.std.specs.Option.{option_copied};
@@ -12,7 +12,7 @@ use itoa::Buffer;
 use jvms_machine::action::Printed;
 use std::alloc::AllocError;
 
-/// Puts an int in decimal behind the other bytes. Without memory for it nothing changes.
+/// Appends an int in decimal. Without memory for it nothing changes.
 pub fn put_int(out: &mut Vec<u8>, n: i32) -> Result<(), AllocError>
     ensures ok { OnOk result (out.new.items ≡ out.old.items ++ signed_decimal n) }
     ensures err { OnErr result (out.new.items ≡ out.old.items) }
@@ -21,7 +21,7 @@ pub fn put_int(out: &mut Vec<u8>, n: i32) -> Result<(), AllocError>
     out.extend_from_slice(buffer.format(n).as_bytes())
 }
 
-/// Puts a long in decimal behind the other bytes. Without memory for it nothing changes.
+/// Appends a long in decimal. Without memory for it nothing changes.
 pub fn put_long(out: &mut Vec<u8>, n: i64) -> Result<(), AllocError>
     ensures ok { OnOk result (out.new.items ≡ out.old.items ++ signed_decimal n) }
     ensures err { OnErr result (out.new.items ≡ out.old.items) }
@@ -30,7 +30,7 @@ pub fn put_long(out: &mut Vec<u8>, n: i64) -> Result<(), AllocError>
     out.extend_from_slice(buffer.format(n).as_bytes())
 }
 
-/// Puts null's name behind the other bytes. Without memory for it nothing changes.
+/// Appends null's name. Without memory for it nothing changes.
 pub fn put_null(out: &mut Vec<u8>) -> Result<(), AllocError>
     ensures ok { OnOk result (out.new.items ≡ out.old.items ++ codes "null") }
     ensures err { OnErr result (out.new.items ≡ out.old.items) }
@@ -38,7 +38,7 @@ pub fn put_null(out: &mut Vec<u8>) -> Result<(), AllocError>
     out.extend_from_slice(b"null")
 }
 
-/// Puts the end of a line behind the other bytes. Without memory for it nothing changes.
+/// Appends a line end. Without memory for it nothing changes.
 pub fn put_line_end(out: &mut Vec<u8>) -> Result<(), AllocError>
     ensures ok { OnOk result (out.new.items ≡ out.old.items ++ 10 ∷ []) }
     ensures err { OnErr result (out.new.items ≡ out.old.items) }
@@ -46,8 +46,7 @@ pub fn put_line_end(out: &mut Vec<u8>) -> Result<(), AllocError>
     out.extend_from_slice(b"\n")
 }
 
-/// Puts what is printed behind the other bytes. Without memory for it nothing changes. `text` is the string that is
-/// printed, if one is.
+/// Appends output. Without memory for it nothing changes. `text` is the string that is printed, if one is.
 #[tactic(auto, using(crate::proofs::Decimals::int_printed, crate::proofs::Decimals::long_printed))]
 fn put_printed(out: &mut Vec<u8>, what: Printed, text: Option<&[u16]>) -> Result<(), AllocError>
     ensures ok { (heap : List Object) → IsTheString heap what (option_copied text.entry)
@@ -65,8 +64,8 @@ fn put_printed(out: &mut Vec<u8>, what: Printed, text: Option<&[u16]>) -> Result
     }
 }
 
-/// Puts what is printed behind the other bytes, and the end of the line if it ends. Without memory for both nothing
-/// changes. `text` is the string that is printed, if one is.
+/// Appends output, and a line end if `ends_line` is true. Without memory for both nothing changes. `text` is the string
+/// that is printed, if one is.
 pub fn put_line(
     out: &mut Vec<u8>,
     what: Printed,
@@ -76,7 +75,7 @@ pub fn put_line(
     ensures ok { (heap : List Object) → IsTheString heap what (option_copied text.entry)
         → OnOk result (out.new.items ≡ out.old.items ++ line_bytes heap what ends_line) }
     ensures err { OnErr result (out.new.items ≡ out.old.items) }
-    // Where there is nothing to put it takes no memory.
+    // Output without bytes doesn't fail.
     ensures none { (heap : List Object) → IsTheString heap what (option_copied text.entry) → line_bytes heap what ends_line ≡ [] → IsOk result }
 {
     let before = out.len();

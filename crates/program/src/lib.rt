@@ -1,4 +1,4 @@
-//! Programs (JVMS 5.3): their classes, with tables of what is looked up often in them.
+//! Programs (JVMS 5.3): their classes, with tables for frequent look-ups.
 #![tactic(auto)]
 
 mod list;

@@ -14,12 +14,12 @@ use jvms_program::program::{Class, Method};
 use std::alloc::{AllocError, Global};
 use std::marker::Model;
 
-/// A program: the built-in classes, then others. Contracts see the list of its classes.
+/// A program: the built-in classes, followed by others. Contracts see the list of its classes.
 #[derive(Drop)]
 pub struct Program {
-    /// The classes, with what is looked up by name.
+    /// The classes, with look-ups by name.
     pub(crate) by_name: Classes,
-    /// What is looked up often.
+    /// The tables for frequent look-ups.
     pub(crate) tables: Tables,
 }
 
@@ -36,7 +36,7 @@ impl Model for Program {
 }
 
 impl Program {
-    /// Makes the tables of these classes.
+    /// Creates the program of these classes, with its tables.
     pub fn new(alloc: Global, classes: Classes) -> Result<Program, AllocError>
         ensures { IfOk result (λ p. p ≡ classes) }
     {
@@ -47,80 +47,80 @@ impl Program {
         })
     }
 
-    /// The classes, with what is looked up by name alone.
+    /// Returns the classes, with look-ups by name alone.
     pub fn by_name(&self) -> &Classes
         ensures { result.now ≡ self.now }
     {
         &self.by_name
     }
 
-    /// The classes are a program: the built-in classes stand first, and types are those that descriptors spell. Nothing
-    /// is done.
-    pub fn is_program(&self)
+    /// States that the classes are a program: the built-in classes come first, and types are those that descriptors
+    /// spell. It does nothing at run time.
+    pub fn program_invariant(&self)
         ensures { IsProgram self.now }
     {
-        self.by_name.is_program();
+        self.by_name.program_invariant();
     }
 
-    /// The classes in order.
+    /// Returns the classes in order.
     pub fn classes(&self) -> &[Class]
         ensures { result.now ≡ self.now }
     {
         self.by_name.classes()
     }
 
-    /// The class of a number.
+    /// Returns the class of a number.
     pub fn class(&self, number: usize) -> Option<&Class>
         ensures { option_copied result ≡ slice_get self.now number }
     {
         self.by_name.class(number)
     }
 
-    /// Whether the class of a number is built in; false where there is no such class.
+    /// Returns whether the class of a number is built in, or false if there is no such class.
     pub fn is_built_in(&self, number: usize) -> bool
         ensures { result ≡ unwrap_or (option_map (λ c. is_built_in c.name) (slice_get self.now number)) false }
     {
         self.by_name.is_built_in(number)
     }
 
-    /// The class of a name.
+    /// Returns the class of a name.
     pub fn class_named(&self, name: &[u16]) -> Option<&Class>
         ensures { option_copied result ≡ class_named self.now name.now }
     {
         self.by_name.class_named(name)
     }
 
-    /// The number of the class of a name: its place in the list.
+    /// Returns the number of the class of a name: its place in the list.
     pub fn class_number(&self, name: &[u16]) -> Option<usize>
         ensures { result ≡ class_number self.now name.now }
     {
         self.by_name.class_number(name)
     }
 
-    /// The method of a number.
+    /// Returns the method of a number.
     pub fn method(&self, n: MethodNumber) -> Option<&Method>
         ensures { option_copied result ≡ method_at self.now n }
     {
         self.by_name.method(n)
     }
 
-    /// The key of a method in a trace, if there is a method of the number.
+    /// Returns the key of a method in a trace, if there is a method of the number.
     pub fn key(&self, n: MethodNumber) -> Result<Option<MethodKey>, AllocError>
         ensures key { IfOk result (λ key. key ≡ key_of self.now n) }
-        // A key that isn't there takes no memory.
+        // If there is no such method, it doesn't fail.
         ensures none { key_of self.now n ≡ None → IsOk result }
     {
         self.by_name.key(n)
     }
 
-    /// Whether the class of a name is there: of an array, its elements' class.
+    /// Decides whether the class of a name is there. For an array that is the class of its elements.
     pub fn has_class(&self, name: &[u16]) -> bool
         ensures { result ≡ class_exists self.now name.now }
     {
         self.by_name.has_class(name)
     }
 
-    /// Whether the class of the first name fits that of the second.
+    /// Decides whether the class of the first name is a subtype of the class of the second.
     pub fn fits(&self, a: &[u16], b: &[u16]) -> bool
         ensures { result ≡ fits self.now a.now b.now }
     {

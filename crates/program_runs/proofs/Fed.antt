@@ -14,14 +14,14 @@ use Rattle.jvms_machine.specs.Run.{run_from}
 use Rattle.jvms_machine.specs.Start.{IsStart, Start}
 use Rattle.velodrome.specs.Specification.{Specification}
 use Rattle.velodrome.specs.Transactions.{is_event, is_matched, walk}
-use Rattle.run_items.proofs.EventCounts.{events_among, events_append, run_begins_with_few_events, walk_counts}
-use Rattle.run_items.proofs.Runs.{items_are_matched}
+use Rattle.run_item_laws.proofs.EventCounts.{events_among, events_append, run_begins_with_few_events, walk_counts}
+use Rattle.run_item_laws.proofs.Runs.{items_are_matched}
 use Rattle.atom_graph.specs.declared.fault.FeedFault.{FeedFault}
 use Rattle.atom_graph.specs.declared.fault.FeedFault.TheVariants as fault
 use Rattle.atom_graph.specs.Checking.{Fed, fault_of}
 use Rattle.program_runs.specs.Judgements.{MayBeFed, MayFollow, with_items}
 
--- What a checker tests of an item, told by its two tests.
+-- The fault of an item, by the checker's two tests.
 abbrev fault_by : Bool → Bool → Option FeedFault
 fault_by matched many = if not matched then Some fault.Unmatched else if many then Some fault.TooMany else None
 
@@ -37,7 +37,7 @@ no_fault lines before i matched below =
     let few = few_or_mark (is_event i) (length (walk lines before).events) below in
     ap (λ b. fault_by b (is_event i && nat_le 100000000 (length (walk lines before).events))) matched ∙ ap (fault_by true) few
 
--- An event is one more than those before it.
+-- An event is one more than the events before it.
 events_before : (lines : Specification) (before : List Item) (i : Item) (most : ℕ) → length (walk lines (before ++ i ∷ [])).events ≤ most → is_event i ≡ true → length (walk lines before).events < most
 events_before lines before i most few event =
     let all = walk_counts lines (before ++ i ∷ []) in
@@ -46,7 +46,7 @@ events_before lines before i most few event =
     let one = one_event i event in
     omega arith
 
--- Those of a run that isn't too long may be.
+-- The items of a run that isn't too long may be fed.
 pub run_may_be_fed : (lines : Specification) (program : List Class) (limits : Limits) (start : Start) (choices : List ℕ) → IsProgram program → IsTrue (are_limits limits) → IsStart start → length choices ≤ 100000000 → MayBeFed lines (run_from program limits start (opening program) choices).items
 run_may_be_fed lines program limits start choices is are starts short =
     λ before after i parts.
@@ -65,7 +65,7 @@ pub next_follows : (fed : Fed) (items : List Item) (k : ℕ) (i : Item) → MayF
 next_follows fed items k i may below is =
     may (take k items) (drop (suc k) items) i (split_at items k i (slice_get-get_or items k i below ∙ ap Some (sym is)))
 
--- The items with the next one.
+-- The items up to an index, and the one at it.
 pub with_next : (items : List Item) (k : ℕ) (i : Item) → k < length items → i ≡ get_or items k i → take (k + 1) items ≡ take k items ++ i ∷ []
 with_next items k i below is = take_more items k i below ∙ ap (λ x. take k items ++ x ∷ []) (sym is)
 

@@ -1,4 +1,4 @@
--- What is said of a trace by the lines of a specification (Velodrome, sections 3 and 4).
+-- The judgement on a trace by the lines of a specification (Velodrome, sections 3 and 4).
 use Rattle.std.specs.Prelude.{◌≡◌, List, [], ◌∷◌, ◌++◌, length, None, Result, Ok, Err, IsTrue}
 use Rattle.jvms_program.specs.Program.{IsProgram}
 use Rattle.jvms_machine.specs.declared.trace.Item.{Item}
@@ -13,7 +13,7 @@ use Rattle.atom_graph.specs.Checking.{Fed, fault_of}
 use Rattle.program_runs.specs.declared.feeding.Judgement.{Judgement}
 use Rattle.program_runs.specs.Shown.{Shown}
 
--- The verdict on the trace's transactions, and how many events and transactions they are.
+-- The judgement is the verdict on the trace's transactions, and the numbers of its events and transactions.
 pub record IsJudgementBy (lines : Specification) (items : List Item) (j : Judgement) : Type 0 where
   pub verdict : IsVerdict (walk lines items) j.verdict
   pub events : j.counts.events ≡ length (walk lines items).events
@@ -24,7 +24,7 @@ abbrev pub IsJudgementIn : {E : Type 0} → Specification → Result Shown E →
 IsJudgementIn lines (Ok shown) j = IsJudgementBy lines shown.items j
 IsJudgementIn lines (Err why) j = ⊥
 
--- What a checker was fed, followed by more.
+-- Returns what a checker was fed, with more items appended.
 abbrev pub with_items : List Item → Fed → Fed
 with_items more fed = record { lines = fed.lines; items = fed.items ++ more }
 
@@ -38,7 +38,7 @@ abbrev pub MayFollow : Fed → List Item → Type 0
 MayFollow fed items =
     (before after : List Item) (i : Item) → items ≡ before ++ i ∷ after → fault_of (with_items before fed) i ≡ None
 
--- The same, of a checker that wasn't fed yet.
+-- A checker that wasn't fed takes each of these items after those before it.
 abbrev pub MayBeFed : Specification → List Item → Type 0
 MayBeFed lines items = MayFollow (record { lines = lines; items = [] }) items
 

@@ -1,4 +1,4 @@
--- What the run of a program shows, by the choices of a chooser.
+-- The run of a program by the choices of a chooser, as contracts show it.
 use Rattle.std.specs.Prelude.{◌≡◌, ℕ, List, length, Option, Result, Ok, Err}
 use Rattle.jvms_file.specs.Results.{◌>>=◌}
 use Rattle.jvms_program.specs.declared.program.Class.{Class}
@@ -8,14 +8,14 @@ use Rattle.jvms_machine.specs.declared.machine.Outcome.{Outcome}
 use Rattle.jvms_machine.specs.declared.machine.Status.{Status}
 use Rattle.jvms_machine.specs.declared.trace.Item.{Item}
 use Rattle.jvms_machine.specs.declared.value.Value.{Value}
-use Rattle.jvms_machine.specs.Opening.{NotMade, made}
+use Rattle.jvms_machine.specs.Opening.{StartFault, made}
 use Rattle.jvms_machine.specs.Status.{status_of}
 use Rattle.machine.specs.Machine.{Machine}
 use Rattle.machine.specs.Runs.{run_of}
 use Rattle.machine.specs.Started.{opened}
 use Rattle.schedule.specs.Choosers.{Chooser}
 use Rattle.runs.specs.declared.ending.Ending.{Ending}
-use Rattle.runs.specs.Choices.{choices_from, chooser_behind}
+use Rattle.runs.specs.Choices.{choices_from, chooser_after_choices}
 use Rattle.runs.specs.Endings.{uncaught_threads}
 use Rattle.program_runs.specs.declared.tracing.TracedRun.{TracedRun}
 
@@ -29,9 +29,9 @@ pub record Shown : Type 0 where
   pub status : Status
   pub uncaught : List (ℕ × List ℕ)
 
--- What the run of these choices by the instruction table shows.
-abbrev pub shown_by : Machine → List ℕ → Shown
-shown_by m choices =
+-- Returns the run of these choices by the instruction table.
+abbrev pub view_of_choices : Machine → List ℕ → Shown
+view_of_choices m choices =
     let r = run_of m choices in
     record {
       choices = choices;
@@ -43,25 +43,25 @@ shown_by m choices =
       uncaught = uncaught_threads r.state;
     }
 
--- The choices are all that a chooser gives, up to the most.
-abbrev pub shown_of : ℕ → Chooser → Machine → Shown
-shown_of most chooser m = shown_by m (choices_from most chooser m)
+-- Returns the run of all choices that a chooser gives, up to `most`.
+abbrev pub view_of_run : ℕ → Chooser → Machine → Shown
+view_of_run most chooser m = view_of_choices m (choices_from most chooser m)
 
--- From the entry on, if a machine is made for it.
-unfoldable pub program_shown : ℕ → Chooser → Limits → List Class → Entry → Result Shown NotMade
-program_shown most chooser limits program entry = do
+-- Returns the run of a program from an entry, if a machine is made for it.
+unfoldable pub view_of_program : ℕ → Chooser → Limits → List Class → Entry → Result Shown StartFault
+view_of_program most chooser limits program entry = do
   start ← made program limits entry
-  Ok (shown_of most chooser (opened program limits start))
+  Ok (view_of_run most chooser (opened program limits start))
 
--- The chooser after its choices, if a machine is made.
-unfoldable pub program_chooser_left : ℕ → Chooser → Limits → List Class → Entry → Result Chooser NotMade
+-- Returns the chooser after its choices, if a machine is made.
+unfoldable pub program_chooser_left : ℕ → Chooser → Limits → List Class → Entry → Result Chooser StartFault
 program_chooser_left most chooser limits program entry = do
   start ← made program limits entry
-  Ok (chooser_behind most chooser (opened program limits start))
+  Ok (chooser_after_choices most chooser (opened program limits start))
 
--- What a run with its choices, outcomes and items shows.
-abbrev pub shown_in : TracedRun → Shown
-shown_in run =
+-- Returns what a traced run shows.
+abbrev pub view_of_traced : TracedRun → Shown
+view_of_traced run =
     record {
       choices = run.choices;
       outcomes = run.outcomes;
@@ -72,7 +72,7 @@ shown_in run =
       uncaught = run.ending.uncaught;
     }
 
--- How a run ends, without its choices, outcomes and items.
+-- Returns the ending of a run, without its choices, outcomes and items.
 abbrev pub ending_shown : Shown → Ending
 ending_shown shown =
     record {
@@ -83,7 +83,7 @@ ending_shown shown =
       uncaught = shown.uncaught;
     }
 
--- There is a run, and it ends so.
-abbrev pub EndsAs : {E : Type 0} → Result Shown E → Ending → Type 0
-EndsAs (Ok shown) ending = ending ≡ ending_shown shown
-EndsAs (Err why) ending = ⊥
+-- There is a run, and it has this ending.
+abbrev pub HasEnding : {E : Type 0} → Result Shown E → Ending → Type 0
+HasEnding (Ok shown) ending = ending ≡ ending_shown shown
+HasEnding (Err why) ending = ⊥

@@ -1,12 +1,12 @@
-//! A run whose items are fed to a checker of atomicity as it goes, and aren't kept.
+//! Runs whose items are fed to a checker of atomicity as the run continues, and aren't kept.
 
 ghost use Rattle.std.specs.Prelude.{◌≡◌, ◌≤◌, [], length, IfOk, IfErr, OnOk, Ok};
 ghost use Rattle.machine.specs.Machine.{with_state};
 ghost use Rattle.machine.specs.Runs.{run_of};
 ghost use Rattle.program_runs.specs.Faults.{IsProgramFault};
 ghost use Rattle.program_runs.specs.Judgements.{IsFedWith, IsJudgementBy, IsJudgementIn, IsOpened, MayFollow, with_items};
-ghost use Rattle.program_runs.specs.Shown.{EndsAs, program_chooser_left, program_shown, shown_of};
-ghost use Rattle.runs.specs.Choices.{choices_from, chooser_behind};
+ghost use Rattle.program_runs.specs.Shown.{HasEnding, program_chooser_left, view_of_program, view_of_run};
+ghost use Rattle.runs.specs.Choices.{choices_from, chooser_after_choices};
 ghost use Rattle.runs.specs.Endings.{ending_of};
 
 use crate::fault::ProgramFault;
@@ -22,11 +22,11 @@ use std::alloc::{AllocError, Global};
 use trace::{Recording, Trace};
 use turn_limit::TurnLimit;
 
-/// How many turns are taken before their items are fed, so that few items are kept at a time.
+/// The number of turns that are taken before their items are fed, so that few items are kept at a time.
 const TURNS_AT_ONCE: u64 = 512;
 
-/// Takes the next turns that a chooser gives, at most this number of them, and feeds their items to a checker. The trace
-/// is empty before and after: its memory is reused.
+/// Takes the next turns that a chooser gives, at most `most` of them, and feeds their items to a checker. The trace is
+/// empty before and after, and its memory is reused.
 fn check_some(
     alloc: Global,
     machine: &mut Machine<'_>,
@@ -39,7 +39,7 @@ fn check_some(
     requires fed { MayFollow checker.old
         (run_of machine.old (choices_from most chooser.old machine.old)).items }
     ensures count { IfOk result (λ n. n ≡ length (choices_from most chooser.old machine.old)) }
-    ensures chooser { OnOk result (chooser.new ≡ chooser_behind most chooser.old machine.old) }
+    ensures chooser { OnOk result (chooser.new ≡ chooser_after_choices most chooser.old machine.old) }
     ensures state { OnOk result (machine.new ≡ with_state machine.old
         (run_of machine.old (choices_from most chooser.old machine.old)).state) }
     ensures fed { OnOk result (checker.new ≡ with_items
@@ -55,7 +55,7 @@ fn check_some(
     Ok(turns)
 }
 
-/// Takes the turns that a chooser gives, at most this number of them, from the opening of a machine, and feeds their items
+/// Takes the turns that a chooser gives, at most `most` of them, from the opening of a machine, and feeds their items
 /// to a checker. Choices, outcomes and items aren't kept.
 pub fn check_turns(
     alloc: Global,
@@ -67,8 +67,8 @@ pub fn check_turns(
     requires opened { IsOpened machine.old }
     requires fresh { checker.old.items ≡ [] }
     ensures count { IfOk result (λ n. n ≡ length (choices_from most chooser.old machine.old)) }
-    ensures chooser { OnOk result (chooser.new ≡ chooser_behind most chooser.old machine.old) }
-    // Machine and items are those of the run of these choices by the instruction table.
+    ensures chooser { OnOk result (chooser.new ≡ chooser_after_choices most chooser.old machine.old) }
+    // Machine and items are those of the run of these choices, by the instruction table.
     ensures state { OnOk result (machine.new ≡ with_state machine.old
         (run_of machine.old (choices_from most chooser.old machine.old)).state) }
     ensures fed { OnOk result (checker.new ≡ with_items
@@ -88,7 +88,7 @@ pub fn check_turns(
     Ok(taken)
 }
 
-/// Runs a machine from its opening by the choices of a chooser, at most this number of them, and feeds a checker.
+/// Runs a machine from its opening by the choices of a chooser, at most `most` of them, and feeds a checker.
 fn check_machine(
     alloc: Global,
     machine: &mut Machine<'_>,
@@ -100,8 +100,8 @@ fn check_machine(
     requires fresh { checker.old.items ≡ [] }
     ensures ending { IfOk result (λ ending. ending ≡ ending_of most chooser.old machine.old) }
     ensures fed { OnOk result (checker.new
-        ≡ with_items (shown_of most chooser.old machine.old).items checker.old) }
-    ensures chooser { OnOk result (chooser.new ≡ chooser_behind most chooser.old machine.old) }
+        ≡ with_items (view_of_run most chooser.old machine.old).items checker.old) }
+    ensures chooser { OnOk result (chooser.new ≡ chooser_after_choices most chooser.old machine.old) }
     ensures memory { IfErr result (λ fault. fault ≡ ProgramFault.Memory) }
 {
     let turns = check_turns(alloc, machine, chooser, most, checker)?;
@@ -109,22 +109,22 @@ fn check_machine(
     Ok(ending)
 }
 
-/// How a run ended, and whether it is atomic.
+/// The ending of a run, and its judgement.
 #[derive(Debug, Drop)]
 pub struct CheckedRun {
     pub ending: Ending,
     pub judgement: Judgement,
 }
 
-/// Runs a program from an entry by the choices of a chooser, at most this number of them, and returns how the run ends. The
-/// items are fed to a checker as the run goes, and aren't kept.
+/// Runs a program from an entry by the choices of a chooser, at most `most` of them, and returns the ending of the run.
+/// The items are fed to a checker as the run continues, and aren't kept.
 ///
 /// # Errors
 ///
-/// Why there is no machine for the entry, or that there was no memory. Then the chooser may have moved, and the checker may
-/// have been fed. No item of a run is at fault with a checker: each exit is of its thread's innermost method, and there are
+/// There is no machine for the entry, or there was no memory. Then the chooser may have moved, and the checker may have
+/// been fed. No item of a run is at fault with a checker: each exit is of its thread's innermost method, and there are
 /// no more events than turns.
-#[tactic(auto, unfolding(crate::specs::Shown::program_shown, crate::specs::Shown::program_chooser_left))]
+#[tactic(auto, unfolding(crate::specs::Shown::view_of_program, crate::specs::Shown::program_chooser_left))]
 pub fn feed_program(
     alloc: Global,
     program: &Program,
@@ -136,20 +136,20 @@ pub fn feed_program(
 ) -> Result<Ending, ProgramFault>
     requires fresh { checker.old.items ≡ [] }
     // The number of turns, result, output, status and uncaught exceptions are those of the run of all choices of the
-    // chooser, up to the most, by the instruction table.
+    // chooser, up to `most`, by the instruction table.
     ensures ending { IfOk result (λ ending.
-        EndsAs (program_shown most chooser.old limits program.now entry.now) ending) }
+        HasEnding (view_of_program most chooser.old limits program.now entry.now) ending) }
     // The checker was fed the items of that run.
-    ensures fed { OnOk result (IsFedWith (program_shown most chooser.old limits program.now entry.now)
+    ensures fed { OnOk result (IsFedWith (view_of_program most chooser.old limits program.now entry.now)
         checker.old.lines checker.new) }
     // The chooser is then the one after its choices.
     ensures chooser { OnOk result
         (program_chooser_left most chooser.old limits program.now entry.now ≡ Ok chooser.new) }
     // A fault is returned only if its condition holds.
     ensures fault { IfErr result (λ fault.
-        IsProgramFault fault (program_shown most chooser.old limits program.now entry.now)) }
+        IsProgramFault fault (view_of_program most chooser.old limits program.now entry.now)) }
 {
-    program.is_program();
+    program.program_invariant();
     let mut machine = Machine::new(alloc, program, limits, entry)?;
     check_machine(alloc, &mut machine, chooser, most, checker)
 }
@@ -165,8 +165,8 @@ fn judge_machine(
     requires opened { IsOpened machine.old }
     ensures ending { IfOk result (λ run. run.ending ≡ ending_of most chooser.old machine.old) }
     ensures judgement { IfOk result (λ run.
-        IsJudgementBy spec (shown_of most chooser.old machine.old).items run.judgement) }
-    ensures chooser { OnOk result (chooser.new ≡ chooser_behind most chooser.old machine.old) }
+        IsJudgementBy spec (view_of_run most chooser.old machine.old).items run.judgement) }
+    ensures chooser { OnOk result (chooser.new ≡ chooser_after_choices most chooser.old machine.old) }
     ensures memory { IfErr result (λ fault. fault ≡ ProgramFault.Memory) }
 {
     let mut checker = Checker::new(alloc, spec)?;
@@ -175,12 +175,12 @@ fn judge_machine(
     Ok(CheckedRun { ending, judgement })
 }
 
-/// Runs a program as `feed_program` does, and returns how the run ends and whether it is atomic by a specification.
+/// Runs a program as `feed_program` does, and returns the ending of the run and its judgement by a specification.
 ///
 /// # Errors
 ///
-/// Why there is no machine for the entry, or that there was no memory. Then the chooser may have moved.
-#[tactic(auto, unfolding(crate::specs::Shown::program_shown, crate::specs::Shown::program_chooser_left))]
+/// There is no machine for the entry, or there was no memory. Then the chooser may have moved.
+#[tactic(auto, unfolding(crate::specs::Shown::view_of_program, crate::specs::Shown::program_chooser_left))]
 pub fn check_program(
     alloc: Global,
     program: &Program,
@@ -191,16 +191,16 @@ pub fn check_program(
     spec: Spec,
 ) -> Result<CheckedRun, ProgramFault>
     ensures ending { IfOk result (λ run.
-        EndsAs (program_shown most chooser.old limits program.now entry.now) run.ending) }
-    // The verdict on the items of that run, and their counts.
+        HasEnding (view_of_program most chooser.old limits program.now entry.now) run.ending) }
+    // The judgement is the verdict on the items of that run, and their counts.
     ensures judgement { IfOk result (λ run. IsJudgementIn spec
-        (program_shown most chooser.old limits program.now entry.now) run.judgement) }
+        (view_of_program most chooser.old limits program.now entry.now) run.judgement) }
     ensures chooser { OnOk result
         (program_chooser_left most chooser.old limits program.now entry.now ≡ Ok chooser.new) }
     ensures fault { IfErr result (λ fault.
-        IsProgramFault fault (program_shown most chooser.old limits program.now entry.now)) }
+        IsProgramFault fault (view_of_program most chooser.old limits program.now entry.now)) }
 {
-    program.is_program();
+    program.program_invariant();
     let mut machine = Machine::new(alloc, program, limits, entry)?;
     judge_machine(alloc, &mut machine, chooser, most, spec)
 }

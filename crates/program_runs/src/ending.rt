@@ -1,9 +1,9 @@
-//! A run of which only the end is kept.
+//! Runs of which only the ending is kept.
 
 ghost use Rattle.std.specs.Prelude.{◌≡◌, IfOk, IfErr, OnOk, Ok};
 ghost use Rattle.program_runs.specs.Faults.{IsProgramFault};
-ghost use Rattle.program_runs.specs.Shown.{EndsAs, program_chooser_left, program_shown};
-ghost use Rattle.runs.specs.Choices.{chooser_behind};
+ghost use Rattle.program_runs.specs.Shown.{HasEnding, program_chooser_left, view_of_program};
+ghost use Rattle.runs.specs.Choices.{chooser_after_choices};
 ghost use Rattle.runs.specs.Endings.{ending_of};
 
 use crate::fault::ProgramFault;
@@ -14,7 +14,7 @@ use runs::{Ending, run_to_end};
 use schedule::Chooser;
 use std::alloc::Global;
 
-/// Runs a machine by the choices of a chooser, at most this number of them.
+/// Runs a machine by the choices of a chooser, at most `most` of them.
 fn run_machine(
     alloc: Global,
     machine: &mut Machine<'_>,
@@ -22,20 +22,20 @@ fn run_machine(
     most: u64,
 ) -> Result<Ending, ProgramFault>
     ensures ending { IfOk result (λ ending. ending ≡ ending_of most chooser.old machine.old) }
-    ensures chooser { OnOk result (chooser.new ≡ chooser_behind most chooser.old machine.old) }
+    ensures chooser { OnOk result (chooser.new ≡ chooser_after_choices most chooser.old machine.old) }
     ensures memory { IfErr result (λ fault. fault ≡ ProgramFault.Memory) }
 {
     let ending = run_to_end(alloc, machine, chooser, most)?;
     Ok(ending)
 }
 
-/// Runs a program from an entry by the choices of a chooser, at most this number of them, and returns how the run ends.
+/// Runs a program from an entry by the choices of a chooser, at most `most` of them, and returns the ending of the run.
 /// Choices, outcomes and items aren't kept, so that a run takes no memory for them, however long it is.
 ///
 /// # Errors
 ///
-/// Why there is no machine for the entry, or that there was no memory. Then the chooser may have moved.
-#[tactic(auto, unfolding(crate::specs::Shown::program_shown, crate::specs::Shown::program_chooser_left))]
+/// There is no machine for the entry, or there was no memory. Then the chooser may have moved.
+#[tactic(auto, unfolding(crate::specs::Shown::view_of_program, crate::specs::Shown::program_chooser_left))]
 pub fn run_program(
     alloc: Global,
     program: &Program,
@@ -45,15 +45,15 @@ pub fn run_program(
     most: u64,
 ) -> Result<Ending, ProgramFault>
     // The number of turns, result, output, status and uncaught exceptions are those of the run of all choices of the
-    // chooser, up to the most, by the instruction table.
+    // chooser, up to `most`, by the instruction table.
     ensures ending { IfOk result (λ ending.
-        EndsAs (program_shown most chooser.old limits program.now entry.now) ending) }
+        HasEnding (view_of_program most chooser.old limits program.now entry.now) ending) }
     // The chooser is then the one after these choices.
     ensures chooser { OnOk result
         (program_chooser_left most chooser.old limits program.now entry.now ≡ Ok chooser.new) }
     // A fault is returned only if its condition holds.
     ensures fault { IfErr result (λ fault.
-        IsProgramFault fault (program_shown most chooser.old limits program.now entry.now)) }
+        IsProgramFault fault (view_of_program most chooser.old limits program.now entry.now)) }
 {
     let mut machine = Machine::new(alloc, program, limits, entry)?;
     run_machine(alloc, &mut machine, chooser, most)

@@ -1,4 +1,4 @@
-//! Why a program wasn't run.
+//! The reason for which a program wasn't run.
 
 ghost use Rattle.std.specs.Prelude.{◌≡◌};
 ghost use Rattle.program_runs.specs.declared.fault.ProgramFault.TheVariants as fault;
@@ -7,7 +7,7 @@ use machine::MachineFault;
 use std::alloc::AllocError;
 use thiserror::Error;
 
-/// Why a program wasn't run.
+/// The reason for which a program wasn't run.
 #[derive(Clone, Copy, Debug, PartialEq, Eq, Error)]
 pub enum ProgramFault {
     /// M01 to M03: there is no machine for the entry.

@@ -1,4 +1,4 @@
-//! Items that a checker of atomicity is fed, and its verdict on them.
+//! Items that are fed to a checker of atomicity, and its verdict on them.
 
 ghost use Rattle.std.specs.Prelude.{◌≡◌, None, IfOk, OnOk};
 ghost use Rattle.atom_graph.specs.Checking.{fault_of, with_item};
@@ -9,15 +9,15 @@ use jvms_machine::trace::Item;
 use std::alloc::AllocError;
 use velodrome::verdict::Verdict;
 
-/// Whether a trace is atomic by a specification, and how much it holds.
+/// The verdict on a trace by a specification, and the trace's counts.
 #[derive(Debug, Drop)]
 pub struct Judgement {
     pub verdict: Verdict,
-    /// How many events and transactions the trace has.
+    /// The numbers of events and transactions of the trace.
     pub counts: Counts,
 }
 
-/// Feeds an item with which nothing is at fault.
+/// Feeds an item that is at no fault.
 fn feed(checker: &mut Checker, item: &Item) -> Result<(), AllocError>
     requires { fault_of checker.old item.now ≡ None }
     ensures { OnOk result (checker.new ≡ with_item item.now checker.old) }
@@ -29,7 +29,7 @@ fn feed(checker: &mut Checker, item: &Item) -> Result<(), AllocError>
     }
 }
 
-/// Feeds items with none of which anything is at fault.
+/// Feeds items that are at no fault.
 pub fn feed_items(checker: &mut Checker, items: &[Item]) -> Result<(), AllocError>
     requires { MayFollow checker.old items.now }
     ensures { OnOk result (checker.new ≡ with_items items.now checker.old) }

@@ -1,4 +1,4 @@
-//! Runs of a program from an entry, by the choices of a chooser: how they end, what they leave, and whether they are
+//! Runs of a program from an entry, by the choices of a chooser: their ending, their items, and whether they are
 //! atomic.
 #![tactic(auto)]
 

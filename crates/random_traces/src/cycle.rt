@@ -1,9 +1,9 @@
-//! Whether what is shown of a trace with a cycle is one.
+//! Verifies the cycle that a checker shows of a trace.
 
 use crate::events::{Event, conflict, event_of};
 use velodrome::verdict::ConflictingPair;
 
-/// A cycle as a checker shows it.
+/// A cycle, as a checker shows it.
 #[derive(Clone, Copy)]
 pub struct Shown<'a> {
     pub first_at: u64,
@@ -11,7 +11,7 @@ pub struct Shown<'a> {
     pub pairs: &'a [ConflictingPair],
 }
 
-/// Whether no transaction stands twice in a list.
+/// Decides whether all transactions of a list are different.
 fn are_different(transactions: &[u64]) -> bool {
     for (place, transaction) in transactions.iter().enumerate() {
         let transaction = *transaction;
@@ -26,7 +26,7 @@ fn are_different(transactions: &[u64]) -> bool {
     true
 }
 
-/// Whether a list begins with the transaction of the event of a number.
+/// Decides whether a list begins with the transaction of event `number`.
 fn begins_with(events: &[Event], number: u64, transactions: &[u64]) -> bool {
     match (event_of(events, number), transactions.first()) {
         (Some(event), Some(first)) => event.transaction == *first,
@@ -34,7 +34,7 @@ fn begins_with(events: &[Event], number: u64, transactions: &[u64]) -> bool {
     }
 }
 
-/// Whether a pair is of an event of a transaction and a later one of another, in conflict, among the first so many.
+/// Decides whether a pair is an event of `from` and a later one of `to`, in conflict, among the first `most` events.
 fn leads(events: &[Event], most: u64, pair: ConflictingPair, from: u64, to: u64) -> bool {
     match (event_of(events, pair.earlier), event_of(events, pair.later)) {
         (Some(earlier), Some(later)) => {
@@ -48,7 +48,7 @@ fn leads(events: &[Event], most: u64, pair: ConflictingPair, from: u64, to: u64)
     }
 }
 
-/// The transaction behind that at a place, which is the first behind the last.
+/// Returns the transaction after the one at a place. The first follows the last.
 fn next(transactions: &[u64], place: usize) -> Option<u64> {
     match transactions.get(place.saturating_add(1)) {
         Some(next) => Some(*next),
@@ -56,7 +56,7 @@ fn next(transactions: &[u64], place: usize) -> Option<u64> {
     }
 }
 
-/// Whether the pair at a place leads from the transaction at it to the next.
+/// Decides whether the pair at a place leads from the transaction at this place to the next.
 fn leads_on(events: &[Event], shown: Shown<'_>, place: usize, pair: ConflictingPair) -> bool {
     let from = shown.transactions.get(place).copied();
     match (from, next(shown.transactions, place)) {
@@ -65,7 +65,7 @@ fn leads_on(events: &[Event], shown: Shown<'_>, place: usize, pair: ConflictingP
     }
 }
 
-/// Whether pairs lead from each transaction to the next, and from the last to the first.
+/// Decides whether pairs lead from each transaction to the next, and from the last to the first.
 fn leads_round(events: &[Event], shown: Shown<'_>) -> bool {
     for (place, pair) in shown.pairs.iter().enumerate() {
         if !leads_on(events, shown, place, *pair) {
@@ -75,8 +75,8 @@ fn leads_round(events: &[Event], shown: Shown<'_>) -> bool {
     shown.pairs.len() == shown.transactions.len()
 }
 
-/// Whether at least two different transactions are shown, the first that of event `first_at`, with a pair from each to
-/// the next, and from the last to the first.
+/// Decides whether a cycle is right. It must have at least two different transactions, the first being that of event
+/// `first_at`. Pairs must lead from each to the next, and from the last to the first.
 pub fn is_shown(events: &[Event], shown: Shown<'_>) -> bool {
     shown.transactions.len() >= 2
         && are_different(shown.transactions)

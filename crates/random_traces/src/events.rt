@@ -1,4 +1,4 @@
-//! The events of a trace, with their transactions, each read off the steps anew.
+//! The events of a trace with their transactions, each computed from the steps alone.
 
 use crate::making::{Atomic, RandomTrace};
 use crate::steps::{Action, Step, open_behind};
@@ -7,17 +7,17 @@ use std::alloc::{AllocError, Global};
 /// An event of a trace.
 #[derive(Clone, Copy)]
 pub struct Event {
-    /// Its number, from 1.
+    /// The event's number, from 1.
     pub number: u64,
     /// The number of its transaction, from 1.
     pub transaction: u64,
     pub step: Step,
     /// The place of the step that its transaction begins with: the entry of the outermost atomic method around it, or
-    /// else its own.
+    /// else its own step.
     first: usize,
 }
 
-/// The place of the step that the transaction of a thread's step begins with.
+/// Returns the place of the step that the transaction of a thread's step begins with.
 fn first_of(
     alloc: Global,
     atomic: Atomic,
@@ -30,7 +30,7 @@ fn first_of(
     Ok(outermost.map_or(place, |open| open.place))
 }
 
-/// How many transactions have begun.
+/// Returns the number of transactions that have begun.
 fn begun(events: &[Event]) -> u64 {
     events
         .iter()
@@ -39,7 +39,7 @@ fn begun(events: &[Event]) -> u64 {
         .unwrap_or(0)
 }
 
-/// The number of the transaction that begins with a step: that of the events before that are in it, or else the next.
+/// Returns the number of the transaction that begins with a step: that of earlier events in it, or else the next.
 fn transaction_of(events: &[Event], first: usize) -> u64 {
     match events.iter().find(|event| event.first == first) {
         Some(event) => event.transaction,
@@ -47,7 +47,7 @@ fn transaction_of(events: &[Event], first: usize) -> u64 {
     }
 }
 
-/// The events of a trace, in order.
+/// Returns the events of a trace, in order.
 pub fn events_of(alloc: Global, trace: &RandomTrace) -> Result<Vec<Event>, AllocError> {
     let steps = trace.steps.as_slice();
     let mut events: Vec<Event> = Vec::new(alloc);
@@ -67,7 +67,7 @@ pub fn events_of(alloc: Global, trace: &RandomTrace) -> Result<Vec<Event>, Alloc
     Ok(events)
 }
 
-/// The event of a number.
+/// Returns event `number`, if there is one.
 pub fn event_of(events: &[Event], number: u64) -> Option<Event> {
     events.iter().find(|event| event.number == number).copied()
 }
@@ -86,8 +86,8 @@ fn are_on_one_variable(a: Action, b: Action) -> bool {
     }
 }
 
-/// Whether two events conflict: they are of one thread, or on one monitor, or on one variable with a write among them,
-/// or one is a fork or a join of the other's thread.
+/// Decides whether two events conflict. They do if they belong to one thread or use one monitor. They do if they use
+/// one variable and one of them writes it, or if one forks or joins the other's thread.
 pub fn conflict(a: Event, b: Event) -> bool {
     let (t, a) = (a.step.thread, a.step.action);
     let (u, b) = (b.step.thread, b.step.action);

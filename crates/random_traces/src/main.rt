@@ -1,8 +1,8 @@
-//! Feeds a checker small random traces, and prints what it says of each: a line a trace. The last line is of many
+//! Feeds a checker small random traces, and prints a line for each with the checker's result. The last line is for many
 //! writes of one thread.
 //!
-//! What has to be printed is a plain reading of the same traces, by bench/plain_reading.py. What a checker shows, an
-//! order or a cycle, may be one or another: it isn't printed, but tested here, by all pairs of events.
+//! The expected output comes from a plain reading of the same traces, by bench/plain_reading.py. A checker may show one
+//! of several orders or cycles, so these are not printed but tested here, by all pairs of events.
 #![tactic(auto)]
 
 mod cycle;
@@ -28,7 +28,7 @@ const TRACES: u32 = 3_000;
 
 const WRITES: u32 = 100_000;
 
-/// The state and the stream that the words come from.
+/// The state and the stream of the random words.
 const SEED: u64 = 42;
 
 const STREAM: u64 = 54;
@@ -41,13 +41,13 @@ fn feed(checker: &mut Checker, trace: &Trace) -> Option<()> {
     Some(())
 }
 
-/// A checker under the specification of a text.
+/// Returns a checker under the specification of a text.
 fn checker_of(alloc: Global, spec: &str) -> Option<Checker> {
     let spec = Spec::read(alloc, spec).ok()?;
     Checker::new(alloc, spec).ok()
 }
 
-/// A checker that was fed a trace.
+/// Returns a checker that was fed a trace.
 fn fed(alloc: Global, trace: &RandomTrace) -> Option<Checker> {
     let text = text_of(alloc, trace.steps.as_slice()).ok()?;
     let items = trace_text::read(alloc, text.as_str()).ok()?;
@@ -56,7 +56,7 @@ fn fed(alloc: Global, trace: &RandomTrace) -> Option<Checker> {
     Some(checker)
 }
 
-/// Whether an order of transactions is one, and the order of events that a checker gives too.
+/// Decides whether an order of transactions is right, and the checker's order of events too.
 fn is_serial_by(
     alloc: Global,
     checker: &Checker,
@@ -71,7 +71,7 @@ fn is_serial_by(
     Ok(is_right && is_order(events, transactions, order))
 }
 
-/// What is printed of a trace that is atomic.
+/// Returns the line of an atomic trace.
 fn atomic_line(
     alloc: Global,
     checker: &Checker,
@@ -91,7 +91,7 @@ fn atomic_line(
     )
 }
 
-/// What is printed of a trace with a cycle.
+/// Returns the line of a trace with a cycle.
 fn cycle_line(
     alloc: Global,
     checker: &Checker,
@@ -116,7 +116,7 @@ fn cycle_line(
     )
 }
 
-/// What is printed of a trace that a checker was fed.
+/// Returns the line of a trace that a checker was fed.
 fn line_of(alloc: Global, checker: &Checker, events: &[Event]) -> Result<String, AllocError> {
     match checker.verdict()? {
         Verdict::Atomic { order } => atomic_line(alloc, checker, events, order.as_slice()),
@@ -135,7 +135,7 @@ fn line_of(alloc: Global, checker: &Checker, events: &[Event]) -> Result<String,
     }
 }
 
-/// What is printed of the trace that the next words make.
+/// Returns the line of the trace that the next random words yield.
 fn next_line(alloc: Global, words: &mut Lcg64Xsh32) -> Option<String> {
     let trace = any_trace(alloc, words).ok()?;
     let events = events_of(alloc, &trace).ok()?;
@@ -143,7 +143,7 @@ fn next_line(alloc: Global, words: &mut Lcg64Xsh32) -> Option<String> {
     line_of(alloc, &checker, events.as_slice()).ok()
 }
 
-/// A checker that was fed many writes of one thread, in no method.
+/// Returns a checker that was fed many writes of one thread, in no method.
 fn fed_writes(alloc: Global) -> Option<Checker> {
     let write = trace_text::read(alloc, "wr 1 C.x.I\n").ok()?;
     let mut checker = checker_of(alloc, "plain *\n")?;
@@ -153,7 +153,7 @@ fn fed_writes(alloc: Global) -> Option<Checker> {
     Some(checker)
 }
 
-/// What is printed of many writes of one thread.
+/// Returns the line of many writes of one thread.
 fn writes_line(alloc: Global) -> Option<String> {
     let checker = fed_writes(alloc)?;
     let events = checker.counts().events;

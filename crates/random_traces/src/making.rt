@@ -1,4 +1,4 @@
-//! Random traces. They are those that bench/plain_reading.py makes, by the same draws in the same order.
+//! Random traces. bench/plain_reading.py makes the same ones, by the same draws in the same order.
 
 ghost use Rattle.std.specs.Prelude.{◌<◌};
 
@@ -27,7 +27,7 @@ pub struct RandomTrace {
 }
 
 impl Atomic {
-    /// The text of the specification.
+    /// Returns the text of the specification.
     pub fn text(self) -> &'static str {
         match self {
             Atomic::All => "atomic *\n",
@@ -45,7 +45,7 @@ impl Atomic {
     }
 }
 
-/// A number below another.
+/// Returns a random number below `count`.
 fn below(words: &mut Lcg64Xsh32, count: u32) -> u32
     requires { 0 < count }
 {
@@ -86,7 +86,7 @@ fn any_method(words: &mut Lcg64Xsh32) -> Method {
     }
 }
 
-/// The exit of the innermost open method, half of the times where there is one, or else an entry.
+/// Returns a random mark: in half of the cases the exit of the innermost open method, if there is one, else an entry.
 fn any_mark(words: &mut Lcg64Xsh32, innermost: Option<Method>) -> Action {
     let leaves = below(words, 2) == 0;
     match innermost {
@@ -107,13 +107,13 @@ fn any_action(words: &mut Lcg64Xsh32, innermost: Option<Method>) -> Action {
     }
 }
 
-/// The innermost method that a thread has open behind steps.
+/// Returns the innermost method that a thread has open after the steps.
 fn innermost(alloc: Global, steps: &[Step], thread: u32) -> Result<Option<Method>, AllocError> {
     let open = open_behind(alloc, steps, steps.len(), thread)?;
     Ok(open.last().map(|open| open.method))
 }
 
-/// Puts a step behind those before.
+/// Appends a random step.
 fn put_step(
     alloc: Global,
     words: &mut Lcg64Xsh32,
@@ -126,7 +126,7 @@ fn put_step(
     Ok(())
 }
 
-/// The trace that the next words make.
+/// Returns the trace that the next random words yield.
 pub fn any_trace(alloc: Global, words: &mut Lcg64Xsh32) -> Result<RandomTrace, AllocError> {
     let atomic = any_atomic(words);
     let count = below(words, MOST_STEPS + 1);

@@ -1,10 +1,10 @@
-//! Whether what is shown of an atomic trace is right: an order of its transactions, and one of its events.
+//! Verifies what a checker shows of an atomic trace: an order of its transactions, and one of its events.
 
 use crate::events::{Event, conflict, event_of};
 use crate::steps::{Action, Variable};
 use std::alloc::{AllocError, Global};
 
-/// Whether these are the numbers from 1 to the last, each once.
+/// Decides whether a list has the numbers from 1 to `last`, each once.
 fn are_numbers_to(last: u64, numbers: &[u64]) -> bool {
     for number in 1..=last {
         if !numbers.contains(&number) {
@@ -14,7 +14,7 @@ fn are_numbers_to(last: u64, numbers: &[u64]) -> bool {
     numbers.len() as u64 == last
 }
 
-/// Where a transaction stands in an order.
+/// Returns the place of a transaction in an order.
 fn place_of(order: &[u64], transaction: u64) -> usize {
     order
         .iter()
@@ -22,14 +22,14 @@ fn place_of(order: &[u64], transaction: u64) -> usize {
         .unwrap_or(usize::MAX)
 }
 
-/// Whether an order of transactions may have these two events in their order.
+/// Decides whether an order of transactions is consistent with two events in their order.
 fn leads_on(order: &[u64], from: Event, to: Event) -> bool {
     from.transaction == to.transaction
         || !conflict(from, to)
         || place_of(order, from.transaction) < place_of(order, to.transaction)
 }
 
-/// Whether these are all transactions, each once, with no edge from a later to an earlier one.
+/// Decides whether a list has all transactions, each once, with no edge from a later to an earlier one.
 pub fn is_order(events: &[Event], transactions: u64, order: &[u64]) -> bool {
     if !are_numbers_to(transactions, order) {
         return false;
@@ -44,7 +44,7 @@ pub fn is_order(events: &[Event], transactions: u64, order: &[u64]) -> bool {
     true
 }
 
-/// The events in the order of these numbers.
+/// Returns the events in the order of these numbers.
 fn in_order(alloc: Global, events: &[Event], numbers: &[u64]) -> Result<Vec<Event>, AllocError> {
     let mut serial = Vec::new(alloc);
     for number in numbers {
@@ -55,13 +55,13 @@ fn in_order(alloc: Global, events: &[Event], numbers: &[u64]) -> Result<Vec<Even
     Ok(serial)
 }
 
-/// Whether an event stands behind all that are before it in the trace and conflict with it, among the first so many.
+/// Decides whether no event before this place has a greater number than this event and conflicts with it.
 fn keeps_conflicts(serial: &[Event], place: usize, event: Event) -> bool {
     serial.iter().take(place).all(|before| before.number < event.number
         || !conflict(*before, event))
 }
 
-/// Whether an event stands right behind one of its transaction, or is the first of it.
+/// Decides whether an event directly follows one of its transaction, or is the first of it.
 fn goes_on(serial: &[Event], place: usize, event: Event) -> bool {
     let transaction = event.transaction;
     let before = serial.iter().take(place).last();
@@ -73,7 +73,7 @@ fn goes_on(serial: &[Event], place: usize, event: Event) -> bool {
             .all(|before| before.transaction != transaction)
 }
 
-/// The number of the last write of a variable among the first so many events.
+/// Returns the number of the last write of a variable among the first `count` events.
 fn last_write(events: &[Event], count: usize, variable: Variable) -> Option<u64> {
     let mut last = None;
     for event in events.iter().take(count) {
@@ -84,7 +84,7 @@ fn last_write(events: &[Event], count: usize, variable: Variable) -> Option<u64>
     last
 }
 
-/// Whether a read has the same last write before it as in the trace, or none in both.
+/// Decides whether a read has the same last write before it as in the trace, or none in both.
 fn reads_the_same(events: &[Event], serial: &[Event], place: usize, event: Event) -> bool {
     match event.step.action {
         Action::Read(variable) => {
@@ -97,8 +97,9 @@ fn reads_the_same(events: &[Event], serial: &[Event], place: usize, event: Event
     }
 }
 
-/// Whether these are the numbers of all events, each once, in an order that keeps that of each conflicting pair, in
-/// which each transaction is in one piece and each read has its write.
+/// Decides whether the numbers are a serial order. They must name each event once and keep the order of each
+/// conflicting pair. Each transaction must be in one piece, and each read must have the same last write as in the
+/// trace.
 pub fn is_serial(alloc: Global, events: &[Event], numbers: &[u64]) -> Result<bool, AllocError> {
     if !are_numbers_to(events.len() as u64, numbers) {
         return Ok(false);

@@ -1,4 +1,4 @@
-//! What threads do in a trace, and its text.
+//! The steps of threads in a trace, and their text.
 
 use std::alloc::{AllocError, Global};
 
@@ -17,7 +17,7 @@ pub enum Method {
     Second,
 }
 
-/// What a thread does: an event, or an entry or an exit, which are none.
+/// An action of a thread: an event, or an entry or an exit, which are no events.
 #[derive(Clone, Copy)]
 pub enum Action {
     Read(Variable),
@@ -64,7 +64,7 @@ impl Method {
 }
 
 impl Action {
-    /// The first word of its line.
+    /// Returns the first word of the action's line.
     fn word(self) -> &'static str {
         match self {
             Action::Read(_) => "rd",
@@ -93,7 +93,7 @@ impl Action {
         }
     }
 
-    /// The variable that it reads or writes.
+    /// Returns the variable that the action reads or writes.
     pub fn variable(self) -> Option<Variable> {
         match self {
             Action::Read(variable) | Action::Write(variable) => Some(variable),
@@ -101,7 +101,7 @@ impl Action {
         }
     }
 
-    /// The object whose monitor it enters or leaves.
+    /// Returns the object whose monitor the action enters or leaves.
     pub fn monitor(self) -> Option<u32> {
         match self {
             Action::Acquire(reference) | Action::Release(reference) => Some(reference),
@@ -109,7 +109,7 @@ impl Action {
         }
     }
 
-    /// Whether it starts a thread, or waited for it.
+    /// Decides whether the action starts a thread, or waited for it.
     pub fn touches(self, thread: u32) -> bool {
         match self {
             Action::Fork(other) | Action::Join(other) => other == thread,
@@ -118,7 +118,7 @@ impl Action {
     }
 }
 
-/// Puts the line of a step.
+/// Appends the line of a step.
 fn put_line(text: &mut String, step: Step) -> Result<(), AllocError> {
     let word = step.action.word();
     let thread = step.thread;
@@ -136,7 +136,7 @@ fn put_line(text: &mut String, step: Step) -> Result<(), AllocError> {
     }
 }
 
-/// The text of a trace of these steps.
+/// Returns the text of a trace of these steps.
 pub fn text_of(alloc: Global, steps: &[Step]) -> Result<String, AllocError> {
     let mut text = String::new(alloc);
     for step in steps {
@@ -145,7 +145,7 @@ pub fn text_of(alloc: Global, steps: &[Step]) -> Result<String, AllocError> {
     Ok(text)
 }
 
-/// The methods that a thread has open behind so many steps, the outermost first.
+/// Returns the methods that a thread has open after the first `count` steps, the outermost first.
 pub fn open_behind(
     alloc: Global,
     steps: &[Step],

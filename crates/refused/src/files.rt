@@ -1,7 +1,7 @@
-//! Words, files and texts, read once more if that is refused.
+//! Reads words, files and texts, and reads them again if that is refused.
 
 use crate::again;
-use held::items::Items;
+use shared_data::items::Items;
 use std::alloc::{AllocError, Global};
 use std::{env, fs, io};
 

@@ -1,4 +1,4 @@
-//! Classes and programs of class files.
+//! Reads classes and programs from class files.
 
 use crate::again;
 use crate::files::bytes_of;
@@ -22,7 +22,7 @@ fn classes_of(rt: &HostRuntime, names: &[String]) -> Option<Vec<linker::ClassFil
     Some(classes)
 }
 
-/// Links the program of class files. Reads them once more if that is refused.
+/// Links the program of class files. Reads and links them again if that is refused.
 pub fn linked(rt: &HostRuntime, names: &[String]) -> Option<Program> {
     again!(rt, "link", link(rt.alloc(), classes_of(rt, names)?))
 }

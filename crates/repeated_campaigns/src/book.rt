@@ -1,4 +1,4 @@
-//! The book of a campaign that halted.
+//! Verifies the book of a campaign that halted.
 
 ghost use Rattle.std.specs.Prelude.{IsTrue};
 ghost use Rattle.campaign_jobs.specs.Plans.{fits};
@@ -7,7 +7,7 @@ use campaign::{Book, Plan, Row, Totals, run_job};
 use program::Program;
 use refused::again;
 
-/// Counts the rows of a book.
+/// Returns the totals of rows.
 fn totals_of(rows: &[Row]) -> Totals {
     let mut totals = Totals {
         rows: 0,
@@ -45,7 +45,7 @@ fn are_reports(rt: &HostRuntime, program: &Program, plan: &Plan, rows: &[Row]) -
     Some(true)
 }
 
-/// Prints to standard error how many jobs a book has, and to standard output if it isn't right.
+/// Prints to standard error how many jobs a book has. Prints to standard output if the book isn't right.
 pub(crate) fn judge(
     rt: &HostRuntime,
     program: &Program,

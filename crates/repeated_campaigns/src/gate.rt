@@ -3,10 +3,10 @@
 use campaign::Gate;
 use std::sync::atomic::{AtomicU64, Ordering};
 
-/// The most rounds for which a gate waits.
+/// The maximum number of rounds for which a gate waits.
 const MOST_ROUNDS: u64 = 10_000_000;
 
-/// Holds job 0 until job 1 is done, for a number of rounds at most.
+/// A gate that holds job 0 until job 1 is done, for a limited number of rounds.
 #[derive(Drop)]
 pub(crate) struct HoldsFirst {
     done: AtomicU64,
@@ -14,7 +14,7 @@ pub(crate) struct HoldsFirst {
 }
 
 impl HoldsFirst {
-    /// Returns the gate of a campaign. One worker has nobody to wait for.
+    /// Returns the gate of a campaign. A single worker has no other to wait for.
     pub(crate) fn of(workers: u64) -> HoldsFirst {
         HoldsFirst {
             done: AtomicU64::new(0),

@@ -1,8 +1,8 @@
-//! Runs a campaign, and once more if it halts. Prints its table. The words are the number of jobs, the number of workers, a
-//! specification, the class of `main`, and class files.
+//! Runs a campaign, and runs it again if it halts. Prints its table. The arguments are the number of jobs, the number
+//! of workers, a specification, the class of `main`, and class files.
 //!
-//! Where there is more than one worker, a gate holds job 0 until job 1 is done. If the campaign halts, the rows of its book
-//! are compared with the reports of their jobs.
+//! With more than one worker, a gate holds job 0 until job 1 is done. If the campaign halts, the rows of its book are
+//! compared with the reports of their jobs.
 #![tactic(auto)]
 
 mod book;
@@ -15,7 +15,7 @@ use std::process::ExitCode;
 use std::sync::Wait;
 use std::thread::Threads;
 
-/// Runs the campaign that the words name, and prints its table.
+/// Runs the campaign that the arguments name, and prints its table.
 fn perform<R: Threads + Wait + Sync>(host: &HostRuntime, rt: &R) -> Option<()> {
     let words = words_of(host)?;
     let workers = words.get(1)?.parse().ok()?;

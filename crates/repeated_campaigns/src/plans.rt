@@ -6,7 +6,7 @@ use machine::{Entry, Limits};
 use refused::{again, units_of};
 use turn_limit::TurnLimit;
 
-/// What each job may use.
+/// The limits of each job.
 const LIMITS: Limits = Limits {
     objects: 1_000,
     elements: 1_000,
@@ -14,10 +14,10 @@ const LIMITS: Limits = Limits {
     frames: 64,
 };
 
-/// The most turns of a job.
+/// The maximum number of turns of a job.
 const MOST_TURNS: u64 = 400;
 
-/// Returns the plan of a number of jobs, each from the `main` of a class on, under a specification.
+/// Returns the plan of a number of jobs under a specification. Each job starts at the `main` of a class.
 pub(crate) fn plan_of(rt: &HostRuntime, jobs: u64, spec: &str, class: &str) -> Option<Plan> {
     let spec = again!(rt, "Spec::read", Spec::read(rt.alloc(), spec))?;
     let class = units_of(rt, class)?;

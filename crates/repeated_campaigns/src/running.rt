@@ -1,4 +1,4 @@
-//! The campaign of a plan.
+//! Runs the campaign of a plan.
 
 ghost use Rattle.std.specs.Prelude.{IsTrue};
 ghost use Rattle.campaign_jobs.specs.Plans.{fits};
@@ -28,7 +28,7 @@ fn run<'a, R: Threads + Wait + Sync>(
     run_campaign(rt, alloc, program, plan, workers, &gate)
 }
 
-/// Prints why a campaign halted. Returns nothing if it isn't for want of memory.
+/// Prints why a campaign halted. Returns `None` if it wasn't for lack of memory.
 fn print_halt(
     host: &HostRuntime,
     program: &Program,
@@ -45,7 +45,7 @@ fn print_halt(
     }
 }
 
-/// Runs a campaign, and once more if it halts. Returns its table, if there is one.
+/// Runs a campaign, and runs it again if it halts. Returns its table, if there is one.
 fn run_again<R: Threads + Wait + Sync>(
     host: &HostRuntime,
     rt: &R,
@@ -80,7 +80,7 @@ fn print<R: Threads + Wait + Sync>(
     print!(host; "{text}").ok()
 }
 
-/// Runs the campaign of a program that the words name, and prints its table.
+/// Runs the campaign of a program that the arguments name, and prints its table.
 pub(crate) fn perform<R: Threads + Wait + Sync>(
     host: &HostRuntime,
     rt: &R,

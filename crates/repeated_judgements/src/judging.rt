@@ -1,4 +1,4 @@
-//! A run is judged.
+//! Judges a run.
 
 use atom_spec::Spec;
 use inputs::Input;
@@ -9,7 +9,7 @@ use schedule::Chooser;
 use std::alloc::Global;
 use turn_limit::TurnLimit;
 
-/// What the run may use.
+/// The limits of the run.
 const LIMITS: Limits = Limits {
     objects: 1_000,
     elements: 1_000,
@@ -17,7 +17,7 @@ const LIMITS: Limits = Limits {
     frames: 64,
 };
 
-/// The most turns of the run.
+/// The maximum number of turns of the run.
 const MOST_TURNS: u64 = 400;
 
 /// The state and the stream of the schedule's random words.
@@ -56,7 +56,7 @@ pub(crate) fn judged(
     let inputs = inputs_of(rt, names)?;
     let most = TurnLimit::new(MOST_TURNS)?;
     let (state, stream) = SEED;
-    // A call that is refused leaves the chooser as it was, so both calls choose the same threads.
+    // A refused call leaves the chooser unchanged, so both calls choose the same threads.
     let mut chooser = Chooser::seeded(state, stream);
     again!(
         rt,

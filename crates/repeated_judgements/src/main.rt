@@ -1,5 +1,6 @@
-//! Judges a run under a seeded schedule, and makes each call that is refused once more: above all `judge`. Prints what the
-//! threads did, how the run ended and the verdict. The words are a specification, the class of `main`, and class files.
+//! Judges a run under a seeded schedule, and repeats each call that is refused, above all `judge`. Prints what the
+//! threads did, how the run ended and the verdict. The arguments are a specification, the class of `main`, and class
+//! files.
 #![tactic(auto)]
 
 mod judging;
@@ -10,7 +11,7 @@ use machine::Entry;
 use refused::{again, units_of, words_of};
 use std::process::ExitCode;
 
-/// Judges the run that the words name, and prints what is said of it.
+/// Judges the run that the arguments name, and prints the judgement.
 fn perform(rt: &HostRuntime) -> Option<()> {
     let words = words_of(rt)?;
     let spec = words.first()?.as_str();

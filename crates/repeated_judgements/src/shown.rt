@@ -1,4 +1,4 @@
-//! What is printed of a judged run.
+//! Prints a judged run.
 
 use judge::Judged;
 use refused::again;

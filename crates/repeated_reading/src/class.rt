@@ -1,4 +1,4 @@
-//! The class that a FILE is.
+//! Makes the class of a FILE.
 
 use assembler::assemble;
 use class_file::ClassFile;

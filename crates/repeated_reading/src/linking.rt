@@ -1,4 +1,4 @@
-//! The program of FILEs.
+//! Links the program of FILEs.
 
 use crate::class::class_in;
 use escapes::put_name;
@@ -17,7 +17,7 @@ fn classes_of(rt: &HostRuntime, names: &[String]) -> Option<Vec<ClassFile>> {
     Some(classes)
 }
 
-/// Links the program of FILEs. Reads them once more if that is refused.
+/// Links the program of FILEs. Reads and links them again if that is refused.
 fn linked(rt: &HostRuntime, names: &[String]) -> Option<Program> {
     again!(rt, "link", link(rt.alloc(), classes_of(rt, names)?))
 }

@@ -1,4 +1,4 @@
-//! Listings of classes, and their bytes.
+//! Prints listings of classes, and their bytes.
 
 use crate::class::class_in;
 use class_file::{ClassFile, write};

@@ -1,7 +1,7 @@
-//! Reads classes, lists, writes and links them, and makes each call that is refused once more. The words are FILEs: a source
-//! where the name ends in `.j`, else a class file.
+//! Reads classes, lists, writes and links them, and repeats each call that is refused. The arguments are FILEs: a
+//! source if the name ends in `.j`, else a class file.
 //!
-//! | Calls | What is printed |
+//! | Calls | Output |
 //! |---|---|
 //! | `class_file::read`, or `jasmin_reader::read` and `assemble`, then `list` and `write`, for each FILE | its listing and its bytes |
 //! | `link`, for all FILEs | the name of each class of the program that isn't built in |

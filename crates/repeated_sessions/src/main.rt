@@ -1,7 +1,6 @@
-//! Carries out the debugger's commands of standard input, prints their answers, and makes each call that is refused once
-//! more: `Session::new`, and `Session::command` for each line. A command that is refused for another reason than want of
-//! memory isn't made again. The session has the 25 choices of thread 0 that the run of gcd(48, 36) has. The words are class
-//! files.
+//! Executes the debugger's commands of standard input, and prints their answers. Repeats each call that is refused:
+//! `Session::new`, and `Session::command` for each line. A command is repeated only if memory ran out. The session has
+//! the 25 choices of thread 0 in the run of gcd(48, 36). The arguments are class files.
 #![tactic(auto)]
 
 mod answers;
@@ -11,7 +10,7 @@ mod session;
 use refused::{linked, words_of};
 use std::process::ExitCode;
 
-/// Carries out the script of standard input in a session of the program that the words name.
+/// Executes the script of standard input in a session of the program that the arguments name.
 fn perform(rt: &HostRuntime) -> Option<()> {
     let script = script::read(rt)?;
     let words = words_of(rt)?;

@@ -1,12 +1,12 @@
-//! The script of standard input.
+//! Reads the script of standard input.
 
 use refused::again;
 use std::io::Read;
 
-/// The most bytes of a script.
+/// The maximum number of bytes of a script.
 const MOST_BYTES: usize = 4_096;
 
-/// Reads standard input into bytes, and returns how many it has. Takes no memory.
+/// Reads standard input into bytes, and returns their number. Takes no memory.
 fn read_into(rt: &HostRuntime, bytes: &mut [u8]) -> Option<usize> {
     let mut count = 0usize;
     for _ in 0..MOST_BYTES {

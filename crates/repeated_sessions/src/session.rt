@@ -2,13 +2,13 @@
 
 use crate::answers::answer_all;
 use debugger::Session;
-use held::items::Items;
+use shared_data::items::Items;
 use machine::{Argument, Entry, Limits, MachineFault};
 use program::Program;
 use refused::{again, units_of};
 use std::alloc::Global;
 
-/// What the session may use.
+/// The limits of the session.
 const LIMITS: Limits = Limits {
     objects: 1_000,
     elements: 1_000,
@@ -41,7 +41,7 @@ fn begun<'p>(
     Session::new(alloc, program, LIMITS, entry, choices)
 }
 
-/// Begins a session, and carries out a script.
+/// Begins a session, and executes a script.
 pub(crate) fn debug(rt: &HostRuntime, program: &Program, script: &[u8]) -> Option<()> {
     let entry = entry_of(rt)?;
     let made = again!(rt, "Session::new", begun(rt.alloc(), program, &entry));

@@ -1,4 +1,4 @@
-//! A checker is fed the items of a trace.
+//! Feeds the items of a trace to a checker.
 
 use atom_graph::Checker;
 use atom_spec::Spec;

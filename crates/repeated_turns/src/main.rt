@@ -1,12 +1,13 @@
-//! Runs a program turn by turn, judges its trace, and makes each call that is refused once more. The words are a
+//! Runs a program turn by turn, judges its trace, and repeats each call that is refused. The arguments are a
 //! specification, the class of `main`, and class files.
 //!
-//! | Calls | What is printed |
+//! | Calls | Output |
 //! |---|---|
 //! | `Machine::new`, `step` for each thread in turn, and `copy` after some rounds | the outcome of each turn, then the trace, the threads and the output |
-//! | `Checker::new`, `feed` for each item of the trace, `verdict` and `serial` | how many transactions there are after each item, then the verdict and a serial order |
+//! | `Checker::new`, `feed` for each item of the trace, `verdict` and `serial` | the number of transactions after each item, then the verdict and a serial order |
 //!
-//! `data/Nested.class` is assembled from `data/Nested.j`, and `data/LostUpdate.class` from `examples/threads/LostUpdate.j`.
+//! `data/Nested.class` is assembled from `data/Nested.j`, and `data/LostUpdate.class` from
+//! `examples/threads/LostUpdate.j`.
 #![tactic(auto)]
 
 mod feeding;
@@ -26,13 +27,13 @@ fn trace_of(rt: &HostRuntime, class: &str, files: &[String]) -> Option<Trace> {
     trace
 }
 
-/// Judges a trace by the text of a specification, and prints what is said of it.
+/// Judges a trace by the text of a specification, and prints the verdict.
 fn judge(rt: &HostRuntime, spec: &str, trace: &Trace) -> Option<()> {
     let spec = again!(rt, "Spec::read", Spec::read(rt.alloc(), spec))?;
     feeding::judge(rt, &spec, trace)
 }
 
-/// Runs and judges what the words name.
+/// Runs and judges what the arguments name.
 fn perform(rt: &HostRuntime) -> Option<()> {
     let words = words_of(rt)?;
     let (spec, class) = (words.first()?, words.get(1)?);

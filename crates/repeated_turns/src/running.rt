@@ -1,13 +1,13 @@
-//! A machine takes turns, one by one.
+//! Takes the turns of a machine, one by one.
 
-use held::items::Items;
+use shared_data::items::Items;
 use machine::{Entry, Limits, Machine, ThreadId, is_enabled};
 use machine_text::{output_text, threads_text};
 use program::Program;
 use refused::again;
 use trace::Trace;
 
-/// What the run may use.
+/// The limits of the run.
 const LIMITS: Limits = Limits {
     objects: 1_000,
     elements: 1_000,
@@ -15,7 +15,7 @@ const LIMITS: Limits = Limits {
     frames: 64,
 };
 
-/// The most rounds of a run. In a round each thread takes a turn.
+/// The maximum number of rounds of a run. In a round each thread takes a turn.
 const MOST_ROUNDS: u64 = 400;
 
 /// Takes the turn of a thread, and prints its outcome. Returns whether the thread was enabled.

@@ -1,4 +1,4 @@
--- What an item does to the open methods of a thread.
+-- How an item changes the open methods of a thread.
 use Rattle.std.proofs.Common.{◌≡◌, ◌≢◌, ℕ, Bool, true, false, cond, ◌==◌, List, ◌∷◌, drop, refl, sym, ap, subst, ◌∙◌, true≢false}
 use Rattle.std.proofs.lemmas.Bool.{eq-eqb, eqb-true}
 use Rattle.jvms_program.specs.declared.key.MethodKey.{MethodKey}
@@ -6,25 +6,25 @@ use Rattle.jvms_machine.specs.declared.trace.Item.{Item}
 use Rattle.jvms_machine.specs.declared.trace.Item.TheVariants as item
 use Rattle.velodrome.specs.Conflicts.{thread_of}
 use Rattle.velodrome.specs.Specification.{Specification}
-use Rattle.velodrome.specs.Transactions.{Course, Walk, is_event, walked_on}
+use Rattle.velodrome.specs.Transactions.{ThreadState, TraceState, is_event, state_after_item}
 
--- ---- One thread's course
+-- ---- The state of one thread
 
 apart : (u t : ℕ) (b : Bool) → (t == u) ≡ b → u ≢ t → b ≡ false
 apart u t true is differs = absurd (differs (sym (eqb-true t u is)))
 apart u t false is differs = refl
 
-own_course : (u t : ℕ) (course : Course) (courses : ℕ → Course) → u ≡ t → cond (t == u) course (courses t) ≡ course
+own_course : (u t : ℕ) (course : ThreadState) (courses : ℕ → ThreadState) → u ≡ t → cond (t == u) course (courses t) ≡ course
 own_course u t course courses same = ap (λ b. cond b course (courses t)) (eq-eqb t u (sym same))
 
-other_course : (u t : ℕ) (course : Course) (courses : ℕ → Course) → u ≢ t → cond (t == u) course (courses t) ≡ courses t
+other_course : (u t : ℕ) (course : ThreadState) (courses : ℕ → ThreadState) → u ≢ t → cond (t == u) course (courses t) ≡ courses t
 other_course u t course courses differs = ap (λ b. cond b course (courses t)) (apart u t (t == u) refl differs)
 
 -- ---- Items
 
 -- An item of another thread changes nothing.
-pub left_alone : (lines : Specification) (w : Walk) (i : Item) (t : ℕ) → thread_of i ≢ t → ((walked_on lines w i).courses t).methods ≡ (w.courses t).methods
-unfolding walked_on
+pub left_alone : (lines : Specification) (w : TraceState) (i : Item) (t : ℕ) → thread_of i ≢ t → ((state_after_item lines w i).courses t).methods ≡ (w.courses t).methods
+unfolding state_after_item
 left_alone lines w (item.Enter u m) t differs = ap (λ c. c.methods) (other_course u t _ w.courses differs)
 left_alone lines w (item.Exit u m) t differs = ap (λ c. c.methods) (other_course u t _ w.courses differs)
 left_alone lines w (item.Read u v) t differs = ap (λ c. c.methods) (other_course u t _ w.courses differs)
@@ -34,31 +34,31 @@ left_alone lines w (item.Release u v) t differs = ap (λ c. c.methods) (other_co
 left_alone lines w (item.Fork u v) t differs = ap (λ c. c.methods) (other_course u t _ w.courses differs)
 left_alone lines w (item.Join u v) t differs = ap (λ c. c.methods) (other_course u t _ w.courses differs)
 
-enters : (lines : Specification) (w : Walk) (u t : ℕ) (m : MethodKey) → u ≡ t → ((walked_on lines w (item.Enter u m)).courses t).methods ≡ m ∷ (w.courses t).methods
-unfolding walked_on
+enters : (lines : Specification) (w : TraceState) (u t : ℕ) (m : MethodKey) → u ≡ t → ((state_after_item lines w (item.Enter u m)).courses t).methods ≡ m ∷ (w.courses t).methods
+unfolding state_after_item
 enters lines w u t m same =
     ap (λ c. c.methods) (own_course u t _ w.courses same) ∙ ap (λ v. m ∷ (w.courses v).methods) same
 
-exits : (lines : Specification) (w : Walk) (u t : ℕ) (m : MethodKey) → u ≡ t → ((walked_on lines w (item.Exit u m)).courses t).methods ≡ drop 1 (w.courses t).methods
-unfolding walked_on
+exits : (lines : Specification) (w : TraceState) (u t : ℕ) (m : MethodKey) → u ≡ t → ((state_after_item lines w (item.Exit u m)).courses t).methods ≡ drop 1 (w.courses t).methods
+unfolding state_after_item
 exits lines w u t m same =
     ap (λ c. c.methods) (own_course u t _ w.courses same) ∙ ap (λ v. drop 1 (w.courses v).methods) same
 
 -- The entry of a method, which is then the innermost.
-pub entered : (lines : Specification) (w : Walk) (i : Item) (u t : ℕ) (m : MethodKey) → i ≡ item.Enter u m → thread_of i ≡ t → ((walked_on lines w i).courses t).methods ≡ m ∷ (w.courses t).methods
+pub entered : (lines : Specification) (w : TraceState) (i : Item) (u t : ℕ) (m : MethodKey) → i ≡ item.Enter u m → thread_of i ≡ t → ((state_after_item lines w i).courses t).methods ≡ m ∷ (w.courses t).methods
 entered lines w i u t m is same =
-    let P : Item → Type 0 = λ j. thread_of j ≡ t → ((walked_on lines w j).courses t).methods ≡ m ∷ (w.courses t).methods in
+    let P : Item → Type 0 = λ j. thread_of j ≡ t → ((state_after_item lines w j).courses t).methods ≡ m ∷ (w.courses t).methods in
     subst P (sym is) (enters lines w u t m) same
 
 -- The exit of the innermost method.
-pub exited : (lines : Specification) (w : Walk) (i : Item) (u t : ℕ) (m : MethodKey) → i ≡ item.Exit u m → thread_of i ≡ t → ((walked_on lines w i).courses t).methods ≡ drop 1 (w.courses t).methods
+pub exited : (lines : Specification) (w : TraceState) (i : Item) (u t : ℕ) (m : MethodKey) → i ≡ item.Exit u m → thread_of i ≡ t → ((state_after_item lines w i).courses t).methods ≡ drop 1 (w.courses t).methods
 exited lines w i u t m is same =
-    let P : Item → Type 0 = λ j. thread_of j ≡ t → ((walked_on lines w j).courses t).methods ≡ drop 1 (w.courses t).methods in
+    let P : Item → Type 0 = λ j. thread_of j ≡ t → ((state_after_item lines w j).courses t).methods ≡ drop 1 (w.courses t).methods in
     subst P (sym is) (exits lines w u t m) same
 
--- An event leaves the methods open.
-pub happened : (lines : Specification) (w : Walk) (i : Item) (t : ℕ) → is_event i ≡ true → thread_of i ≡ t → ((walked_on lines w i).courses t).methods ≡ (w.courses t).methods
-unfolding walked_on
+-- An event leaves the open methods unchanged.
+pub happened : (lines : Specification) (w : TraceState) (i : Item) (t : ℕ) → is_event i ≡ true → thread_of i ≡ t → ((state_after_item lines w i).courses t).methods ≡ (w.courses t).methods
+unfolding state_after_item
 happened lines w (item.Enter u m) t event same = absurd (true≢false (sym event))
 happened lines w (item.Exit u m) t event same = absurd (true≢false (sym event))
 happened lines w (item.Read u v) t event same = ap (λ c. c.methods) (own_course u t _ w.courses same) ∙ ap (λ v. (w.courses v).methods) same

@@ -1,5 +1,5 @@
--- The lines that explain a cycle (own): for each transaction its thread, its method, and its first and last event; then for
--- each edge the two events that conflict.
+-- Defines the lines that explain a cycle (own). Each transaction has its thread, its method, and its first and last
+-- event. Then each edge has its two conflicting events.
 use Rattle.std.specs.Prelude.{ℕ, zero, suc, ◌+◌, ◌-◌, Bool, ◌==◌, cond, min, List, [], ◌∷◌, ◌++◌, codes, length, map, reverse, take, Option, Some, None, slice_get}
 use Rattle.std.specs.Fmt.{decimal}
 use Rattle.std.specs.List.{find, flat_map, range_with_len}
@@ -13,13 +13,13 @@ use Rattle.velodrome.specs.declared.verdict.Verdict.{Verdict}
 use Rattle.velodrome.specs.declared.verdict.Verdict.TheVariants as verdict
 use Rattle.velodrome.specs.Conflicts.{thread_of}
 use Rattle.velodrome.specs.Specification.{Specification, is_atomic}
-use Rattle.velodrome.specs.Transactions.{Walk, is_event, walk}
+use Rattle.velodrome.specs.Transactions.{TraceState, is_event, walk}
 
--- How many transactions of a cycle are explained at most.
+-- The maximum number of transactions and edges that are explained.
 abbrev pub most_explained : ℕ
 most_explained = 64
 
--- A run that is explained: the specification, the items, and the turn of each event, which may be unknown.
+-- A trace to be explained: the specification, the items, and the turn of each event if they are known.
 pub record Explained : Type 0 where
   pub lines : Specification
   pub items : List Item
@@ -27,24 +27,24 @@ pub record Explained : Type 0 where
 
 -- ---- Events
 
--- The places, from n on, of what passes a test.
+-- Returns the places, from n on, of the elements that pass a test.
 abbrev pub places_where : {X : Type 0} → (X → Bool) → ℕ → List X → List ℕ
 places_where test n [] = []
 places_where test n (x ∷ xs) = cond (test x) (n ∷ places_where test (n + 1) xs) (places_where test (n + 1) xs)
 
--- The places of the events among items, from 0.
+-- Returns the places of the events among items, from 0.
 abbrev pub event_places : List Item → List ℕ
 event_places items = places_where is_event 0 items
 
--- The numbers of a transaction's events, from 1, given the transaction of each event.
+-- Returns the numbers of a transaction's events, from 1. The list has the transaction of each event.
 abbrev pub events_of_transaction : ℕ → List ℕ → List ℕ
 events_of_transaction a transactions = places_where (λ b. b == a) 1 transactions
 
--- The place of the event of a number.
+-- Returns the place of event n.
 abbrev pub place_of_event : List Item → ℕ → Option ℕ
 place_of_event items n = slice_get (event_places items) (n - 1)
 
--- `event N`, and ` at turn K` where its turn is known.
+-- Returns ` at turn K` if the turn is known. An event's name is `event N` with this text.
 abbrev pub turn_text : Option ℕ → List ℕ
 turn_text None = []
 turn_text (Some turn) = codes " at turn " ++ decimal turn
@@ -54,11 +54,11 @@ event_name turns n = codes "event " ++ decimal n ++ turn_text (slice_get turns (
 
 -- ---- Transactions
 
--- The methods that a thread has open after these items, the innermost first.
+-- Returns the methods that a thread has open after these items, the innermost first.
 abbrev pub open_methods : Specification → List Item → ℕ → List MethodKey
 open_methods lines items t = ((walk lines items).courses t).methods
 
--- The method that a transaction is named by: the outermost atomic one of these, or the innermost where none is atomic.
+-- Returns the method that names a transaction: the outermost atomic one of these, or the innermost if none is atomic.
 abbrev pub naming_method : Specification → List MethodKey → Option MethodKey
 naming_method lines methods = option_or (find (is_atomic lines) (reverse methods)) (slice_get methods 0)
 
@@ -66,7 +66,7 @@ abbrev pub in_method_text : Option MethodKey → List ℕ
 in_method_text None = []
 in_method_text (Some m) = codes " in " ++ method_text m
 
--- The thread of the item at a place, and the method that it is in.
+-- Returns the text of the thread of the item at a place, and of the method that it is in.
 abbrev pub actor_text : Explained → ℕ → Option Item → List ℕ
 actor_text x place None = []
 actor_text x place (Some i) =
@@ -77,12 +77,12 @@ abbrev pub actor_at : Explained → Option ℕ → List ℕ
 actor_at x None = []
 actor_at x (Some place) = actor_text x place (slice_get x.items place)
 
--- ` to event N`, unless that is the event of this number.
+-- Returns ` to event N`, unless that is the first event.
 abbrev pub last_text : List ℕ → ℕ → Option ℕ → List ℕ
 last_text turns first None = []
 last_text turns first (Some last) = cond (last == first) [] (codes " to " ++ event_name turns last)
 
--- The first of a transaction's events, with who did it, and the last.
+-- Returns the text of the first of a transaction's events, with its thread and method, and of the last.
 abbrev pub span_text : Explained → List ℕ → Option ℕ → List ℕ
 span_text x numbers None = []
 span_text x numbers (Some first) =
@@ -92,7 +92,7 @@ span_text x numbers (Some first) =
 abbrev pub span_of : Explained → List ℕ → List ℕ
 span_of x numbers = span_text x numbers (slice_get numbers 0)
 
--- The transaction of each event.
+-- Returns the transaction of each event.
 abbrev pub transactions_of : Explained → List ℕ
 transactions_of x = map (λ e. e.transaction) (walk x.lines x.items).events
 
@@ -102,7 +102,7 @@ transaction_line x a =
 
 -- ---- Edges
 
--- An event on a line of its own, with its line of the trace.
+-- Returns the item at a place. An event's line has its name and its line of the trace.
 abbrev pub item_at : List Item → Option ℕ → Option Item
 item_at items None = None
 item_at items (Some place) = slice_get items place
@@ -114,12 +114,12 @@ item_part (Some i) = codes ": " ++ item_line i
 abbrev pub event_line : Explained → ℕ → List ℕ
 event_line x n = codes "  " ++ event_name x.turns n ++ item_part (item_at x.items (place_of_event x.items n))
 
--- An edge from one transaction to another, with its two events.
+-- Returns the lines of an edge: its two transactions and its two events.
 abbrev pub edge_lines : Explained → ℕ → ℕ → ConflictingPair → List ℕ
 edge_lines x a b p =
     decimal a ++ codes " before " ++ decimal b ++ codes "\n" ++ event_line x p.earlier ++ event_line x p.later
 
--- The edge from the transaction at a place of a cycle to the next, or from the last to the first.
+-- Returns the lines of the edge from the transaction at a place of a cycle to the next, or from the last to the first.
 abbrev pub edge_between : Explained → Option ℕ → Option ℕ → Option ConflictingPair → List ℕ
 edge_between x (Some a) (Some b) (Some p) = edge_lines x a b p
 edge_between x a b p = []
@@ -133,7 +133,7 @@ edge_at x transactions pairs k =
 
 -- ---- Cycles
 
--- How many transactions aren't explained.
+-- Returns the line with the number of transactions that aren't explained.
 abbrev pub rest_line : ℕ → List ℕ
 rest_line zero = []
 rest_line (suc n) = codes "and " ++ decimal (suc n) ++ codes " more transactions\n"
@@ -149,7 +149,7 @@ abbrev pub cycle_lines : Explained → List ℕ → List ConflictingPair → Lis
 cycle_lines x transactions pairs =
     transaction_lines x transactions ++ all_edge_lines x transactions pairs ++ rest_line (length transactions - most_explained)
 
--- Nothing is explained of a trace that has no cycle.
+-- Returns the explanation of a verdict. It is empty if the trace has no cycle.
 abbrev pub explanation : Explained → Verdict → List ℕ
 explanation x (verdict.Atomic order) = []
 explanation x (verdict.Cycle first_at transactions pairs) = cycle_lines x transactions pairs

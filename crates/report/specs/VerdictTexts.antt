@@ -1,5 +1,5 @@
--- The line of a verdict (own): `atomic events N transactions M`, or `cycle at E events N transactions M: A B ..`, with the
--- counts of the whole trace, and the numbers in decimal.
+-- Defines the line of a verdict (own): `atomic events N transactions M`, or `cycle at E events N transactions M: A
+-- B ..`. The counts are of the whole trace, and numbers are in decimal.
 use Rattle.std.specs.Prelude.{ℕ, List, ◌++◌, codes}
 use Rattle.std.specs.List.{flat_map}
 use Rattle.std.specs.Fmt.{decimal}
@@ -10,11 +10,11 @@ use Rattle.atom_graph.specs.declared.counts.Counts.{Counts}
 abbrev pub counts_text : Counts → List ℕ
 counts_text counts = codes "events " ++ decimal counts.events ++ codes " transactions " ++ decimal counts.transactions
 
--- A space, and a number.
+-- Returns a space and a number.
 abbrev pub number_text : ℕ → List ℕ
 number_text n = codes " " ++ decimal n
 
--- The transactions of a cycle stand in its order.
+-- Returns the line of a cycle, with its transactions in the cycle's order.
 abbrev pub cycle_text : ℕ → List ℕ → Counts → List ℕ
 cycle_text first_at transactions counts =
     codes "cycle at " ++ decimal first_at ++ codes " " ++ counts_text counts ++ codes ":" ++ flat_map number_text transactions ++ codes "\n"

@@ -1,23 +1,23 @@
-//! Which methods a thread is in.
+//! The methods that a thread has open.
 
 ghost use Rattle.std.specs.Prelude.{◌≡◌, List, IfOk, OnOk, length, map, option_copied, reverse, slice_get, take};
 ghost use Rattle.std.specs.List.{find};
 ghost use Rattle.std.specs.Option.{option_map};
 ghost use Rattle.velodrome.specs.Specification.{Specification, is_atomic};
-ghost use Rattle.velodrome.specs.Transactions.{Walk, walked_on};
+ghost use Rattle.velodrome.specs.Transactions.{TraceState, state_after_item};
 ghost use Rattle.report.specs.CycleTexts.{naming_method, open_methods};
 ghost use Rattle.report.specs.Marks.{methods_after};
 
 use crate::events::first;
 use accesses::thread_of;
 use atom_graph::Checker;
-use held::shared::Shared;
+use shared_data::shared::Shared;
 use jvms_machine::machine::ThreadId;
 use jvms_machine::trace::Item;
 use jvms_program::key::MethodKey;
 use std::alloc::{AllocError, Global};
 
-/// What an item says of the methods that a thread has open.
+/// The change that an item makes to the open methods of a thread.
 #[derive(Clone, Copy, Debug)]
 enum Mark<'a> {
     Enters(&'a MethodKey),
@@ -25,10 +25,10 @@ enum Mark<'a> {
     Nothing,
 }
 
-/// Returns what an item says of the methods that a thread has open.
+/// Returns the change that an item makes to the open methods of a thread.
 fn mark_of(item: &Item, thread: ThreadId) -> Mark<'_>
-    ensures { (lines : Specification) (w : Walk) →
-        ((walked_on lines w item.now).courses thread).methods ≡ methods_after result (w.courses thread).methods }
+    ensures { (lines : Specification) (w : TraceState) →
+        ((state_after_item lines w item.now).courses thread).methods ≡ methods_after result (w.courses thread).methods }
 {
     if thread_of(item) != thread {
         return Mark::Nothing;
@@ -45,7 +45,7 @@ fn mark_of(item: &Item, thread: ThreadId) -> Mark<'_>
     }
 }
 
-/// Changes open methods, the innermost last, by what an item says.
+/// Applies a change to open methods, the innermost last.
 fn apply<'a>(methods: &mut Vec<&'a MethodKey>, mark: Mark<'a>) -> Result<(), AllocError>
     ensures { OnOk result (reverse (map (λ m. m.now) methods.new.items)
         ≡ methods_after mark.entry (reverse (map (λ m. m.now) methods.old.items))) }
@@ -96,7 +96,7 @@ fn innermost(methods: Vec<&MethodKey>) -> Option<&MethodKey>
     methods.pop()
 }
 
-/// Returns the method that names a transaction of a thread that begins after the first items of a checker: the outermost
+/// Returns the method that names a transaction of a thread that begins after the first `place` items: the outermost
 /// atomic method that the thread has open, or the innermost if none is atomic.
 pub(crate) fn naming_method<'a>(
     alloc: Global,

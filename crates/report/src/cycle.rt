@@ -1,4 +1,4 @@
-//! The lines that explain a cycle.
+//! Writes the lines that explain a cycle.
 
 ghost use Rattle.std.specs.Prelude.{◌≡◌, ◌++◌, ◌-◌, ◌<◌, IfOk, OnOk, Some, length, take};
 ghost use Rattle.std.specs.List.{flat_map};
@@ -12,10 +12,10 @@ use atom_graph::Checker;
 use std::alloc::{AllocError, Global};
 use velodrome::verdict::{ConflictingPair, Verdict};
 
-/// How many transactions of a cycle are explained at most.
+/// The maximum number of transactions and edges that are explained.
 const MOST_EXPLAINED: usize = 64;
 
-/// Appends the last of a transaction's events, unless it is the first too.
+/// Appends the last of a transaction's events, unless it is also the first.
 fn put_last(out: &mut String, told: &Told<'_>, first: u64, last: u64) -> Result<(), AllocError>
     ensures { OnOk result (string_bytes out.new ≡ string_bytes out.old ++ last_text told.now.turns first (Some last)) }
 {
@@ -26,7 +26,7 @@ fn put_last(out: &mut String, told: &Told<'_>, first: u64, last: u64) -> Result<
     told.put_event_name(out, last)
 }
 
-/// Appends who did these events of a transaction, the first of them and the last.
+/// Appends the thread and method of a transaction, with the first and the last of its events.
 fn put_span(
     alloc: Global,
     out: &mut String,
@@ -91,7 +91,7 @@ fn put_edge(
     told.put_event_line(out, pair.later)
 }
 
-/// Returns the transaction of a cycle after the one at a place: the first after the last.
+/// Returns the transaction after the one at a place of a cycle. The first follows the last.
 fn next_in(transactions: &[u64], place: usize) -> Option<u64>
     requires { place < length transactions.now }
     ensures { result ≡ next_in transactions.now place }
@@ -122,7 +122,7 @@ fn put_edge_at(
     }
 }
 
-/// Appends the lines of the first edges of a cycle.
+/// Appends the lines of the edges of a cycle, up to the maximum.
 fn put_edges(
     out: &mut String,
     told: &Told<'_>,
@@ -137,7 +137,7 @@ fn put_edges(
     Ok(())
 }
 
-/// Appends how many transactions aren't explained, if any.
+/// Appends the number of transactions that aren't explained, if there are any.
 fn put_rest(out: &mut String, count: usize) -> Result<(), AllocError>
     ensures { OnOk result (string_bytes out.new ≡ string_bytes out.old ++ rest_line (count - most_explained)) }
 {
@@ -164,11 +164,12 @@ fn put_cycle(
     put_rest(out, transactions.len())
 }
 
-/// Explains the cycle of a verdict on the items that a checker was fed. The lines are: for each transaction of the cycle its
-/// thread, the method that names it, and its first and last event; then for each edge its two conflicting events, with
-/// their lines of the trace. At most 64 transactions and edges are explained. The text is empty if there is no cycle.
+/// Explains the cycle of a verdict on the items that a checker was fed. For each transaction of the cycle a line has
+/// its thread, the method that names it, and its first and last event. For each edge the lines have its two conflicting
+/// events, with their lines of the trace. At most 64 transactions and edges are explained. The text is empty if there
+/// is no cycle.
 ///
-/// `turns` has the turn of each event, from 1; it is empty if they are unknown.
+/// `turns` has the turn of each event, from 1. It is empty if they are unknown.
 pub fn explain(
     alloc: Global,
     checker: &Checker,

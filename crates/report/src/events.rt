@@ -1,21 +1,21 @@
-//! The events of a trace, by their numbers from 1.
+//! Finds the events of a trace, by their numbers from 1.
 
 ghost use Rattle.std.specs.Prelude.{◌≡◌, IfOk, take};
 ghost use Rattle.velodrome.specs.Transactions.{is_event as is_event_item};
 ghost use Rattle.report.specs.CycleTexts.{event_places, events_of_transaction};
 
-use held::shared::Shared;
+use shared_data::shared::Shared;
 use jvms_machine::trace::Item;
 use std::alloc::{AllocError, Global};
 
-/// Returns whether an item is an event, and no mark.
+/// Decides whether an item is an event, and not a mark.
 pub fn is_event(item: &Item) -> bool
     ensures { result ≡ is_event_item item.now }
 {
     !matches!(item, Item::Enter { .. } | Item::Exit { .. })
 }
 
-/// Returns the first items of a list, this number of them, or all if there are no more.
+/// Returns the first `count` items of a list, or all if there are no more.
 pub(crate) fn first<T>(items: &[T], count: usize) -> &[T]
     ensures { result.now ≡ take count items.now }
 {
@@ -38,7 +38,7 @@ pub(crate) fn event_places(alloc: Global, items: &[Shared<Item>]) -> Result<Vec<
     Ok(places)
 }
 
-/// Returns the numbers of a transaction's events, from the transaction of each event.
+/// Returns the numbers of a transaction's events. `transactions` has the transaction of each event.
 pub(crate) fn events_of_transaction(
     alloc: Global,
     transaction: u64,

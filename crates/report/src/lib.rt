@@ -1,4 +1,4 @@
-//! Texts for readers: of what was found of a trace, and of the debugger's answers to a script.
+//! Texts for readers: verdicts on traces, and the debugger's answers to a script.
 #![tactic(auto)]
 
 mod actor;

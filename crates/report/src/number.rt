@@ -1,4 +1,4 @@
-//! Numbers in decimal.
+//! Writes numbers in decimal.
 
 ghost use Rattle.std.specs.Prelude.{◌≡◌, ◌++◌, OnOk};
 ghost use Rattle.std.specs.Fmt.{decimal};
@@ -7,7 +7,7 @@ ghost use Rattle.std.specs.String.{string_bytes};
 use itoa::Buffer;
 use std::alloc::AllocError;
 
-/// Puts a number in decimal behind a text.
+/// Appends a number in decimal to a text.
 pub(crate) fn put_number(out: &mut String, number: u64) -> Result<(), AllocError>
     ensures { OnOk result (string_bytes out.new ≡ string_bytes out.old ++ decimal number) }
 {

@@ -1,4 +1,4 @@
-//! The lines of a trace's events in a serial order.
+//! Writes the events of a trace in a serial order.
 
 ghost use Rattle.std.specs.Prelude.{◌≡◌, ◌-◌, ◌++◌, IfOk, OnOk, map, slice_get};
 ghost use Rattle.std.specs.List.{flat_map};
@@ -11,7 +11,7 @@ use jvms_machine::trace::Item;
 use std::alloc::{AllocError, Global};
 use trace_text::put_line;
 
-/// The events of a trace, in order.
+/// Returns the events of a trace, in order.
 fn events_of<'i>(alloc: Global, items: &'i [Item]) -> Result<Vec<&'i Item>, AllocError>
     ensures { IfOk result (λ events. map (λ e. e.now) events.items ≡ events_in items.entry.now) }
 {
@@ -24,7 +24,7 @@ fn events_of<'i>(alloc: Global, items: &'i [Item]) -> Result<Vec<&'i Item>, Allo
     Ok(events)
 }
 
-/// Puts an event with its number behind a text.
+/// Appends an event with its number to a text.
 fn put_numbered(out: &mut String, number: u64, item: &Item) -> Result<(), AllocError>
     ensures { OnOk result (string_bytes out.new ≡ string_bytes out.old ++ event_line number (Some item.now)) }
 {
@@ -34,7 +34,7 @@ fn put_numbered(out: &mut String, number: u64, item: &Item) -> Result<(), AllocE
     Ok(())
 }
 
-/// Puts the line of the event of a number behind a text; nothing where there is none.
+/// Appends the line of event `number` to a text, or nothing if there is no such event.
 fn put_event(out: &mut String, events: &[&Item], number: u64) -> Result<(), AllocError>
     ensures { OnOk result (string_bytes out.new ≡ string_bytes out.old ++ event_line number (slice_get (map (λ e. e.now) events.now) (number - 1))) }
 {
@@ -44,7 +44,7 @@ fn put_event(out: &mut String, events: &[&Item], number: u64) -> Result<(), Allo
     }
 }
 
-/// The events of a trace in an order that is told by their numbers, one a line: its number from 1, a space, and its line of
+/// Returns the events of a trace in the order of these numbers, one a line: its number from 1, a space, and its line of
 /// the trace.
 pub fn serial_lines(alloc: Global, items: &[Item], numbers: &[u64]) -> Result<String, AllocError>
     ensures { IfOk result (λ s. string_bytes s ≡ serial_text items.now numbers.now) }

@@ -1,4 +1,4 @@
-//! A trace that is explained.
+//! A trace to be explained.
 
 ghost use Rattle.std.specs.Prelude.{◌≡◌, ◌-◌, ◌++◌, IfOk, OnOk, Some, codes, map, option_copied, slice_get};
 ghost use Rattle.std.specs.Fmt.{decimal};
@@ -19,7 +19,8 @@ use std::alloc::{AllocError, Global};
 use std::marker::Model;
 use trace_text::put_line;
 
-/// A trace that a checker was fed, and the turns of its events. Contracts see the specification, the items and the turns.
+/// A trace that a checker was fed, and the turns of its events. Contracts see the specification, the items and the
+/// turns.
 #[derive(Drop)]
 pub(crate) struct Told<'a> {
     checker: &'a Checker,
@@ -50,7 +51,7 @@ fn put_turn(out: &mut String, turn: Option<u64>) -> Result<(), AllocError>
     }
 }
 
-/// Appends the method that a transaction is named by, if there is one.
+/// Appends the method that names a transaction, if there is one.
 fn put_in_method(out: &mut String, method: Option<&MethodKey>) -> Result<(), AllocError>
     ensures { OnOk result (string_bytes out.new ≡ string_bytes out.old ++ in_method_text (option_map (λ m. m.now) method.entry)) }
 {
@@ -99,7 +100,7 @@ impl<'a> Told<'a> {
         events_of_transaction(alloc, transaction, self.checker.transactions())
     }
 
-    /// Returns the place of the event of a number.
+    /// Returns the place of event `number`.
     fn place_of_event(&self, number: u64) -> Option<usize>
         ensures { result ≡ place_of_event self.now.items number }
     {
@@ -117,7 +118,7 @@ impl<'a> Told<'a> {
         }
     }
 
-    /// Returns the event of a number.
+    /// Returns event `number`.
     fn event(&self, number: u64) -> Option<&Item>
         ensures { option_copied result ≡ item_at self.now.items (place_of_event self.now.items number) }
     {
@@ -127,7 +128,7 @@ impl<'a> Told<'a> {
         }
     }
 
-    /// Returns the turn of the event of a number, if it is known.
+    /// Returns the turn of event `number`, if it is known.
     fn turn_of(&self, number: u64) -> Option<u64>
         ensures { result ≡ slice_get self.now.turns (number - 1) }
     {
@@ -165,7 +166,7 @@ impl<'a> Told<'a> {
         put_in_method(out, naming_method(alloc, self.checker, place, thread)?)
     }
 
-    /// Appends the thread of the event of a number, and the method that names its transaction.
+    /// Appends the thread of event `number`, and the method that names its transaction.
     pub(crate) fn put_actor_of(
         &self,
         alloc: Global,

@@ -1,4 +1,4 @@
-//! The line of a verdict.
+//! Writes the line of a verdict.
 
 ghost use Rattle.std.specs.Prelude.{◌≡◌, ◌++◌, IfOk, OnOk, codes};
 ghost use Rattle.std.specs.List.{flat_map};
@@ -10,7 +10,7 @@ use atom_graph::Counts;
 use std::alloc::{AllocError, Global};
 use velodrome::verdict::Verdict;
 
-/// Puts the counts of a trace behind a text.
+/// Appends the counts of a trace to a text.
 fn put_counts(out: &mut String, counts: Counts) -> Result<(), AllocError>
     ensures { OnOk result (string_bytes out.new ≡ string_bytes out.old ++ counts_text counts) }
 {
@@ -19,7 +19,7 @@ fn put_counts(out: &mut String, counts: Counts) -> Result<(), AllocError>
     Ok(())
 }
 
-/// Puts numbers behind a text, each behind a space.
+/// Appends numbers to a text, each after a space.
 fn put_numbers(out: &mut String, numbers: &[u64]) -> Result<(), AllocError>
     ensures { OnOk result (string_bytes out.new ≡ string_bytes out.old ++ flat_map number_text numbers.now) }
 {
@@ -30,7 +30,7 @@ fn put_numbers(out: &mut String, numbers: &[u64]) -> Result<(), AllocError>
     Ok(())
 }
 
-/// Puts the line of a trace without a cycle behind a text.
+/// Appends the line of a trace without a cycle to a text.
 fn put_atomic(out: &mut String, counts: Counts) -> Result<(), AllocError>
     ensures { OnOk result (string_bytes out.new ≡ string_bytes out.old ++ (codes "atomic " ++ counts_text counts ++ codes "\n")) }
 {
@@ -40,7 +40,7 @@ fn put_atomic(out: &mut String, counts: Counts) -> Result<(), AllocError>
     Ok(())
 }
 
-/// Puts the line of a trace with a cycle behind a text.
+/// Appends the line of a trace with a cycle to a text.
 fn put_cycle(
     out: &mut String,
     first_at: u64,
@@ -58,8 +58,8 @@ fn put_cycle(
     Ok(())
 }
 
-/// The line of a verdict, with its end: `atomic events N transactions M`, or `cycle at E events N transactions M: A B ..`
-/// where the least number of events with a cycle is E, and the transactions A, B .. are one. N and M are the counts of the
+/// Returns the line of a verdict, with its end: `atomic events N transactions M`, or `cycle at E events N transactions
+/// M: A B ..`. E is the least number of events with a cycle, and A, B .. are the transactions of one. N and M count the
 /// whole trace.
 pub fn verdict_line(alloc: Global, verdict: &Verdict, counts: Counts) -> Result<String, AllocError>
     ensures { IfOk result (λ s. string_bytes s ≡ verdict_text verdict.now counts) }

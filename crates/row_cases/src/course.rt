@@ -1,4 +1,4 @@
-//! The turns of a case.
+//! Takes the turns of a case.
 
 use crate::lines::Lines;
 use crate::texts;
@@ -7,14 +7,14 @@ use std::alloc::{AllocError, Global};
 use trace::Trace;
 use trace_text::put_line;
 
-/// How many turns thread 0 makes at most where a case has no choices.
+/// The limit on the turns of thread 0 in a case without choices.
 const MOST_TURNS: usize = 10_000;
 
-/// What the turns of a case gave.
+/// The results of a case's turns.
 #[derive(Drop)]
 pub struct Course {
     alloc: Global,
-    /// The outcome of each turn, and its items.
+    /// The outcome of each turn, with its items.
     turns: Lines,
     outcomes: Lines,
     items: Lines,
@@ -36,7 +36,7 @@ impl Course {
         }
     }
 
-    /// Makes a turn of a thread.
+    /// Takes a turn of a thread, and records its outcome and items.
     fn take(&mut self, machine: &mut Machine<'_>, t: ThreadId) -> Result<(), AllocError> {
         let before = self.trace.len();
         let outcome = machine.step(t, &mut self.trace)?;
@@ -55,14 +55,18 @@ impl Course {
         Ok(())
     }
 
-    /// Ends the lines.
+    /// Closes all lines.
     fn close(&mut self) -> Result<(), AllocError> {
         self.turns.close()?;
         self.outcomes.close()?;
         self.items.close()
     }
 
-    /// The turns of thread 0 while it is enabled.
+    /// Takes turns of thread 0 while it is enabled, and returns their results.
+    ///
+    /// # Errors
+    ///
+    /// Returns `AllocError` if memory ran out.
     pub fn of_own_turns(alloc: Global, machine: &mut Machine<'_>) -> Result<Course, AllocError> {
         let mut course = Course::new(alloc);
         for _ in 0..MOST_TURNS {
@@ -75,7 +79,11 @@ impl Course {
         Ok(course)
     }
 
-    /// The turns of these choices.
+    /// Takes the turns of these choices, and returns their results.
+    ///
+    /// # Errors
+    ///
+    /// Returns `AllocError` if memory ran out.
     pub fn of_choices(
         alloc: Global,
         machine: &mut Machine<'_>,
@@ -89,7 +97,7 @@ impl Course {
         Ok(course)
     }
 
-    /// What a section of this kind ought to say, if it is about turns.
+    /// Returns the lines that a section of this kind has to have, if it is about turns.
     pub fn lines(&self, kind: &str) -> Option<&str> {
         match kind {
             "turns" => Some(self.turns.text()),
@@ -99,12 +107,12 @@ impl Course {
         }
     }
 
-    /// The outcome of the last turn.
+    /// Returns the outcome of the last turn.
     pub fn last(&self) -> Option<Outcome> {
         self.results.last().copied()
     }
 
-    /// Whether another machine answers the same to all choices in one run.
+    /// Decides whether another machine, which takes all choices in one run, has the same outcomes and items.
     pub fn is_of_one_run(&self, machine: &mut Machine<'_>) -> bool {
         let mut trace = Trace::new(self.alloc);
         match machine.run(self.choices.as_slice(), &mut trace) {

@@ -1,8 +1,8 @@
-//! Lines, equal ones on end as one.
+//! Collects lines, and merges consecutive equal ones.
 
 use std::alloc::{AllocError, Global};
 
-/// Lines, each behind those before it. The last one isn't in the text yet.
+/// Lines in order. The last one isn't in the text yet.
 #[derive(Drop)]
 pub struct Lines {
     text: String,
@@ -19,7 +19,7 @@ impl Lines {
         }
     }
 
-    /// Puts the last line into the text.
+    /// Appends the last line to the text, with its number of repetitions.
     pub fn close(&mut self) -> Result<(), AllocError> {
         if self.times > 0 {
             self.text.push_str(self.last.as_str())?;
@@ -32,7 +32,7 @@ impl Lines {
         Ok(())
     }
 
-    /// Puts a line that may be one with others.
+    /// Adds a line. It is merged with the one before if they are equal.
     pub fn put(&mut self, line: &str) -> Result<(), AllocError> {
         if self.times > 0 && self.last.as_str() == line {
             self.times = self.times.saturating_add(1);
@@ -45,14 +45,14 @@ impl Lines {
         Ok(())
     }
 
-    /// Puts a line that stands alone.
+    /// Adds a line that isn't merged with others.
     pub fn put_alone(&mut self, line: &str) -> Result<(), AllocError> {
         self.close()?;
         self.text.push_str(line)?;
         self.text.push('\n')
     }
 
-    /// The lines that were closed, without what is blank at their end.
+    /// Returns the closed lines, without trailing white space.
     pub fn text(&self) -> &str {
         self.text.as_str().trim_end()
     }

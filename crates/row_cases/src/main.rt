@@ -1,21 +1,21 @@
-//! Runs rows of the instruction table that stand in files of cases, and tells which of them don't give what is wanted.
-//! The words are the names of the files. What is wanted is read off the Java Virtual Machine Specification (JVMS 2, 5,
-//! 6.5) and this project's own rules, and not off the program's answers.
+//! Runs cases of instructions' rules from files, and prints those whose results differ from the wanted ones. The words
+//! are the names of the files. The wanted results are read off the Java Virtual Machine Specification (JVMS 2, 5, 6.5)
+//! and this project's own rules, not off the program's answers.
 //!
-//! A case that wants nothing is a group of sources, for the cases of its file that name it. The sections of a case:
+//! A case without wanted results is a group of sources, for the cases of its file that name it. The sections of a case:
 //!
 //! - `source`: a class of the program, in Jasmin. `with GROUP`: the sources of a group.
-//! - `code DESCRIPTOR`: the lines of a static method `m` of a class `M`, which is a class of the program, and the entry.
-//!   Its limits are 6 operands and 3 locals, if the lines don't begin with others.
-//! - `entry CLASS`: its main; `entry C.m.D ARGUMENT ..`: a static method. An argument that ends with `J` is a long.
+//! - `code DESCRIPTOR`: the lines of a static method `m` of a class `M`, which is a class of the program, and the
+//!   entry. Its limits are 6 operands and 3 local variables, unless the lines begin with others.
+//! - `entry CLASS`: its main. `entry C.m.D ARGUMENT ..`: a static method. An argument that ends with `J` is a long.
 //! - `limits`: words of `objects N`, `elements N`, `threads N`, `frames N`.
-//! - `choices`: thread numbers, each maybe with how often it is chosen, as `0 1x3`. Where there are none, thread 0 is
-//!   chosen while it is enabled.
-//! - `turns`: the outcome of each turn behind its thread, then its items. Equal turns on end are one line, as
-//!   `0 Ran x3`, where only the last has items.
-//! - `items`: the items alone. `outcomes`: the outcomes alone, behind their threads.
-//! - `wants`: what is asked of the machine after all turns, a line each, as `shown.rt` lists them; or why there is no
-//!   machine, as `fault M01 NoEntry`.
+//! - `choices`: thread numbers, each optionally with a repetition, as `0 1x3`. Without them, thread 0 is chosen while
+//!   it is enabled.
+//! - `turns`: for each turn, the thread and the outcome, followed by the items. Consecutive equal turns are one line,
+//!   as `0 Ran x3`, where only the last has items.
+//! - `items`: the items only. `outcomes`: the threads and the outcomes only.
+//! - `wants`: queries about the machine after all turns with their answers, one line each, as `shown.rt` lists. If
+//!   there is no machine, the line is its fault, as `fault M01 NoEntry`.
 #![tactic(auto)]
 
 mod course;
@@ -33,7 +33,7 @@ use crate::walk::{Tally, walk};
 use std::process::ExitCode;
 use std::{env, fs, io};
 
-/// Runs the cases of each file, prints those that differ, and counts them.
+/// Runs the cases of each file, prints those that differ, and returns the tally.
 fn walk_files(rt: &HostRuntime) -> io::Result<Tally> {
     let mut tally = Tally::default();
     for name in env::args(rt)?.skip(1) {

@@ -1,4 +1,4 @@
-//! The program of a case.
+//! Makes the program of a case.
 
 use crate::stop::{Stop, refused};
 use assembler::assemble;
@@ -9,10 +9,10 @@ use linker::{LinkFault, link};
 use program::Program;
 use std::alloc::{AllocError, Global};
 
-/// The limits of a case's code where it has none of its own.
+/// The limits of a case's code that gives none.
 const CODE_LIMITS: &str = ".limit stack 6\n.limit locals 3\n";
 
-/// The source of a class `M` with a static method `m`.
+/// Returns the source of a class `M` with a static method `m`.
 fn code_source(alloc: Global, code: &Section<'_>) -> Result<String, AllocError> {
     let limits = if code.lines.starts_with(".limit") {
         ""
@@ -24,7 +24,11 @@ fn code_source(alloc: Global, code: &Section<'_>) -> Result<String, AllocError> 
     format!(in alloc; ".class M\n.method static m{descriptor}\n{limits}{lines}\n.end method\n")
 }
 
-/// The class that a source is assembled to.
+/// Returns the class that a source is assembled to.
+///
+/// # Errors
+///
+/// Returns the text of the source's fault.
 fn class_of(alloc: Global, text: &str) -> Result<ClassFile, Stop> {
     let source = match read(alloc, text) {
         Ok(source) => source,
@@ -36,7 +40,7 @@ fn class_of(alloc: Global, text: &str) -> Result<ClassFile, Stop> {
     }
 }
 
-/// Puts the classes of a case's own sources behind others.
+/// Appends the classes of a case's own sources.
 fn put_sources(alloc: Global, classes: &mut Vec<ClassFile>, case: &Case<'_>) -> Result<(), Stop> {
     for section in case.sections.iter() {
         if section.kind == "source" {
@@ -46,7 +50,7 @@ fn put_sources(alloc: Global, classes: &mut Vec<ClassFile>, case: &Case<'_>) -> 
     Ok(())
 }
 
-/// Puts the classes of the groups that a case names behind others.
+/// Appends the classes of the groups that a case names.
 fn put_groups(
     alloc: Global,
     classes: &mut Vec<ClassFile>,
@@ -65,7 +69,7 @@ fn put_groups(
     Ok(())
 }
 
-/// Where the file of a refused class stands in the list.
+/// Returns the place of a refused class in the list of class files.
 fn place(fault: LinkFault) -> Option<usize> {
     match fault {
         LinkFault::BuiltInName { class }
@@ -77,7 +81,7 @@ fn place(fault: LinkFault) -> Option<usize> {
     }
 }
 
-/// The stop of a program that isn't linked.
+/// Returns the stop of a program that isn't linked.
 fn unlinked(alloc: Global, fault: LinkFault) -> Stop {
     let Some(class) = place(fault) else {
         return Stop::Memory;
@@ -88,7 +92,11 @@ fn unlinked(alloc: Global, fault: LinkFault) -> Stop {
     }
 }
 
-/// The program of a case: the classes of its groups, its own, and that of its code.
+/// Returns the program of a case: the classes of its groups, its own, and that of its code.
+///
+/// # Errors
+///
+/// Returns the text of the fault of a source or of linking.
 pub fn program(alloc: Global, cases: &[Case<'_>], case: &Case<'_>) -> Result<Program, Stop> {
     let mut classes = Vec::new(alloc);
     put_groups(alloc, &mut classes, cases, case)?;

@@ -1,4 +1,4 @@
-//! What is shown of objects and classes.
+//! Shows objects and classes.
 
 use crate::texts;
 use fixtures::texts::units;
@@ -7,10 +7,10 @@ use machine::{FieldName, Initialisation, Machine};
 use program::Program;
 use std::alloc::{AllocError, Global};
 
-/// How many classes of an object's chain are shown at most.
+/// The limit on the classes of an object's chain that are shown.
 const MOST_CLASSES: usize = 20;
 
-/// How a field is asked for.
+/// Returns the name with which the machine is queried for a field.
 fn field_name<'a>(class: &'a Class, field: &'a Field) -> FieldName<'a> {
     FieldName {
         class: class.name.as_slice(),
@@ -19,7 +19,7 @@ fn field_name<'a>(class: &'a Class, field: &'a Field) -> FieldName<'a> {
     }
 }
 
-/// Puts a field and its value.
+/// Appends a field and its value.
 fn put_field(
     alloc: Global,
     line: &mut String,
@@ -46,7 +46,7 @@ fn put_field(
     )
 }
 
-/// Puts the values of the fields that a class declares: the static ones, or those of the object of a reference.
+/// Appends the values of the fields that a class declares: the static ones, or those of the object `of`.
 fn put_fields(
     alloc: Global,
     line: &mut String,
@@ -60,13 +60,13 @@ fn put_fields(
     Ok(())
 }
 
-/// The number of a class's superclass, if it has one.
+/// Returns the number of a class's superclass, if it has one.
 fn superclass_of(program: &Program, number: usize) -> Option<usize> {
     let superclass = program.class(number)?.superclass.as_ref()?;
     program.class_number(superclass.as_slice())
 }
 
-/// The numbers of the classes of a chain, the topmost first.
+/// Returns the numbers of a class and its superclasses, the topmost first.
 fn chain(alloc: Global, program: &Program, name: &[u16]) -> Result<Vec<usize>, AllocError> {
     let mut chain = Vec::new(alloc);
     let mut at = program.class_number(name);
@@ -81,7 +81,7 @@ fn chain(alloc: Global, program: &Program, name: &[u16]) -> Result<Vec<usize>, A
     Ok(chain)
 }
 
-/// Puts the elements of an array.
+/// Appends the elements of an array.
 fn put_elements(
     alloc: Global,
     line: &mut String,
@@ -98,7 +98,7 @@ fn put_elements(
     Ok(())
 }
 
-/// Puts the class of an object, and its fields, those of the topmost class first; or the elements of an array.
+/// Appends the class of an object, with its fields or elements. Fields of the topmost class are first.
 fn put_parts(
     alloc: Global,
     line: &mut String,
@@ -120,7 +120,7 @@ fn put_parts(
     Ok(())
 }
 
-/// The object of a reference: a text, a class object, or its class and its parts.
+/// Returns the text of an object: a string, a class object, or its class and its parts.
 pub fn object(alloc: Global, machine: &Machine<'_>, reference: u32) -> Result<String, AllocError> {
     if let Some(units) = machine.text(reference) {
         let text = texts::name(alloc, units)?;
@@ -135,7 +135,7 @@ pub fn object(alloc: Global, machine: &Machine<'_>, reference: u32) -> Result<St
     Ok(line)
 }
 
-/// How far the initialisation of a class has come.
+/// Returns the text of a class's state of initialisation.
 fn initialisation(alloc: Global, how: Option<Initialisation>) -> Result<String, AllocError> {
     match how {
         None => String::from_str(alloc, "gone"),
@@ -146,7 +146,7 @@ fn initialisation(alloc: Global, how: Option<Initialisation>) -> Result<String, 
     }
 }
 
-/// How far a class has come, and its static fields.
+/// Returns a class's state of initialisation, and its static fields.
 pub fn class(alloc: Global, machine: &Machine<'_>, name: &str) -> Result<String, AllocError> {
     let named = units(alloc, name)?;
     let Some(number) = machine.program().class_number(named.as_slice()) else {
@@ -159,7 +159,7 @@ pub fn class(alloc: Global, machine: &Machine<'_>, name: &str) -> Result<String,
     Ok(line)
 }
 
-/// Who holds the monitor of an object, and how often it was entered.
+/// Returns the owner of an object's monitor, and the number of its entries.
 pub fn monitor(alloc: Global, machine: &Machine<'_>, reference: u32) -> Result<String, AllocError> {
     match machine.monitor(reference) {
         Some(hold) => format!(in alloc; "{} x{}", hold.owner, hold.count),

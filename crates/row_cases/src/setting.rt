@@ -1,12 +1,12 @@
-//! What a case asks of the machine: its entry, its limits, and the choices.
+//! Reads the settings of a case: its entry, its limits and its choices.
 
 use cases::Case;
 use fixtures::texts::units;
-use held::items::Items;
+use shared_data::items::Items;
 use machine::{Argument, Entry, Limits, ThreadId};
 use std::alloc::{AllocError, Global};
 
-/// Limits that no case passes but those that are about them.
+/// Limits that only cases about limits reach.
 const LIMITS: Limits = Limits {
     objects: 1000,
     elements: 1000,
@@ -14,15 +14,15 @@ const LIMITS: Limits = Limits {
     frames: 64,
 };
 
-/// How often a thread is chosen on end at most.
+/// The limit on the repetitions of a choice.
 const MOST_CHOICES: usize = 10_000;
 
-/// A number in decimal digits, or else none of a limit's.
+/// Returns the number of decimal digits, or 0 for any other word.
 fn number(word: &str) -> u32 {
     word.parse().unwrap_or(0)
 }
 
-/// A limit that a word names.
+/// The limit that a word names.
 #[derive(Clone, Copy)]
 enum Named {
     Objects,
@@ -42,7 +42,7 @@ fn named_by(word: &str) -> Named {
     }
 }
 
-/// The limits, but with this number where it was named.
+/// Returns the limits with this number for the named one.
 fn with_limit(limits: Limits, named: Named, most: u32) -> Limits {
     let mut limits = limits;
     match named {
@@ -55,7 +55,7 @@ fn with_limit(limits: Limits, named: Named, most: u32) -> Limits {
     limits
 }
 
-/// The limits that words name, a limit and its number in turn; the others are ample.
+/// Returns the limits that words name, each followed by its number. The other limits are ample.
 fn limits_of(words: &str) -> Limits {
     let mut limits = LIMITS;
     let mut named = Named::Nothing;
@@ -66,12 +66,12 @@ fn limits_of(words: &str) -> Limits {
     limits
 }
 
-/// The limits of a case.
+/// Returns the limits of a case.
 pub fn limits(case: &Case<'_>) -> Limits {
     limits_of(case.words("limits").unwrap_or(""))
 }
 
-/// Parses an argument: a long if its word ends with `J`, else an int.
+/// Parses an argument, a long if its word ends with `J`, or else an int.
 fn argument_of(word: &str) -> Argument {
     match word.strip_suffix('J') {
         Some(digits) => Argument::Long(digits.parse::<i64>().unwrap_or(0)),
@@ -79,7 +79,7 @@ fn argument_of(word: &str) -> Argument {
     }
 }
 
-/// The entry that words name, with its arguments: a static method, `C.m.D`, or the main of a class.
+/// Returns the entry that words name, with its arguments: a static method `C.m.D`, or the main of a class.
 fn entry_of(alloc: Global, words: &str) -> Result<Entry, AllocError> {
     let mut words = words.split_whitespace();
     let named = words.next().unwrap_or("");
@@ -100,7 +100,7 @@ fn entry_of(alloc: Global, words: &str) -> Result<Entry, AllocError> {
     })
 }
 
-/// The entry of a case. That of its code is the method `m` of a class `M`.
+/// Returns the entry of a case. That of its code is the method `m` of a class `M`.
 pub fn entry(alloc: Global, case: &Case<'_>) -> Result<Entry, AllocError> {
     if let Some(words) = case.words("entry") {
         return entry_of(alloc, words);
@@ -110,7 +110,7 @@ pub fn entry(alloc: Global, case: &Case<'_>) -> Result<Entry, AllocError> {
     entry_of(alloc, named.as_str())
 }
 
-/// A thread, and how often it is chosen.
+/// Returns a thread and the number of times that it is chosen.
 fn choice(word: &str) -> (ThreadId, usize) {
     match word.split_once('x') {
         Some((t, times)) => (number(t), times.parse::<usize>().unwrap_or(0)),
@@ -118,7 +118,7 @@ fn choice(word: &str) -> (ThreadId, usize) {
     }
 }
 
-/// The choices that words name.
+/// Returns the choices that words name.
 pub fn choices(alloc: Global, words: &str) -> Result<Vec<ThreadId>, AllocError> {
     let mut choices = Vec::new(alloc);
     for word in words.split_whitespace() {

@@ -1,24 +1,26 @@
-//! What a case may ask of the machine after its turns: a line, that begins with what is asked, and then says the answer.
+//! Answers the queries of a case about the machine after its turns. A line is a query, followed by its answer.
 //!
-//! - `status S`; `objects N`, `elements N`, `threads N`: how many there are; `result V`, or `none`; `output "TEXT"`.
-//! - `last OUTCOME`: of the last turn. `peek T OUTCOME`: what a thread's next turn would come to.
-//! - `pending T R C`: the exception that is pending, or `none`; `uncaught T C`: the class of that which ended the thread.
-//! - `at T C.m.D @P`, `at T init C` or `at T nowhere`; `frames T N`; `locals T V ..`, `stack T V ..` of the top frame.
+//! - `status S`. The counts `objects N`, `elements N`, `threads N`. `result V`, or `none`. `output "TEXT"`.
+//! - `last OUTCOME`: that of the last turn. `peek T OUTCOME`: that of a thread's next turn.
+//! - `pending T R C`: the pending exception, or `none`. `uncaught T C`: the class of the exception that ended the
+//!   thread, or `none`.
+//! - `at T C.m.D @P`, `at T init C` or `at T nowhere`. `frames T N`. `locals T V ..`, `stack T V ..` of the top frame.
 //! - `ref R text "TEXT"`, `ref R class C`, `ref R C C.x=V ..`, `ref R [E V ..`: the object of a reference.
 //! - `monitor R T xN`, or `free`.
-//! - `class C HOW C.x=V ..`: `new`, `init by T`, `done`, `erroneous`, and its static fields.
+//! - `class C HOW C.x=V ..`: `new`, `init by T`, `done` or `erroneous`, and its static fields. `gone` if there is no
+//!   such class.
 
 use crate::course::Course;
 use crate::{objects, texts, threads};
 use machine::Machine;
 use std::alloc::{AllocError, Global};
 
-/// A number in decimal digits, or 0.
+/// Returns the number of decimal digits, or 0 for any other word.
 fn number(word: &str) -> u32 {
     word.parse().unwrap_or(0)
 }
 
-/// The value that the entry's method returned.
+/// Returns the value that the entry's method returned.
 fn result(alloc: Global, machine: &Machine<'_>) -> Result<String, AllocError> {
     match machine.result() {
         Some(value) => texts::value(alloc, value),
@@ -26,7 +28,7 @@ fn result(alloc: Global, machine: &Machine<'_>) -> Result<String, AllocError> {
     }
 }
 
-/// The outcome of the last turn.
+/// Returns the outcome of the last turn.
 fn last(alloc: Global, machine: &Machine<'_>, course: &Course) -> Result<String, AllocError> {
     match course.last() {
         Some(outcome) => texts::outcome(alloc, machine, outcome),
@@ -34,7 +36,7 @@ fn last(alloc: Global, machine: &Machine<'_>, course: &Course) -> Result<String,
     }
 }
 
-/// What is asked by one word.
+/// Returns the answer to a query about the machine, or `None` if the word is no such query.
 fn of_machine(
     alloc: Global,
     machine: &Machine<'_>,
@@ -54,7 +56,7 @@ fn of_machine(
     Ok(Some(answer))
 }
 
-/// What is asked of a thread, a reference or a class.
+/// Returns the answer to a query about a thread, a reference or a class.
 fn of_part(
     alloc: Global,
     machine: &Machine<'_>,
@@ -76,7 +78,7 @@ fn of_part(
     }
 }
 
-/// The line that is given where this one is wanted.
+/// Returns the line that the machine gives for a wanted one.
 pub fn shown(
     alloc: Global,
     machine: &Machine<'_>,

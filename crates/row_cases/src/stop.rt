@@ -1,14 +1,14 @@
-//! Why a case has no machine.
+//! The reasons why a case has no machine.
 
 use std::alloc::{AllocError, AllocFailed, Global};
 use std::fmt::Display;
 
-/// Why a case has no machine.
+/// The reason why a case has no machine.
 #[derive(Drop)]
 pub enum Stop {
-    /// A source, the program, the entry or the limits were refused: this is the text of the fault.
+    /// A source, the program, the entry or the limits were refused, with this text of the fault.
     Refused(String),
-    /// There was no memory.
+    /// Memory ran out.
     Memory,
 }
 
@@ -24,7 +24,7 @@ impl<T: Drop> From<AllocFailed<T>> for Stop {
     }
 }
 
-/// The stop with the text of a fault.
+/// Returns the stop with the text of a fault.
 pub fn refused<F: Display>(alloc: Global, fault: &F) -> Stop {
     match format!(in alloc; "{fault}") {
         Ok(text) => Stop::Refused(text),

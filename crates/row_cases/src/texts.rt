@@ -1,4 +1,4 @@
-//! What is seen of a run, as texts.
+//! Shows the results of a run as texts.
 
 use escapes::put_name;
 use jvms_machine::machine::{BadCause, BlockedOn};
@@ -6,14 +6,14 @@ use jvms_machine::value::Value;
 use machine::{Machine, Outcome, Status};
 use std::alloc::{AllocError, Global};
 
-/// A name.
+/// Returns the text of a name.
 pub fn name(alloc: Global, units: &[u16]) -> Result<String, AllocError> {
     let mut text = String::new(alloc);
     put_name(&mut text, units)?;
     Ok(text)
 }
 
-/// A value.
+/// Returns the text of a value.
 pub fn value(alloc: Global, value: Value) -> Result<String, AllocError> {
     match value {
         Value::Int(n) => format!(in alloc; "I:{n}"),
@@ -26,7 +26,7 @@ pub fn value(alloc: Global, value: Value) -> Result<String, AllocError> {
     }
 }
 
-/// How a machine stands.
+/// Returns the text of a machine's status.
 pub fn status(status: Status) -> &'static str {
     match status {
         Status::Finished => "Finished",
@@ -46,7 +46,7 @@ fn cause(cause: BadCause) -> &'static str {
     }
 }
 
-/// The name of the class of a number.
+/// Returns the name of a class by its number.
 pub fn class_name(
     alloc: Global,
     machine: &Machine<'_>,
@@ -72,7 +72,7 @@ fn blocked(alloc: Global, machine: &Machine<'_>, on: BlockedOn) -> Result<String
     }
 }
 
-/// The outcome of a turn. `Ended last` is that of the turn that ends a thread.
+/// Returns the text of an outcome. `Ended last` is that of the turn that ends a thread.
 pub fn outcome(
     alloc: Global,
     machine: &Machine<'_>,
@@ -92,8 +92,8 @@ pub fn outcome(
     }
 }
 
-/// Bytes that were written, between quotes: printed characters of ASCII as themselves but for quotes and backslashes,
-/// a line feed as `\n`, others by two hexadecimal digits.
+/// Returns written bytes between quotes. Printable ASCII characters are themselves, quotes and backslashes follow a
+/// backslash, and a line feed is `\n`. Any other byte is `\x` and two hexadecimal digits.
 pub fn output(alloc: Global, bytes: &[u8]) -> Result<String, AllocError> {
     let mut text = String::from_str(alloc, "\"")?;
     for byte in bytes {

@@ -1,4 +1,4 @@
-//! What is shown of threads.
+//! Shows threads.
 
 use crate::texts;
 use frames::Frame;
@@ -6,13 +6,13 @@ use jvms_machine::value::Value;
 use machine::{FrameView, Machine, ThreadId};
 use std::alloc::{AllocError, Global};
 
-/// The exception of a reference.
+/// Returns the reference and the class of an exception.
 fn exception(alloc: Global, machine: &Machine<'_>, reference: u32) -> Result<String, AllocError> {
     let class = texts::name(alloc, machine.class_of(reference).unwrap_or(&[]))?;
     format!(in alloc; "{reference} {}", class.as_str())
 }
 
-/// The exception that is pending in a thread.
+/// Returns the pending exception of a thread, or `none`.
 pub fn pending(alloc: Global, machine: &Machine<'_>, t: ThreadId) -> Result<String, AllocError> {
     match machine.pending(t) {
         Some(reference) => exception(alloc, machine, reference),
@@ -20,7 +20,7 @@ pub fn pending(alloc: Global, machine: &Machine<'_>, t: ThreadId) -> Result<Stri
     }
 }
 
-/// The class of the exception that ended a thread.
+/// Returns the class of the exception that ended a thread, or `none`.
 pub fn uncaught(alloc: Global, machine: &Machine<'_>, t: ThreadId) -> Result<String, AllocError> {
     match machine.uncaught(t) {
         Some(class) => texts::name(alloc, class),
@@ -28,7 +28,7 @@ pub fn uncaught(alloc: Global, machine: &Machine<'_>, t: ThreadId) -> Result<Str
     }
 }
 
-/// A call: its method, and the place of its next instruction.
+/// Returns a call: its method, and the place of its next instruction.
 fn call(alloc: Global, machine: &Machine<'_>, frame: &Frame<'_>) -> Result<String, AllocError> {
     let number = frame.method();
     let class = texts::class_name(alloc, machine, number.class)?;
@@ -46,7 +46,7 @@ fn call(alloc: Global, machine: &Machine<'_>, frame: &Frame<'_>) -> Result<Strin
     )
 }
 
-/// Where a thread is.
+/// Returns the place of a thread: a call, an initialisation, or `nowhere`.
 pub fn place(alloc: Global, machine: &Machine<'_>, t: ThreadId) -> Result<String, AllocError> {
     match machine.frame(t, 0) {
         None => String::from_str(alloc, "nowhere"),
@@ -58,7 +58,7 @@ pub fn place(alloc: Global, machine: &Machine<'_>, t: ThreadId) -> Result<String
     }
 }
 
-/// The number of a thread's frames.
+/// Returns the number of a thread's frames.
 pub fn frames(alloc: Global, machine: &Machine<'_>, t: ThreadId) -> Result<String, AllocError> {
     match machine.frame_count(t) {
         Some(count) => format!(in alloc; "{count}"),
@@ -66,7 +66,7 @@ pub fn frames(alloc: Global, machine: &Machine<'_>, t: ThreadId) -> Result<Strin
     }
 }
 
-/// Values behind one another.
+/// Returns the values in order, separated by spaces.
 fn values(alloc: Global, values: &[Value]) -> Result<String, AllocError> {
     let mut line = String::new(alloc);
     for value in values {
@@ -79,7 +79,7 @@ fn values(alloc: Global, values: &[Value]) -> Result<String, AllocError> {
     Ok(line)
 }
 
-/// The local variables of a thread's top frame.
+/// Returns the local variables of a thread's top frame.
 pub fn locals(alloc: Global, machine: &Machine<'_>, t: ThreadId) -> Result<String, AllocError> {
     match machine.frame(t, 0) {
         Some(FrameView::Call(frame)) => values(alloc, frame.locals()),
@@ -87,7 +87,7 @@ pub fn locals(alloc: Global, machine: &Machine<'_>, t: ThreadId) -> Result<Strin
     }
 }
 
-/// The operands of a thread's top frame, the bottom first.
+/// Returns the operands of a thread's top frame, the bottom first.
 pub fn operands(alloc: Global, machine: &Machine<'_>, t: ThreadId) -> Result<String, AllocError> {
     match machine.frame(t, 0) {
         Some(FrameView::Call(frame)) => {

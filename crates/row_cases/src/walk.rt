@@ -1,4 +1,4 @@
-//! The walk over the cases of a file.
+//! Runs the cases of a file.
 
 use crate::course::Course;
 use crate::make::program;
@@ -10,10 +10,10 @@ use machine::Machine;
 use program::Program;
 use std::alloc::{AllocError, Global};
 
-/// The sections that say what is wanted.
+/// The sections with wanted results.
 const WANTS: [&str; 4] = ["turns", "outcomes", "items", "wants"];
 
-/// How many cases give what is wanted, and how many don't.
+/// The numbers of cases with the wanted results, and of those with others.
 #[derive(Clone, Copy, Default)]
 pub struct Tally {
     pub alike: usize,
@@ -21,7 +21,7 @@ pub struct Tally {
 }
 
 impl Tally {
-    /// With a case more.
+    /// Returns the tally with one more case.
     fn count(self, alike: bool) -> Tally {
         if alike {
             Tally {
@@ -36,7 +36,7 @@ impl Tally {
         }
     }
 
-    /// With those of another.
+    /// Returns the sum of two tallies.
     pub fn with(self, other: Tally) -> Tally {
         Tally {
             alike: self.alike.saturating_add(other.alike),
@@ -45,12 +45,12 @@ impl Tally {
     }
 }
 
-/// Whether a case is about a run, and no group of sources.
+/// Decides whether a case is about a run, and isn't a group of sources.
 fn is_run(case: &Case<'_>) -> bool {
     WANTS.iter().any(|kind| case.section(*kind).is_some())
 }
 
-/// Puts what is wanted and what is shown, where they differ.
+/// Appends the wanted and the shown text, if they differ.
 fn compare(out: &mut String, wanted: &str, shown: &str) -> Result<(), AllocError> {
     if wanted == shown {
         return Ok(());
@@ -58,7 +58,7 @@ fn compare(out: &mut String, wanted: &str, shown: &str) -> Result<(), AllocError
     write!(out, "- wanted:\n{wanted}\n- shown:\n{shown}\n")
 }
 
-/// Puts where the lines of a case's sections differ from its course.
+/// Appends the differences between a case's sections and its turns.
 fn compare_course(case: &Case<'_>, course: &Course, out: &mut String) -> Result<(), AllocError> {
     for section in case.sections.iter() {
         if let Some(lines) = course.lines(section.kind) {
@@ -68,7 +68,7 @@ fn compare_course(case: &Case<'_>, course: &Course, out: &mut String) -> Result<
     Ok(())
 }
 
-/// Puts where what a case wants differs from what is shown of the machine.
+/// Appends the differences between the wanted lines of a case and those that the machine shows.
 fn compare_machine(
     alloc: Global,
     case: &Case<'_>,
@@ -83,7 +83,7 @@ fn compare_machine(
     Ok(())
 }
 
-/// The machine of a case, before its turns.
+/// Returns the machine of a case, before its turns.
 fn opened<'p>(alloc: Global, case: &Case<'_>, program: &'p Program) -> Result<Machine<'p>, Stop> {
     let entry = setting::entry(alloc, case)?;
     match Machine::new(alloc, program, setting::limits(case), &entry) {
@@ -92,7 +92,7 @@ fn opened<'p>(alloc: Global, case: &Case<'_>, program: &'p Program) -> Result<Ma
     }
 }
 
-/// The turns of a case.
+/// Takes the turns of a case.
 fn course_of(
     alloc: Global,
     case: &Case<'_>,
@@ -107,7 +107,8 @@ fn course_of(
     }
 }
 
-/// Makes a case's turns, and puts where they and the machine behind them differ from what the case wants.
+/// Takes a case's turns, and appends the differences of the turns and of the machine after them from the wanted
+/// results.
 fn take_course(
     alloc: Global,
     case: &Case<'_>,
@@ -120,7 +121,7 @@ fn take_course(
     Ok(course)
 }
 
-/// Runs a case turn by turn, and puts where that differs from what it wants.
+/// Runs a case turn by turn, and appends the differences from its wanted results.
 fn put_course(
     alloc: Global,
     program: &Program,
@@ -131,7 +132,7 @@ fn put_course(
     take_course(alloc, case, &mut machine, out)
 }
 
-/// Whether the choices of a course, in one run, give the same.
+/// Decides whether the same choices in one run have the same results.
 fn is_one_run(
     alloc: Global,
     program: &Program,
@@ -143,7 +144,7 @@ fn is_one_run(
     Ok(is_same)
 }
 
-/// Puts whether the choices of a course, in one run, give otherwise.
+/// Appends a line if the same choices in one run have other results.
 fn put_run(
     alloc: Global,
     program: &Program,
@@ -157,7 +158,7 @@ fn put_run(
     Ok(())
 }
 
-/// Puts where a case, turn by turn and in one run, differs from what it wants.
+/// Runs a case turn by turn and in one run, and appends the differences from its wanted results.
 fn put_courses(
     alloc: Global,
     program: &Program,
@@ -168,7 +169,7 @@ fn put_courses(
     put_run(alloc, program, case, &course, out)
 }
 
-/// Puts where a case differs from what it wants.
+/// Makes the program of a case, and appends the differences of its run from the wanted results.
 fn put_differences(
     alloc: Global,
     cases: &[Case<'_>],
@@ -179,7 +180,7 @@ fn put_differences(
     put_courses(alloc, &program, case, out)
 }
 
-/// Where a case differs from what it wants.
+/// Returns the differences between a case's results and its wanted ones.
 fn differences(alloc: Global, cases: &[Case<'_>], case: &Case<'_>) -> Result<String, AllocError> {
     let mut out = String::new(alloc);
     match put_differences(alloc, cases, case, &mut out) {
@@ -193,7 +194,7 @@ fn differences(alloc: Global, cases: &[Case<'_>], case: &Case<'_>) -> Result<Str
     Ok(out)
 }
 
-/// Runs the cases of a file, and puts those that differ behind a text.
+/// Runs the cases of a file, appends those that differ to a text, and returns the tally.
 pub fn walk(alloc: Global, file: &str, out: &mut String) -> Result<Tally, AllocError> {
     let cases = cases_of(alloc, file)?;
     let mut tally = Tally::default();

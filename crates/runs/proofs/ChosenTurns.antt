@@ -1,22 +1,22 @@
--- Turns that a chooser gives, one after another.
+-- Consecutive turns by a chooser.
 use Rattle.std.proofs.Common.{◌≡◌, ℕ, zero, suc, ◌+◌, ◌-◌, ◌<◌, ◌≤◌, List, [], ◌∷◌, ◌++◌, length, take, refl, ap, sym, ◌∙◌, arith, Option, Some, None}
 use Rattle.std.proofs.lemmas.List.{append-nil, append_assoc}
 use Rattle.std.proofs.Math.Seq.{take-append_seam}
 use Rattle.jvms_machine.specs.declared.machine.Outcome.{Outcome}
 use Rattle.jvms_machine.specs.declared.trace.Item.{Item}
 use Rattle.trace.specs.Recording.{recorded}
-use Rattle.machine.specs.Machine.{Machine, row_of, with_state}
+use Rattle.machine.specs.Machine.{Machine, transition_of, with_state}
 use Rattle.machine.specs.Runs.{IsRun}
 use Rattle.machine.proofs.RunLaws.{run_none, run_more}
 use Rattle.schedule.specs.Choosers.{Chooser}
-use Rattle.runs.specs.Choices.{after_turn, choice_of, chooser_after, choices_from, chooser_behind, first_then, BrokeOff, IsTurnOf}
+use Rattle.runs.specs.Choices.{after_turn, choice_of, chooser_after, choices_from, chooser_after_choices, first_then, BrokeOff, IsTurnOf}
 
 -- Turns were taken by the first choices of a chooser, and led to this machine and these items. What is left of the
 -- chooser gives the other choices.
 pub record AreTaken (before : Machine) (first : Chooser) (most : ℕ) (items_before : Option (List Item)) (made : ℕ) (choices : List ℕ) (outcomes : List Outcome) (m : Machine) (chooser : Chooser) (items : Option (List Item)) : Type 0 where
   pub within : made ≤ most
   pub left : choices ++ choices_from (most - made) chooser m ≡ choices_from most first before
-  pub left_behind : chooser_behind (most - made) chooser m ≡ chooser_behind most first before
+  pub left_behind : chooser_after_choices (most - made) chooser m ≡ chooser_after_choices most first before
   pub ran : IsRun before choices outcomes m items_before items
 
 pub one_left : (n : ℕ) (chooser : Chooser) (m : Machine) (t : ℕ) → choice_of chooser m ≡ Some t → choices_from (suc n) chooser m ≡ t ∷ choices_from n (chooser_after chooser m) (after_turn m t)
@@ -28,16 +28,16 @@ unfolding choices_from
 none_left zero chooser m is = refl
 none_left (suc n) chooser m is = rw is refl
 
-pub one_behind : (n : ℕ) (chooser : Chooser) (m : Machine) (t : ℕ) → choice_of chooser m ≡ Some t → chooser_behind (suc n) chooser m ≡ chooser_behind n (chooser_after chooser m) (after_turn m t)
-unfolding chooser_behind
+pub one_behind : (n : ℕ) (chooser : Chooser) (m : Machine) (t : ℕ) → choice_of chooser m ≡ Some t → chooser_after_choices (suc n) chooser m ≡ chooser_after_choices n (chooser_after chooser m) (after_turn m t)
+unfolding chooser_after_choices
 one_behind n chooser m t is = rw is refl
 
-pub none_behind : (n : ℕ) (chooser : Chooser) (m : Machine) → choice_of chooser m ≡ None → chooser_behind (suc n) chooser m ≡ chooser_after chooser m
-unfolding chooser_behind
+pub none_behind : (n : ℕ) (chooser : Chooser) (m : Machine) → choice_of chooser m ≡ None → chooser_after_choices (suc n) chooser m ≡ chooser_after chooser m
+unfolding chooser_after_choices
 none_behind n chooser m is = rw is refl
 
-pub nothing_behind : (chooser : Chooser) (m : Machine) → chooser_behind 0 chooser m ≡ chooser
-unfolding chooser_behind
+pub nothing_behind : (chooser : Chooser) (m : Machine) → chooser_after_choices 0 chooser m ≡ chooser
+unfolding chooser_after_choices
 nothing_behind chooser m = refl
 
 pub nothing_left : (chooser : Chooser) (m : Machine) → choices_from 0 chooser m ≡ []
@@ -50,7 +50,7 @@ taken_none m chooser most items choices outcomes no_choice no_outcome =
     rw (no_choice, no_outcome) record {
       within = omega arith;
       left = ap (λ n. choices_from n chooser m) (omega arith);
-      left_behind = ap (λ n. chooser_behind n chooser m) (omega arith);
+      left_behind = ap (λ n. chooser_after_choices n chooser m) (omega arith);
       ran = run_none m items;
     }
 
@@ -63,7 +63,7 @@ pub taken_more : (before : Machine) (first : Chooser) (most : ℕ) (items_before
     (t : ℕ) (o : Outcome) (after : Machine) (later : Chooser) (items_after : Option (List Item))
     → AreTaken before first most items_before made choices outcomes m chooser items → made < most
     → choice_of chooser m ≡ Some t → later ≡ chooser_after chooser m
-    → o ≡ (row_of m t).outcome → after ≡ with_state m (row_of m t).state → items_after ≡ recorded items (row_of m t).items
+    → o ≡ (transition_of m t).outcome → after ≡ with_state m (transition_of m t).state → items_after ≡ recorded items (transition_of m t).items
     → AreTaken before first most items_before (made + 1) (choices ++ t ∷ []) (outcomes ++ o ∷ []) after later items_after
 taken_more before first most items_before made choices outcomes m chooser items t o after later items_after taken below chosen later_is outcome state items_are =
     record {
@@ -76,10 +76,10 @@ taken_more before first most items_before made choices outcomes m chooser items 
           ∙ ap (λ n. choices ++ choices_from n chooser m) (sym (more_left most made below))
           ∙ taken.left;
       left_behind =
-          ap (λ c. chooser_behind (most - (made + 1)) c after) later_is
-          ∙ ap (λ x. chooser_behind (most - (made + 1)) (chooser_after chooser m) x) state
+          ap (λ c. chooser_after_choices (most - (made + 1)) c after) later_is
+          ∙ ap (λ x. chooser_after_choices (most - (made + 1)) (chooser_after chooser m) x) state
           ∙ sym (one_behind (most - (made + 1)) chooser m t chosen)
-          ∙ ap (λ n. chooser_behind n chooser m) (sym (more_left most made below))
+          ∙ ap (λ n. chooser_after_choices n chooser m) (sym (more_left most made below))
           ∙ taken.left_behind;
       ran = run_more before m after choices outcomes items_before items items_after t o taken.ran outcome state items_are;
     }
@@ -124,19 +124,19 @@ all_made before first most items_before made choices outcomes m chooser items ta
 
 -- If the chooser gives none, what is left of it is the chooser after all the choices.
 pub behind_all_given : (before : Machine) (first : Chooser) (most : ℕ) (items_before : Option (List Item)) (made : ℕ) (choices : List ℕ) (outcomes : List Outcome) (m : Machine) (chooser later : Chooser) (items : Option (List Item))
-    → AreTaken before first most items_before made choices outcomes m chooser items → made < most → choice_of chooser m ≡ None → later ≡ chooser_after chooser m → later ≡ chooser_behind most first before
+    → AreTaken before first most items_before made choices outcomes m chooser items → made < most → choice_of chooser m ≡ None → later ≡ chooser_after chooser m → later ≡ chooser_after_choices most first before
 behind_all_given before first most items_before made choices outcomes m chooser later items taken below none later_is =
     later_is
     ∙ sym (none_behind (most - (made + 1)) chooser m none)
-    ∙ ap (λ n. chooser_behind n chooser m) (sym (more_left most made below))
+    ∙ ap (λ n. chooser_after_choices n chooser m) (sym (more_left most made below))
     ∙ taken.left_behind
 
 -- If the limit is reached, this is the chooser after all the choices.
 pub behind_all_made : (before : Machine) (first : Chooser) (most : ℕ) (items_before : Option (List Item)) (made : ℕ) (choices : List ℕ) (outcomes : List Outcome) (m : Machine) (chooser : Chooser) (items : Option (List Item))
-    → AreTaken before first most items_before made choices outcomes m chooser items → most ≤ made → chooser ≡ chooser_behind most first before
+    → AreTaken before first most items_before made choices outcomes m chooser items → most ≤ made → chooser ≡ chooser_after_choices most first before
 behind_all_made before first most items_before made choices outcomes m chooser items taken reached =
     let none : most - made ≡ 0 = omega arith in
-    sym (nothing_behind chooser m) ∙ ap (λ n. chooser_behind n chooser m) (sym none) ∙ taken.left_behind
+    sym (nothing_behind chooser m) ∙ ap (λ n. chooser_after_choices n chooser m) (sym none) ∙ taken.left_behind
 
 first_then_few : (n : ℕ) (o : Option ℕ) (rest : ℕ → List ℕ) → ((t : ℕ) → length (rest t) ≤ n) → length (first_then o rest) ≤ suc n
 first_then_few n None rest few = omega arith

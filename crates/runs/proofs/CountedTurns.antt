@@ -1,4 +1,4 @@
--- Turns that a chooser gives, which are only counted.
+-- Turns by a chooser, which are only counted.
 use Rattle.std.proofs.Common.{◌≡◌, ℕ, ◌+◌, ◌-◌, ◌<◌, ◌≤◌, List, [], ◌∷◌, ◌++◌, length, replicate, Option, None, refl, ap, ◌∙◌, arith}
 use Rattle.std.proofs.lemmas.List.{length-append, length-replicate}
 use Rattle.jvms_machine.specs.declared.machine.Outcome.{Outcome}
@@ -8,7 +8,7 @@ use Rattle.trace.specs.Recording.{recorded}
 use Rattle.machine.specs.Machine.{Machine, with_state}
 use Rattle.machine.specs.Runs.{run_of}
 use Rattle.schedule.specs.Choosers.{Chooser}
-use Rattle.runs.specs.Choices.{choice_of, chooser_after, choices_from, chooser_behind, AreTurnsOn, BrokeOff, IsTurnOf}
+use Rattle.runs.specs.Choices.{choice_of, chooser_after, choices_from, chooser_after_choices, AreConsecutiveTurns, BrokeOff, IsTurnOf}
 use Rattle.runs.proofs.ChosenTurns.{AreTaken, all_given, all_made, behind_all_given, behind_all_made, broken_here, taken_next, taken_none}
 use Rattle.runs.proofs.TurnsOn.{taken_on}
 
@@ -27,7 +27,7 @@ counted_none m chooser most items =
 -- Consecutive turns of one thread are taken.
 pub counted_on : (before : Machine) (first : Chooser) (most : ℕ) (items_before : Option (List Item)) (made : ℕ) (m : Machine) (chooser : Chooser) (items : Option (List Item))
     (t n : ℕ) (after : Machine) (later : Chooser) (more : Option (List Item))
-    → AreCounted before first most items_before made m chooser items → n ≤ most - made → AreTurnsOn m chooser items t n after later more
+    → AreCounted before first most items_before made m chooser items → n ≤ most - made → AreConsecutiveTurns m chooser items t n after later more
     → AreCounted before first most items_before (made + n) after later more
 counted_on before first most items_before made m chooser items t n after later more are fits on =
     let many = are.many in
@@ -92,12 +92,12 @@ counted_all_made before first most items_before made m chooser items are reached
 
 -- If the chooser gives none, what is left of it is the chooser after all the choices.
 pub chooser_all_given : (before : Machine) (first : Chooser) (most : ℕ) (items_before : Option (List Item)) (made : ℕ) (m : Machine) (chooser later : Chooser) (items : Option (List Item))
-    → AreCounted before first most items_before made m chooser items → made < most → choice_of chooser m ≡ None → later ≡ chooser_after chooser m → later ≡ chooser_behind most first before
+    → AreCounted before first most items_before made m chooser items → made < most → choice_of chooser m ≡ None → later ≡ chooser_after chooser m → later ≡ chooser_after_choices most first before
 chooser_all_given before first most items_before made m chooser later items are below none later_is =
     behind_all_given before first most items_before made are.choices are.outcomes m chooser later items are.taken below none later_is
 
 -- If the limit is reached, this is the chooser after all the choices.
 pub chooser_all_made : (before : Machine) (first : Chooser) (most : ℕ) (items_before : Option (List Item)) (made : ℕ) (m : Machine) (chooser : Chooser) (items : Option (List Item))
-    → AreCounted before first most items_before made m chooser items → most ≤ made → chooser ≡ chooser_behind most first before
+    → AreCounted before first most items_before made m chooser items → most ≤ made → chooser ≡ chooser_after_choices most first before
 chooser_all_made before first most items_before made m chooser items are reached =
     behind_all_made before first most items_before made are.choices are.outcomes m chooser items are.taken reached

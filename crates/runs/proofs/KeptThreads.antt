@@ -1,4 +1,4 @@
--- Which threads are enabled, from turn to turn.
+-- The enabled threads, from turn to turn.
 use Rattle.std.proofs.Common.{Bool, List, [], ap, append-nil, append_assoc, arith, cond, eqb-true, false, length, not, refl, subst, suc, sym, true, zero, ℕ, ◌&&◌, ◌++◌, ◌+◌, ◌-◌, ◌<◌, ◌==◌, ◌∙◌, ◌∷◌, ◌≡◌, ◌≤◌}
 use Rattle.std.proofs.lemmas.Bool.{cond_both, eqb-false, false≢true}
 use Rattle.std.proofs.lemmas.Bool.Decides.{nat_tests}
@@ -7,7 +7,7 @@ use Rattle.std.specs.Prelude.{◌≢◌}
 use Rattle.jvms_machine.specs.Status.{is_bad, is_enabled}
 use Rattle.jvms_machine.specs.declared.machine.Outcome.{Outcome}
 use Rattle.jvms_machine.specs.declared.machine.Outcome.TheVariants as outcome
-use Rattle.machine.specs.Machine.{Machine, row_of}
+use Rattle.machine.specs.Machine.{Machine, transition_of}
 use Rattle.machine.specs.Others.{LeavesOthers}
 use Rattle.schedule.specs.Choosers.{enabled_of}
 use Rattle.schedule.specs.Enabled.{can_go_on, enabled_threads}
@@ -21,12 +21,12 @@ enabled_left m t = filter (can_go_on m) (range_with_len t (length m.state.thread
 
 -- No thread's turn below a number is Bad.
 abbrev pub AreFitBelow : Machine → ℕ → Type 0
-AreFitBelow m t = (u : ℕ) → u < t → is_bad (row_of m u).outcome ≡ false
+AreFitBelow m t = (u : ℕ) → u < t → is_bad (transition_of m u).outcome ≡ false
 
 range_next : (a n : ℕ) → a < n → range_with_len a (n - a) ≡ a ∷ range_with_len (a + 1) (n - (a + 1))
 range_next a n less = let e : n - a ≡ suc (n - (a + 1)) = omega arith in rw e refl
 
--- The threads from a number on are its own thread, if that is enabled, and those behind it.
+-- The threads from a number on are its own thread, if that is enabled, and those after it.
 left_next : (m : Machine) (t : ℕ) → t < length m.state.threads → enabled_left m t ≡ one_enabled m t ++ enabled_left m (t + 1)
 left_next m t below =
     ap (filter (can_go_on m)) (range_next t (length m.state.threads) below)
@@ -48,8 +48,8 @@ not_false false is = refl
 
 pub fit_next : (m : Machine) (t : ℕ) (was now : Bool) → now ≡ was && is_fit m t → (was ≡ true → AreFitBelow m t) → now ≡ true → AreFitBelow m (t + 1)
 fit_next m t true now is below current u less =
-    cond_both (u == t) true false (λ _. is_bad (row_of m u).outcome ≡ false)
-    (λ same. ap (λ (v : ℕ). is_bad (row_of m v).outcome) (eqb-true u t same) ∙ not_false (is_bad (row_of m t).outcome) (sym is ∙ current))
+    cond_both (u == t) true false (λ _. is_bad (transition_of m u).outcome ≡ false)
+    (λ same. ap (λ (v : ℕ). is_bad (transition_of m v).outcome) (eqb-true u t same) ∙ not_false (is_bad (transition_of m t).outcome) (sym is ∙ current))
     (λ other. below refl u (less_beside u t less other))
   where
     less_beside : (u t : ℕ) → u < t + 1 → (u == t) ≡ false → u < t
@@ -91,8 +91,8 @@ module _ (m after : Machine) (t : ℕ) (threads : length after.state.threads ≡
 
   pub left_fit : AreFitBelow after (length after.state.threads)
   left_fit u less =
-      cond_both (u == t) true false (λ _. is_bad (row_of after u).outcome ≡ false)
-      (λ same. subst (λ (v : ℕ). is_bad (row_of after v).outcome ≡ false) (sym (eqb-true u t same)) (enabled_is_fit (row_of after t).outcome is))
+      cond_both (u == t) true false (λ _. is_bad (transition_of after u).outcome ≡ false)
+      (λ same. subst (λ (v : ℕ). is_bad (transition_of after v).outcome ≡ false) (sym (eqb-true u t same)) (enabled_is_fit (transition_of after t).outcome is))
       (λ other. (others u (differs u t other) (fit u (omega (arith, less, threads)))).fit)
 
   pub kept_on : (seen : List ℕ) → seen ≡ enabled_threads m → AreEnabled after seen

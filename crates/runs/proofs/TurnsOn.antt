@@ -6,16 +6,16 @@ use Rattle.jvms_machine.specs.declared.machine.Outcome.TheVariants as outcome
 use Rattle.jvms_machine.specs.declared.trace.Item.{Item}
 use Rattle.jvms_machine.specs.Status.{is_enabled}
 use Rattle.trace.specs.Recording.{recorded}
-use Rattle.machine.specs.Machine.{Machine, row_of}
-use Rattle.machine.specs.Runs.{RanAmong, RanOn}
+use Rattle.machine.specs.Machine.{Machine, transition_of}
+use Rattle.machine.specs.Runs.{RanAmong, AreRunTurns}
 use Rattle.schedule.specs.Choosers.{Chooser, counted, counted_times, enabled_of, next, IsNextFor}
 use Rattle.schedule.specs.Enabled.{can_go_on, enabled_threads}
-use Rattle.runs.specs.Choices.{after_turn, AreTurnsOn}
+use Rattle.runs.specs.Choices.{after_turn, AreConsecutiveTurns}
 use Rattle.runs.proofs.ChosenTurns.{AreTaken, taken_more}
 
 -- Before the first turn, nothing has changed.
-pub none_on : (m : Machine) (chooser : Chooser) (items : Option (List Item)) (thread : ℕ) → AreTurnsOn m chooser items thread 0 m chooser items
-unfolding RanOn IsNextFor counted_times
+pub none_on : (m : Machine) (chooser : Chooser) (items : Option (List Item)) (thread : ℕ) → AreConsecutiveTurns m chooser items thread 0 m chooser items
+unfolding AreRunTurns IsNextFor counted_times
 none_on m chooser items thread = record { ran = (refl, refl); chosen = tt; counted = refl }
 
 -- A thread that is next for a number of turns is next for any smaller number.
@@ -27,8 +27,8 @@ next_fewer (suc fewer) (suc times) thread threads chooser few is =
     (is.0, next_fewer fewer times thread threads (counted thread chooser) (omega arith) is.1)
 
 -- Turns of a thread that ran are the chooser's, if the thread is next for at least as many.
-pub fewer_on : (m after : Machine) (chooser later : Chooser) (items more : Option (List Item)) (thread times turns : ℕ) → RanOn times thread (length m.state.threads) m items after more → times ≤ turns
-    → IsNextFor turns thread (length m.state.threads) chooser → later ≡ counted_times times thread chooser → AreTurnsOn m chooser items thread times after later more
+pub fewer_on : (m after : Machine) (chooser later : Chooser) (items more : Option (List Item)) (thread times turns : ℕ) → AreRunTurns times thread (length m.state.threads) m items after more → times ≤ turns
+    → IsNextFor turns thread (length m.state.threads) chooser → later ≡ counted_times times thread chooser → AreConsecutiveTurns m chooser items thread times after later more
 fewer_on m after chooser later items more thread times turns ran few next_is counted_is =
     record { ran = ran; chosen = next_fewer times turns thread (length m.state.threads) chooser few next_is; counted = counted_is }
 
@@ -42,9 +42,9 @@ next_once (suc times) thread threads chooser p some is enabled = is.0 p enabled
 on_taken : (n threads : ℕ) (before : Machine) (first : Chooser) (most : ℕ) (items_before : Option (List Item)) (made : ℕ) (choices : List ℕ) (outcomes : List Outcome) (m : Machine) (chooser : Chooser) (items : Option (List Item))
     (t : ℕ) (after : Machine) (later : Chooser) (more : Option (List Item))
     → AreTaken before first most items_before made choices outcomes m chooser items → made + n ≤ most
-    → RanOn n t threads m items after more → IsNextFor n t threads chooser → later ≡ counted_times n t chooser
+    → AreRunTurns n t threads m items after more → IsNextFor n t threads chooser → later ≡ counted_times n t chooser
     → AreTaken before first most items_before (made + n) (choices ++ replicate n t) (outcomes ++ replicate n outcome.Ran) after later more
-unfolding RanOn IsNextFor counted_times
+unfolding AreRunTurns IsNextFor counted_times
 on_taken zero threads before first most items_before made choices outcomes m chooser items t after later more taken fits ran next_is later_is =
     let as_many : made + 0 ≡ made = omega arith in
     subst (λ l. AreTaken before first most items_before (made + 0) l (outcomes ++ []) after later more) (sym (append-nil choices))
@@ -54,9 +54,9 @@ on_taken (suc n) threads before first most items_before made choices outcomes m 
     let among : RanAmong threads m t = ran.0 in
     let chosen : next chooser (enabled_threads m) ≡ (Some t, counted t chooser) =
     subst (λ k. next chooser (enabled_of (can_go_on m) k) ≡ (Some t, counted t chooser)) (sym among.1) (next_is.0 (can_go_on m) (ap is_enabled among.0)) in
-    let one = taken_more before first most items_before made choices outcomes m chooser items t outcome.Ran (after_turn m t) (counted t chooser) (recorded items (row_of m t).items)
+    let one = taken_more before first most items_before made choices outcomes m chooser items t outcome.Ran (after_turn m t) (counted t chooser) (recorded items (transition_of m t).items)
     taken (omega arith) (ap (λ c. c.0) chosen) (sym (ap (λ c. c.1) chosen)) (sym among.0) refl refl in
-    let rest = on_taken n threads before first most items_before (made + 1) (choices ++ t ∷ []) (outcomes ++ outcome.Ran ∷ []) (after_turn m t) (counted t chooser) (recorded items (row_of m t).items) t after later more
+    let rest = on_taken n threads before first most items_before (made + 1) (choices ++ t ∷ []) (outcomes ++ outcome.Ran ∷ []) (after_turn m t) (counted t chooser) (recorded items (transition_of m t).items) t after later more
     one (omega arith) ran.1 next_is.1 later_is in
     let as_many : made + 1 + n ≡ made + suc n = omega arith in
     subst (λ l. AreTaken before first most items_before (made + suc n) l (outcomes ++ replicate (suc n) outcome.Ran) after later more) (append_assoc choices (t ∷ []) (replicate n t))
@@ -66,7 +66,7 @@ on_taken (suc n) threads before first most items_before made choices outcomes m 
 -- Consecutive turns of a thread follow the turns that were taken.
 pub taken_on : (before : Machine) (first : Chooser) (most : ℕ) (items_before : Option (List Item)) (made : ℕ) (choices : List ℕ) (outcomes : List Outcome) (m : Machine) (chooser : Chooser) (items : Option (List Item))
     (t n : ℕ) (after : Machine) (later : Chooser) (more_items : Option (List Item))
-    → AreTaken before first most items_before made choices outcomes m chooser items → n ≤ most - made → AreTurnsOn m chooser items t n after later more_items
+    → AreTaken before first most items_before made choices outcomes m chooser items → n ≤ most - made → AreConsecutiveTurns m chooser items t n after later more_items
     → AreTaken before first most items_before (made + n) (choices ++ replicate n t) (outcomes ++ replicate n outcome.Ran) after later more_items
 taken_on before first most items_before made choices outcomes m chooser items t n after later more_items taken fits on =
     let within = taken.within in
@@ -75,7 +75,7 @@ taken_on before first most items_before made choices outcomes m chooser items t 
 -- Consecutive turns of a thread follow the turns that were taken, with choices and outcomes appended.
 pub noted_on : (before : Machine) (first : Chooser) (most : ℕ) (items_before : Option (List Item)) (made : ℕ) (choices more : List ℕ) (outcomes more_outcomes : List Outcome) (m : Machine) (chooser : Chooser) (items : Option (List Item))
     (t n : ℕ) (after : Machine) (later : Chooser) (more_items : Option (List Item))
-    → AreTaken before first most items_before made choices outcomes m chooser items → n ≤ most - made → AreTurnsOn m chooser items t n after later more_items
+    → AreTaken before first most items_before made choices outcomes m chooser items → n ≤ most - made → AreConsecutiveTurns m chooser items t n after later more_items
     → more ≡ choices ++ replicate n t → more_outcomes ≡ outcomes ++ replicate n outcome.Ran
     → AreTaken before first most items_before (made + n) more more_outcomes after later more_items
 noted_on before first most items_before made choices more outcomes more_outcomes m chooser items t n after later more_items taken fits on choices_are outcomes_are =

@@ -1,10 +1,10 @@
--- Says which choices a chooser gives in a run, and what their turns do.
+-- The choices of a chooser in a run, and their turns.
 use Rattle.std.specs.Prelude.{◌≡◌, ℕ, zero, suc, List, [], ◌∷◌, take, length, Option, Some, None}
 use Rattle.jvms_machine.specs.declared.machine.Outcome.{Outcome}
 use Rattle.jvms_machine.specs.declared.trace.Item.{Item}
 use Rattle.trace.specs.Recording.{recorded}
-use Rattle.machine.specs.Machine.{Machine, row_of, with_state}
-use Rattle.machine.specs.Runs.{run_of, RanOn}
+use Rattle.machine.specs.Machine.{Machine, transition_of, with_state}
+use Rattle.machine.specs.Runs.{run_of, AreRunTurns}
 use Rattle.schedule.specs.Choosers.{Chooser, counted_times, next, IsNextFor}
 use Rattle.schedule.specs.Enabled.{enabled_threads}
 
@@ -15,7 +15,7 @@ first_then (Some t) rest = t ∷ rest t
 
 -- Returns the machine after a thread's turn.
 abbrev pub after_turn : Machine → ℕ → Machine
-after_turn m t = with_state m (row_of m t).state
+after_turn m t = with_state m (transition_of m t).state
 
 -- Returns the chooser's next choice among the enabled threads of a machine, if there is one.
 abbrev pub choice_of : Chooser → Machine → Option ℕ
@@ -29,8 +29,8 @@ chooser_after chooser m = (next chooser (enabled_threads m)).1
 -- items are those after this turn.
 abbrev pub IsTurnOf : Machine → Chooser → Option (List Item) → ℕ × Outcome → Machine → Chooser → Option (List Item) → Type 0
 IsTurnOf m chooser items taken after later more =
-    (choice_of chooser m ≡ Some taken.0) × (taken.1 ≡ (row_of m taken.0).outcome)
-    × (after ≡ after_turn m taken.0) × (later ≡ chooser_after chooser m) × (more ≡ recorded items (row_of m taken.0).items)
+    (choice_of chooser m ≡ Some taken.0) × (taken.1 ≡ (transition_of m taken.0).outcome)
+    × (after ≡ after_turn m taken.0) × (later ≡ chooser_after chooser m) × (more ≡ recorded items (transition_of m taken.0).items)
 
 -- The turn of the chooser's next choice was taken, or no turn was taken and nothing has changed.
 abbrev pub IsTurn : Machine → Chooser → Option (List Item) → Option (ℕ × Outcome) → Machine → Chooser → Option (List Item) → Type 0
@@ -45,9 +45,9 @@ IsNextTurn m chooser items (Some taken) after later more = IsTurnOf m chooser it
 
 -- Consecutive turns of a thread were taken, this number of them. The machine, the chooser and the items are those
 -- after the last.
-pub record AreTurnsOn (m : Machine) (chooser : Chooser) (items : Option (List Item)) (thread : ℕ) (times : ℕ) (after : Machine) (later : Chooser) (more : Option (List Item)) : Type 0 where
+pub record AreConsecutiveTurns (m : Machine) (chooser : Chooser) (items : Option (List Item)) (thread : ℕ) (times : ℕ) (after : Machine) (later : Chooser) (more : Option (List Item)) : Type 0 where
   -- Each of them ran, and only the last may have started a thread.
-  pub ran : RanOn times thread (length m.state.threads) m items after more
+  pub ran : AreRunTurns times thread (length m.state.threads) m items after more
   -- The thread is the chooser's choice for each of them.
   pub chosen : IsNextFor times thread (length m.state.threads) chooser
   -- The chooser has them counted.
@@ -66,10 +66,10 @@ left_or None left behind = left
 left_or (Some t) left behind = behind t
 
 -- Returns the chooser after the choices that it gives from a machine on, at most this number of them.
-unfoldable pub chooser_behind : ℕ → Chooser → Machine → Chooser
-chooser_behind zero chooser m = chooser
-chooser_behind (suc most) chooser m =
-    let n = next chooser (enabled_threads m) in left_or n.0 n.1 (λ t. chooser_behind most n.1 (after_turn m t))
+unfoldable pub chooser_after_choices : ℕ → Chooser → Machine → Chooser
+chooser_after_choices zero chooser m = chooser
+chooser_after_choices (suc most) chooser m =
+    let n = next chooser (enabled_threads m) in left_or n.0 n.1 (λ t. chooser_after_choices most n.1 (after_turn m t))
 
 -- A run broke off after the turns of some first choices, maybe of none or of all. The machine and the items are
 -- those of their run.

@@ -1,4 +1,4 @@
--- Says how a run ends: its turns, result, output, status and uncaught exceptions.
+-- The ending of a run: its turns, result, output, status and uncaught exceptions.
 use Rattle.std.specs.Prelude.{ℕ, suc, List, [], ◌∷◌, ◌++◌, length, Option, Some, None}
 use Rattle.jvms_machine.specs.State.{Object, State, Thread}
 use Rattle.jvms_machine.specs.Status.{status_of}
@@ -24,7 +24,7 @@ uncaught_from heap t (x ∷ xs) = uncaught_of t (uncaught_in heap x.ended x.pend
 abbrev pub uncaught_threads : State → List (ℕ × List ℕ)
 uncaught_threads s = uncaught_from s.heap 0 s.threads
 
--- Returns how a run ended that took this number of turns and left this machine.
+-- Returns the ending of a run that took this number of turns and left this machine.
 abbrev pub ending_in : ℕ → Machine → Ending
 ending_in turns m =
     record {
@@ -35,7 +35,7 @@ ending_in turns m =
       uncaught = uncaught_threads m.state;
     }
 
--- Returns how the run by a chooser's choices ends, after at most this number of turns.
+-- Returns the ending of the run by a chooser's choices, after at most this number of turns.
 abbrev pub ending_of : ℕ → Chooser → Machine → Ending
 ending_of most chooser m =
     let choices = choices_from most chooser m in

@@ -1,7 +1,7 @@
--- Says when a list of enabled threads is current.
+-- The condition for a list of enabled threads to be current.
 use Rattle.std.specs.Prelude.{◌≡◌, ℕ, ◌<◌, false, not, if◌then◌else◌, Bool, IsTrue, List, [], ◌∷◌, length}
 use Rattle.jvms_machine.specs.Status.{is_bad}
-use Rattle.machine.specs.Machine.{Machine, row_of}
+use Rattle.machine.specs.Machine.{Machine, transition_of}
 use Rattle.schedule.specs.Enabled.{can_go_on, enabled_threads}
 use Rattle.runs.specs.declared.kept.Kept.{Kept}
 
@@ -9,14 +9,14 @@ use Rattle.runs.specs.declared.kept.Kept.{Kept}
 abbrev pub one_enabled : Machine → ℕ → List ℕ
 one_enabled m t = if can_go_on m t then t ∷ [] else []
 
--- The thread's turn isn't Bad.
+-- Decides that the thread's turn isn't Bad.
 abbrev pub is_fit : Machine → ℕ → Bool
-is_fit m t = not (is_bad (row_of m t).outcome)
+is_fit m t = not (is_bad (transition_of m t).outcome)
 
 -- These are the enabled threads of a machine, and no thread's turn is Bad.
 pub record AreEnabled (m : Machine) (threads : List ℕ) : Type 0 where
   pub enabled : threads ≡ enabled_threads m
-  pub fit : (u : ℕ) → u < length m.state.threads → is_bad (row_of m u).outcome ≡ false
+  pub fit : (u : ℕ) → u < length m.state.threads → is_bad (transition_of m u).outcome ≡ false
 
 -- If the list is current, it has the enabled threads of a machine, and no thread's turn is Bad.
 abbrev pub IsKept : Machine → Kept → Type 0

@@ -1,13 +1,13 @@
-//! Takes the turns that a chooser gives, and counts them.
+//! Turns by a chooser, which are counted and not kept.
 
 ghost use Rattle.std.specs.Prelude.{◌≡◌, length, IfOk, OnOk, OnErr};
 ghost use Rattle.machine.specs.Machine.{with_state};
 ghost use Rattle.machine.specs.Runs.{run_of};
-ghost use Rattle.runs.specs.Choices.{choices_from, chooser_behind, BrokeOff};
+ghost use Rattle.runs.specs.Choices.{choices_from, chooser_after_choices, BrokeOff};
 ghost use Rattle.trace.specs.Recording.{recorded};
 
 use crate::kept::Kept;
-use crate::turn::{take_turn, take_turns_on};
+use crate::turn::{take_turn, take_consecutive_turns};
 use machine::Machine;
 use schedule::Chooser;
 use std::alloc::{AllocError, Global};
@@ -27,7 +27,7 @@ pub fn count_turns(
     recording: &mut Recording,
 ) -> Result<u64, AllocError>
     ensures count { IfOk result (λ n. n ≡ length (choices_from most chooser.old machine.old)) }
-    ensures chooser { OnOk result (chooser.new ≡ chooser_behind most chooser.old machine.old) }
+    ensures chooser { OnOk result (chooser.new ≡ chooser_after_choices most chooser.old machine.old) }
     // The machine and the items are those of the run of these choices, by the instruction table.
     ensures state { OnOk result (machine.new ≡ with_state machine.old (run_of machine.old (choices_from most chooser.old machine.old)).state) }
     ensures items { OnOk result (recording.new ≡ recorded recording.old (run_of machine.old (choices_from most chooser.old machine.old)).items) }
@@ -37,7 +37,7 @@ pub fn count_turns(
     let mut kept = Kept::new(alloc);
     let mut made = 0;
     while made < most {
-        let on = take_turns_on(machine, chooser, &mut kept, most - made, recording);
+        let on = take_consecutive_turns(machine, chooser, &mut kept, most - made, recording);
         made += on.times;
         if made == most {
             return Ok(made);

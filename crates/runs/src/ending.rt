@@ -1,22 +1,22 @@
-//! How a run ends: its turns, result, output, status and uncaught exceptions.
+//! The ending of a run: its turns, result, output, status and uncaught exceptions.
 
 ghost use Rattle.std.specs.Prelude.{◌≡◌, ◌++◌, IfOk, OnOk};
 ghost use Rattle.machine.specs.Views.{uncaught};
-ghost use Rattle.runs.specs.Choices.{chooser_behind};
+ghost use Rattle.runs.specs.Choices.{chooser_after_choices};
 ghost use Rattle.runs.specs.Endings.{ending_in, ending_of, uncaught_of, uncaught_threads};
 
 use crate::counted::count_turns;
-use held::items::Items;
+use shared_data::items::Items;
 use jvms_machine::value::Value;
 use machine::{Machine, Status, ThreadId};
 use schedule::Chooser;
 use std::alloc::{AllocError, Global};
 use trace::Recording;
 
-/// Pairs a thread that ended with an exception with the exception's class, as UTF-16 code units.
+/// A thread that ended with an exception, and the exception's class, as UTF-16 code units.
 pub type Uncaught = (ThreadId, Items<u16>);
 
-/// Says how a run ended.
+/// The ending of a run.
 #[derive(Debug, Drop)]
 pub struct Ending {
     /// The number of turns.
@@ -63,7 +63,7 @@ pub fn uncaught_threads(alloc: Global, machine: &Machine<'_>) -> Result<Items<Un
     Ok(Items::from_vec(threads))
 }
 
-/// Returns how a run ended that took this number of turns and left this machine.
+/// Returns the ending of a run that took this number of turns and left this machine.
 pub fn ending_after(alloc: Global, machine: &Machine<'_>, turns: u64) -> Result<Ending, AllocError>
     ensures { IfOk result (λ ending. ending ≡ ending_in turns machine.now) }
 {
@@ -77,7 +77,7 @@ pub fn ending_after(alloc: Global, machine: &Machine<'_>, turns: u64) -> Result<
     })
 }
 
-/// Takes the turns that a chooser gives, at most `most` of them, and returns how the run ends. Keeps no choices,
+/// Takes the turns that a chooser gives, at most `most` of them, and returns the ending of the run. Keeps no choices,
 /// outcomes or items, so a run takes no memory for them, however long it is. A seeded run lists the enabled threads.
 pub fn run_to_end(
     alloc: Global,
@@ -86,7 +86,7 @@ pub fn run_to_end(
     most: u64,
 ) -> Result<Ending, AllocError>
     ensures ending { IfOk result (λ ending. ending ≡ ending_of most chooser.old machine.old) }
-    ensures chooser { OnOk result (chooser.new ≡ chooser_behind most chooser.old machine.old) }
+    ensures chooser { OnOk result (chooser.new ≡ chooser_after_choices most chooser.old machine.old) }
 {
     let turns = count_turns(alloc, machine, chooser, most, &mut Recording::of_nothing())?;
     ending_after(alloc, machine, turns)

@@ -1,4 +1,4 @@
-//! What a run keeps of its machine's threads from turn to turn.
+//! The enabled threads of a machine, kept from turn to turn of a run.
 
 ghost use Rattle.std.specs.Prelude.{◌≡◌, ◌++◌, ◌&&◌, false, IsTrue, OnOk, Some};
 ghost use Rattle.runs.specs.Kept.{IsKept, is_fit, one_enabled};
@@ -7,12 +7,12 @@ ghost use Rattle.schedule.specs.Enabled.{enabled_threads};
 use machine::{Machine, ThreadId, is_bad, is_enabled};
 use std::alloc::{AllocError, Global};
 
-/// Lists the enabled threads of a machine, in rising order, if the list is current.
+/// A list of the enabled threads of a machine, in rising order, if it is current.
 #[derive(Drop)]
 pub(crate) struct Kept {
     /// The threads.
     pub threads: Vec<ThreadId>,
-    /// Whether these are the enabled threads, and no thread's turn is Bad.
+    /// Set if these are the enabled threads, and no thread's turn is Bad.
     pub is_current: bool,
     /// The thread that was predicted last and wasn't enabled. It may be enabled again.
     pub suspect: Option<ThreadId>,
@@ -30,7 +30,7 @@ impl Kept {
         }
     }
 
-    /// Notes that the list isn't current.
+    /// Marks the list as not current.
     #[inline(always)]
     pub(crate) fn forget(&mut self)
         ensures { self.new.is_current ≡ false }

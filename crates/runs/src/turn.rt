@@ -2,7 +2,7 @@
 
 ghost use Rattle.std.specs.Prelude.{◌≡◌, ◌≤◌, true, length, IfOk, IsTrue, OnErr, OnOk};
 ghost use Rattle.jvms_machine.specs.Status.{is_enabled};
-ghost use Rattle.runs.specs.Choices.{AreTurnsOn, IsNextTurn, IsTurn};
+ghost use Rattle.runs.specs.Choices.{AreConsecutiveTurns, IsNextTurn, IsTurn};
 ghost use Rattle.runs.specs.Kept.{IsKept};
 ghost use Rattle.schedule.specs.Choosers.{is_seeded};
 ghost use Rattle.schedule.specs.Enabled.{can_go_on};
@@ -13,10 +13,10 @@ use schedule::{Candidate, Chooser};
 use std::alloc::AllocError;
 use trace::Recording;
 
-/// Pairs a choice with the outcome of its turn.
+/// A choice, and the outcome of its turn.
 pub(crate) type Taken = (ThreadId, Outcome);
 
-/// Counts consecutive turns of one thread.
+/// A number of consecutive turns of one thread.
 #[derive(Clone, Copy)]
 pub(crate) struct TurnsOn {
     /// The thread.
@@ -29,7 +29,7 @@ pub(crate) struct TurnsOn {
 /// number. Each has the outcome `Ran`. Takes none if the chooser predicts no thread.
 ///
 /// Fast path of a run: consults the chooser once for all of these turns.
-pub(crate) fn take_turns_on(
+pub(crate) fn take_consecutive_turns(
     machine: &mut Machine<'_>,
     chooser: &mut Chooser,
     kept: &mut Kept,
@@ -38,7 +38,7 @@ pub(crate) fn take_turns_on(
 ) -> TurnsOn
     requires { IsKept machine.old kept.old }
     ensures most { result.times ≤ most }
-    ensures taken { AreTurnsOn machine.old chooser.old recording.old result.thread result.times machine.new chooser.new recording.new }
+    ensures taken { AreConsecutiveTurns machine.old chooser.old recording.old result.thread result.times machine.new chooser.new recording.new }
     ensures enabled { IsKept machine.new kept.new }
 {
     let Some(Candidate { thread, turns }) = chooser.candidate(machine) else {
@@ -51,7 +51,7 @@ pub(crate) fn take_turns_on(
         return TurnsOn { thread, times: 0 };
     }
     kept.forget();
-    let times = machine.step_on(thread, most.min(turns), recording);
+    let times = machine.step_consecutive(thread, most.min(turns), recording);
     chooser.count(thread, times);
     TurnsOn { thread, times }
 }

@@ -1,21 +1,21 @@
-//! Takes the turns that a chooser gives, and keeps their choices and outcomes.
+//! Turns by a chooser, with their choices and outcomes.
 
 ghost use Rattle.std.specs.Prelude.{◌≡◌, ◌++◌, replicate, IfOk, OnOk, OnErr};
 ghost use Rattle.machine.specs.Machine.{with_state};
 ghost use Rattle.machine.specs.Runs.{run_of};
-ghost use Rattle.runs.specs.Choices.{choices_from, chooser_behind, BrokeOff};
+ghost use Rattle.runs.specs.Choices.{choices_from, chooser_after_choices, BrokeOff};
 ghost use Rattle.trace.specs.Recording.{recorded};
 
 use crate::kept::Kept;
-use crate::turn::{TurnsOn, take_turn, take_turns_on};
-use held::items::Items;
+use crate::turn::{TurnsOn, take_turn, take_consecutive_turns};
+use shared_data::items::Items;
 use machine::{Machine, ThreadId};
 use outcome_list::OutcomeList;
 use schedule::Chooser;
 use std::alloc::{AllocError, Global};
 use trace::Recording;
 
-/// Lists the turns of a run, in order.
+/// The turns of a run, in order.
 #[derive(Debug, Drop)]
 pub struct Turns {
     /// The thread of each turn.
@@ -63,7 +63,7 @@ pub fn take_turns(
     recording: &mut Recording,
 ) -> Result<Turns, AllocError>
     ensures choices { IfOk result (λ r. r.choices ≡ choices_from most chooser.old machine.old) }
-    ensures chooser { OnOk result (chooser.new ≡ chooser_behind most chooser.old machine.old) }
+    ensures chooser { OnOk result (chooser.new ≡ chooser_after_choices most chooser.old machine.old) }
     // The outcomes, the machine and the items are those of the run of these choices, by the instruction table.
     ensures outcomes { IfOk result (λ r. r.outcomes ≡ (run_of machine.old r.choices).outcomes) }
     ensures state { IfOk result (λ r. machine.new ≡ with_state machine.old (run_of machine.old r.choices).state) }
@@ -76,7 +76,7 @@ pub fn take_turns(
     let mut kept = Kept::new(alloc);
     let mut made = 0;
     while made < most {
-        let on = take_turns_on(machine, chooser, &mut kept, most - made, recording);
+        let on = take_consecutive_turns(machine, chooser, &mut kept, most - made, recording);
         put_choices(&mut choices, on)?;
         outcomes.push_ran(on.times as usize)?;
         made += on.times;

@@ -1,4 +1,4 @@
--- Which threads a chooser chooses.
+-- The choices of choosers.
 use Rattle.std.proofs.Common.{◌≡◌, ℕ, zero, suc, ◌+◌, ◌%◌, ◌<◌, min, Bool, true, false, cond, nat_lt, nat_eq, ◌&&◌, ◌||◌, List, [], ◌∷◌, length, Option, None, Some, IfSome, IsNone, IsTrue, ◌↔◌, Contains, slice_get, slice_index_or, refl, ◌∙◌, ap, sym, subst, arith, if◌then◌else◌}
 use Rattle.std.specs.List.{find, list_any}
 use Rattle.std.specs.Option.{option_or}
@@ -7,7 +7,7 @@ use Rattle.std.proofs.lemmas.Bool.Decides.{nat_tests}
 use Rattle.rand_pcg.specs.Pcg.{pcg32}
 use Rattle.schedule.specs.Schedules as schedules
 use Rattle.schedule.specs.Choosers.{Alone, Chooser, Listed, RoundRobin, Seeded, opened, next, asks, stays, round_robin, next_of, turns_with, after_choice, generator_of, words_of}
-use Rattle.schedule.specs.Past.{last_of, in_a_row, behind, choice_behind, with_choice}
+use Rattle.schedule.specs.Past.{last_of, consecutive_choices, behind, choice_after, with_choice}
 
 -- ---- Enabled threads
 
@@ -101,7 +101,7 @@ capped : (quantum n : ℕ) → nat_lt (min quantum n) quantum ≡ nat_lt n quant
 capped quantum n = grind (arith, nat_tests)
 
 -- A thread that wasn't chosen last has no last consecutive choices.
-other_row : (chosen : ℕ) (past : List ℕ) → nat_eq chosen (last_of past) ≡ false → in_a_row chosen past ≡ 0
+other_row : (chosen : ℕ) (past : List ℕ) → nat_eq chosen (last_of past) ≡ false → consecutive_choices chosen past ≡ 0
 other_row chosen [] e = refl
 other_row chosen (t ∷ past) e = let f : nat_eq t chosen ≡ false = grind (arith, nat_tests) in rw f refl
 
@@ -117,17 +117,17 @@ same_thread a b e = grind (arith, nat_tests)
 itself : (a : ℕ) → nat_eq a a ≡ true
 itself a = grind (arith, nat_tests)
 
-turns_behind : (quantum : ℕ) (past : List ℕ) (chosen : ℕ) → 0 < quantum → turns_with quantum (last_of past) (min quantum (in_a_row (last_of past) past)) chosen ≡ min quantum (in_a_row chosen past + 1)
+turns_behind : (quantum : ℕ) (past : List ℕ) (chosen : ℕ) → 0 < quantum → turns_with quantum (last_of past) (min quantum (consecutive_choices (last_of past) past)) chosen ≡ min quantum (consecutive_choices chosen past + 1)
 turns_behind quantum past chosen some =
-    let Goal : Bool → Type 0 = λ b. (if b then min quantum (min quantum (in_a_row (last_of past) past) + 1) else 1) ≡ min quantum (in_a_row chosen past + 1) in
+    let Goal : Bool → Type 0 = λ b. (if b then min quantum (min quantum (consecutive_choices (last_of past) past) + 1) else 1) ≡ min quantum (consecutive_choices chosen past + 1) in
     let cases : (b : Bool) → nat_eq chosen (last_of past) ≡ b → Goal b =
     λ b. elim b as (λ b. nat_eq chosen (last_of past) ≡ b → Goal b) [
-      | true ↦ λ e. one_more quantum (in_a_row (last_of past) past) ∙ ap (λ t. min quantum (in_a_row t past + 1)) (sym (same_thread chosen (last_of past) e))
+      | true ↦ λ e. one_more quantum (consecutive_choices (last_of past) past) ∙ ap (λ t. min quantum (consecutive_choices t past + 1)) (sym (same_thread chosen (last_of past) e))
       | false ↦ λ e. rw (other_row chosen past e) (least_one quantum some)
     ] in
     cases (nat_eq chosen (last_of past)) refl
 
-after_behind : (quantum : ℕ) (past : List ℕ) (chosen : Option ℕ) → 0 < quantum → after_choice quantum (last_of past) (min quantum (in_a_row (last_of past) past)) chosen ≡ behind quantum (with_choice chosen past)
+after_behind : (quantum : ℕ) (past : List ℕ) (chosen : Option ℕ) → 0 < quantum → after_choice quantum (last_of past) (min quantum (consecutive_choices (last_of past) past)) chosen ≡ behind quantum (with_choice chosen past)
 after_behind quantum past None some = refl
 after_behind quantum past (Some t) some = rw (itself t) (ap (RoundRobin quantum t) (turns_behind quantum past t some))
 
@@ -135,9 +135,9 @@ same_choice : (quantum thread turns : ℕ) (enabled : List ℕ) → round_robin 
 same_choice quantum thread turns enabled =
     ap (λ b. if (b && list_any (λ t. nat_eq t thread) enabled) then Some thread else next_of thread enabled) (capped quantum turns)
 
-pub next_behind : (quantum : ℕ) (past enabled : List ℕ) → 0 < quantum → next (behind quantum past) enabled ≡ (choice_behind quantum past enabled, behind quantum (with_choice (choice_behind quantum past enabled) past))
+pub next_behind : (quantum : ℕ) (past enabled : List ℕ) → 0 < quantum → next (behind quantum past) enabled ≡ (choice_after quantum past enabled, behind quantum (with_choice (choice_after quantum past enabled) past))
 next_behind quantum past enabled some =
-    rw (same_choice quantum (last_of past) (in_a_row (last_of past) past) enabled, after_behind quantum past (choice_behind quantum past enabled) some) refl
+    rw (same_choice quantum (last_of past) (consecutive_choices (last_of past) past) enabled, after_behind quantum past (choice_after quantum past enabled) some) refl
 
 -- ---- Random words
 

@@ -89,7 +89,7 @@ list_any-cond : (q : ℕ → Bool) (b : Bool) (x : ℕ) (xs : List ℕ) → list
 list_any-cond q true x xs = refl
 list_any-cond q false x xs = refl
 
--- A thread is among the numbers that pass exactly if it is in the range and passes.
+-- A thread is among the numbers that pass if and only if it is in the range and passes.
 any_of_range : (p : ℕ → Bool) (thread a n : ℕ) → list_any (λ t. nat_eq t thread) (filter p (range_with_len a n)) ≡ ((nat_le a thread && nat_lt thread (a + n)) && p thread)
 any_of_range p thread a zero = grind (arith, nat_tests)
 any_of_range p thread a (suc n) =

@@ -1,4 +1,4 @@
--- Which schedule a text spells.
+-- The schedule that a text spells.
 use Rattle.std.proofs.Common.{◌≡◌, ◌≢◌, true, false, is_some, Result, Ok, Err, IsErr, IsErrAnd, IsErrOf, ◌↔◌, Option, None, Some, MatchOption, drop, ℕ, ◌<◌, ◌^◌, List, [], ◌∷◌, ◌++◌, length, get_or, codes, refl, ◌∙◌, ap, sym, subst, arith, inr}
 use Rattle.std.specs.Str.Parse.{IsNumeral}
 use Rattle.std.proofs.lemmas.List.{append_cancel_left}
@@ -60,7 +60,7 @@ pub handed_on : {X : Type 0} (r : Result X ScheduleFault) (fault : ScheduleFault
 handed_on (Ok x) fault given = absurd given.1
 handed_on (Err e) fault given = ap Err given.1
 
--- Of the two faults it is `Syntax` exactly if N holds.
+-- Of the two faults it is `Syntax` if and only if N holds.
 pub is_syntax : {X Y : Type 0} (N M : Type 0) (r : Result X ScheduleFault) (fault : ScheduleFault) → r ≡ Err fault → (IsErrOf {T = Y} (Err fault) Syntax → N) → (IsErrOf {T = Y} (Err fault) Memory → M) → (N → M → ⊥) → IsErrOf r Syntax ↔ N
 is_syntax N M r Syntax e first second apart = (λ _. first refl, λ _. e)
 is_syntax {X = X} N M r Memory e first second apart =

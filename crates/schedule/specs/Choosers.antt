@@ -1,4 +1,4 @@
--- Says which thread a chooser gives next. A chooser is what is left of a schedule.
+-- The choices of choosers. A chooser is the state of a schedule.
 use Rattle.std.specs.Prelude.{◌≡◌, ℕ, zero, suc, ◌+◌, ◌%◌, min, Bool, true, false, ◌&&◌, ◌==◌, nat_lt, if◌then◌else◌, List, [], ◌∷◌, length, Option, None, Some, slice_get}
 use Rattle.std.specs.List.{filter, find, list_any, range_with_len}
 use Rattle.std.specs.Option.{option_or}
@@ -48,7 +48,7 @@ enabled_of is_enabled count = filter is_enabled (range_with_len 0 count)
 abbrev pub next_of : ℕ → List ℕ → Option ℕ
 next_of thread threads = option_or (find (nat_lt thread) threads) (slice_get threads 0)
 
--- Round robin stays with a thread that is enabled and had fewer consecutive turns than the quantum.
+-- Decides whether round robin stays with a thread: it is enabled and had fewer consecutive turns than the quantum.
 abbrev pub stays : ℕ → ℕ → ℕ → List ℕ → Bool
 stays quantum thread turns enabled = nat_lt turns quantum && list_any (λ t. t == thread) enabled
 
@@ -114,14 +114,14 @@ IsNextFor (suc times) thread threads chooser =
     ((is_enabled : ℕ → Bool) → is_enabled thread ≡ true → next chooser (enabled_of is_enabled threads) ≡ (Some thread, counted thread chooser))
     × IsNextFor times thread threads (counted thread chooser)
 
--- The chooser chooses among all enabled threads.
+-- Decides whether the chooser chooses among all enabled threads.
 abbrev pub asks : Chooser → Bool
 asks (Listed threads) = false
 asks (RoundRobin quantum thread turns) = true
 asks (Seeded generator) = true
 asks Alone = false
 
--- Random words name the chooser's threads.
+-- Decides whether random words name the chooser's threads.
 abbrev pub is_seeded : Chooser → Bool
 is_seeded (Listed threads) = false
 is_seeded (RoundRobin quantum thread turns) = false

@@ -1,12 +1,12 @@
--- Says which threads of a machine are enabled.
+-- The enabled threads of a machine.
 use Rattle.std.specs.Prelude.{ℕ, Bool, List, length}
 use Rattle.jvms_machine.specs.Status.{is_enabled}
-use Rattle.machine.specs.Machine.{Machine, row_of}
+use Rattle.machine.specs.Machine.{Machine, transition_of}
 use Rattle.schedule.specs.Choosers.{enabled_of}
 
--- The thread is enabled: it can take its next turn.
+-- Decides whether the thread is enabled: it can take its next turn.
 abbrev pub can_go_on : Machine → ℕ → Bool
-can_go_on m t = is_enabled (row_of m t).outcome
+can_go_on m t = is_enabled (transition_of m t).outcome
 
 -- Returns the enabled threads of a machine, in rising order.
 abbrev pub enabled_threads : Machine → List ℕ

@@ -1,4 +1,4 @@
--- Says what contracts see of a chooser's rule.
+-- The chooser that contracts see of a rule.
 use Rattle.schedule.specs.declared.chooser.Rule.{Rule}
 use Rattle.schedule.specs.declared.chooser.Rule.TheVariants as rule
 use Rattle.schedule.specs.Choosers.{Alone, Chooser, Listed, RoundRobin, Seeded}

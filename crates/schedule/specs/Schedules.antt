@@ -1,9 +1,9 @@
--- Says which schedules there are, and which texts spell them.
+-- The schedules, and the texts that spell them.
 use Rattle.std.specs.Prelude.{◌≡◌, ℕ, ◌^◌, ◌<◌, ◌≤◌, List, ◌∷◌, ◌++◌, codes}
 use Rattle.std.specs.List.{AllZip, join_with_byte}
 use Rattle.std.specs.Str.Parse.{IsNumeral, digits_value}
 
--- A schedule says which threads take the turns of a run.
+-- A schedule determines which threads take the turns of a run.
 pub data Schedule : Type 0 where
   -- These threads, in order.
   Listed : List ℕ → Schedule

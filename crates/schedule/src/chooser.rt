@@ -19,7 +19,7 @@ use rand_pcg::Lcg64Xsh32;
 use std::alloc::{AllocError, Global};
 use std::marker::Model;
 
-/// Says how a chooser chooses.
+/// The rule by which a chooser chooses.
 #[derive(Drop)]
 enum Rule {
     /// The remaining threads of a list.
@@ -32,7 +32,7 @@ enum Rule {
     Alone,
 }
 
-/// Gives the thread of each turn. A chooser is what is left of a schedule.
+/// The state of a schedule, which gives the thread of each turn.
 #[derive(Drop)]
 pub struct Chooser {
     rule: Rule,
@@ -98,8 +98,7 @@ fn next_by_word<T: Threads>(generator: &mut Lcg64Xsh32, threads: &T) -> Option<T
     enabled_at(threads, generator.next_word() % enabled)
 }
 
-/// Returns the enabled thread that a generator's next word names, of a list of them. Without an enabled thread, takes no
-/// word.
+/// Returns the enabled thread of a list that a generator's next word names. Without an enabled thread, takes no word.
 #[tactic(auto, using(crate::proofs::Words::no_word, crate::proofs::Words::word_names))]
 fn word_among(generator: &mut Lcg64Xsh32, enabled: &[ThreadId]) -> Option<ThreadId>
     ensures { (result, Seeded generator.new) ≡ by_word generator.old enabled.now }

@@ -1,10 +1,10 @@
-//! Why a text gives no chooser.
+//! The reason for which a text gives no chooser.
 
 ghost use Rattle.std.specs.Prelude.{◌≡◌};
 
 use thiserror::Error;
 
-/// Says why a text gives no chooser.
+/// The reason for which a text gives no chooser.
 #[derive(Clone, Copy, Debug, PartialEq, Eq, Error)]
 pub enum ScheduleFault {
     /// H01: the text spells no schedule.

@@ -3,7 +3,7 @@
 ghost use Rattle.std.specs.Prelude.{◌≡◌, ◌↔◌, ℕ, ◌<◌, IsTrue, IsNone, IfSome, List, [], ◌∷◌, Contains};
 ghost use Rattle.schedule.specs.Schedules.{RoundRobin};
 ghost use Rattle.schedule.specs.Choosers.{Chooser, opened, next, asks, generator_of, words_of};
-ghost use Rattle.schedule.specs.Past.{behind, choice_behind, with_choice};
+ghost use Rattle.schedule.specs.Past.{behind, choice_after, with_choice};
 
 /// Round robin and random words choose an enabled thread, as long as there is one.
 #[tactic(auto, using(crate::proofs::Choices::chosen_is_enabled, crate::proofs::Choices::none_is_enabled))]
@@ -14,9 +14,9 @@ pub fn choices_are_of_enabled_threads()
 
 /// Round robin counts all of a thread's last consecutive choices, up to the quantum, even if the round led back to it.
 #[tactic(auto, using(crate::proofs::Choices::opened_behind, crate::proofs::Choices::next_behind))]
-pub fn round_robin_counts_choices_on_end()
+pub fn round_robin_counts_consecutive_choices()
     ensures start { (quantum : ℕ) → opened (RoundRobin quantum) ≡ behind quantum [] }
-    ensures turn { (quantum : ℕ) (past : List ℕ) (enabled : List ℕ) → 0 < quantum → let chosen = choice_behind quantum past enabled in next (behind quantum past) enabled ≡ (chosen, behind quantum (with_choice chosen past)) }
+    ensures turn { (quantum : ℕ) (past : List ℕ) (enabled : List ℕ) → 0 < quantum → let chosen = choice_after quantum past enabled in next (behind quantum past) enabled ≡ (chosen, behind quantum (with_choice chosen past)) }
 {}
 
 /// The first words of state 42 and stream 54 are those of PCG's demonstration of pcg32.

@@ -6,13 +6,13 @@ ghost use Rattle.schedule.specs.Choosers.{Listed, next};
 
 use crate::fault::ScheduleFault;
 use crate::numbers::thread_number;
-use held::items::Items;
-use held::shared::Shared;
+use shared_data::items::Items;
+use shared_data::shared::Shared;
 use jvms_machine::machine::ThreadId;
 use std::alloc::{AllocError, Global};
 use std::marker::Model;
 
-/// Keeps what is left of a list of threads: those from a place on. Copies share the list.
+/// The rest of a list of threads: those from an index on. Copies share the list.
 #[derive(Drop)]
 pub(crate) struct ListLeft {
     threads: Shared<Items<ThreadId>>,
@@ -28,7 +28,7 @@ impl Model for ListLeft {
 }
 
 impl ListLeft {
-    /// Returns a list of which no thread is taken yet.
+    /// Returns a list of which no thread was taken.
     pub(crate) fn new(alloc: Global, threads: Vec<ThreadId>) -> Result<ListLeft, AllocError>
         ensures { IfOk result (λ list. list ≡ threads.items) }
     {

@@ -6,7 +6,7 @@ ghost use Rattle.schedule.specs.Choosers.{enabled_of, stays, round_robin, after_
 use crate::threads::{Threads, next_enabled};
 use jvms_machine::machine::ThreadId;
 
-/// Predicts the next choice: a thread for a number of consecutive turns, as long as it is enabled.
+/// A prediction of the next choice: a thread for a number of consecutive turns, as long as it is enabled.
 #[derive(Clone, Copy, Debug)]
 pub struct Candidate {
     /// The thread.
@@ -15,7 +15,7 @@ pub struct Candidate {
     pub turns: u64,
 }
 
-/// Counts the consecutive turns of the last thread.
+/// The state of round robin: its quantum, and the consecutive turns of the last thread.
 #[derive(Clone, Copy)]
 pub(crate) struct Turns {
     /// The number of consecutive turns of a thread while another one is enabled.

@@ -7,7 +7,7 @@ use std::alloc::Global;
 use std::process::Abort;
 use std::test::*;
 
-/// Says which threads are enabled.
+/// Flags that decide which threads are enabled.
 #[derive(Clone, Copy)]
 struct Flags<'a> {
     enabled: &'a [bool],

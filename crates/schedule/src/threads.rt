@@ -8,12 +8,12 @@ ghost use Rattle.schedule.specs.Enabled.{can_go_on};
 use jvms_machine::machine::ThreadId;
 use machine::{Machine, is_enabled};
 
-/// Says how many threads there are, numbered from 0, and which are enabled.
+/// A number of threads, numbered from 0, some of which are enabled.
 pub(crate) trait Threads {
     // The number of threads.
     ghost count: { Self → ℕ };
 
-    // Whether the thread of a number is enabled.
+    // Decides whether the thread of a number is enabled.
     ghost passes: { Self → ℕ → Bool };
 
     /// Returns the number of threads.
@@ -96,7 +96,7 @@ pub(crate) fn enabled_count<T: Threads>(threads: &T) -> u32
     enabled
 }
 
-/// Returns the enabled thread at a place among the enabled threads, from 0.
+/// Returns the enabled thread at an index among the enabled threads.
 #[tactic(auto, using(crate::proofs::Ranges::range_more, crate::proofs::Ranges::range_none))]
 pub(crate) fn enabled_at<T: Threads>(threads: &T, place: u32) -> Option<ThreadId>
     ensures { result ≡ slice_get (enabled_of (T.passes threads.now) (T.count threads.now)) place }

@@ -1,4 +1,4 @@
--- What a serial order is asked of.
+-- Facts about the input of a serial order.
 use Rattle.std.proofs.Common.{◌≡◌, ℕ, zero, suc, ◌+◌, ◌<◌, ◌≤◌, List, [], ◌∷◌, ◌++◌, length, get_or, take, sym, ap, ◌∙◌, subst, arith, append-nil, append_assoc}
 use Rattle.std.specs.List.{AllByRecursion}
 use Rattle.velodrome.specs.Cycles.{IsIn}
@@ -14,7 +14,7 @@ all_at P [] k all within = absurd (omega arith)
 all_at P (n ∷ ns) zero all within = all.0
 all_at P (n ∷ ns) (suc k) all within = all_at P ns k all.1 (omega arith)
 
--- The transactions are at most as many as stand in the order.
+-- No transaction number exceeds the length of the order.
 pub transactions_below : (transactions order : List ℕ) → HasItems transactions order → (k : ℕ) → k < length transactions → get_or transactions k 0 ≤ length order
 transactions_below transactions order asked k within = all_at (λ n. n ≤ length order) transactions k all within
   where
@@ -36,7 +36,7 @@ transactions_below transactions order asked k within = all_at (λ n. n ≤ lengt
 pub order_below : (transactions order : List ℕ) → HasItems transactions order → (k : ℕ) → k < length order → get_or order k 0 ≤ length order
 order_below transactions order asked k within = let bounds = all_at (λ n. (0 < n) × (n ≤ (walk asked.0 asked.1).transactions)) order k asked.2.is_order.0.2 within in let high = bounds.1 in let long = asked.2.is_order.0.0 in omega arith
 
--- One transaction more.
+-- One more transaction appends its events.
 pub in_order_more : (transactions order : List ℕ) (k : ℕ) → k < length order → in_order transactions (take (k + 1) order) ≡ in_order transactions (take k order) ++ events_of (get_or order k 0) 1 transactions
 in_order_more transactions [] k within = absurd (omega arith)
 in_order_more transactions (t ∷ order) zero within = append-nil (events_of t 1 transactions)
@@ -46,6 +46,6 @@ in_order_more transactions (t ∷ order) (suc k) within =
     ∙ ap (λ (ns : List ℕ). events_of t 1 transactions ++ ns) (in_order_more transactions order k (omega arith))
     ∙ sym (append_assoc (events_of t 1 transactions) (in_order transactions (take k order)) (events_of (get_or order k 0) 1 transactions))
 
--- All of them are what is asked.
+-- The events of all transactions are the result.
 pub in_order_serial : (transactions order : List ℕ) → AreSerialOf transactions order (in_order transactions order)
 in_order_serial transactions order lines items is = serial_is lines items transactions order is

@@ -20,11 +20,11 @@ use Rattle.serial_order.proofs.Members.{all_in, all_of_members, in_back, in_eith
 use Rattle.serial_order.proofs.Rearranged.{rearrangement_is_serial}
 use Rattle.serial_order.proofs.Walks.{AreNumberedFrom, IsCounted, numbered_keep, numbered_within, one_of_number, walk_counted}
 
--- The events of a transaction.
+-- Returns the events of a transaction.
 abbrev pub block : ℕ → List Event → List Event
 block t events = filter (λ e. eqb e.transaction t) events
 
--- Those of each transaction, in the order of transactions.
+-- Returns the events of each transaction, in the order of transactions.
 abbrev pub blocks : List Event → List ℕ → List Event
 blocks events [] = []
 blocks events (t ∷ order) = block t events ++ blocks events order
@@ -145,7 +145,7 @@ blocks_whole events (t ∷ order) distinct =
     (all_of_members (λ e. e.transaction ≡ t → ⊥) (blocks events order) (λ e at_back. other_of t order distinct e.transaction (of_blocks events order e at_back).1))
     (blocks_whole events order (IsDistinct-tail eqb t order distinct))
 
--- ---- Their numbers, told by the transaction of each event
+-- ---- Their numbers, by the transaction of each event
 
 block_numbers : (t n : ℕ) (events : List Event) → AreNumberedFrom n events → numbers_of (block t events) ≡ events_of t n (map (λ e. e.transaction) events)
 block_numbers t n [] are = refl
@@ -163,7 +163,7 @@ blocks_numbers events (t ∷ order) are =
     ∙ ap (λ (ns : List ℕ). ns ++ numbers_of (blocks events order)) (block_numbers t 1 events are)
     ∙ ap (λ (ns : List ℕ). events_of t 1 (map (λ e. e.transaction) events) ++ ns) (blocks_numbers events order are)
 
--- The events of each transaction, in an order of them, are a rearrangement.
+-- The events of each transaction, in an order of transactions, are a rearrangement.
 blocks_rearranged : (lines : Specification) (items : List Item) (order : List ℕ) → IsOrder (walk lines items).events (walk lines items).transactions order → IsRearrangement (walk lines items).events (numbers_of (blocks (walk lines items).events order))
 blocks_rearranged lines items order is = (
   are_numbers (length events) (numbers_of (blocks events order)) (numbers_of events) (blocks_apart events one apart order is.0.1) within apart (length-map events (λ (e : Event). e.number)) each,
@@ -202,7 +202,7 @@ blocks_rearranged lines items order is = (
         let begun = counted.begun found.0 found.1 in
         subst (λ n. IsIn n (numbers_of (blocks events order))) found.2 (in_map (λ (e : Event). e.number) found.0 (blocks events order) (in_blocks events order found.0 found.1 (each_number (walk lines items).transactions order is.0 found.0.transaction begun.0 begun.1)))
 
--- So the numbers that are told in order are a serial order of all items that they are asked of.
+-- So the numbers in order are a serial order of any items with these transactions.
 pub serial_is : (lines : Specification) (items : List Item) (transactions order : List ℕ) → IsOrderOf lines items transactions order → IsSerial (walk lines items).events (in_order transactions order)
 serial_is lines items transactions order is =
     subst (IsSerial (walk lines items).events)

@@ -11,7 +11,7 @@ use Rattle.velodrome.specs.Cycles.{IsIn}
 use Rattle.velodrome.specs.Orders.{AreNumbersTo}
 use Rattle.serial_order.proofs.Members.{all_in, all_of_members}
 
--- A number is found where it is a member.
+-- A number that is found is a member.
 pub in_found : (n : ℕ) (numbers : List ℕ) → list_any (eqb n) numbers ≡ true → IsIn n numbers
 in_found n [] found = absurd (true≢false (sym found))
 in_found n (m ∷ numbers) found = ⊎_elim (λ same. inl same) (λ other. inr (in_found n numbers (let no : eqb n m ≡ false = grind (arith, nat_tests) in rw no at found))) (cases_eq n m)
@@ -29,7 +29,7 @@ apart_of_missing : (n : ℕ) (numbers : List ℕ) → list_any (eqb n) numbers �
 apart_of_missing n numbers missing =
     all_of_members (λ m. eqb n m ≡ false) numbers (λ m in_numbers. ⊎_elim (λ same. absurd (true≢false (sym (found_in n numbers (subst (λ k. IsIn k numbers) (sym same) in_numbers)) ∙ missing))) (λ other. let no : eqb n m ≡ false = grind (arith, nat_tests) in no) (cases_eq n m))
 
--- Numbers from 1 to n, no two the same, are at most n.
+-- A list of distinct numbers from 1 to n has at most n of them.
 pub at_most : (n : ℕ) (numbers : List ℕ) → IsDistinct eqb numbers → AllByRecursion (λ k. (0 < k) × (k ≤ n)) numbers → length numbers ≤ n
 at_most n numbers distinct within =
     let zero_apart = all_of_members (λ m. eqb 0 m ≡ false) numbers (λ m in_numbers. let known : (0 < m) × (m ≤ n) = all_in (λ k. (0 < k) × (k ≤ n)) numbers m within in_numbers in let no : eqb 0 m ≡ false = grind (arith, nat_tests) in no) in
@@ -47,7 +47,7 @@ each_number n numbers are k low high = ⊎_elim (λ found. in_found k numbers fo
     too_long : list_any (eqb k) numbers ≡ false → ⊥
     too_long missing = let long : suc (length numbers) ≤ n = at_most n (k ∷ numbers) (IsDistinct-cons eqb k numbers (apart_of_missing k numbers missing) are.1) ((low, high), are.2) in let is = are.0 in omega arith
 
--- Numbers from 1 to n, no two the same, among which are all of others that are n and differ, are those from 1 to n.
+-- A list has the numbers from 1 to n, each once, if it has distinct numbers of them and all of n other distinct ones.
 pub are_numbers : (n : ℕ) (numbers others : List ℕ) → IsDistinct eqb numbers → AllByRecursion (λ k. (0 < k) × (k ≤ n)) numbers → IsDistinct eqb others → length others ≡ n → ((k : ℕ) → IsIn k others → IsIn k numbers) → AreNumbersTo n numbers
 are_numbers n numbers others distinct within apart long each =
     let most = at_most n numbers distinct within in

@@ -1,4 +1,4 @@
--- Chains of events, as they are made and as they are followed.
+-- Chains of events: how they are built and followed.
 use Rattle.std.proofs.Common.{◌≡◌, ◌≢◌, ℕ, suc, ◌+◌, ◌<◌, ◌≤◌, Bool, true, false, cond, eqb, List, [], ◌∷◌, length, get_or, set, drop, ◌⊎◌, inl, inr, ⊎_elim, refl, sym, ap, ◌∙◌, subst, arith, length-set, get_or-set_other, get_or-set_same, drop-cons, length-drop}
 use Rattle.std.specs.List.{AllByRecursion}
 use Rattle.std.proofs.lemmas.Bool.{cases_eq}
@@ -7,17 +7,17 @@ use Rattle.serial_order.specs.Chains.{AreRising, IsChain, events_of}
 
 -- ---- Following
 
--- Before the end of a chain its event stands first.
+-- Before its end a chain begins with its event.
 pub chain_goes_on : (next : List ℕ) (event : ℕ) (chain : List ℕ) → event < length next → IsChain next event chain → (rest : List ℕ) × (chain ≡ suc event ∷ rest) × IsChain next (get_or next event 0) rest
 chain_goes_on next event [] less is = absurd (omega arith)
 chain_goes_on next event (n ∷ rest) less is = (rest, ap (λ (m : ℕ). m ∷ rest) is.0, is.2)
 
--- At the end nothing is left.
+-- At the end nothing is left of a chain.
 pub chain_ends : (next : List ℕ) (event : ℕ) (chain : List ℕ) → length next ≤ event → IsChain next event chain → chain ≡ []
 chain_ends next event [] high is = refl
 chain_ends next event (n ∷ rest) high is = let less = is.1 in absurd (omega arith)
 
--- ---- Making
+-- ---- Building
 
 events_above : (t n : ℕ) (transactions : List ℕ) → AllByRecursion (λ m. n ≤ m) (events_of t n transactions)
 events_above t n [] = tt
@@ -31,7 +31,7 @@ events_above t n (u ∷ transactions) = by (eqb u t) (higher (events_of t (suc n
     by true rest = (omega arith, rest)
     by false rest = rest
 
--- A chain of events above one stays where what stands behind that one is written.
+-- A chain above an event stays when the event's link is set.
 chain_stays : (next : List ℕ) (k v h : ℕ) (chain : List ℕ) → AllByRecursion (λ m. suc (suc k) ≤ m) chain → IsChain next h chain → IsChain (set next k v) h chain
 chain_stays next k v h [] above is = is ∙ sym (length-set next k v)
 chain_stays next k v h (n ∷ chain) above is =
@@ -42,7 +42,7 @@ chain_stays next k v h (n ∷ chain) above is =
     let within : h < length (set next k v) = rw length-set less in
     (own, within, subst (λ m. IsChain (set next k v) m chain) (sym (get_or-set_other next k h v 0 other)) (chain_stays next k v (get_or next h 0) chain above.1 is.2))
 
--- The first event of a chain is none of those before.
+-- The first event of a chain is not before the others.
 pub first_is_high : (next : List ℕ) (t k h : ℕ) (transactions : List ℕ) → length transactions + k ≡ length next → IsChain next h (events_of t (suc k) transactions) → k ≤ h
 first_is_high next t k h [] long is = omega arith
 first_is_high next t k h (u ∷ transactions) long is = by (eqb u t) (first_is_high next t (suc k) h transactions (omega arith)) is
@@ -51,7 +51,7 @@ first_is_high next t k h (u ∷ transactions) long is = by (eqb u t) (first_is_h
     by true more chain = let own = chain.0 in omega arith
     by false more chain = let high = more chain in omega arith
 
--- One event more is put before the others of its transaction.
+-- One more event is prepended to those of its transaction.
 module _ (transactions first next : List ℕ) (most k : ℕ) (within : k < length transactions) (firsts : length first ≡ suc most) (nexts : length next ≡ length transactions) (p : ℕ) (own : get_or transactions k 0 ≡ p) (below : p ≤ most)
     (chains : (t : ℕ) → t ≤ most → IsChain next (get_or first t 0) (events_of t (suc (suc k)) (drop (suc k) transactions))) where
   pub rising_more : AreRising next → AreRising (set next k (get_or first p 0))

@@ -3,13 +3,13 @@ use Rattle.std.proofs.Common.{◌≡◌, Bool, true, false, cond, List, [], ◌�
 use Rattle.std.specs.List.{AllByRecursion, filter}
 use Rattle.velodrome.specs.Cycles.{IsIn}
 
--- What holds of all elements holds of a member.
+-- What all elements have, a member has.
 pub all_in : {X : Type 0} (P : X → Type 0) (xs : List X) (x : X) → AllByRecursion P xs → IsIn x xs → P x
 all_in P [] x all in_xs = absurd in_xs
 all_in P (y ∷ ys) x all (inl same) = subst P (sym same) all.0
 all_in P (y ∷ ys) x all (inr more) = all_in P ys x all.1 more
 
--- What holds of each member holds of all elements.
+-- What each member has, all elements have.
 pub all_of_members : {X : Type 0} (P : X → Type 0) (xs : List X) → ((x : X) → IsIn x xs → P x) → AllByRecursion P xs
 all_of_members P [] each = tt
 all_of_members P (x ∷ xs) each = (each x (inl refl), all_of_members P xs (λ y more. each y (inr more)))
@@ -28,7 +28,7 @@ in_either x [] ys in_both = inr in_both
 in_either x (z ∷ xs) ys (inl same) = inl (inl same)
 in_either x (z ∷ xs) ys (inr more) = ⊎_elim (λ front. inl (inr front)) (λ back. inr back) (in_either x xs ys more)
 
--- A member has its image in a mapped list, and each of its members is that of one.
+-- A member has its image in a mapped list, and each member of that list is an image.
 pub in_map : {X Y : Type 0} (f : X → Y) (x : X) (xs : List X) → IsIn x xs → IsIn (f x) (map f xs)
 in_map f x [] in_xs = absurd in_xs
 in_map f x (y ∷ ys) (inl same) = inl (ap f same)
@@ -39,7 +39,7 @@ of_map f y [] in_images = absurd in_images
 of_map f y (x ∷ xs) (inl same) = (x, inl refl, sym same)
 of_map f y (x ∷ xs) (inr more) = let rest = of_map f y xs more in (rest.0, inr rest.1, rest.2)
 
--- Members that pass a test are those of the filtered list.
+-- Members that pass a test are members of the filtered list.
 kept_by : {X : Type 0} (test : X → Bool) (b : Bool) (x y : X) (ys : List X) → test y ≡ b → test x ≡ true → (IsIn x ys → IsIn x (filter test ys)) → IsIn x (y ∷ ys) → IsIn x (cond b (y ∷ filter test ys) (filter test ys))
 kept_by test true x y ys is passes more (inl same) = inl same
 kept_by test true x y ys is passes more (inr rest) = inr (more rest)

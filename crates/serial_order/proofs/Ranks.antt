@@ -1,4 +1,4 @@
--- Where each edge leads to a higher rank, no transactions are a cycle.
+-- If each edge leads to a higher rank, no transactions are a cycle.
 use Rattle.std.proofs.Common.{◌≡◌, ℕ, suc, ◌<◌, true, false, cond, eqb, List, [], ◌∷◌, length, inl, inr, ⊎_elim, refl, sym, ap, ◌∙◌, subst, arith, lt_trans}
 use Rattle.std.proofs.lemmas.Bool.{cases_eq}
 use Rattle.std.proofs.lemmas.Bool.Decides.{nat_tests}
@@ -45,7 +45,7 @@ place_rises events (o ∷ order) a b none in_a in_b edge = ⊎_elim
     later c other (inl same) = absurd (other (sym same))
     later c other (inr more) = more
 
--- Where transactions have an order, none are a cycle.
+-- If transactions have an order, none are a cycle.
 pub order_leaves_no_cycle : (lines : Specification) (items : List Item) (order : List ℕ) → IsOrder (walk lines items).events (walk lines items).transactions order → AreAtomic (walk lines items).events
 order_leaves_no_cycle lines items order is transactions cycle = no_cycle (walk lines items).events (place order) rises transactions cycle
   where
@@ -64,7 +64,7 @@ pub begins : List Event → ℕ → ℕ
 begins [] a = 0
 begins (e ∷ serial) a = cond (eqb e.transaction a) 0 (suc (begins serial a))
 
--- Once left, a transaction doesn't come back: so an event of another one that is before one of it can't come in between.
+-- Once left, a transaction doesn't come back. So no event of another transaction can come between two of its events.
 comes_back : (t : ℕ) (g e f : Event) (serial : List Event) → AreInOnePiece (g ∷ serial) → KeepsConflicts serial → g.transaction ≡ t → f.transaction ≡ t → (e.transaction ≡ t → ⊥) → IsIn e serial → IsIn f serial → IsBefore e f → ⊥
 comes_back t g e f [] piece keeps of_g of_f other in_e in_f before = in_e
 comes_back t g e f (h ∷ serial) piece keeps of_g of_f other in_e in_f before = ⊎_elim
@@ -104,7 +104,7 @@ begins_rises (g ∷ serial) e f piece keeps apart in_e in_f before = ⊎_elim
     behind is_f more (inl same) = all_in (λ x. IsBefore x g → ⊥) serial e keeps.0 more (subst (λ (x : Event). IsBefore e x) same before)
     behind is_f more (inr also) = comes_back f.transaction g e f serial piece keeps.1 is_f refl apart more also before
 
--- Each event of a walk stands in a rearrangement of it.
+-- Each event of a trace is in its rearrangement.
 pub stands_in : (lines : Specification) (items : List Item) (numbers : List ℕ) → (r : IsRearrangement (walk lines items).events numbers) → (e : Event) → IsIn e (walk lines items).events → IsIn e r.1
 stands_in lines items numbers r e in_events =
     let counted = walk_counted lines items in
@@ -116,7 +116,7 @@ stands_in lines items numbers r e in_events =
     let same = one_of_number 1 (walk lines items).events found.0 e counted.numbered (all_in (λ f. IsIn f (walk lines items).events) r.1 found.0 r.3 found.1) in_events found.2 in
     subst (λ (f : Event). IsIn f r.1) same found.1
 
--- Where transactions are a cycle, there is no rearrangement.
+-- If transactions are a cycle, there is no rearrangement.
 pub cycle_has_no_rearrangement : (lines : Specification) (items : List Item) (transactions numbers : List ℕ) → IsCycle (walk lines items).events transactions → IsRearrangement (walk lines items).events numbers → ⊥
 cycle_has_no_rearrangement lines items transactions numbers cycle r = no_cycle (walk lines items).events (begins r.1) rises transactions cycle
   where

@@ -1,4 +1,4 @@
--- Two events are of one transaction where their thread stays in atomic methods from the one to the other.
+-- Two events are of one transaction if their thread stays in atomic methods from the one to the other.
 use Rattle.std.proofs.Common.{◌≡◌, ◌↔◌, ℕ, ◌+◌, ◌≤◌, Bool, true, false, ◌==◌, if◌then◌else◌, List, [], ◌∷◌, ◌++◌, length, drop, fold, Option, Some, None, ◌⊎◌, inl, inr, ⊎_elim, refl, sym, ap, ◌∙◌, subst, true≢false, arith}
 use Rattle.std.proofs.lemmas.Option.{none-some, same_Some}
 use Rattle.std.proofs.lemmas.Bool.{cases_Bool, cases_eq, eq-eqb, eqb-true, or_right}
@@ -8,24 +8,24 @@ use Rattle.jvms_machine.specs.declared.trace.Item.TheVariants as item
 use Rattle.velodrome.specs.Conflicts.{thread_of}
 use Rattle.velodrome.specs.Cycles.{IsIn}
 use Rattle.velodrome.specs.Specification.{Specification, is_atomic}
-use Rattle.velodrome.specs.Transactions.{Course, Event, Walk, entered, exited, happened, has_atomic, is_event, next_transaction, opening_walk, walk, walked_on, with_course}
+use Rattle.velodrome.specs.Transactions.{ThreadState, Event, TraceState, entered, exited, happened, has_atomic, is_event, next_transaction, opening_trace_state, walk, state_after_item, with_thread_state}
 use Rattle.serial_order.specs.Spans.{StaysAtomic, open_methods, opened_by}
 use Rattle.serial_order.proofs.Members.{in_back, in_front}
 use Rattle.serial_order.proofs.Walks.{IsCounted, begun_grows, happened_counted, one_of_number, step_counted, walk_counted, within_next}
 
--- ---- What holds of each walk
+-- ---- Facts about each trace state
 
-pub record IsOwned (lines : Specification) (w : Walk) : Type 0 where
+pub record IsOwned (lines : Specification) (w : TraceState) : Type 0 where
   pub counted : IsCounted w
   pub one : (t u n : ℕ) → (w.courses t).transaction ≡ Some n → (w.courses u).transaction ≡ Some n → t ≡ u
   pub atomic : (t n : ℕ) → (w.courses t).transaction ≡ Some n → has_atomic lines (w.courses t).methods ≡ true
 
--- No thread is in this transaction, nor will one be.
-pub record IsOver (n : ℕ) (w : Walk) : Type 0 where
+-- No thread is in transaction n, and none will be.
+pub record IsOver (n : ℕ) (w : TraceState) : Type 0 where
   pub begun : n ≤ w.transactions
   pub none : (t : ℕ) → (w.courses t).transaction ≡ Some n → ⊥
 
--- The next transaction of a course is its own or a new one.
+-- The next transaction of a thread is its own or a new one.
 next_is : (o : Option ℕ) (begun n : ℕ) → next_transaction o begun ≡ n → (o ≡ Some n) ⊎ ((o ≡ None) × (n ≡ begun + 1))
 next_is (Some m) begun n is = inl (ap (λ (k : ℕ). Some k) is)
 next_is None begun n is = inr (refl, sym is)
@@ -41,41 +41,40 @@ kept false h n is = absurd (none-some n is)
 apart_of : (t u : ℕ) → (t == u) ≡ false → t ≡ u → ⊥
 apart_of t u other same = true≢false (sym (eq-eqb t u same) ∙ other)
 
--- What a thread comes to: it stays in the transaction, with an atomic method holds, or it has none holds and the
--- transaction is over.
-abbrev pub Stays : Specification → ℕ → ℕ → Walk → Type 0
+-- The thread stays in transaction n with an atomic method open, or it has none open and the transaction has ended.
+abbrev pub Stays : Specification → ℕ → ℕ → TraceState → Type 0
 Stays lines t n w = (((w.courses t).transaction ≡ Some n) × (has_atomic lines (w.courses t).methods ≡ true)) ⊎ (IsOver n w × (has_atomic lines (w.courses t).methods ≡ false))
 
--- A course that is changed in its methods alone, or that is given up.
-module _ (lines : Specification) (w : Walk) (owned : IsOwned lines w) (t : ℕ) (course : Course)
+-- A thread state with changed methods, or with its transaction ended.
+module _ (lines : Specification) (w : TraceState) (owned : IsOwned lines w) (t : ℕ) (course : ThreadState)
     (keeps : (n : ℕ) → course.transaction ≡ Some n → (w.courses t).transaction ≡ Some n) (atomic : (n : ℕ) → course.transaction ≡ Some n → has_atomic lines course.methods ≡ true) where
-  was : (u n : ℕ) → ((with_course t course w).courses u).transaction ≡ Some n → (w.courses u).transaction ≡ Some n
-  was u n = chosen (λ (c : Course). c.transaction ≡ Some n → (w.courses u).transaction ≡ Some n) (u == t) course (w.courses u) (λ same is. subst (λ v. (w.courses v).transaction ≡ Some n) (sym (eqb-true u t same)) (keeps n is)) (λ other is. is)
+  was : (u n : ℕ) → ((with_thread_state t course w).courses u).transaction ≡ Some n → (w.courses u).transaction ≡ Some n
+  was u n = chosen (λ (c : ThreadState). c.transaction ≡ Some n → (w.courses u).transaction ≡ Some n) (u == t) course (w.courses u) (λ same is. subst (λ v. (w.courses v).transaction ≡ Some n) (sym (eqb-true u t same)) (keeps n is)) (λ other is. is)
 
-  pub marked_owned : IsCounted (with_course t course w) → IsOwned lines (with_course t course w)
+  pub marked_owned : IsCounted (with_thread_state t course w) → IsOwned lines (with_thread_state t course w)
   marked_owned counted = record {
     counted = counted;
     one = λ u v n is too. owned.one u v n (was u n is) (was v n too);
-    atomic = λ u n. chosen (λ (c : Course). c.transaction ≡ Some n → has_atomic lines c.methods ≡ true) (u == t) course (w.courses u) (λ same is. atomic n is) (λ other is. owned.atomic u n is);
+    atomic = λ u n. chosen (λ (c : ThreadState). c.transaction ≡ Some n → has_atomic lines c.methods ≡ true) (u == t) course (w.courses u) (λ same is. atomic n is) (λ other is. owned.atomic u n is);
   }
 
-  pub marked_over : (n : ℕ) → IsOver n w → IsOver n (with_course t course w)
+  pub marked_over : (n : ℕ) → IsOver n w → IsOver n (with_thread_state t course w)
   marked_over n over = record { begun = over.begun; none = λ u is. over.none u (was u n is) }
 
   -- Another thread stays.
-  pub marked_other : (u n : ℕ) → (u ≡ t → ⊥) → (w.courses u).transaction ≡ Some n → Stays lines u n (with_course t course w)
-  marked_other u n other is = inl (chosen (λ (c : Course). (c.transaction ≡ Some n) × (has_atomic lines c.methods ≡ true)) (u == t) course (w.courses u) (λ same. absurd (other (eqb-true u t same))) (λ apart. (is, owned.atomic u n is)))
+  pub marked_other : (u n : ℕ) → (u ≡ t → ⊥) → (w.courses u).transaction ≡ Some n → Stays lines u n (with_thread_state t course w)
+  marked_other u n other is = inl (chosen (λ (c : ThreadState). (c.transaction ≡ Some n) × (has_atomic lines c.methods ≡ true)) (u == t) course (w.courses u) (λ same. absurd (other (eqb-true u t same))) (λ apart. (is, owned.atomic u n is)))
 
-  -- The thread itself stays where its course does, and else the transaction is over.
-  pub marked_own : (n : ℕ) → n ≤ w.transactions → (w.courses t).transaction ≡ Some n → (course.transaction ≡ Some n) ⊎ ((course.transaction ≡ None) × (has_atomic lines course.methods ≡ false)) → Stays lines t n (with_course t course w)
-  marked_own n begun is (inl stays) = inl (chosen (λ (c : Course). (c.transaction ≡ Some n) × (has_atomic lines c.methods ≡ true)) (t == t) course (w.courses t) (λ same. (stays, atomic n stays)) (λ apart. absurd (apart_of t t apart refl)))
-  marked_own n begun is (inr left) = inr (record { begun = begun; none = none }, chosen (λ (c : Course). has_atomic lines c.methods ≡ false) (t == t) course (w.courses t) (λ same. left.1) (λ apart. absurd (apart_of t t apart refl)))
+  -- The thread itself stays if its new state does, and else the transaction has ended.
+  pub marked_own : (n : ℕ) → n ≤ w.transactions → (w.courses t).transaction ≡ Some n → (course.transaction ≡ Some n) ⊎ ((course.transaction ≡ None) × (has_atomic lines course.methods ≡ false)) → Stays lines t n (with_thread_state t course w)
+  marked_own n begun is (inl stays) = inl (chosen (λ (c : ThreadState). (c.transaction ≡ Some n) × (has_atomic lines c.methods ≡ true)) (t == t) course (w.courses t) (λ same. (stays, atomic n stays)) (λ apart. absurd (apart_of t t apart refl)))
+  marked_own n begun is (inr left) = inr (record { begun = begun; none = none }, chosen (λ (c : ThreadState). has_atomic lines c.methods ≡ false) (t == t) course (w.courses t) (λ same. left.1) (λ apart. absurd (apart_of t t apart refl)))
     where
-      none : (u : ℕ) → ((with_course t course w).courses u).transaction ≡ Some n → ⊥
-      none u = chosen (λ (c : Course). c.transaction ≡ Some n → ⊥) (u == t) course (w.courses u) (λ same too. none-some n (sym left.0 ∙ too)) (λ apart too. apart_of u t apart (owned.one u t n too is))
+      none : (u : ℕ) → ((with_thread_state t course w).courses u).transaction ≡ Some n → ⊥
+      none u = chosen (λ (c : ThreadState). c.transaction ≡ Some n → ⊥) (u == t) course (w.courses u) (λ same too. none-some n (sym left.0 ∙ too)) (λ apart too. apart_of u t apart (owned.one u t n too is))
 
--- An event in a thread.
-module _ (lines : Specification) (w : Walk) (owned : IsOwned lines w) (i : Item) where
+-- One event of a thread.
+module _ (lines : Specification) (w : TraceState) (owned : IsOwned lines w) (i : Item) where
   abbrev own : Option ℕ
   own = (w.courses (thread_of i)).transaction
 
@@ -85,17 +84,17 @@ module _ (lines : Specification) (w : Walk) (owned : IsOwned lines w) (i : Item)
   abbrev goes_on : Bool
   goes_on = has_atomic lines (w.courses (thread_of i)).methods
 
-  abbrev then_is : Walk
+  abbrev then_is : TraceState
   then_is = happened lines i (w.courses (thread_of i)) here w
 
-  -- Who is in a transaction behind the event: its thread, in that of the event, or another as before.
+  -- After the event, its thread is in its transaction, and every other thread is where it was.
   after : (u n : ℕ) → (then_is.courses u).transaction ≡ Some n → ((u ≡ thread_of i) × (n ≡ here) × (goes_on ≡ true)) ⊎ ((u ≡ thread_of i → ⊥) × ((w.courses u).transaction ≡ Some n))
-  after u n = chosen (λ (c : Course). c.transaction ≡ Some n → ((u ≡ thread_of i) × (n ≡ here) × (goes_on ≡ true)) ⊎ ((u ≡ thread_of i → ⊥) × ((w.courses u).transaction ≡ Some n))) (u == thread_of i) _ (w.courses u)
+  after u n = chosen (λ (c : ThreadState). c.transaction ≡ Some n → ((u ≡ thread_of i) × (n ≡ here) × (goes_on ≡ true)) ⊎ ((u ≡ thread_of i → ⊥) × ((w.courses u).transaction ≡ Some n))) (u == thread_of i) _ (w.courses u)
       (λ same is. let found = kept goes_on here n is in inl (eqb-true u (thread_of i) same, found.0, found.1))
       (λ other is. inr (apart_of u (thread_of i) other, is))
 
   pub methods_stay : (u : ℕ) → (then_is.courses u).methods ≡ (w.courses u).methods
-  methods_stay u = chosen (λ (c : Course). c.methods ≡ (w.courses u).methods) (u == thread_of i) _ (w.courses u) (λ same. ap (λ (v : ℕ). (w.courses v).methods) (sym (eqb-true u (thread_of i) same))) (λ other. refl)
+  methods_stay u = chosen (λ (c : ThreadState). c.methods ≡ (w.courses u).methods) (u == thread_of i) _ (w.courses u) (λ same. ap (λ (v : ℕ). (w.courses v).methods) (sym (eqb-true u (thread_of i) same))) (λ other. refl)
 
   -- No other thread is in the transaction of the event.
   alone : (u : ℕ) → (u ≡ thread_of i → ⊥) → (w.courses u).transaction ≡ Some here → ⊥
@@ -121,7 +120,7 @@ module _ (lines : Specification) (w : Walk) (owned : IsOwned lines w) (i : Item)
       holds t n (inl is) = subst (λ u. has_atomic lines (w.courses u).methods ≡ true) (sym is.0) is.2
       holds t n (inr is) = owned.atomic t n is.1
 
-  -- The event isn't of a transaction that is over.
+  -- The event isn't of a transaction that has ended.
   pub not_over : (n : ℕ) → IsOver n w → n ≡ here → ⊥
   not_over n over same = ⊎_elim
       (λ mine. over.none (thread_of i) (mine ∙ ap (λ (k : ℕ). Some k) (sym same)))
@@ -138,9 +137,9 @@ module _ (lines : Specification) (w : Walk) (owned : IsOwned lines w) (i : Item)
       none u (inl is) = not_over n over is.1
       none u (inr is) = over.none u is.1
 
-  -- A thread that is in a transaction stays.
+  -- A thread that is in a transaction stays in it.
   pub event_stays : (t n : ℕ) → (w.courses t).transaction ≡ Some n → Stays lines t n then_is
-  event_stays t n is = inl (chosen (λ (c : Course). c.transaction ≡ Some n) (t == thread_of i) _ (w.courses t) mine (λ other. is), subst (λ methods. has_atomic lines methods ≡ true) (sym (methods_stay t)) (owned.atomic t n is))
+  event_stays t n is = inl (chosen (λ (c : ThreadState). c.transaction ≡ Some n) (t == thread_of i) _ (w.courses t) mine (λ other. is), subst (λ methods. has_atomic lines methods ≡ true) (sym (methods_stay t)) (owned.atomic t n is))
     where
       mine : (t == thread_of i) ≡ true → (if goes_on then Some here else None) ≡ Some n
       mine same =
@@ -149,15 +148,15 @@ module _ (lines : Specification) (w : Walk) (owned : IsOwned lines w) (i : Item)
           let number : here ≡ n = ap (λ (o : Option ℕ). next_transaction o w.transactions) held in
           rw holds (ap (λ (k : ℕ). Some k) number)
 
-  -- Behind the event its thread is in its transaction, or this is over.
+  -- After the event its thread is in its transaction, or that has ended.
   pub event_begins : Stays lines (thread_of i) here then_is
-  event_begins = ⊎_elim (λ holds. inl (chosen (λ (c : Course). c.transaction ≡ Some here) (thread_of i == thread_of i) _ (w.courses (thread_of i)) (λ same. rw holds refl) (λ other. absurd (apart_of (thread_of i) (thread_of i) other refl)), subst (λ methods. has_atomic lines methods ≡ true) (sym (methods_stay (thread_of i))) holds)) (λ shut. inr (record { begun = (within_next own w.transactions (owned.counted.current (thread_of i))).1; none = λ u is. none shut u (after u here is) }, subst (λ methods. has_atomic lines methods ≡ false) (sym (methods_stay (thread_of i))) shut)) (cases_Bool goes_on)
+  event_begins = ⊎_elim (λ holds. inl (chosen (λ (c : ThreadState). c.transaction ≡ Some here) (thread_of i == thread_of i) _ (w.courses (thread_of i)) (λ same. rw holds refl) (λ other. absurd (apart_of (thread_of i) (thread_of i) other refl)), subst (λ methods. has_atomic lines methods ≡ true) (sym (methods_stay (thread_of i))) holds)) (λ shut. inr (record { begun = (within_next own w.transactions (owned.counted.current (thread_of i))).1; none = λ u is. none shut u (after u here is) }, subst (λ methods. has_atomic lines methods ≡ false) (sym (methods_stay (thread_of i))) shut)) (cases_Bool goes_on)
     where
       none : goes_on ≡ false → (u : ℕ) → ((u ≡ thread_of i) × (here ≡ here) × (goes_on ≡ true)) ⊎ ((u ≡ thread_of i → ⊥) × ((w.courses u).transaction ≡ Some here)) → ⊥
       none shut u (inl is) = true≢false (sym is.2 ∙ shut)
       none shut u (inr is) = alone u is.0 is.1
 
-  -- An event is of a thread's transaction where it is of the thread.
+  -- If a thread is in a transaction, its event is of that transaction.
   pub of_own : (t n : ℕ) → (w.courses t).transaction ≡ Some n → t ≡ thread_of i → n ≡ here
   of_own t n is same = sym (ap (λ (o : Option ℕ). next_transaction o w.transactions) (subst (λ u. (w.courses u).transaction ≡ Some n) same is))
 
@@ -170,8 +169,8 @@ kept_own : (b : Bool) (o : Option ℕ) (n : ℕ) → (if b then o else None) ≡
 kept_own true o n is = (is, refl)
 kept_own false o n is = absurd (none-some n is)
 
-event_is : (lines : Specification) (w : Walk) (i : Item) → is_event i ≡ true → walked_on lines w i ≡ happened lines i (w.courses (thread_of i)) (next_transaction (w.courses (thread_of i)).transaction w.transactions) w
-unfolding walked_on
+event_is : (lines : Specification) (w : TraceState) (i : Item) → is_event i ≡ true → state_after_item lines w i ≡ happened lines i (w.courses (thread_of i)) (next_transaction (w.courses (thread_of i)).transaction w.transactions) w
+unfolding state_after_item
 event_is lines w (item.Read t v) is = refl
 event_is lines w (item.Write t v) is = refl
 event_is lines w (item.Acquire t r) is = refl
@@ -192,34 +191,34 @@ by_event P event enter exit (item.Join t u) = event (item.Join t u) refl
 by_event P event enter exit (item.Enter t m) = enter t m
 by_event P event enter exit (item.Exit t m) = exit t m
 
-module _ (lines : Specification) (w : Walk) (owned : IsOwned lines w) where
+module _ (lines : Specification) (w : TraceState) (owned : IsOwned lines w) where
   entered_holds : (t : ℕ) (m : MethodKey) (n : ℕ) → (w.courses t).transaction ≡ Some n → has_atomic lines (m ∷ (w.courses t).methods) ≡ true
   entered_holds t m n is = or_right (is_atomic lines m) (has_atomic lines (w.courses t).methods) (owned.atomic t n is)
 
-  pub owned_step : (i : Item) → IsOwned lines (walked_on lines w i)
-  unfolding walked_on
-  owned_step = by_event (λ i. IsOwned lines (walked_on lines w i))
+  pub owned_step : (i : Item) → IsOwned lines (state_after_item lines w i)
+  unfolding state_after_item
+  owned_step = by_event (λ i. IsOwned lines (state_after_item lines w i))
       (λ i is. subst (IsOwned lines) (sym (event_is lines w i is)) (event_owned lines w owned i))
       (λ t m. marked_owned lines w owned t (entered m (w.courses t)) (λ n is. is) (entered_holds t m) (step_counted lines w (item.Enter t m) owned.counted))
       (λ t m. marked_owned lines w owned t (exited lines (w.courses t)) (λ n is. (kept_own _ _ n is).0) (λ n is. (kept_own _ _ n is).1) (step_counted lines w (item.Exit t m) owned.counted))
 
-  pub over_step : (n : ℕ) → IsOver n w → (i : Item) → IsOver n (walked_on lines w i)
-  unfolding walked_on
-  over_step n over = by_event (λ i. IsOver n (walked_on lines w i))
+  pub over_step : (n : ℕ) → IsOver n w → (i : Item) → IsOver n (state_after_item lines w i)
+  unfolding state_after_item
+  over_step n over = by_event (λ i. IsOver n (state_after_item lines w i))
       (λ i is. subst (IsOver n) (sym (event_is lines w i is)) (event_over lines w owned i n over))
       (λ t m. marked_over lines w owned t (entered m (w.courses t)) (λ k is. is) (entered_holds t m) n over)
       (λ t m. marked_over lines w owned t (exited lines (w.courses t)) (λ k is. (kept_own _ _ k is).0) (λ k is. (kept_own _ _ k is).1) n over)
 
-  pub stays_step : (t n : ℕ) → (w.courses t).transaction ≡ Some n → (i : Item) → Stays lines t n (walked_on lines w i)
-  unfolding walked_on
-  stays_step t n is = by_event (λ i. Stays lines t n (walked_on lines w i))
+  pub stays_step : (t n : ℕ) → (w.courses t).transaction ≡ Some n → (i : Item) → Stays lines t n (state_after_item lines w i)
+  unfolding state_after_item
+  stays_step t n is = by_event (λ i. Stays lines t n (state_after_item lines w i))
       (λ i event. subst (Stays lines t n) (sym (event_is lines w i event)) (event_stays lines w owned i t n is))
       (λ u m. ⊎_elim
-      (λ same. subst (λ v. Stays lines v n (with_course u (entered m (w.courses u)) w)) (sym same) (marked_own lines w owned u (entered m (w.courses u)) (λ k held. held) (entered_holds u m) n begun (moved u same) (inl (moved u same))))
+      (λ same. subst (λ v. Stays lines v n (with_thread_state u (entered m (w.courses u)) w)) (sym same) (marked_own lines w owned u (entered m (w.courses u)) (λ k held. held) (entered_holds u m) n begun (moved u same) (inl (moved u same))))
       (λ other. marked_other lines w owned u (entered m (w.courses u)) (λ k held. held) (entered_holds u m) t n other is)
       (cases_eq t u))
       (λ u m. ⊎_elim
-      (λ same. subst (λ v. Stays lines v n (with_course u (exited lines (w.courses u)) w)) (sym same) (marked_own lines w owned u (exited lines (w.courses u)) (λ k held. (kept_own _ _ k held).0) (λ k held. (kept_own _ _ k held).1) n begun (moved u same) (left u (moved u same) (cases_Bool (has_atomic lines (drop 1 (w.courses u).methods))))))
+      (λ same. subst (λ v. Stays lines v n (with_thread_state u (exited lines (w.courses u)) w)) (sym same) (marked_own lines w owned u (exited lines (w.courses u)) (λ k held. (kept_own _ _ k held).0) (λ k held. (kept_own _ _ k held).1) n begun (moved u same) (left u (moved u same) (cases_Bool (has_atomic lines (drop 1 (w.courses u).methods))))))
       (λ other. marked_other lines w owned u (exited lines (w.courses u)) (λ k held. (kept_own _ _ k held).0) (λ k held. (kept_own _ _ k held).1) t n other is)
       (cases_eq t u))
     where
@@ -234,12 +233,12 @@ module _ (lines : Specification) (w : Walk) (owned : IsOwned lines w) where
       left u held (inl more) = inl (rw more held)
       left u held (inr shut) = inr (rw shut refl, shut)
 
-  pub methods_step : (t : ℕ) (i : Item) → ((walked_on lines w i).courses t).methods ≡ opened_by t (w.courses t).methods i
-  unfolding walked_on
-  methods_step t (item.Enter u m) = chosen (λ (c : Course). c.methods ≡ opened_by t (w.courses t).methods (item.Enter u m)) (t == u) (entered m (w.courses u)) (w.courses t)
+  pub methods_step : (t : ℕ) (i : Item) → ((state_after_item lines w i).courses t).methods ≡ opened_by t (w.courses t).methods i
+  unfolding state_after_item
+  methods_step t (item.Enter u m) = chosen (λ (c : ThreadState). c.methods ≡ opened_by t (w.courses t).methods (item.Enter u m)) (t == u) (entered m (w.courses u)) (w.courses t)
       (λ same. rw same (ap (λ (v : ℕ). m ∷ (w.courses v).methods) (sym (eqb-true t u same))))
       (λ other. rw other refl)
-  methods_step t (item.Exit u m) = chosen (λ (c : Course). c.methods ≡ opened_by t (w.courses t).methods (item.Exit u m)) (t == u) (exited lines (w.courses u)) (w.courses t)
+  methods_step t (item.Exit u m) = chosen (λ (c : ThreadState). c.methods ≡ opened_by t (w.courses t).methods (item.Exit u m)) (t == u) (exited lines (w.courses u)) (w.courses t)
       (λ same. rw same (ap (λ (v : ℕ). drop 1 (w.courses v).methods) (sym (eqb-true t u same))))
       (λ other. rw other refl)
   methods_step t (item.Read u v) = methods_stay lines w owned (item.Read u v) t
@@ -251,106 +250,106 @@ module _ (lines : Specification) (w : Walk) (owned : IsOwned lines w) where
 
 -- ---- Many items
 
-owned_all : (lines : Specification) (w : Walk) (items : List Item) → IsOwned lines w → IsOwned lines (fold (walked_on lines) w items)
+owned_all : (lines : Specification) (w : TraceState) (items : List Item) → IsOwned lines w → IsOwned lines (fold (state_after_item lines) w items)
 owned_all lines w [] owned = owned
-owned_all lines w (i ∷ items) owned = owned_all lines (walked_on lines w i) items (owned_step lines w owned i)
+owned_all lines w (i ∷ items) owned = owned_all lines (state_after_item lines w i) items (owned_step lines w owned i)
 
-over_all : (lines : Specification) (w : Walk) (items : List Item) → IsOwned lines w → (n : ℕ) → IsOver n w → IsOver n (fold (walked_on lines) w items)
+over_all : (lines : Specification) (w : TraceState) (items : List Item) → IsOwned lines w → (n : ℕ) → IsOver n w → IsOver n (fold (state_after_item lines) w items)
 over_all lines w [] owned n over = over
-over_all lines w (i ∷ items) owned n over = over_all lines (walked_on lines w i) items (owned_step lines w owned i) n (over_step lines w owned n over i)
+over_all lines w (i ∷ items) owned n over = over_all lines (state_after_item lines w i) items (owned_step lines w owned i) n (over_step lines w owned n over i)
 
-methods_all : (lines : Specification) (w : Walk) (items : List Item) → IsOwned lines w → (t : ℕ) → ((fold (walked_on lines) w items).courses t).methods ≡ fold (opened_by t) (w.courses t).methods items
+methods_all : (lines : Specification) (w : TraceState) (items : List Item) → IsOwned lines w → (t : ℕ) → ((fold (state_after_item lines) w items).courses t).methods ≡ fold (opened_by t) (w.courses t).methods items
 methods_all lines w [] owned t = refl
-methods_all lines w (i ∷ items) owned t = methods_all lines (walked_on lines w i) items (owned_step lines w owned i) t ∙ ap (λ (methods : List MethodKey). fold (opened_by t) methods items) (methods_step lines w owned t i)
+methods_all lines w (i ∷ items) owned t = methods_all lines (state_after_item lines w i) items (owned_step lines w owned i) t ∙ ap (λ (methods : List MethodKey). fold (opened_by t) methods items) (methods_step lines w owned t i)
 
 fold_append : {A X : Type 0} (f : A → X → A) (a : A) (xs ys : List X) → fold f a (xs ++ ys) ≡ fold f (fold f a xs) ys
 fold_append f a [] ys = refl
 fold_append f a (x ∷ xs) ys = fold_append f (f a x) xs ys
 
--- Through items a thread stays in a transaction, or it has no atomic method open behind some of them.
-abbrev pub Through : Specification → ℕ → ℕ → Walk → List Item → Type 0
+-- Through the items a thread stays in a transaction, or it has no atomic method open after some of them.
+abbrev pub Through : Specification → ℕ → ℕ → TraceState → List Item → Type 0
 Through lines t n w between =
-    ((((fold (walked_on lines) w between).courses t).transaction ≡ Some n) × ((some rest : List Item) → between ≡ some ++ rest → has_atomic lines ((fold (walked_on lines) w some).courses t).methods ≡ true))
-    ⊎ (IsOver n (fold (walked_on lines) w between) × (some : List Item) × (rest : List Item) × (between ≡ some ++ rest) × (has_atomic lines ((fold (walked_on lines) w some).courses t).methods ≡ false))
+    ((((fold (state_after_item lines) w between).courses t).transaction ≡ Some n) × ((some rest : List Item) → between ≡ some ++ rest → has_atomic lines ((fold (state_after_item lines) w some).courses t).methods ≡ true))
+    ⊎ (IsOver n (fold (state_after_item lines) w between) × (some : List Item) × (rest : List Item) × (between ≡ some ++ rest) × (has_atomic lines ((fold (state_after_item lines) w some).courses t).methods ≡ false))
 
-pub through : (lines : Specification) (w : Walk) (between : List Item) → IsOwned lines w → (t n : ℕ) → Stays lines t n w → Through lines t n w between
+pub through : (lines : Specification) (w : TraceState) (between : List Item) → IsOwned lines w → (t n : ℕ) → Stays lines t n w → Through lines t n w between
 through lines w [] owned t n (inl stays) = inl (stays.0, only)
   where
-    only : (some rest : List Item) → [] ≡ some ++ rest → has_atomic lines ((fold (walked_on lines) w some).courses t).methods ≡ true
+    only : (some rest : List Item) → [] ≡ some ++ rest → has_atomic lines ((fold (state_after_item lines) w some).courses t).methods ≡ true
     only [] rest is = stays.1
     only (i ∷ some) rest is = cc
 through lines w [] owned t n (inr over) = inr (over.0, [], [], refl, over.1)
-through lines w (i ∷ between) owned t n (inl stays) = more (through lines (walked_on lines w i) between (owned_step lines w owned i) t n (stays_step lines w owned t n stays.0 i))
+through lines w (i ∷ between) owned t n (inl stays) = more (through lines (state_after_item lines w i) between (owned_step lines w owned i) t n (stays_step lines w owned t n stays.0 i))
   where
-    more : Through lines t n (walked_on lines w i) between → Through lines t n w (i ∷ between)
+    more : Through lines t n (state_after_item lines w i) between → Through lines t n w (i ∷ between)
     more (inl all) = inl (all.0, each)
       where
-        each : (some rest : List Item) → i ∷ between ≡ some ++ rest → has_atomic lines ((fold (walked_on lines) w some).courses t).methods ≡ true
+        each : (some rest : List Item) → i ∷ between ≡ some ++ rest → has_atomic lines ((fold (state_after_item lines) w some).courses t).methods ≡ true
         each [] rest is = stays.1
         each (j ∷ some) rest is =
             let same : i ≡ j = cc in
             let behind : between ≡ some ++ rest = cc in
-            subst (λ k. has_atomic lines ((fold (walked_on lines) (walked_on lines w k) some).courses t).methods ≡ true) same (all.1 some rest behind)
+            subst (λ k. has_atomic lines ((fold (state_after_item lines) (state_after_item lines w k) some).courses t).methods ≡ true) same (all.1 some rest behind)
     more (inr over) = inr (over.0, i ∷ over.1, over.2, ap (λ (items : List Item). i ∷ items) over.3, over.4)
-through lines w (i ∷ between) owned t n (inr over) = inr (over_all lines (walked_on lines w i) between (owned_step lines w owned i) n (over_step lines w owned n over.0 i), [], i ∷ between, refl, over.1)
+through lines w (i ∷ between) owned t n (inr over) = inr (over_all lines (state_after_item lines w i) between (owned_step lines w owned i) n (over_step lines w owned n over.0 i), [], i ∷ between, refl, over.1)
 
 -- ---- Two events
 
-kept_events : (lines : Specification) (w : Walk) (i : Item) (e : Event) → IsIn e w.events → IsIn e (walked_on lines w i).events
-unfolding walked_on
-kept_events lines w i e in_events = by_event (λ j. IsIn e (walked_on lines w j).events)
+kept_events : (lines : Specification) (w : TraceState) (i : Item) (e : Event) → IsIn e w.events → IsIn e (state_after_item lines w i).events
+unfolding state_after_item
+kept_events lines w i e in_events = by_event (λ j. IsIn e (state_after_item lines w j).events)
     (λ j is. subst (λ v. IsIn e v.events) (sym (event_is lines w j is)) (in_front e w.events _ in_events))
     (λ t m. in_events)
     (λ t m. in_events)
     i
 
-kept_all : (lines : Specification) (w : Walk) (items : List Item) (e : Event) → IsIn e w.events → IsIn e (fold (walked_on lines) w items).events
+kept_all : (lines : Specification) (w : TraceState) (items : List Item) (e : Event) → IsIn e w.events → IsIn e (fold (state_after_item lines) w items).events
 kept_all lines w [] e in_events = in_events
-kept_all lines w (i ∷ items) e in_events = kept_all lines (walked_on lines w i) items e (kept_events lines w i e in_events)
+kept_all lines w (i ∷ items) e in_events = kept_all lines (state_after_item lines w i) items e (kept_events lines w i e in_events)
 
--- The transaction of the event that an item is, where it is the next one.
-abbrev coming : Walk → Item → ℕ
+-- Returns the transaction of the next item if it is an event.
+abbrev coming : TraceState → Item → ℕ
 coming w i = next_transaction (w.courses (thread_of i)).transaction w.transactions
 
-abbrev made : Walk → Item → Event
+abbrev made : TraceState → Item → Event
 made w i = record { number = length w.events + 1; transaction = coming w i; item = i }
 
-made_in : (lines : Specification) (w : Walk) (i : Item) → is_event i ≡ true → IsIn (made w i) (walked_on lines w i).events
+made_in : (lines : Specification) (w : TraceState) (i : Item) → is_event i ≡ true → IsIn (made w i) (state_after_item lines w i).events
 made_in lines w i is = subst (λ v. IsIn (made w i) v.events) (sym (event_is lines w i is)) (in_back (made w i) w.events (made w i ∷ []) (inl refl))
 
 walk_owned : (lines : Specification) (items : List Item) → IsOwned lines (walk lines items)
 unfolding walk
-walk_owned lines items = owned_all lines opening_walk items (record { counted = walk_counted lines []; one = λ t u n is too. absurd (none-some n is); atomic = λ t n is. absurd (none-some n is) })
+walk_owned lines items = owned_all lines opening_trace_state items (record { counted = walk_counted lines []; one = λ t u n is too. absurd (none-some n is); atomic = λ t n is. absurd (none-some n is) })
 
-walk_append : (lines : Specification) (xs ys : List Item) → walk lines (xs ++ ys) ≡ fold (walked_on lines) (walk lines xs) ys
+walk_append : (lines : Specification) (xs ys : List Item) → walk lines (xs ++ ys) ≡ fold (state_after_item lines) (walk lines xs) ys
 unfolding walk
-walk_append lines xs ys = fold_append (walked_on lines) opening_walk xs ys
+walk_append lines xs ys = fold_append (state_after_item lines) opening_trace_state xs ys
 
 walk_methods : (lines : Specification) (items : List Item) (t : ℕ) → ((walk lines items).courses t).methods ≡ open_methods t items
 unfolding walk
-walk_methods lines items t = methods_all lines opening_walk items (walk_owned lines []) t
+walk_methods lines items t = methods_all lines opening_trace_state items (walk_owned lines []) t
 
 module _ (lines : Specification) (before between after : List Item) (i j : Item) (i_is : is_event i ≡ true) (j_is : is_event j ≡ true) where
-  abbrev at_i : Walk
+  abbrev at_i : TraceState
   at_i = walk lines before
 
-  abbrev behind_i : Walk
-  behind_i = walked_on lines at_i i
+  abbrev behind_i : TraceState
+  behind_i = state_after_item lines at_i i
 
-  abbrev at_j : Walk
-  at_j = fold (walked_on lines) behind_i between
+  abbrev at_j : TraceState
+  at_j = fold (state_after_item lines) behind_i between
 
   abbrev whole : List Item
   whole = before ++ i ∷ (between ++ j ∷ after)
 
-  whole_is : walk lines whole ≡ fold (walked_on lines) (walked_on lines at_j j) after
-  whole_is = walk_append lines before (i ∷ (between ++ j ∷ after)) ∙ fold_append (walked_on lines) behind_i between (j ∷ after)
+  whole_is : walk lines whole ≡ fold (state_after_item lines) (state_after_item lines at_j j) after
+  whole_is = walk_append lines before (i ∷ (between ++ j ∷ after)) ∙ fold_append (state_after_item lines) behind_i between (j ∷ after)
 
   first_in : IsIn (made at_i i) (walk lines whole).events
-  first_in = subst (λ w. IsIn (made at_i i) w.events) (sym whole_is) (kept_all lines (walked_on lines at_j j) after (made at_i i) (kept_events lines at_j j (made at_i i) (kept_all lines behind_i between (made at_i i) (made_in lines at_i i i_is))))
+  first_in = subst (λ w. IsIn (made at_i i) w.events) (sym whole_is) (kept_all lines (state_after_item lines at_j j) after (made at_i i) (kept_events lines at_j j (made at_i i) (kept_all lines behind_i between (made at_i i) (made_in lines at_i i i_is))))
 
   second_in : IsIn (made at_j j) (walk lines whole).events
-  second_in = subst (λ w. IsIn (made at_j j) w.events) (sym whole_is) (kept_all lines (walked_on lines at_j j) after (made at_j j) (made_in lines at_j j j_is))
+  second_in = subst (λ w. IsIn (made at_j j) w.events) (sym whole_is) (kept_all lines (state_after_item lines at_j j) after (made at_j j) (made_in lines at_j j j_is))
 
   owned_i : IsOwned lines at_i
   owned_i = walk_owned lines before
@@ -364,9 +363,9 @@ module _ (lines : Specification) (before between after : List Item) (i j : Item)
   begins_at : Stays lines (thread_of i) (coming at_i i) behind_i
   begins_at = subst (Stays lines (thread_of i) (coming at_i i)) (sym (event_is lines at_i i i_is)) (event_begins lines at_i owned_i i)
 
-  -- The methods that are open behind some of the items between.
-  open_then : (some : List Item) → ((fold (walked_on lines) behind_i some).courses (thread_of i)).methods ≡ open_methods (thread_of i) ((before ++ i ∷ []) ++ some)
-  open_then some = ap (λ (w : Walk). (w.courses (thread_of i)).methods) (sym (walk_append lines (before ++ i ∷ []) some ∙ ap (λ (w : Walk). fold (walked_on lines) w some) (walk_append lines before (i ∷ [])))) ∙ walk_methods lines ((before ++ i ∷ []) ++ some) (thread_of i)
+  -- The methods that are open after some of the items between.
+  open_then : (some : List Item) → ((fold (state_after_item lines) behind_i some).courses (thread_of i)).methods ≡ open_methods (thread_of i) ((before ++ i ∷ []) ++ some)
+  open_then some = ap (λ (w : TraceState). (w.courses (thread_of i)).methods) (sym (walk_append lines (before ++ i ∷ []) some ∙ ap (λ (w : TraceState). fold (state_after_item lines) w some) (walk_append lines before (i ∷ [])))) ∙ walk_methods lines ((before ++ i ∷ []) ++ some) (thread_of i)
 
   same_transaction : (coming at_i i ≡ coming at_j j) ↔ ((thread_of i ≡ thread_of j) × StaysAtomic lines (thread_of i) (before ++ i ∷ []) between)
   same_transaction = of (through lines behind_i between owned_behind (thread_of i) (coming at_i i) begins_at)
@@ -392,4 +391,4 @@ module _ (lines : Specification) (before between after : List Item) (i j : Item)
       e_own = ap (λ (g : Event). g.transaction) (one_of_number 1 (walk lines whole).events e (made at_i i) counted.numbered in_e first_in e_is)
 
       f_own : f.transaction ≡ coming at_j j
-      f_own = ap (λ (g : Event). g.transaction) (one_of_number 1 (walk lines whole).events f (made at_j j) counted.numbered in_f second_in (f_is ∙ ap (λ (w : Walk). length w.events + 1) (walk_append lines before (i ∷ between))))
+      f_own = ap (λ (g : Event). g.transaction) (one_of_number 1 (walk lines whole).events f (made at_j j) counted.numbered in_f second_in (f_is ∙ ap (λ (w : TraceState). length w.events + 1) (walk_append lines before (i ∷ between))))

@@ -19,7 +19,7 @@ round_of_first n events first [] round = round
 round_of_first n events first (a ∷ []) round = edge_of_first n events a first round
 round_of_first n events first (a ∷ b ∷ transactions) round = (edge_of_first n events a b round.0, round_of_first n events first (b ∷ transactions) round.1)
 
--- A cycle of the first events is one of all.
+-- A cycle of the first events is a cycle of all.
 cycle_of_first : (n : ℕ) (events : List Event) (transactions : List ℕ) → IsCycle (take n events) transactions → IsCycle events transactions
 cycle_of_first n events [] cycle = cycle
 cycle_of_first n events (a ∷ transactions) cycle = (cycle.0, cycle.1, round_of_first n events a (a ∷ transactions) cycle.2)

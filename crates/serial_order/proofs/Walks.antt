@@ -1,4 +1,4 @@
--- The events of a walk are numbered from 1 in order, and their transactions from 1 on.
+-- The events of a trace are numbered from 1 in order, and so are their transactions.
 use Rattle.std.proofs.Common.{◌≡◌, ℕ, suc, ◌+◌, ◌<◌, ◌≤◌, Bool, true, false, ◌==◌, if◌then◌else◌, List, [], ◌∷◌, ◌++◌, length, fold, Option, Some, None, inl, inr, ⊎_elim, refl, sym, ap, ◌∙◌, subst, arith}
 use Rattle.std.proofs.lemmas.Option.{none-some, same_Some}
 use Rattle.jvms_machine.specs.declared.trace.Item.{Item}
@@ -7,10 +7,10 @@ use Rattle.velodrome.specs.Conflicts.{thread_of}
 use Rattle.velodrome.specs.Cycles.{IsBefore, IsIn}
 use Rattle.velodrome.specs.Rearrangements.{KeepsConflicts}
 use Rattle.velodrome.specs.Specification.{Specification}
-use Rattle.velodrome.specs.Transactions.{Course, Event, Walk, begun_after, happened, has_atomic, next_transaction, opening_walk, walk, walked_on, with_course}
+use Rattle.velodrome.specs.Transactions.{ThreadState, Event, TraceState, transactions_after, happened, has_atomic, next_transaction, opening_trace_state, walk, state_after_item, with_thread_state}
 use Rattle.serial_order.proofs.Members.{all_of_members, in_either}
 
--- Numbers that follow each other, from n on.
+-- The numbers are consecutive, from n.
 abbrev pub AreNumberedFrom : ℕ → List Event → Type 0
 AreNumberedFrom n [] = Unit {0}
 AreNumberedFrom n (e ∷ events) = (e.number ≡ n) × AreNumberedFrom (suc n) events
@@ -36,58 +36,58 @@ numbered_append : (n : ℕ) (events : List Event) (e : Event) → AreNumberedFro
 numbered_append n [] e are is = (omega arith, tt)
 numbered_append n (f ∷ events) e are is = (are.0, numbered_append (suc n) events e are.1 (omega arith))
 
--- A transaction's number, where so many have begun.
+-- Transaction t has begun, if `begun` transactions have.
 abbrev pub IsBegun : ℕ → ℕ → Type 0
 IsBegun begun t = (0 < t) × (t ≤ begun)
 
-pub record IsCounted (w : Walk) : Type 0 where
+pub record IsCounted (w : TraceState) : Type 0 where
   pub numbered : AreNumberedFrom 1 w.events
   pub begun : (e : Event) → IsIn e w.events → IsBegun w.transactions e.transaction
   pub current : (t n : ℕ) → (w.courses t).transaction ≡ Some n → IsBegun w.transactions n
 
-opening_counted : IsCounted opening_walk
+opening_counted : IsCounted opening_trace_state
 opening_counted = record { numbered = tt; begun = λ e in_none. absurd in_none; current = λ t n is. absurd (none-some n is) }
 
--- Another course of a thread, in one of the transactions that have begun.
-with_counted : (t : ℕ) (course : Course) (w : Walk) → ((n : ℕ) → course.transaction ≡ Some n → IsBegun w.transactions n) → IsCounted w → IsCounted (with_course t course w)
+-- A new state of a thread keeps the counts, if its transaction has begun.
+with_counted : (t : ℕ) (course : ThreadState) (w : TraceState) → ((n : ℕ) → course.transaction ≡ Some n → IsBegun w.transactions n) → IsCounted w → IsCounted (with_thread_state t course w)
 with_counted t course w within are = record { numbered = are.numbered; begun = are.begun; current = λ u n is. of (u == t) u n is }
   where
     of : (b : Bool) (u n : ℕ) → (if b then course else w.courses u).transaction ≡ Some n → IsBegun w.transactions n
     of true u n is = within n is
     of false u n is = are.current u n is
 
-pub within_next : (o : Option ℕ) (begun : ℕ) → ((n : ℕ) → o ≡ Some n → IsBegun begun n) → IsBegun (begun_after o begun) (next_transaction o begun)
+pub within_next : (o : Option ℕ) (begun : ℕ) → ((n : ℕ) → o ≡ Some n → IsBegun begun n) → IsBegun (transactions_after o begun) (next_transaction o begun)
 within_next (Some n) begun current = current n refl
 within_next None begun current = (omega arith, omega arith)
 
-pub begun_grows : (o : Option ℕ) (begun : ℕ) → begun ≤ begun_after o begun
+pub begun_grows : (o : Option ℕ) (begun : ℕ) → begun ≤ transactions_after o begun
 begun_grows (Some n) begun = omega arith
 begun_grows None begun = omega arith
 
 still_begun : (a b n : ℕ) → a ≤ b → IsBegun a n → IsBegun b n
 still_begun a b n less is = let low = is.0 in let high = is.1 in (omega arith, omega arith)
 
-pub happened_counted : (lines : Specification) (i : Item) (w : Walk) → IsCounted w → IsCounted (happened lines i (w.courses (thread_of i)) (next_transaction (w.courses (thread_of i)).transaction w.transactions) w)
+pub happened_counted : (lines : Specification) (i : Item) (w : TraceState) → IsCounted w → IsCounted (happened lines i (w.courses (thread_of i)) (next_transaction (w.courses (thread_of i)).transaction w.transactions) w)
 happened_counted lines i w are =
     with_counted (thread_of i) _ _ (λ n is. goes_on (has_atomic lines (w.courses (thread_of i)).methods) n is)
     (record {
       numbered = numbered_append 1 w.events _ are.numbered (omega arith);
-      begun = λ e in_events. ⊎_elim (λ old. still_begun w.transactions _ e.transaction (begun_grows o w.transactions) (are.begun e old)) (λ new. ⊎_elim (λ same. subst (λ (f : Event). IsBegun (begun_after o w.transactions) f.transaction) (sym same) fresh) (λ none. absurd none) new) (in_either e w.events _ in_events);
+      begun = λ e in_events. ⊎_elim (λ old. still_begun w.transactions _ e.transaction (begun_grows o w.transactions) (are.begun e old)) (λ new. ⊎_elim (λ same. subst (λ (f : Event). IsBegun (transactions_after o w.transactions) f.transaction) (sym same) fresh) (λ none. absurd none) new) (in_either e w.events _ in_events);
       current = λ t n is. still_begun w.transactions _ n (begun_grows o w.transactions) (are.current t n is);
     })
   where
     o : Option ℕ
     o = (w.courses (thread_of i)).transaction
 
-    fresh : IsBegun (begun_after (w.courses (thread_of i)).transaction w.transactions) (next_transaction (w.courses (thread_of i)).transaction w.transactions)
+    fresh : IsBegun (transactions_after (w.courses (thread_of i)).transaction w.transactions) (next_transaction (w.courses (thread_of i)).transaction w.transactions)
     fresh = within_next (w.courses (thread_of i)).transaction w.transactions (are.current (thread_of i))
 
-    goes_on : (b : Bool) (n : ℕ) → (if b then Some (next_transaction (w.courses (thread_of i)).transaction w.transactions) else None) ≡ Some n → IsBegun (begun_after (w.courses (thread_of i)).transaction w.transactions) n
-    goes_on true n is = subst (IsBegun (begun_after (w.courses (thread_of i)).transaction w.transactions)) (same_Some _ n is) fresh
+    goes_on : (b : Bool) (n : ℕ) → (if b then Some (next_transaction (w.courses (thread_of i)).transaction w.transactions) else None) ≡ Some n → IsBegun (transactions_after (w.courses (thread_of i)).transaction w.transactions) n
+    goes_on true n is = subst (IsBegun (transactions_after (w.courses (thread_of i)).transaction w.transactions)) (same_Some _ n is) fresh
     goes_on false n is = absurd (none-some n is)
 
-pub step_counted : (lines : Specification) (w : Walk) (i : Item) → IsCounted w → IsCounted (walked_on lines w i)
-unfolding walked_on
+pub step_counted : (lines : Specification) (w : TraceState) (i : Item) → IsCounted w → IsCounted (state_after_item lines w i)
+unfolding state_after_item
 step_counted lines w (item.Enter t m) are = with_counted t _ w (λ n is. are.current t n is) are
 step_counted lines w (item.Exit t m) are = with_counted t _ w (λ n is. left (has_atomic lines _) n is) are
   where
@@ -101,11 +101,11 @@ step_counted lines w (item.Release t r) are = happened_counted lines (item.Relea
 step_counted lines w (item.Fork t u) are = happened_counted lines (item.Fork t u) w are
 step_counted lines w (item.Join t u) are = happened_counted lines (item.Join t u) w are
 
-from_counted : (lines : Specification) (w : Walk) (items : List Item) → IsCounted w → IsCounted (fold (walked_on lines) w items)
+from_counted : (lines : Specification) (w : TraceState) (items : List Item) → IsCounted w → IsCounted (fold (state_after_item lines) w items)
 from_counted lines w [] are = are
-from_counted lines w (i ∷ items) are = from_counted lines (walked_on lines w i) items (step_counted lines w i are)
+from_counted lines w (i ∷ items) are = from_counted lines (state_after_item lines w i) items (step_counted lines w i are)
 
--- The walk of items numbers their events from 1, and their transactions from 1 to their count.
+-- A trace numbers its events from 1, and its transactions from 1 to their count.
 pub walk_counted : (lines : Specification) (items : List Item) → IsCounted (walk lines items)
 unfolding walk
-walk_counted lines items = from_counted lines opening_walk items opening_counted
+walk_counted lines items = from_counted lines opening_trace_state items opening_counted

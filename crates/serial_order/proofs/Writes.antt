@@ -10,13 +10,13 @@ use Rattle.jvms_machine.specs.declared.trace.Item.{Item}
 use Rattle.jvms_machine.specs.declared.trace.Item.TheVariants as item
 use Rattle.jvms_machine.specs.declared.trace.Variable.{Variable}
 use Rattle.jvms_machine.specs.declared.trace.Variable.TheVariants as variable
-use Rattle.velodrome.specs.Conflicts.{conflict, is_write, monitor_of, on_one_variable, same_number, same_variable, thread_of, touched_by, variable_of}
+use Rattle.velodrome.specs.Conflicts.{conflict, is_write, monitor_of, on_one_variable, same_number, same_variable, thread_of, started_or_joined, variable_of}
 use Rattle.velodrome.specs.Cycles.{IsBefore, IsIn}
 use Rattle.velodrome.specs.Rearrangements.{KeepsConflicts, ReadsTheSame, is_read, last_write}
 use Rattle.velodrome.specs.Transactions.{Event}
 use Rattle.serial_order.proofs.Members.{all_in, all_of_members, in_back, in_either, in_front}
 
--- ---- Variables are one where their test says so
+-- ---- Variables are equal if their test says so
 
 one_text : (a b : List ℕ) → same_text a b ≡ true → a ≡ b
 one_text a b same = (bytes_decides a b).0 same
@@ -60,17 +60,17 @@ third false true c d e is = refl
 third false false true d e is = refl
 third false false false d e is = absurd (true≢false (sym is))
 
--- An event that writes a variable conflicts with each on it, either way.
+-- An event that writes a variable conflicts with each event on it, in either order.
 write_conflicts : (w e : Event) → is_write w.item ≡ true → on_one_variable (variable_of w.item) (variable_of e.item) ≡ true → IsTrue (conflict w.item e.item)
 unfolding conflict
 write_conflicts w e wrote one =
-    third (thread_of w.item == thread_of e.item) (same_number (monitor_of w.item) (monitor_of e.item)) (on_one_variable (variable_of w.item) (variable_of e.item) && (is_write w.item || is_write e.item)) (same_number (touched_by w.item) (Some (thread_of e.item))) (same_number (Some (thread_of w.item)) (touched_by e.item))
+    third (thread_of w.item == thread_of e.item) (same_number (monitor_of w.item) (monitor_of e.item)) (on_one_variable (variable_of w.item) (variable_of e.item) && (is_write w.item || is_write e.item)) (same_number (started_or_joined w.item) (Some (thread_of e.item))) (same_number (Some (thread_of w.item)) (started_or_joined e.item))
     (and_from (on_one_variable (variable_of w.item) (variable_of e.item)) (is_write w.item || is_write e.item) one (or_left (is_write w.item) (is_write e.item) wrote))
 
 conflicts_write : (w e : Event) → is_write w.item ≡ true → on_one_variable (variable_of w.item) (variable_of e.item) ≡ true → IsTrue (conflict e.item w.item)
 unfolding conflict
 conflicts_write w e wrote one =
-    third (thread_of e.item == thread_of w.item) (same_number (monitor_of e.item) (monitor_of w.item)) (on_one_variable (variable_of e.item) (variable_of w.item) && (is_write e.item || is_write w.item)) (same_number (touched_by e.item) (Some (thread_of w.item))) (same_number (Some (thread_of e.item)) (touched_by w.item))
+    third (thread_of e.item == thread_of w.item) (same_number (monitor_of e.item) (monitor_of w.item)) (on_one_variable (variable_of e.item) (variable_of w.item) && (is_write e.item || is_write w.item)) (same_number (started_or_joined e.item) (Some (thread_of w.item))) (same_number (Some (thread_of e.item)) (started_or_joined w.item))
     (and_from (on_one_variable (variable_of e.item) (variable_of w.item)) (is_write e.item || is_write w.item) turned (or_right (is_write e.item) (is_write w.item) wrote))
   where
     is : variable_of w.item ≡ variable_of e.item
@@ -89,14 +89,14 @@ read_is_no_write (item.Join t u) read wrote = true≢false (sym wrote)
 read_is_no_write (item.Enter t m) read wrote = true≢false (sym wrote)
 read_is_no_write (item.Exit t m) read wrote = true≢false (sym wrote)
 
--- ---- The last write among events that keep conflicts is that of the highest number
+-- ---- The last write among events that keep conflicts has the highest number
 
 abbrev IsLast : Option Variable → Option ℕ → List Event → Option ℕ → Type 0
 IsLast v before events last =
     ((last ≡ before) × ((u : Event) → IsIn u events → writes v u ≡ true → ⊥))
     ⊎ ((w : Event) × IsIn w events × (writes v w ≡ true) × (last ≡ Some w.number) × ((u : Event) → IsIn u events → writes v u ≡ true → u.number ≤ w.number))
 
--- Both write the variable, and the second doesn't come behind the first by its number.
+-- If both write the variable, the second has no greater number than the first.
 not_above : (v : Option Variable) (e w : Event) → (IsBefore w e → ⊥) → writes v e ≡ true → writes v w ≡ true → e.number ≤ w.number
 not_above v e w none of_e of_w = ⊎_elim (λ less. absurd (none (less, write_conflicts w e (and_parts (is_write w.item) _ of_w).0 one))) (λ enough. enough) (cases_lt w.number e.number)
   where
@@ -139,7 +139,7 @@ one_last v xs ys m n there back (inr some) (inr also) =
     let same : some.0.number ≡ also.0.number = omega arith in
     some.3 ∙ ap (λ (k : ℕ). Some k) same ∙ sym also.3
 
--- ---- Before and behind an event
+-- ---- Before and after an event
 
 keeps_front : (xs ys : List Event) → KeepsConflicts (xs ++ ys) → KeepsConflicts xs
 keeps_front [] ys keeps = tt
@@ -154,7 +154,7 @@ back_kept : (xs ys : List Event) (e w : Event) → KeepsConflicts (xs ++ e ∷ y
 back_kept [] ys e w keeps in_ys before = all_in (λ g. IsBefore g e → ⊥) ys w keeps.0 in_ys before
 back_kept (x ∷ xs) ys e w keeps in_ys before = back_kept xs ys e w keeps.1 in_ys before
 
--- What writes the variable of a read before it in one order comes before it in another one too.
+-- A write of a read's variable that is before the read in one order is before it in the other.
 crosses : (events xs ys zs us : List Event) (e w : Event) → ((f g : Event) → IsIn f events → IsIn g events → f.number ≡ g.number → f ≡ g)
     → KeepsConflicts (xs ++ e ∷ ys) → KeepsConflicts (zs ++ e ∷ us) → ((f : Event) → IsIn f (xs ++ e ∷ ys) → IsIn f events) → ((f : Event) → IsIn f (xs ++ e ∷ ys) → IsIn f (zs ++ e ∷ us))
     → is_read e.item ≡ true → IsIn w xs → writes (variable_of e.item) w ≡ true → IsIn w zs

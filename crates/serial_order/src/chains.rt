@@ -1,22 +1,22 @@
-//! The events of each transaction, one leading to the next.
+//! The events of each transaction as a linked chain.
 
 ghost use Rattle.std.specs.Prelude.{◌≤◌, ◌<◌, ℕ, length, IfOk, slice_index};
 ghost use Rattle.serial_order.specs.Chains.{AreChains};
 
 use std::alloc::{AllocError, Global};
 
-/// Events count from 0 here. Behind the last event of a transaction, and where it has none, stands the number of
-/// events.
+/// Linked chains of events. Events count from 0. The number of all events ends a chain, and is the first of an empty
+/// one.
 #[derive(Drop)]
 pub struct Chains {
     /// The first event of each transaction.
     pub first: Vec<usize>,
-    /// Behind each event the next one of its transaction.
+    /// The next event of its transaction for each event.
     pub next: Vec<usize>,
 }
 
 impl Chains {
-    /// The chains of events of these transactions, which are at most so many.
+    /// Returns the chains of the events of these transactions. No transaction number exceeds `most`.
     pub fn new(alloc: Global, transactions: &[u64], most: usize) -> Result<Self, AllocError>
         requires below { (k : ℕ) → k < length transactions.now → slice_index transactions.now k ≤ most }
         requires room { most < 0x7fffffffffffffff }

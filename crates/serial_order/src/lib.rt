@@ -1,4 +1,4 @@
-//! A serial order of a trace's events, where its transactions have an order (Velodrome, section 3).
+//! Returns a serial order of a trace's events when its transactions have an order (Velodrome, section 3).
 #![tactic(auto)]
 
 mod chains;

@@ -1,15 +1,15 @@
-//! Events transaction by transaction.
+//! Lists events transaction by transaction.
 
 ghost use Rattle.std.specs.Prelude.{◌≡◌, ◌++◌, ℕ, ◌<◌, ◌≤◌, length, List, IfOk, OnOk, slice_index};
 ghost use Rattle.serial_order.specs.Chains.{AreRising, IsChain};
 ghost use Rattle.serial_order.specs.Serial.{AreSerialOf, HasItems};
 
 use crate::chains::Chains;
-use held::items::Items;
+use shared_data::items::Items;
 use std::alloc::{AllocError, Global};
 
-/// The numbers of a trace's events, transaction by transaction in their order, those of each rising. They are told by
-/// the transaction of each event, by its number from 1, and an order of all transactions.
+/// Returns the numbers of a trace's events, transaction by transaction in their order and ascending in each.
+/// `transactions` has the transaction of each event, and `order` all transactions, both from 1.
 pub fn serial(alloc: Global, transactions: &[u64], order: &[u64]) -> Result<Items<u64>, AllocError>
     requires { HasItems transactions.now order.now }
     ensures { IfOk result (AreSerialOf transactions.now order.now) }
@@ -23,7 +23,7 @@ pub fn serial(alloc: Global, transactions: &[u64], order: &[u64]) -> Result<Item
     Ok(Items::from_vec(numbers))
 }
 
-/// Puts the numbers of a chain's events behind the others.
+/// Appends the numbers of a chain's events.
 fn push_chain(numbers: &mut Vec<u64>, next: &[usize], first: usize) -> Result<(), AllocError>
     requires { AreRising next.now }
     ensures { OnOk result ((chain : List ℕ) → IsChain next.now first chain → numbers.new.items ≡ numbers.old.items ++ chain) }

@@ -1,4 +1,4 @@
-//! Laws about the transactions of a trace, owed to the gate: each is the contract of a function that does nothing.
+//! Laws about the transactions of a trace. Each is the contract of a function that does nothing.
 
 ghost use Rattle.std.specs.Prelude.{◌≡◌, ◌+◌, ◌↔◌, ℕ, true, List, [], ◌∷◌, ◌++◌, length};
 ghost use Rattle.jvms_machine.specs.declared.trace.Item.{Item};
@@ -8,9 +8,9 @@ ghost use Rattle.velodrome.specs.Specification.{Specification};
 ghost use Rattle.velodrome.specs.Transactions.{Event, is_event, walk};
 ghost use Rattle.serial_order.specs.Spans.{StaysAtomic};
 
-/// Two events are of one transaction exactly where they are of one thread and from the one to the other it has an
-/// atomic method open: so a transaction is what a thread does from the entry of its outermost atomic method to its
-/// exit, or else one event.
+/// States when two events are of one transaction: they are of one thread, and an atomic method of it is open from the
+/// one to the other. So a transaction is what a thread does from the entry of its outermost atomic method to its exit,
+/// or else one event.
 pub fn a_transaction_is_one_stay_in_atomic_methods()
     ensures { (lines : Specification) (before between after : List Item) (i j : Item) (e f : Event) → is_event i ≡ true → is_event j ≡ true → IsIn e (walk lines (before ++ i ∷ (between ++ j ∷ after))).events → IsIn f (walk lines (before ++ i ∷ (between ++ j ∷ after))).events → e.number ≡ length (walk lines before).events + 1 → f.number ≡ length (walk lines (before ++ i ∷ between)).events + 1 → (e.transaction ≡ f.transaction) ↔ ((thread_of i ≡ thread_of j) × StaysAtomic lines (thread_of i) (before ++ i ∷ []) between) }
 {}

@@ -1,4 +1,4 @@
--- One more item of code.
+-- Proves how labels change with one more item of code.
 use Rattle.std.proofs.Common.{◌≡◌, ℕ, suc, ◌+◌, ◌<◌, Bool, true, false, cond, ◌||◌, List, [], ◌∷◌, ◌++◌, length, get_or, take, drop, Option, None, Some, is_some, Bor, refl, sym, ap, ◌∙◌}
 use Rattle.std.proofs.lemmas.List.{length-append, take_more, take-append-drop}
 use Rattle.std.specs.BTreeMap as tree
@@ -15,11 +15,11 @@ use Rattle.jasmin.specs.Denote.{label_place, operations}
 use Rattle.jasmin.specs.Assembling.{defines, repeats_label}
 use Rattle.source_labels.specs.Places.{name_cmp, ArePlacesOf}
 
--- What stands at a place is behind what stands before it.
+-- The items up to a place are those before it, followed by its own.
 pub at_place : (code : List CodeItem) (i : ℕ) (here x : CodeItem) → i < length code → here ≡ get_or code i here → here ≡ x → take (i + 1) code ≡ take i code ++ x ∷ []
 at_place code i here x within there is = take_more code i here within ∙ ap (λ (y : CodeItem). take i code ++ y ∷ []) (sym there ∙ is)
 
--- ---- An operation more
+-- ---- One more operation
 
 operations-append : (xs ys : List CodeItem) → operations (xs ++ ys) ≡ operations xs ++ operations ys
 operations-append [] ys = refl
@@ -47,13 +47,13 @@ with_operation items o places count kept = record {
       one ∙ sym (length-append (operations items) (o ∷ [])) ∙ ap length (sym (operations-append items (item.Operation o ∷ [])));
 }
 
--- ---- A label more
+-- ---- One more label
 
 pub no_value : (place : Option ℕ) → false ≡ is_some place → None ≡ place
 no_value None e = refl
 no_value (Some place) e = cc
 
--- A place, or else another.
+-- Returns the first place if it is present, or else the second.
 abbrev or_else : Option ℕ → Option ℕ → Option ℕ
 or_else None other = other
 or_else (Some place) other = Some place
@@ -119,7 +119,7 @@ regrouped false true true d = refl
 regrouped false true false d = refl
 regrouped false false c d = refl
 
--- Behind a label, what was repeated is, and the label if it was defined.
+-- With a label appended, a label is repeated if one was before or the new one was defined.
 repeated_with_label : (items : List CodeItem) (name : List ℕ) → repeats_label (items ++ item.Label name ∷ []) ≡ (repeats_label items || defines name items)
 repeated_with_label [] name = refl
 repeated_with_label (item.Label other ∷ items) name =
@@ -132,7 +132,7 @@ repeated_with_label (item.Label other ∷ items) name =
 repeated_with_label (item.Operation o ∷ items) name =
     repeated_with_label items name ∙ ap (λ b. repeats_label items || b) (sym (is_some-suc (label_place items name)))
 
--- A label that wasn't defined isn't repeated.
+-- An undefined label may be appended without repetition.
 pub once_more : (items : List CodeItem) (name : List ℕ) → label_place items name ≡ None → repeats_label items ≡ false → repeats_label (items ++ item.Label name ∷ []) ≡ false
 once_more items name none once = repeated_with_label items name ∙ λ i. once i || is_some (none i)
 
@@ -140,11 +140,11 @@ or-true : (b : Bool) → (b || true) ≡ true
 or-true true = refl
 or-true false = refl
 
--- A label that was defined is.
+-- A defined label is repeated if it is appended.
 twice : (items : List CodeItem) (name : List ℕ) → defines name items ≡ true → repeats_label (items ++ item.Label name ∷ []) ≡ true
 twice items name defined = repeated_with_label items name ∙ ap (λ b. repeats_label items || b) defined ∙ or-true (repeats_label items)
 
--- ---- Items behind
+-- ---- Items appended
 
 or-true_cases : (a b c d : Bool) → (a ≡ true → c ≡ true) → (b ≡ true → d ≡ true) → (a || b) ≡ true → (c || d) ≡ true
 or-true_cases true b c d f g e = ap (λ x. x || d) (f refl)
@@ -158,14 +158,14 @@ stays_defined (item.Label name ∷ xs) ys label e =
 stays_defined (item.Operation o ∷ xs) ys label e =
     is_some-suc (label_place (xs ++ ys) label) ∙ stays_defined xs ys label (sym (is_some-suc (label_place xs label)) ∙ e)
 
--- What is repeated in a part is in the whole.
+-- A label that is repeated in the first part of code is repeated in the code.
 stays_repeated : (xs ys : List CodeItem) → repeats_label xs ≡ true → repeats_label (xs ++ ys) ≡ true
 stays_repeated [] ys e = cc
 stays_repeated (item.Label name ∷ xs) ys e =
     or-true_cases (defines name xs) (repeats_label xs) (defines name (xs ++ ys)) (repeats_label (xs ++ ys)) (stays_defined xs ys name) (stays_repeated xs ys) e
 stays_repeated (item.Operation o ∷ xs) ys e = stays_repeated xs ys e
 
--- A label that is defined before a place and at it is repeated.
+-- A label that is defined before a place and at the place is repeated.
 pub repeated_at : (code : List CodeItem) (i : ℕ) (name : List ℕ) → take (i + 1) code ≡ take i code ++ item.Label name ∷ [] → defines name (take i code) ≡ true → repeats_label code ≡ true
 repeated_at code i name here defined =
     ap repeats_label (sym (take-append-drop (i + 1) code)) ∙ stays_repeated (take (i + 1) code) (drop (i + 1) code) (ap repeats_label here ∙ twice (take i code) name defined)

@@ -1,4 +1,4 @@
-//! Why code has no labels to be looked up.
+//! The faults of code whose labels have no table.
 
 ghost use Rattle.std.specs.Prelude.{◌≡◌};
 ghost use Rattle.source_labels.specs.declared.fault.LabelsFault.TheVariants.{Memory};
@@ -6,13 +6,13 @@ ghost use Rattle.source_labels.specs.declared.fault.LabelsFault.TheVariants.{Mem
 use std::alloc::AllocFailed;
 use thiserror::Error;
 
-/// Why code has no labels to be looked up.
+/// A fault of code whose labels have no table.
 #[derive(Clone, Copy, Debug, Error)]
 pub enum LabelsFault {
     /// A label is defined twice.
     #[error("A02 RepeatedLabel")]
     Repeated,
-    /// There was no memory for the places.
+    /// Memory ran out.
     #[error("Memory")]
     Memory,
 }

@@ -1,4 +1,4 @@
-//! Where labels lead.
+//! A table of the labels of a method's code.
 
 ghost use Rattle.std.specs.Prelude.{◌≡◌, false, length, IfOk, MatchResult};
 ghost use Rattle.jasmin.specs.Denote.{label_place, operations};
@@ -11,7 +11,7 @@ use std::alloc::Global;
 use std::collections::BTreeMap;
 use std::marker::Model;
 
-/// The labels of a method's code, each with the number of instructions before it. Contracts see the code itself.
+/// The labels of a method's code, each with the number of instructions before it. In contracts it is the code.
 #[derive(Drop)]
 pub struct Labels<'s> {
     code: &'s [CodeItem],
@@ -32,8 +32,12 @@ impl<'s> Model for Labels<'s> {
 }
 
 impl<'s> Labels<'s> {
-    /// The labels of code. Fails where a label is defined twice, whether something refers to it or not, and where
-    /// there is no memory for the places.
+    /// Returns the labels of code.
+    ///
+    /// # Errors
+    ///
+    /// Returns `Repeated` if a label is defined twice, which need not be referred to. Returns `Memory` if memory ran
+    /// out.
     pub fn of(alloc: Global, code: &'s [CodeItem]) -> Result<Self, LabelsFault>
         ensures ok { IfOk result (λ labels. labels ≡ code.now) }
         ensures repeated { MatchResult result (λ _. repeats_label code.now ≡ false) (λ fault. Explains fault code.now) }
@@ -57,14 +61,14 @@ impl<'s> Labels<'s> {
         })
     }
 
-    /// The number of instructions before a label, if it is defined.
+    /// Returns the number of instructions before a label, if it is defined.
     pub fn place(&self, label: &[u16]) -> Option<usize>
         ensures { result ≡ label_place self.now label.now }
     {
         self.places.get(label).copied()
     }
 
-    /// How many instructions the code has.
+    /// Returns the number of instructions of the code.
     pub fn operations(&self) -> usize
         ensures { result ≡ length (operations self.now) }
     {

@@ -1,4 +1,5 @@
-//! The labels of a method's code: where each leads, and which of those that something refers to can't be assembled.
+//! Finds the places of the labels of a method's code, and decides which of those that are referred to can't be
+//! assembled.
 #![tactic(auto)]
 
 mod fault;

@@ -1,4 +1,4 @@
-//! The source of a class file (JVMS 4.7.10), and the lines of its instructions.
+//! Finds the name of a class file's source (JVMS 4.7.10) and the lines of its instructions.
 
 ghost use Rattle.std.specs.Prelude.{◌≡◌, ◌++◌, OnOk, slice_get};
 ghost use Rattle.std.specs.Option.{option_and_then, option_map};
@@ -14,7 +14,7 @@ use escapes::put_name;
 use jvms_file::class_file::{ClassFile, Code, Constant, KeptAttribute, MethodAttribute};
 use std::alloc::AllocError;
 
-/// Returns the name that the content of a SourceFile attribute is the number of.
+/// Returns the name whose number is the content of a SourceFile attribute.
 fn name_in<'f>(pool: &'f [Constant], content: &[u8]) -> Option<&'f [u16]>
     ensures { option_map (λ t. t.now) result ≡ name_in pool.now content.now }
 {
@@ -60,7 +60,7 @@ fn start_at(starts: &[u32], place: usize) -> Option<u32>
     starts.get(place).copied()
 }
 
-/// Returns the line of the instruction at this place of a method's list of them.
+/// Returns the line of the instruction at this place of a method's code.
 fn line_in(pool: &[Constant], place: usize, code: &Code) -> Option<u16>
     ensures { result ≡ line_in pool.now place code.now }
 {
@@ -95,7 +95,7 @@ fn put_source(out: &mut String, name: Option<&[u16]>, line: Option<u16>) -> Resu
     out.push_str(")")
 }
 
-/// Appends the place in the source of an instruction of a method of a class file.
+/// Appends the source place of an instruction of a method of a class file.
 pub(crate) fn put_place_in_file(
     out: &mut String,
     file: &ClassFile,

@@ -27,7 +27,7 @@ impl<'f> SourceFiles<'f> {
         }
     }
 
-    /// Returns the class file of the class of a number, if it has one.
+    /// Returns the class file of the class with this number, if it has one.
     pub(crate) fn file_of(&self, class: usize) -> Option<&'f ClassFile>
         ensures { option_copied result ≡ file_of self.now.first self.now.files.now class }
     {

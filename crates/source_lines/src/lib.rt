@@ -1,4 +1,4 @@
-//! Lines of sources, as class files tell them (JVMS 4.7.10, 4.7.12).
+//! Source lines of instructions, as class files have them (JVMS 4.7.10, 4.7.12).
 #![tactic(auto)]
 
 mod bytes;

@@ -1,4 +1,4 @@
-//! The place in the source of a method's instruction.
+//! Writes the source place of a method's instruction.
 
 ghost use Rattle.std.specs.Prelude.{◌≡◌, ◌++◌, OnOk};
 ghost use Rattle.std.specs.String.{string_bytes};
@@ -9,8 +9,8 @@ use crate::files::SourceFiles;
 use jvms_program::number::MethodNumber;
 use std::alloc::AllocError;
 
-/// Appends the place in the source of a method's instruction: ` (F.java:12)`. Appends nothing if the class file of the
-/// method doesn't tell it.
+/// Appends the source place of a method's instruction: ` (F.java:12)`. Appends nothing if the class file of the method
+/// doesn't have it.
 pub fn put_place(
     out: &mut String,
     sources: &SourceFiles,

@@ -1,4 +1,4 @@
-//! Texts of a constant pool (JVMS 4.4.7).
+//! Looks up texts of a constant pool (JVMS 4.4.7).
 
 ghost use Rattle.std.specs.Prelude.{◌≡◌};
 ghost use Rattle.std.specs.Option.{option_copied, option_map};
@@ -9,7 +9,7 @@ ghost use Rattle.source_lines.specs.SourceLines.{is_named as attribute_is_named}
 use built_in::is_named as is_text;
 use jvms_file::class_file::{Constant, KeptAttribute};
 
-/// Returns the entry of a number, if there is one. Entries count from 1.
+/// Returns the pool entry with this number, if there is one. Entries count from 1.
 fn entry(pool: &[Constant], number: u16) -> Option<&Constant>
     ensures { option_copied result ≡ entry pool.now number }
 {
@@ -19,7 +19,7 @@ fn entry(pool: &[Constant], number: u16) -> Option<&Constant>
     pool.get(usize::from(number) - 1)
 }
 
-/// Returns the text of a Utf8 entry, if a number is one's.
+/// Returns the text of the Utf8 entry with this number, if there is one.
 pub(crate) fn utf8_at(pool: &[Constant], number: u16) -> Option<&[u16]>
     ensures { option_map (λ t. t.now) result ≡ utf8_at pool.now number }
 {
@@ -29,7 +29,7 @@ pub(crate) fn utf8_at(pool: &[Constant], number: u16) -> Option<&[u16]>
     }
 }
 
-/// Returns the text of a Utf8 entry, or the empty text if a number is none's.
+/// Returns the text of the Utf8 entry with this number, or the empty text if there is none.
 fn text_of(pool: &[Constant], number: u16) -> &[u16]
     ensures { result.now ≡ text_of pool.now number }
 {

@@ -1,4 +1,4 @@
-//! The line of a byte of code, as LineNumberTable attributes tell it (JVMS 4.7.12).
+//! Finds the line of a byte of code, by LineNumberTable attributes (JVMS 4.7.12).
 
 ghost use Rattle.std.specs.Prelude.{◌≡◌, ◌≤◌, ◌*◌, None, drop, length};
 ghost use Rattle.std.specs.List.{flat_map, fold};
@@ -19,7 +19,7 @@ pub(crate) struct LineStart {
     line: u16,
 }
 
-/// Returns the later start of those that aren't after a byte. Of two that are the same, it is the second.
+/// Returns the later of two starts that aren't after a byte. If both are at the same byte, it is the second.
 fn later_start(byte: u32, last: Option<LineStart>, next: LineStart) -> Option<LineStart>
     ensures { result ≡ later_start byte last next }
 {
@@ -51,7 +51,7 @@ fn after_first(bytes: &[u8]) -> &[u8]
     &bytes[ENTRY..]
 }
 
-/// Reads entries, and returns the later start of those and of an earlier one.
+/// Reads entries, and returns the latest start of those and of an earlier one that isn't after a byte.
 #[tactic(auto, using(crate::proofs::TableLaws::next_start))]
 fn later_of(
     byte: u32,
@@ -71,14 +71,15 @@ fn later_of(
     last
 }
 
-/// Returns whether the content of a table is as long as its count says.
+/// Returns whether the length of a table's content matches its count.
 fn is_whole(content: &[u8]) -> bool
     ensures { result ≡ is_whole content.now }
 {
     content.len() >= 2 && content.len() == 2 + ENTRY * usize::from(u2(content))
 }
 
-/// Reads the content of a table, and returns the later start of its entries and of an earlier one.
+/// Reads the content of a table, and returns the latest start of its entries and of an earlier one that isn't after a
+/// byte.
 fn later_in_table(byte: u32, earlier: Option<LineStart>, content: &[u8]) -> Option<LineStart>
     ensures { result ≡ fold (later_start byte) earlier (table_starts content.now) }
 {
@@ -89,7 +90,7 @@ fn later_in_table(byte: u32, earlier: Option<LineStart>, content: &[u8]) -> Opti
     }
 }
 
-/// Returns the later start of an attribute's entries and of an earlier one.
+/// Returns the latest start of an attribute's entries and of an earlier one that isn't after a byte.
 fn later_in(
     pool: &[Constant],
     byte: u32,

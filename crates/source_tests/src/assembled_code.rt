@@ -1,11 +1,11 @@
-//! The bytes of assembled instructions (JVMS 6.5).
+//! Tests the bytes of assembled instructions (JVMS 6.5).
 
 use crate::sources::{assert_code, method};
 use std::alloc::Global;
 use std::process::Abort;
 use std::test::Fail;
 
-/// Lines of a method, and the bytes of its code (JVMS 6.5).
+/// Lines of a method, with the bytes of its code (JVMS 6.5).
 const CODES: [(&str, &[u8]); 14] = [
     (
         "iload 0\nistore 299\ngoto L\nnop\nL:\niload 299\nireturn",

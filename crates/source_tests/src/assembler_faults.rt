@@ -1,4 +1,4 @@
-//! Sources that can't be assembled, and some that just can.
+//! Tests sources that can't be assembled, and some that just can.
 
 use crate::sources::{assert_fault, method};
 use assembler::AsmFault;
@@ -6,7 +6,7 @@ use std::alloc::Global;
 use std::process::Abort;
 use std::test::Fail;
 
-/// Lines of a method, and the fault of its source, if it has one. The end of a range may be that of the code.
+/// Lines of a method, with the fault of its source, if it has one. A range may end at the code's end.
 const METHODS: [(&str, Option<AsmFault>); 11] = [
     ("goto L", Some(AsmFault::UndefinedLabel)),
     ("goto L\nL:", Some(AsmFault::UndefinedLabel)),

@@ -1,10 +1,10 @@
-//! Class files for other tests: two whole ones, and changes of the first.
+//! Provides class files to other tests: two whole ones, and variants of the first.
 
 use file_bytes::write_length;
 use jvms_file::fault::{ClassFault, ReadError};
 use std::alloc::{AllocError, Global};
 
-/// The fault that tests pass for bytes that aren't there.
+/// The fault that tests pass for missing bytes.
 pub const CUT: ClassFault = ClassFault::Truncated { at: 99 };
 
 /// The bytes of `examples/G.class`: a class `G` with one method, `static int gcd(int, int)`. Its constant pool
@@ -20,8 +20,8 @@ pub const G: [u8; 115] = [
     0x00, 0x00, 0x00,
 ];
 
-/// A class `H` of an interface, with a field of constant value, and a method that may throw and has a handler;
-/// one further attribute is in each of the four places where one may be.
+/// A class `H` that implements an interface. It has a field with a constant value, and a method that may throw and has
+/// a handler. One further attribute is in each of the four places that may have one.
 pub const H: [u8; 206] = [
     0xca, 0xfe, 0xba, 0xbe, 0x00, 0x00, 0x00, 0x32, 0x00, 0x0f, 0x01, 0x00, 0x01, 0x48, 0x07, 0x00,
     0x01, 0x01, 0x00, 0x10, 0x6a, 0x61, 0x76, 0x61, 0x2f, 0x6c, 0x61, 0x6e, 0x67, 0x2f, 0x4f, 0x62,
@@ -38,7 +38,7 @@ pub const H: [u8; 206] = [
     0x0e, 0x00, 0x00, 0x00, 0x00, 0x00, 0x01, 0x00, 0x0e, 0x00, 0x00, 0x00, 0x01, 0xbb,
 ];
 
-/// Returns why bytes are refused, if they are.
+/// Returns the fault of refused bytes, if they are refused.
 pub fn refusal<T: Drop>(read: Result<T, ReadError>) -> Option<ClassFault> {
     match read {
         Err(ReadError::Fault(fault)) => Some(fault),

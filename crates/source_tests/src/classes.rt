@@ -1,4 +1,4 @@
-//! Classes (JVMS 4.1) are written as they were read.
+//! Tests that classes are written as they were read (JVMS 4.1).
 
 use crate::class_bytes::{G, H, with_code};
 use class_file::{read, write};
@@ -19,7 +19,7 @@ fn writes_what_it_read(rt: HostRuntime) -> Result<(), Fail> {
     Ok(())
 }
 
-/// An `iload_0`, a `tableswitch` of one target with two pads, an `iload_0` to which it leads, and an `ireturn`.
+/// An `iload_0`, a `tableswitch` with two bytes of padding, the `iload_0` that is its one target, and an `ireturn`.
 const SWITCH: [u8; 22] = [
     0x1a, 0xaa, 0x7f, 0x7e, 0x00, 0x00, 0x00, 0x13, 0x00, 0x00, 0x00, 0x00, 0x00, 0x00, 0x00, 0x00,
     0x00, 0x00, 0x00, 0x13, 0x1a, 0xac,

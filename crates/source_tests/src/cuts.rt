@@ -1,4 +1,4 @@
-//! Sources that are cut off: each is read, and assembled where it is a source still.
+//! Tests sources that are cut off: each is read, and assembled if it is still a source.
 
 use assembler::{AsmFault, assemble};
 use jasmin_reader::{SourceFault, read};
@@ -6,7 +6,7 @@ use std::alloc::Global;
 use std::process::Abort;
 use std::test::Fail;
 
-/// The greatest common divisor of two ints.
+/// A source that computes the greatest common divisor of two ints.
 const GCD: &str = ".class public G
 .super java/lang/Object
 .method public static gcd(II)I
@@ -44,8 +44,8 @@ const HELLO_WORLD: &str = ".class public HelloWorld
 .end method
 ";
 
-/// Returns whether a text is a source that is assembled. Else it has a fault at one of its lines, or one of the
-/// assembler's. There is memory for both.
+/// Decides whether a text is a source that is assembled. Asserts that the fault of any other is at one of its lines or
+/// one of the assembler's, and that memory doesn't run out.
 fn is_class(rt: &impl Abort, alloc: Global, text: &str) -> bool {
     let lines = text.lines().count().max(1);
     match read(alloc, text) {
@@ -65,7 +65,7 @@ fn is_class(rt: &impl Abort, alloc: Global, text: &str) -> bool {
     }
 }
 
-/// Returns how many of the texts that begin a source are classes, the whole source included.
+/// Returns the number of prefixes of a source that are classes, including the whole source.
 fn count_classes(rt: &impl Abort, alloc: Global, whole: &str) -> usize {
     let mut classes = 0usize;
     for end in 0..=whole.len() {
@@ -78,8 +78,8 @@ fn count_classes(rt: &impl Abort, alloc: Global, whole: &str) -> usize {
     classes
 }
 
-/// The texts that are classes end within or after the name of `.class` or `.super`, but for those that end at a `/`, or
-/// after an `.end method`. `public` alone is a name, too.
+/// Counts the prefixes of two sources that are classes. They end within or after the name of `.class` or `.super` but
+/// not at a `/`, or after an `.end method`. `public` alone is a name, too.
 #[test]
 fn cut_sources_are_classes_or_have_a_fault(rt: HostRuntime) -> Result<(), Fail> {
     assert_eq!(rt; count_classes(&rt, rt.alloc(), GCD), 9 + 4 + 4 + 7 + 2);

@@ -1,12 +1,12 @@
-//! Descriptors (JVMS 4.3).
+//! Tests descriptors (JVMS 4.3).
 
 use descriptor::{method_units, parameter_units, parse_method};
 use fixtures::texts::units;
-use held::items::Items;
+use shared_data::items::Items;
 use std::alloc::{AllocError, Global};
 use std::test::Fail;
 
-/// A descriptor with `count` longs and then a text.
+/// Returns a descriptor with `count` longs, followed by a text.
 fn longs(alloc: Global, count: usize, rest: &str) -> Result<Items<u16>, AllocError> {
     let mut text = String::from_str(alloc, "(")?;
     for _ in 0..count {

@@ -1,4 +1,4 @@
-//! The texts of faults that no command prints.
+//! Tests the texts of faults that no command prints.
 
 use descriptor::DescriptorFault;
 use std::test::Fail;

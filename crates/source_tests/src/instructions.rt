@@ -1,9 +1,9 @@
-//! The code of methods as instructions (JVMS 4.7.3, 6.5, 7).
+//! Tests that the code of methods is read as instructions (JVMS 4.7.3, 6.5, 7).
 
 use crate::class_bytes::{G, refusal};
 use const_pool::ScannedPool;
-use held::boxed::Boxed;
-use held::items::Items;
+use shared_data::boxed::Boxed;
+use shared_data::items::Items;
 use insn::{Decoded, Insn, decode, insn_at};
 use jvms_file::fault::ClassFault;
 use jvms_file::insn::{
@@ -22,7 +22,7 @@ fn store(local: u16) -> Insn {
     Insn::Simple(Simple::Local(LocalUse::Store(Kind::Int), local))
 }
 
-/// Returns a pool of no entries, since these instructions name none.
+/// Returns a pool without entries, since these instructions name none.
 fn pool(alloc: Global) -> Result<ScannedPool, AllocError> {
     ScannedPool::of(alloc, Items::new(alloc))
 }
@@ -33,7 +33,7 @@ fn decoded(alloc: Global, bytes: &[u8]) -> Result<Decoded, Fail> {
     Ok(decode(alloc, &entries, 49, bytes)?)
 }
 
-/// Returns why bytes aren't decoded, if they aren't.
+/// Returns the fault of bytes that aren't decoded, if they aren't.
 fn refused(alloc: Global, bytes: &[u8]) -> Result<Option<ClassFault>, Fail> {
     let entries = pool(alloc)?;
     Ok(refusal(decode(alloc, &entries, 49, bytes)))
@@ -68,7 +68,7 @@ fn wide() -> [Insn; 6] {
     ]
 }
 
-/// The bytes of those.
+/// The bytes of these instructions.
 const WIDE: [u8; 15] = [
     0x15, 0x00, 0xc4, 0x36, 0x01, 0x2b, 0xa7, 0x00, 0x04, 0x00, 0xc4, 0x15, 0x01, 0x2b, 0xac,
 ];
@@ -94,7 +94,8 @@ fn code_is_instructions(rt: HostRuntime) -> Result<(), Fail> {
     assert_insns(&rt, rt.alloc(), &WIDE, &wide(), &[0, 2, 6, 9, 10, 14])
 }
 
-/// Returns `nops` nops, a tableswitch whose default and targets are its own byte, and a return. Its pads aren't 0.
+/// Returns `nops` nops, a tableswitch whose default and targets are its own byte, and a return. Its padding isn't
+/// zeros.
 fn table_bytes(
     alloc: Global,
     nops: usize,
@@ -127,7 +128,8 @@ fn table(alloc: Global, place: u32, low: i32, targets: usize) -> Result<Insn, Al
     Ok(Insn::Table(Boxed::new(alloc, switch)?))
 }
 
-/// Asserts that the bytes of a tableswitch after `pc` nops are it, and that it has `length` bytes.
+/// Asserts that the bytes of a tableswitch after `pc` nops are decoded as the tableswitch, and that it has `length`
+/// bytes.
 fn assert_table(
     rt: &impl Abort,
     alloc: Global,
@@ -166,7 +168,7 @@ fn table_switches(rt: HostRuntime) -> Result<(), Fail> {
     Ok(())
 }
 
-/// A lookupswitch at byte 0 with one case, all of which lead to itself.
+/// A lookupswitch at byte 0 with one case. Its default and its case jump to itself.
 const LOOKUP: [u8; 20] = [
     0xab, 1, 2, 3, 0, 0, 0, 0, 0, 0, 0, 1, 0xff, 0xff, 0xff, 0xff, 0, 0, 0, 0,
 ];
@@ -190,7 +192,7 @@ fn lookup_switches(rt: HostRuntime) -> Result<(), Fail> {
     assert_insns(&rt, rt.alloc(), &LOOKUP, &lookup, &[0])
 }
 
-/// Returns why a method of `count` nops is refused, if it is.
+/// Returns the fault of a method of `count` nops, if it is refused.
 fn refused_nops(alloc: Global, count: usize) -> Result<Option<ClassFault>, Fail> {
     let nops = vec![in alloc; 0; count]?;
     refused(alloc, &nops)

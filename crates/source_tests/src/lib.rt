@@ -1,9 +1,9 @@
-//! Tests of what needs no program and no machine: class files and their parts, lines of sources, and sources that are
-//! assembled. They are in a crate above the tested ones, so that each of those is proved once. Expected values are from
-//! the Java Virtual Machine Specification (JVMS) or the rules of sources, never from the program's answers.
+//! Tests of what needs no program and no machine: class files and their parts, lines of sources, and assembled sources.
+//! They are in a crate above the tested ones, so that each of those is proved once. Expected values are from the Java
+//! Virtual Machine Specification (JVMS) or the rules of sources, never from the program's answers.
 //!
-//! Only what no clause says is tested: that the definitions agree with the standard, by its own values, that each
-//! public call succeeds with ample memory, and the texts of faults. More cases, as data, are in `command_cases`.
+//! Only what no clause states is tested. The definitions agree with the standard, by its own values. Each public call
+//! succeeds with ample memory. The faults have their texts. More cases, as data, are in `command_cases`.
 #![tactic(auto)]
 
 #[cfg(test)]

@@ -1,4 +1,4 @@
-//! Limits of assembled classes, each met and passed by one (JVMS 4.1, 4.4.7, 4.7.3, 6.5 ldc, goto).
+//! Tests limits of assembled classes, each met exactly and exceeded by one (JVMS 4.1, 4.4.7, 4.7.3, 6.5 `ldc`, `goto`).
 
 use crate::sources::{assert_code, assert_fault, method, repeated};
 use assembler::AsmFault;

@@ -1,12 +1,12 @@
-//! Modified UTF-8: the ends of the three ranges of JVMS 4.4.7, and bytes that are UTF-8 or another spelling, and no
-//! Modified UTF-8.
+//! Tests Modified UTF-8 (JVMS 4.4.7): the ends of its three ranges, and bytes that are UTF-8 or another encoding but
+//! not Modified UTF-8.
 
 use mutf8::{Fault, decode, encode};
 use std::alloc::Global;
 use std::process::Abort;
 use std::test::Fail;
 
-/// Units and their bytes.
+/// UTF-16 code units, with their bytes.
 const TEXTS: [(&[u16], &[u8]); 3] = [
     (&[], &[]),
     (
@@ -21,7 +21,7 @@ const TEXTS: [(&[u16], &[u8]); 3] = [
     ),
 ];
 
-/// Bytes that code no text, and the first place where no unit begins.
+/// Bytes that encode no text, with the first place where no unit begins.
 const OTHER_SPELLINGS: [(&str, &[u8], usize); 7] = [
     ("a zero byte", &[0x00], 0),
     ("two bytes for 0041", &[0xc1, 0x81], 0),
@@ -32,7 +32,7 @@ const OTHER_SPELLINGS: [(&str, &[u8], usize); 7] = [
     ("cut later", &[0xc2, 0x80, 0xe0, 0xa0], 2),
 ];
 
-/// Returns where the bytes are refused, if they are.
+/// Returns the place where bytes are refused, if they are.
 fn refused_at(alloc: Global, bytes: &[u8]) -> Option<usize> {
     match decode(alloc, bytes) {
         Err(Fault::BadUtf8 { at }) => Some(at),
@@ -40,7 +40,7 @@ fn refused_at(alloc: Global, bytes: &[u8]) -> Option<usize> {
     }
 }
 
-/// Asserts that these units have these bytes, both ways.
+/// Asserts that these units are encoded as these bytes, and decoded from them.
 fn is_coded(rt: &impl Abort, alloc: Global, units: &[u16], bytes: &[u8]) -> Result<(), Fail> {
     assert_eq!(rt; encode(alloc, units)?.as_slice(), bytes);
     assert_eq!(rt; decode(alloc, bytes)?.as_slice(), units);

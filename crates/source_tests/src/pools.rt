@@ -1,4 +1,4 @@
-//! Constant pools (JVMS 4.4).
+//! Tests constant pools (JVMS 4.4).
 
 use crate::class_bytes::{CUT, G};
 use const_pool::Pool;
@@ -6,8 +6,8 @@ use std::alloc::Global;
 use std::process::Abort;
 use std::test::Fail;
 
-/// An entry of each kind: a class, an int of -2, a float, a long of -2, a double, a string, the texts of U+0000
-/// and U+0800, a field, a method and an interface's method, each with its name and type.
+/// One entry of each kind. They are a class, an int of -2, a float, a long of -2, a double, a string, and the texts of
+/// U+0000 and U+0800. A field, a method and an interface's method follow, each with its name and type.
 const ALL_KINDS: [u8; 86] = [
     0x00, 0x13, 0x01, 0x00, 0x01, 0x41, 0x07, 0x00, 0x01, 0x03, 0xff, 0xff, 0xff, 0xfe, 0x04, 0x3f,
     0x80, 0x00, 0x00, 0x05, 0xff, 0xff, 0xff, 0xff, 0xff, 0xff, 0xff, 0xfe, 0x06, 0x3f, 0xf0, 0x00,
@@ -17,7 +17,7 @@ const ALL_KINDS: [u8; 86] = [
     0x0f, 0x0b, 0x00, 0x02, 0x00, 0x0f,
 ];
 
-/// Asserts that a pool is all of the bytes, and is written as them.
+/// Asserts that all bytes are read as a pool, and that the pool is written as the same bytes.
 fn assert_rewritten(rt: &impl Abort, alloc: Global, bytes: &[u8]) -> Result<(), Fail> {
     let (pool, rest) = Pool::read(alloc, CUT, bytes)?;
     assert_eq!(rt; rest.len(), 0);

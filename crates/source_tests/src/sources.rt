@@ -1,4 +1,4 @@
-//! Sources for other tests, and what they are assembled to.
+//! Provides sources to other tests, and assembles them.
 
 use assembler::{AsmFault, ClassFile, assemble};
 use jasmin_reader::read;
@@ -63,7 +63,7 @@ pub fn assert_fault(
     Ok(())
 }
 
-/// Returns `count` times a line.
+/// Returns a line repeated `count` times.
 pub fn repeated(alloc: Global, line: &str, count: usize) -> Result<String, AllocError> {
     let mut text = String::new(alloc);
     for _ in 0..count {

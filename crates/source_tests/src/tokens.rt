@@ -1,11 +1,11 @@
-//! Lines of sources as tokens.
+//! Tests the tokens of lines of sources.
 
 use jasmin_lex::{LexFault, Lexeme, Token, tokens};
 use std::alloc::Global;
 use std::process::Abort;
 use std::test::Fail;
 
-/// Lines and their tokens, each after a bar: a word as it is, a text between angle brackets.
+/// Lines with their tokens, each after a bar. A word is shown as it is, and a text between angle brackets.
 const LINES: [(&str, &str); 15] = [
     ("", ""),
     (" \t ; a comment", ""),
@@ -24,7 +24,7 @@ const LINES: [(&str, &str); 15] = [
     ("\u{a0}\u{1f600}", "|\u{a0}\u{1f600}"),
 ];
 
-/// Lines and the places of their tokens, each after a bar.
+/// Lines with the places of their tokens, each after a bar.
 const PLACES: [(&str, &str); 5] = [
     (" ; a comment", ""),
     ("  iload_1 ; loads", "|2..9"),
@@ -33,7 +33,7 @@ const PLACES: [(&str, &str); 5] = [
     ("\u{a0}\u{1f600} x", "|0..3|4..5"),
 ];
 
-/// Lines with a text that isn't closed, or with an escape that is none.
+/// Lines with a text that isn't closed, or with a malformed escape.
 const BAD_LINES: [&str; 8] = [
     "\"",
     "a \"b",

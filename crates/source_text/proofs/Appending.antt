@@ -1,4 +1,4 @@
--- What is put behind lists in steps.
+-- Proves what is appended to a list in steps.
 use Rattle.std.proofs.Common.{◌≡◌, ℕ, List, ◌++◌, Result, Ok, Err, ap, ◌∙◌, append_assoc}
 use Rattle.std.specs.Result.{OnOk}
 

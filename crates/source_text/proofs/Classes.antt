@@ -1,9 +1,9 @@
--- The lines of a source, in the pieces in which they are written.
+-- Proves that the lines of a source consist of the pieces that are written.
 use Rattle.std.proofs.Common.{◌≡◌, ℕ, List, [], ◌∷◌, ◌++◌, map, flat_map, ap, ◌∙◌}
 use Rattle.std.specs.Prelude.{codes}
 use Rattle.jasmin.specs.declared.source.Source.{Source}
-use Rattle.listings.specs.Printed.{joined, field_line, method_text, class_line, printed}
-use Rattle.source_text.specs.Lines.{ended, all_ended}
+use Rattle.listing_spec.specs.Printed.{joined, field_line, method_text, class_line, printed}
+use Rattle.source_text.specs.Lines.{ended, text_of_lines}
 use Rattle.source_text.proofs.Ended.{ended_append, ended_map, ended_flat_map}
 
 abbrev pub interface_line : List ℕ → List ℕ
@@ -13,14 +13,14 @@ abbrev pub super_line : Source → List ℕ
 super_line s = joined (codes ".super" ∷ s.superclass ∷ [])
 
 pub source_pieces : (s : Source)
-    → all_ended (printed s) ≡ ended (codes ".bytecode 49.0") ++ (ended (class_line s) ++ (ended (super_line s) ++ (flat_map (λ name. ended (interface_line name)) s.interfaces
-    ++ (flat_map (λ f. ended (field_line f)) s.fields ++ flat_map (λ m. all_ended (method_text m)) s.methods))))
+    → text_of_lines (printed s) ≡ ended (codes ".bytecode 49.0") ++ (ended (class_line s) ++ (ended (super_line s) ++ (flat_map (λ name. ended (interface_line name)) s.interfaces
+    ++ (flat_map (λ f. ended (field_line f)) s.fields ++ flat_map (λ m. text_of_lines (method_text m)) s.methods))))
 unfolding printed
 source_pieces s =
-    let members : all_ended (map field_line s.fields ++ flat_map method_text s.methods) ≡ flat_map (λ f. ended (field_line f)) s.fields ++ flat_map (λ m. all_ended (method_text m)) s.methods =
-    ended_append (map field_line s.fields) (flat_map method_text s.methods) ∙ ap (λ (w : List ℕ). w ++ all_ended (flat_map method_text s.methods)) (ended_map field_line s.fields)
+    let members : text_of_lines (map field_line s.fields ++ flat_map method_text s.methods) ≡ flat_map (λ f. ended (field_line f)) s.fields ++ flat_map (λ m. text_of_lines (method_text m)) s.methods =
+    ended_append (map field_line s.fields) (flat_map method_text s.methods) ∙ ap (λ (w : List ℕ). w ++ text_of_lines (flat_map method_text s.methods)) (ended_map field_line s.fields)
     ∙ ap (λ (w : List ℕ). flat_map (λ f. ended (field_line f)) s.fields ++ w) (ended_flat_map method_text s.methods) in
     ap (λ (w : List ℕ). ended (codes ".bytecode 49.0") ++ (ended (class_line s) ++ (ended (super_line s) ++ w)))
     (ended_append (map interface_line s.interfaces) (map field_line s.fields ++ flat_map method_text s.methods)
-    ∙ ap (λ (w : List ℕ). w ++ all_ended (map field_line s.fields ++ flat_map method_text s.methods)) (ended_map interface_line s.interfaces)
+    ∙ ap (λ (w : List ℕ). w ++ text_of_lines (map field_line s.fields ++ flat_map method_text s.methods)) (ended_map interface_line s.interfaces)
     ∙ ap (λ (w : List ℕ). flat_map (λ name. ended (interface_line name)) s.interfaces ++ w) members)

@@ -1,4 +1,4 @@
--- Units each half of which has the other are decoded, and what they are decoded to has these units.
+-- Proves that paired units can be decoded, and that the text has these units.
 use Rattle.std.proofs.Common.{◌≡◌, ℕ, Bool, true, false, not, ◌&&◌, ◌||◌, List, [], ◌∷◌, ◌++◌, length, flat_map, Some, refl, sym, ap, ◌∙◌, arith, Result, Ok, Err}
 use Rattle.std.specs.Result.{IsOk, is_err}
 use Rattle.std.specs.Str.{IsUtf8}
@@ -9,8 +9,8 @@ use Rattle.std.proofs.lemmas.Bool.{and_parts, or_parts, not-true, cond_both}
 use Rattle.std.proofs.lemmas.Bool.Decides.{nat_tests}
 use Rattle.std.proofs.lemmas.Str.{chars_from_encodes}
 use Rattle.jasmin.specs.Sources.{units_of}
-use Rattle.listings.specs.Printable.{is_high, is_low, is_paired}
-use Rattle.source_text.specs.Lines.{all_ended}
+use Rattle.listing_spec.specs.Printable.{is_high, is_low, is_paired}
+use Rattle.source_text.specs.Lines.{text_of_lines}
 use Rattle.source_text.proofs.Plain.{AllPlain, paired_append, nil_plain}
 
 same_high : (u : ℕ) → is_high_surrogate u ≡ is_high u
@@ -45,23 +45,23 @@ paired_decodes (u ∷ v ∷ us) e =
     rw (h, whole_unit u whole (not-true (is_low u) w.0)) (paired_decodes (v ∷ us) w.1))
     e
 
--- The units of a text that units spell.
+-- A text that is spelled by units has these units.
 pub decoded_units : (units bytes : List ℕ) → IsUtf8 bytes → IsUtf16Of units bytes → units_of bytes ≡ units
 decoded_units units bytes utf8 (cs, spelled, coded) =
     ap (flat_map encode_utf16) (sym (chars_from_encodes cs bytes utf8 (sym coded))) ∙ sym spelled
 
--- Plain lines with their ends.
-pub lines_paired : (ls : List (List ℕ)) → AllPlain ls → is_paired (all_ended ls) ≡ true
+-- Plain lines with their line ends are paired.
+pub lines_paired : (ls : List (List ℕ)) → AllPlain ls → is_paired (text_of_lines ls) ≡ true
 lines_paired [] a = nil_plain.pairs
-lines_paired (l ∷ ls) a = paired_append (l ++ 10 ∷ []) (all_ended ls) (paired_append l (10 ∷ []) (a.0).pairs feed_paired) (lines_paired ls a.1)
+lines_paired (l ∷ ls) a = paired_append (l ++ 10 ∷ []) (text_of_lines ls) (paired_append l (10 ∷ []) (a.0).pairs feed_paired) (lines_paired ls a.1)
 
--- Where nothing is left.
+-- The empty list is paired.
 pub none_left : (us : List ℕ) → length us ≡ 0 → is_paired us ≡ true
 unfolding is_paired
 none_left [] e = refl
 none_left (u ∷ us) e = absurd (omega (arith, e))
 
--- An answer that is no fault.
+-- A result without a fault is Ok.
 pub no_fault : {T E : Type 0} (r : Result T E) (b : Bool) → is_err r ≡ b → b ≡ false → IsOk r
 no_fault (Ok x) b is isnt = refl
 no_fault (Err e) b is isnt = absurd cc

@@ -1,7 +1,7 @@
--- Words that are parted by spaces.
+-- Proves facts about words that are joined by spaces.
 use Rattle.std.proofs.Common.{◌≡◌, ℕ, suc, ◌-◌, ◌<◌, ◌≤◌, List, [], ◌∷◌, ◌++◌, length, get_or, take, drop, map, flat_map, refl, ap, ◌∙◌, arith}
 use Rattle.std.proofs.lemmas.List.{append-nil, take_all}
-use Rattle.listings.specs.Printed.{joined}
+use Rattle.listing_spec.specs.Printed.{joined}
 use Rattle.source_text.specs.declared.word.Word.{Word}
 use Rattle.source_text.specs.Words.{units_in}
 
@@ -10,13 +10,13 @@ unfolding joined
 no_words [] none = refl
 no_words (w ∷ ws) none = absurd (omega arith)
 
--- The first word, and each other behind a space.
+-- Joined words are the first word, and each other word after a space.
 first_word : (w : Word) (ws : List Word) → units_in w ++ flat_map (λ v. 32 ∷ units_in v) ws ≡ joined (map units_in (w ∷ ws))
 unfolding joined
 first_word w [] = append-nil (units_in w)
 first_word w (v ∷ vs) = ap (λ (rest : List ℕ). units_in w ++ 32 ∷ rest) (first_word v vs)
 
--- What stands behind the first is all but one.
+-- The words after the first are all but one.
 behind_first : (ws : List Word) → take (length ws - 1) (drop 1 ws) ≡ drop 1 ws
 behind_first [] = refl
 behind_first (w ∷ ws) = let fits : length ws ≤ suc (length ws) - 1 = omega arith in take_all (suc (length ws) - 1) ws fits

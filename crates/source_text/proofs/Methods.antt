@@ -1,12 +1,12 @@
--- The lines of a method, in the pieces in which they are written.
+-- Proves that the lines of a method consist of the pieces that are written.
 use Rattle.std.proofs.Common.{◌≡◌, ℕ, true, false, List, [], ◌∷◌, ◌++◌, map, flat_map, refl, sym, ap, ◌∙◌, append_assoc}
 use Rattle.std.specs.Prelude.{codes}
 use Rattle.std.specs.Fmt.{decimal}
 use Rattle.jasmin.specs.declared.source.MethodLines.{MethodLines}
 use Rattle.jasmin.specs.Denote.{has_code}
 use Rattle.jasmin.specs.Operands.{method_words}
-use Rattle.listings.specs.Printed.{joined, access_names, catch_line, throws_line, item_lines, body_lines, method_text}
-use Rattle.source_text.specs.Lines.{ended, all_ended}
+use Rattle.listing_spec.specs.Printed.{joined, access_names, catch_line, throws_line, item_lines, body_lines, method_text}
+use Rattle.source_text.specs.Lines.{ended, text_of_lines}
 use Rattle.source_text.proofs.Ended.{one_ended, ended_append, ended_map, ended_flat_map}
 
 abbrev pub first_line : MethodLines → List ℕ
@@ -18,30 +18,30 @@ stack_line n = joined (codes ".limit" ∷ codes "stack" ∷ decimal n ∷ [])
 abbrev pub locals_line : ℕ → List ℕ
 locals_line n = joined (codes ".limit" ∷ codes "locals" ∷ decimal n ∷ [])
 
--- Of a method with code.
+-- The body of a method with code has these pieces.
 pub body_pieces : (m : MethodLines) → has_code m.name m.access ≡ true
-    → all_ended (body_lines m) ≡ (ended (stack_line m.max_stack) ++ ended (locals_line m.max_locals)) ++ (flat_map (λ c. ended (catch_line c)) m.catches ++ flat_map (λ i. all_ended (item_lines i)) m.code)
+    → text_of_lines (body_lines m) ≡ (ended (stack_line m.max_stack) ++ ended (locals_line m.max_locals)) ++ (flat_map (λ c. ended (catch_line c)) m.catches ++ flat_map (λ i. text_of_lines (item_lines i)) m.code)
 unfolding body_lines
 body_pieces m has =
     let catches = ended_map catch_line m.catches in
     let code = ended_flat_map item_lines m.code in
-    let both : all_ended (map catch_line m.catches ++ flat_map item_lines m.code) ≡ flat_map (λ c. ended (catch_line c)) m.catches ++ flat_map (λ i. all_ended (item_lines i)) m.code =
-    ended_append (map catch_line m.catches) (flat_map item_lines m.code) ∙ ap (λ (w : List ℕ). w ++ all_ended (flat_map item_lines m.code)) catches ∙ ap (λ (w : List ℕ). flat_map (λ c. ended (catch_line c)) m.catches ++ w) code in
+    let both : text_of_lines (map catch_line m.catches ++ flat_map item_lines m.code) ≡ flat_map (λ c. ended (catch_line c)) m.catches ++ flat_map (λ i. text_of_lines (item_lines i)) m.code =
+    ended_append (map catch_line m.catches) (flat_map item_lines m.code) ∙ ap (λ (w : List ℕ). w ++ text_of_lines (flat_map item_lines m.code)) catches ∙ ap (λ (w : List ℕ). flat_map (λ c. ended (catch_line c)) m.catches ++ w) code in
     rw has (ap (λ (w : List ℕ). ended (stack_line m.max_stack) ++ (ended (locals_line m.max_locals) ++ w)) both
-    ∙ sym (append_assoc (ended (stack_line m.max_stack)) (ended (locals_line m.max_locals)) (flat_map (λ c. ended (catch_line c)) m.catches ++ flat_map (λ i. all_ended (item_lines i)) m.code)))
+    ∙ sym (append_assoc (ended (stack_line m.max_stack)) (ended (locals_line m.max_locals)) (flat_map (λ c. ended (catch_line c)) m.catches ++ flat_map (λ i. text_of_lines (item_lines i)) m.code)))
 
--- Of a method without code.
-pub no_body : (m : MethodLines) → has_code m.name m.access ≡ false → all_ended (body_lines m) ≡ []
+-- The body of a method without code is empty.
+pub no_body : (m : MethodLines) → has_code m.name m.access ≡ false → text_of_lines (body_lines m) ≡ []
 unfolding body_lines
 no_body m hasnt = rw hasnt refl
 
 pub method_pieces : (m : MethodLines)
-    → all_ended (method_text m) ≡ ended (first_line m) ++ (flat_map (λ name. ended (throws_line name)) m.throws ++ (all_ended (body_lines m) ++ ended (codes ".end method")))
+    → text_of_lines (method_text m) ≡ ended (first_line m) ++ (flat_map (λ name. ended (throws_line name)) m.throws ++ (text_of_lines (body_lines m) ++ ended (codes ".end method")))
 unfolding method_text
 method_pieces m =
-    let last : all_ended (body_lines m ++ codes ".end method" ∷ []) ≡ all_ended (body_lines m) ++ ended (codes ".end method") =
-    ended_append (body_lines m) (codes ".end method" ∷ []) ∙ ap (λ (w : List ℕ). all_ended (body_lines m) ++ w) (one_ended (codes ".end method")) in
+    let last : text_of_lines (body_lines m ++ codes ".end method" ∷ []) ≡ text_of_lines (body_lines m) ++ ended (codes ".end method") =
+    ended_append (body_lines m) (codes ".end method" ∷ []) ∙ ap (λ (w : List ℕ). text_of_lines (body_lines m) ++ w) (one_ended (codes ".end method")) in
     ap (λ (w : List ℕ). ended (first_line m) ++ w)
     (ended_append (map throws_line m.throws) (body_lines m ++ codes ".end method" ∷ [])
-    ∙ ap (λ (w : List ℕ). w ++ all_ended (body_lines m ++ codes ".end method" ∷ [])) (ended_map throws_line m.throws)
+    ∙ ap (λ (w : List ℕ). w ++ text_of_lines (body_lines m ++ codes ".end method" ∷ [])) (ended_map throws_line m.throws)
     ∙ ap (λ (w : List ℕ). flat_map (λ name. ended (throws_line name)) m.throws ++ w) last)

@@ -1,14 +1,14 @@
--- Units that stand in a line: none ends it, and each half of a supplementary character has the other.
+-- Defines plain units, which a line may have: none ends a line, and each surrogate has its other half.
 use Rattle.std.proofs.Common.{◌≡◌, ℕ, ◌<◌, ◌≤◌, Bool, true, false, not, ◌&&◌, ◌||◌, ◌==◌, List, [], ◌∷◌, ◌++◌, map, flat_map, refl, ◌∙◌, arith}
 use Rattle.std.specs.Prelude.{nat_le}
 use Rattle.std.specs.List.{list_all, AllByRecursion}
 use Rattle.std.proofs.lemmas.Bool.{and_parts, and_from, and_left, or_parts, or_from, not-true, not_from_false, cond_both, lt-leb, ne_eqb}
 use Rattle.std.proofs.lemmas.List.Folds.{list_all-append}
 use Rattle.jasmin.specs.Lexing.{is_space, ends_word}
-use Rattle.listings.specs.Printable.{is_high, is_low, is_paired, is_word_unit, is_word}
-use Rattle.listings.specs.Printed.{joined}
+use Rattle.listing_spec.specs.Printable.{is_high, is_low, is_paired, is_word_unit, is_word}
+use Rattle.listing_spec.specs.Printed.{joined}
 
--- No end of a line, and no carriage return.
+-- Decides whether a unit is neither a line feed nor a carriage return.
 abbrev pub is_line_unit : ℕ → Bool
 is_line_unit u = not (u == 10 || u == 13)
 
@@ -22,12 +22,12 @@ nil_plain = record { units = refl; pairs = refl }
 
 -- ---- Halves
 
--- A unit that is paired alone is no half.
+-- A unit that is paired by itself is no surrogate.
 lone : (u : ℕ) → is_paired (u ∷ []) ≡ true → (is_high u ≡ false) × (is_low u ≡ false)
 unfolding is_paired
 lone u e = or_parts (is_high u) (is_low u) (not-true (is_high u || is_low u) e)
 
--- Units behind one that is no half.
+-- A unit that is no surrogate precedes paired units.
 whole_first : (u : ℕ) (us : List ℕ) → is_high u ≡ false → is_low u ≡ false → is_paired us ≡ true → is_paired (u ∷ us) ≡ true
 unfolding is_paired
 whole_first u [] high low e = rw (high, low) refl
@@ -51,7 +51,7 @@ plain_append xs ys p q = record {
   pairs = paired_append xs ys p.pairs q.pairs;
 }
 
--- A unit that is no half and no end of a line.
+-- Decides whether a unit is no surrogate and doesn't end a line.
 abbrev pub is_simple : ℕ → Bool
 is_simple u = is_line_unit u && not (is_high u || is_low u)
 
@@ -74,7 +74,7 @@ small_simple u least most =
     (not_from_false (u == 10 || u == 13) (or_from (u == 10) (u == 13) (ne_eqb u 10 (λ e. omega arith)) (ne_eqb u 13 (λ e. omega arith))))
     (not_from_false (is_high u || is_low u) (or_from (is_high u) (is_low u) (and_left (nat_le 0xd800 u) (nat_le u 0xdbff) (lt-leb 0xd800 u most)) (and_left (nat_le 0xdc00 u) (nat_le u 0xdfff) (lt-leb 0xdc00 u below))))
 
--- Plain units behind a small one.
+-- A small unit precedes plain units.
 pub small_first : (u : ℕ) (l : List ℕ) → 14 ≤ u → u < 0xd800 → IsPlain l → IsPlain (u ∷ l)
 small_first u l least most p =
     plain_append (u ∷ []) l (simple_plain (u ∷ []) (and_from (is_simple u) true (small_simple u least most) refl)) p
@@ -126,12 +126,12 @@ pub all_flat_map : {A B : Type 0} (Q : A → Type 0) (P : B → Type 0) (f : A �
 all_flat_map Q P f each [] q = tt
 all_flat_map Q P f each (x ∷ xs) q = all_append P (f x) (flat_map f xs) (each x q.0) (all_flat_map Q P f each xs q.1)
 
--- What passes a test.
+-- All elements pass a test.
 pub all_tested : {A : Type 0} (test : A → Bool) (xs : List A) → list_all test xs ≡ true → AllByRecursion (λ x. test x ≡ true) xs
 all_tested test [] e = tt
 all_tested test (x ∷ xs) e = let w = and_parts (test x) (list_all test xs) e in (w.0, all_tested test xs w.1)
 
--- What has a property and passes a test.
+-- All elements have a property and pass a test.
 pub all_both : {A : Type 0} (Q : A → Type 0) (test : A → Bool) (xs : List A) → AllByRecursion Q xs → list_all test xs ≡ true → AllByRecursion (λ x. Q x × (test x ≡ true)) xs
 all_both Q test [] q e = tt
 all_both Q test (x ∷ xs) q e = let w = and_parts (test x) (list_all test xs) e in ((q.0, w.0), all_both Q test xs q.1 w.1)

@@ -1,4 +1,4 @@
--- The lines of a tree that is listable and printable stand in a text.
+-- Proves that the lines of a listable and printable tree are plain.
 use Rattle.std.proofs.Common.{◌≡◌, ℕ, true, not, ◌&&◌, ◌==◌, List, [], ◌∷◌, ◌++◌, map, flat_map, Option, Some, None, is_some, refl, arith}
 use Rattle.std.specs.Prelude.{codes}
 use Rattle.std.specs.Option.{unwrap_or}
@@ -30,13 +30,13 @@ use Rattle.jasmin.specs.declared.source.Source.{Source}
 use Rattle.jasmin.specs.Denote.{has_code}
 use Rattle.jasmin.specs.Numerals.{number_of}
 use Rattle.jasmin.specs.Operands.{field_words, method_words}
-use Rattle.listings.specs.Listable.{IsPlaceLabel, IsListableLoad, IsListableOperation, IsListableItem, IsListableCatch, IsListableValue, IsListableField, IsListableMethod, IsListable}
-use Rattle.listings.specs.Printable.{is_word, is_before_descriptor, is_loadable_word, is_printable_operation, is_printable_item, is_printable_caught, is_printable_field, is_printable_method, is_printable}
-use Rattle.listings.specs.Printed.{joined, access_names, written_class_words, written_interface_words, opcode_of, mnemonic, array_type_name, loaded_word, member_word, count_words, operand_words, switch_line, default_line, match_line, lines_behind, item_lines, value_words, field_line, caught_word, catch_line, throws_line, body_lines, method_text, class_line, printed}
+use Rattle.listing_spec.specs.Listable.{IsPlaceLabel, IsListableLoad, IsListableOperation, IsListableItem, IsListableCatch, IsListableValue, IsListableField, IsListableMethod, IsListable}
+use Rattle.listing_spec.specs.Printable.{is_word, is_before_descriptor, is_loadable_word, is_printable_operation, is_printable_item, is_printable_caught, is_printable_field, is_printable_method, is_printable}
+use Rattle.listing_spec.specs.Printed.{joined, access_names, written_class_words, written_interface_words, opcode_of, mnemonic, array_type_name, loaded_word, member_word, count_words, operand_words, switch_line, default_line, match_line, lines_after, item_lines, value_words, field_line, caught_word, catch_line, throws_line, body_lines, method_text, class_line, printed}
 use Rattle.source_text.proofs.Plain.{IsPlain, AllPlain, is_simple, plain_append, simple_plain, small_first, word_plain, joined_plain, all_append, all_map, all_flat_map, all_tested, all_both}
 use Rattle.source_text.proofs.PlainWords.{decimal_plain, signed_plain, label_plain, quoted_plain, access_plain, mnemonic_plain}
 
--- Words of the language.
+-- Words of the language are plain.
 ascii : (text : List ℕ) → list_all is_simple text ≡ true → IsPlain text
 ascii text e = simple_plain text e
 
@@ -105,7 +105,7 @@ match_plain : (m : MatchLine) → IsPlaceLabel m.label → IsPlain (match_line m
 match_plain m l =
     switch_plain (signed_decimal m.value ∷ codes ":" ∷ m.label ∷ []) (signed_plain m.value, (ascii (codes ":") refl, (label_plain m.label l, tt)))
 
-behind_plain : (o : Operation) → IsListableOperation o → AllPlain (lines_behind o)
+behind_plain : (o : Operation) → IsListableOperation o → AllPlain (lines_after o)
 unfolding IsListableOperation
 behind_plain (operation.Table lines) l =
     all_append IsPlain (map (λ label. switch_line (label ∷ [])) lines.labels) (default_line lines.default ∷ [])

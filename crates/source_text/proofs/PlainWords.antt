@@ -1,4 +1,4 @@
--- The words that are written of numbers, texts, flags, labels and instructions stand in a line.
+-- Proves that the words of numbers, texts, flags, labels and instructions are plain.
 use Rattle.std.proofs.Common.{◌≡◌, ℕ, zero, suc, ◌+◌, ◌/◌, ◌%◌, ◌<◌, ◌≤◌, Bool, true, false, cond, ◌&&◌, ◌==◌, List, [], ◌∷◌, ◌++◌, map, flat_map, ℤ, pos, negsuc, refl, sym, subst, arith}
 use Rattle.std.specs.Prelude.{nat_le, nat_lt, codes, slice_get}
 use Rattle.std.specs.Option.{unwrap_or}
@@ -9,9 +9,9 @@ use Rattle.jvms_file.specs.Texts.{IsText}
 use Rattle.jvms_file.specs.Members.{has_flag}
 use Rattle.jasmin.specs.declared.mnemonic.TheConstants.{MNEMONICS}
 use Rattle.jasmin.specs.Operands.{Access}
-use Rattle.listings.specs.TreeOf.{label_of}
-use Rattle.listings.specs.Listable.{IsPlaceLabel}
-use Rattle.listings.specs.Printed.{access_names, hexadecimal, four_digits, escaped, quoted, mnemonic}
+use Rattle.listing_spec.specs.TreeOf.{label_of}
+use Rattle.listing_spec.specs.Listable.{IsPlaceLabel}
+use Rattle.listing_spec.specs.Printed.{access_names, hexadecimal, four_digits, escaped, quoted, mnemonic}
 use Rattle.source_text.proofs.Plain.{IsPlain, AllPlain, is_simple, nil_plain, plain_append, simple_plain, small_first}
 
 -- ---- Numbers
@@ -26,7 +26,7 @@ digits_plain (suc k) n l p =
     cond_both (n / 10 == 0) (digit_glyph false (n % 10) ∷ l) (digits_onto k 10 false (n / 10) (digit_glyph false (n % 10) ∷ l)) IsPlain
     (λ last. here) (λ more. digits_plain k (n / 10) (digit_glyph false (n % 10) ∷ l) here)
 
--- So many digits at most.
+-- A number has at most this many digits.
 most_digits : (n : ℕ) → (k : ℕ) × (decimal n ≡ digits_onto k 10 false n [])
 unfolding digits
 most_digits n = (64, refl)

@@ -1,4 +1,5 @@
--- From the units of a text to its lines: a text whose units are those of plain lines, each with its end, has these lines.
+-- Proves that a text has certain lines if its units are those of the lines, each with a line end, and the lines are
+-- plain.
 use Rattle.std.proofs.Common.{◌≡◌, ℕ, zero, suc, ◌+◌, ◌-◌, ◌/◌, ◌%◌, ◌≤◌, true, false, cond, ◌&&◌, ◌||◌, ◌==◌, List, [], ◌∷◌, ◌++◌, length, get_or, map, flat_map, refl, sym, ap, ◌∙◌, subst, append_assoc, arith, Result, Ok, Err, String}
 use Rattle.std.specs.Result.{IfOk}
 use Rattle.std.specs.String.{string_bytes}
@@ -12,12 +13,12 @@ use Rattle.std.proofs.lemmas.Str.{chars-encodes, encodes-append, IsUtf8-string_b
 use Rattle.std.proofs.lemmas.List.Folds.{list_all-append}
 use lib.Utf8.{scalar, scalars, encode, encodes}
 use Rattle.jasmin.specs.Sources.{units_of}
-use Rattle.source_text.specs.Lines.{all_ended}
+use Rattle.source_text.specs.Lines.{text_of_lines}
 use Rattle.source_text.proofs.Plain.{AllPlain, is_line_unit}
 
 -- ---- Characters and units
 
--- A text's characters before a unit that ends a line, and those behind it.
+-- The characters of a text are split at a unit that ends a line: those before it, and those after it.
 record Cut (cs l rest : List ℕ) : Type 0 where
   front : List ℕ
   behind : List ℕ
@@ -25,7 +26,7 @@ record Cut (cs l rest : List ℕ) : Type 0 where
   here : flat_map encode_utf16 front ≡ l
   later : flat_map encode_utf16 behind ≡ rest
 
--- Behind a character of one unit.
+-- A character of one unit precedes a split text.
 cut_one : (c : ℕ) (cs l rest : List ℕ) → encode_utf16 c ≡ c ∷ [] → list_all is_line_unit l ≡ true → c ∷ flat_map encode_utf16 cs ≡ l ++ 10 ∷ rest
     → ((m : List ℕ) → list_all is_line_unit m ≡ true → flat_map encode_utf16 cs ≡ m ++ 10 ∷ rest → Cut cs m rest) → Cut (c ∷ cs) l rest
 cut_one c cs [] rest code plain e next =
@@ -48,7 +49,7 @@ cut_one c cs (u ∷ us) rest code plain e next =
 two_same : (a b c d : ℕ) (xs ys : List ℕ) → a ≡ c → b ≡ d → xs ≡ ys → a ∷ b ∷ xs ≡ c ∷ d ∷ ys
 two_same a b c d xs ys e f g = cc
 
--- One more character, of two units.
+-- A character of two units precedes a split text.
 two_more : (c h w u v : ℕ) (cs us rest : List ℕ) → encode_utf16 c ≡ h ∷ w ∷ [] → h ≡ u → w ≡ v → Cut cs us rest → Cut (c ∷ cs) (u ∷ v ∷ us) rest
 two_more c h w u v cs us rest code first second k = record {
   front = c ∷ k.front;
@@ -58,7 +59,7 @@ two_more c h w u v cs us rest code first second k = record {
   later = k.later;
 }
 
--- Behind a character of two units, neither of which ends a line.
+-- A character of two units that end no line precedes a split text.
 cut_two : (c h w : ℕ) (cs l rest : List ℕ) → encode_utf16 c ≡ h ∷ w ∷ [] → 11 ≤ h → 11 ≤ w → list_all is_line_unit l ≡ true → h ∷ w ∷ flat_map encode_utf16 cs ≡ l ++ 10 ∷ rest
     → ((m : List ℕ) → list_all is_line_unit m ≡ true → flat_map encode_utf16 cs ≡ m ++ 10 ∷ rest → Cut cs m rest) → Cut (c ∷ cs) l rest
 cut_two c h w cs [] rest code high low plain e next = let first : h ≡ 10 = cc in absurd (omega arith)
@@ -121,7 +122,7 @@ char_bytes c e =
     (λ two. two_are c)
     (λ many. cond_both (nat_lt c 65536) (three_bytes c) (four_bytes c) AreLine (λ three. three_are c) (λ four. four_are c)))
 
--- The bytes of characters whose units end no line.
+-- A character whose units end no line has bytes that end no line.
 char_of_units : (c : ℕ) (us : List ℕ) → list_all is_line_unit (encode_utf16 c ++ us) ≡ true → (is_line_unit c ≡ true) × (list_all is_line_unit us ≡ true)
 char_of_units c us e =
     cond_both (nat_lt c 0x10000) (c ∷ []) ((0xD800 + (c - 0x10000) / 0x400) ∷ (0xDC00 + (c - 0x10000) % 0x400) ∷ [])
@@ -153,7 +154,7 @@ split_first (b ∷ bs) rest e =
     let w = and_parts (is_line_unit b) (list_all is_line_unit bs) e in
     rw (no_feed b w.0, split_first bs rest w.1) refl
 
--- There is a first part.
+-- A split list has a first part.
 some_part : (bs : List ℕ) → (part : List ℕ) × (parts : List (List ℕ)) × (slice_split (λ b. b == 10) bs ≡ part ∷ parts)
 some_part [] = ([], [], refl)
 some_part (b ∷ bs) =
@@ -197,11 +198,11 @@ no_units (c ∷ cs) e =
     cond_both (nat_lt c 0x10000) (c ∷ []) ((0xD800 + (c - 0x10000) / 0x400) ∷ (0xDC00 + (c - 0x10000) % 0x400) ∷ [])
     (λ z. z ++ flat_map encode_utf16 cs ≡ [] → c ∷ cs ≡ []) (λ small f. absurd cc) (λ large f. absurd cc) e
 
-lines_of_characters : (ls : List (List ℕ)) (cs : List ℕ) → scalars cs ≡ true → flat_map encode_utf16 cs ≡ all_ended ls → AllPlain ls → map units_of (lines (encodes cs)) ≡ ls
+lines_of_characters : (ls : List (List ℕ)) (cs : List ℕ) → scalars cs ≡ true → flat_map encode_utf16 cs ≡ text_of_lines ls → AllPlain ls → map units_of (lines (encodes cs)) ≡ ls
 lines_of_characters [] cs ok e plain = ap (λ (w : List ℕ). map units_of (lines (encodes w))) (no_units cs e)
 lines_of_characters (l ∷ ls) cs ok e plain =
     let units : list_all is_line_unit l ≡ true = (plain.0).units in
-    let k = cut cs l (all_ended ls) units (e ∙ append_assoc l (10 ∷ []) (all_ended ls)) in
+    let k = cut cs l (text_of_lines ls) units (e ∙ append_assoc l (10 ∷ []) (text_of_lines ls)) in
     let s = scalars_parts k.front (10 ∷ k.behind) (subst (λ (w : List ℕ). scalars w ≡ true) k.parts ok) in
     let behind = and_parts (scalar 10) (scalars k.behind) s.1 in
     let bytes : encodes cs ≡ encodes k.front ++ 10 ∷ encodes k.behind =
@@ -213,14 +214,14 @@ lines_of_characters (l ∷ ls) cs ok e plain =
     ∙ ap (λ (w : List ℕ). w ∷ map units_of (lines (encodes k.behind))) line
     ∙ ap (λ (w : List (List ℕ)). l ∷ w) (lines_of_characters ls k.behind behind.1 k.later plain.1)
 
--- The lines of a text by its units.
-pub text_lines : (bytes : List ℕ) (ls : List (List ℕ)) → IsUtf8 bytes → units_of bytes ≡ all_ended ls → AllPlain ls → map units_of (lines bytes) ≡ ls
+-- A text has the lines that its units have.
+pub text_lines : (bytes : List ℕ) (ls : List (List ℕ)) → IsUtf8 bytes → units_of bytes ≡ text_of_lines ls → AllPlain ls → map units_of (lines bytes) ≡ ls
 text_lines bytes ls (cs, (ok, is)) units plain =
     let characters : cs ≡ chars bytes = sym (chars-encodes cs ok) ∙ ap chars is in
     subst (λ (w : List ℕ). map units_of (lines w) ≡ ls) is (lines_of_characters ls cs ok (ap (flat_map encode_utf16) characters ∙ units) plain)
 
--- The same of a text that is made, if there is memory.
-pub lines_of_text : {Z E : Type 0} (r : Result (String Z) E) (units : List ℕ) (ls : List (List ℕ)) → units ≡ all_ended ls → AllPlain ls
+-- A text that is made has the lines that its units have, unless memory runs out.
+pub lines_of_text : {Z E : Type 0} (r : Result (String Z) E) (units : List ℕ) (ls : List (List ℕ)) → units ≡ text_of_lines ls → AllPlain ls
     → IfOk r (λ text. units_of (string_bytes text) ≡ units) → IfOk r (λ text. map units_of (lines (string_bytes text)) ≡ ls)
 lines_of_text (Ok text) units ls are plain is = text_lines (string_bytes text) ls (IsUtf8-string_bytes text) (is ∙ are) plain
 lines_of_text (Err e) units ls are plain is = is

@@ -1,11 +1,11 @@
--- Lines as they stand in a text.
+-- Defines the lines of a text.
 use Rattle.std.specs.Prelude.{ℕ, List, [], ◌∷◌, ◌++◌}
 use Rattle.std.specs.List.{flat_map}
 
--- A line with its end.
+-- Returns a line with its line end.
 abbrev pub ended : List ℕ → List ℕ
 ended line = line ++ 10 ∷ []
 
--- Lines, one behind another.
-abbrev pub all_ended : List (List ℕ) → List ℕ
-all_ended lines = flat_map ended lines
+-- Returns the text of lines.
+abbrev pub text_of_lines : List (List ℕ) → List ℕ
+text_of_lines lines = flat_map ended lines

@@ -1,11 +1,11 @@
--- The words of a line that is written, by what they spell.
+-- Defines the words of a line that is written, by what they spell.
 use Rattle.std.specs.Prelude.{ℕ, List, ◌++◌}
 use Rattle.std.specs.Fmt.{signed_decimal}
-use Rattle.listings.specs.Printed.{quoted, member_word}
+use Rattle.listing_spec.specs.Printed.{quoted, member_word}
 use Rattle.source_text.specs.declared.word.Word.{Word}
 use Rattle.source_text.specs.declared.word.Word.TheVariants as word
 
--- The units of a word.
+-- Returns the units of a word.
 abbrev pub units_in : Word → List ℕ
 units_in (word.Ascii text) = text.now
 units_in (word.Name name) = name.now

@@ -1,24 +1,24 @@
-//! Access words (JVMS tables 4.1-A, 4.5-A, 4.6-A).
+//! Writes access words (JVMS tables 4.1-A, 4.5-A, 4.6-A).
 
 ghost use Rattle.std.specs.Prelude.{◌≡◌, ◌++◌, ◌∷◌, [], map, OnOk, if◌then◌else◌};
 ghost use Rattle.jasmin.specs.Operands.{field_words, method_words};
-ghost use Rattle.listings.specs.Printed.{access_names, written_class_words, written_interface_words};
+ghost use Rattle.listing_spec.specs.Printed.{access_names, written_class_words, written_interface_words};
 ghost use Rattle.source_text.specs.Words.{units_in};
 
 use crate::word::Word;
 use std::alloc::AllocError;
 
-/// The words of a class but `super`, which `.class` adds.
+/// The access words of a class without `super`, which `.class` adds.
 const CLASS_WORDS: [(&str, u16); 3] = [("public", 0x0001), ("final", 0x0010), ("abstract", 0x0400)];
 
-/// The words of an interface but those that `.interface` adds.
+/// The access words of an interface without those that `.interface` adds.
 const INTERFACE_WORDS: [(&str, u16); 3] = [
     ("public", 0x0001),
     ("final", 0x0010),
     ("super", 0x0020),
 ];
 
-/// The words of fields.
+/// The access words of fields.
 const FIELD_WORDS: [(&str, u16); 7] = [
     ("public", 0x0001),
     ("private", 0x0002),
@@ -29,7 +29,7 @@ const FIELD_WORDS: [(&str, u16); 7] = [
     ("transient", 0x0080),
 ];
 
-/// The words of methods.
+/// The access words of methods.
 const METHOD_WORDS: [(&str, u16); 8] = [
     ("public", 0x0001),
     ("private", 0x0002),
@@ -41,7 +41,7 @@ const METHOD_WORDS: [(&str, u16); 8] = [
     ("abstract", 0x0400),
 ];
 
-/// Adds a word.
+/// Appends a word.
 pub(crate) fn push_word<'a>(words: &mut Vec<Word<'a>>, word: Word<'a>) -> Result<(), AllocError>
     ensures { OnOk result (map units_in words.new.items ≡ map units_in words.old.items ++ units_in word.entry ∷ []) }
 {
@@ -49,7 +49,7 @@ pub(crate) fn push_word<'a>(words: &mut Vec<Word<'a>>, word: Word<'a>) -> Result
     Ok(())
 }
 
-/// Adds a word, where its flag is set.
+/// Appends a word, if its flag is set.
 fn push_word_if<'a>(
     words: &mut Vec<Word<'a>>,
     word: &'a str,
@@ -64,8 +64,8 @@ fn push_word_if<'a>(
     }
 }
 
-/// Adds the words of a table whose flags are set.
-#[tactic(auto, unfolding(listings::specs::Printed::access_names))]
+/// Appends the words of a table whose flags are set.
+#[tactic(auto, unfolding(listing_spec::specs::Printed::access_names))]
 fn push_words<'a>(
     words: &mut Vec<Word<'a>>,
     table: &[(&'a str, u16)],
@@ -81,28 +81,28 @@ fn push_words<'a>(
     Ok(())
 }
 
-/// Adds the words of a class.
+/// Appends the access words of a class.
 pub(crate) fn push_class_words(words: &mut Vec<Word<'_>>, access: u16) -> Result<(), AllocError>
     ensures { OnOk result (map units_in words.new.items ≡ map units_in words.old.items ++ access_names written_class_words access) }
 {
     push_words(words, &CLASS_WORDS, access)
 }
 
-/// Adds the words of an interface.
+/// Appends the access words of an interface.
 pub(crate) fn push_interface_words(words: &mut Vec<Word<'_>>, access: u16) -> Result<(), AllocError>
     ensures { OnOk result (map units_in words.new.items ≡ map units_in words.old.items ++ access_names written_interface_words access) }
 {
     push_words(words, &INTERFACE_WORDS, access)
 }
 
-/// Adds the words of a field.
+/// Appends the access words of a field.
 pub(crate) fn push_field_words(words: &mut Vec<Word<'_>>, access: u16) -> Result<(), AllocError>
     ensures { OnOk result (map units_in words.new.items ≡ map units_in words.old.items ++ access_names field_words access) }
 {
     push_words(words, &FIELD_WORDS, access)
 }
 
-/// Adds the words of a method.
+/// Appends the access words of a method.
 pub(crate) fn push_method_words(words: &mut Vec<Word<'_>>, access: u16) -> Result<(), AllocError>
     ensures { OnOk result (map units_in words.new.items ≡ map units_in words.old.items ++ access_names method_words access) }
 {

@@ -1,20 +1,20 @@
-//! The lines of a class.
+//! Writes the lines of a class.
 
 ghost use Rattle.std.specs.Prelude.{◌≡◌, ◌++◌, ◌∷◌, [], map, OnOk, IfOk, codes};
 ghost use Rattle.std.specs.List.{flat_map};
-ghost use Rattle.listings.specs.Printed.{joined, access_names, written_class_words, written_interface_words, class_line, printed};
+ghost use Rattle.listing_spec.specs.Printed.{joined, access_names, written_class_words, written_interface_words, class_line, printed};
 ghost use Rattle.source_text.specs.Words.{units_in};
-ghost use Rattle.source_text.specs.Lines.{ended, all_ended};
+ghost use Rattle.source_text.specs.Lines.{ended, text_of_lines};
 
 use crate::access::{push_class_words, push_interface_words, push_word};
 use crate::member::{put_fields, put_methods};
 use crate::word::{Word, put_line};
 use descriptor::Flags;
-use held::shared::Text;
+use shared_data::shared::Text;
 use jasmin::source::Source;
 use std::alloc::{AllocError, Global};
 
-/// The words of a class's line.
+/// Returns the words of a class's line.
 fn words_of_class<'a>(alloc: Global, source: &'a Source) -> Result<Vec<Word<'a>>, AllocError>
     ensures { IfOk result (λ words. map units_in words.items ≡ codes ".class" ∷ access_names written_class_words source.now.access ++ source.now.name ∷ []) }
 {
@@ -25,7 +25,7 @@ fn words_of_class<'a>(alloc: Global, source: &'a Source) -> Result<Vec<Word<'a>>
     Ok(words)
 }
 
-/// The words of an interface's line.
+/// Returns the words of an interface's line.
 fn words_of_interface<'a>(alloc: Global, source: &'a Source) -> Result<Vec<Word<'a>>, AllocError>
     ensures { IfOk result (λ words. map units_in words.items ≡ codes ".interface" ∷ access_names written_interface_words source.now.access ++ source.now.name ∷ []) }
 {
@@ -36,7 +36,7 @@ fn words_of_interface<'a>(alloc: Global, source: &'a Source) -> Result<Vec<Word<
     Ok(words)
 }
 
-/// Puts the line of a class or an interface behind the units.
+/// Appends the line of a class or an interface.
 fn put_class_line(alloc: Global, out: &mut Vec<u16>, source: &Source) -> Result<(), AllocError>
     ensures { OnOk result (out.new.items ≡ out.old.items ++ ended (class_line source.now)) }
 {
@@ -49,7 +49,7 @@ fn put_class_line(alloc: Global, out: &mut Vec<u16>, source: &Source) -> Result<
     }
 }
 
-/// Puts the line of an interface that is implemented behind the units.
+/// Appends the line of an implemented interface.
 fn put_interface(alloc: Global, out: &mut Vec<u16>, name: &Text) -> Result<(), AllocError>
     ensures { OnOk result (out.new.items ≡ out.old.items ++ ended (joined (codes ".implements" ∷ name.now ∷ []))) }
 {
@@ -57,7 +57,7 @@ fn put_interface(alloc: Global, out: &mut Vec<u16>, name: &Text) -> Result<(), A
     put_line(alloc, out, &[Word::Ascii(".implements"), name])
 }
 
-/// Puts the lines of the interfaces that are implemented behind the units.
+/// Appends the lines of the implemented interfaces.
 fn put_interfaces(alloc: Global, out: &mut Vec<u16>, names: &[Text]) -> Result<(), AllocError>
     ensures { OnOk result (out.new.items ≡ out.old.items ++ flat_map (λ name. ended (joined (codes ".implements" ∷ name ∷ []))) names.now) }
 {
@@ -67,14 +67,14 @@ fn put_interfaces(alloc: Global, out: &mut Vec<u16>, names: &[Text]) -> Result<(
     Ok(())
 }
 
-/// Puts the lines of a source behind the units.
+/// Appends the lines of a source.
 #[tactic(auto, using(crate::proofs::Classes::source_pieces))]
 pub(crate) fn put_source(
     alloc: Global,
     out: &mut Vec<u16>,
     source: &Source,
 ) -> Result<(), AllocError>
-    ensures { OnOk result (out.new.items ≡ out.old.items ++ all_ended (printed source.now)) }
+    ensures { OnOk result (out.new.items ≡ out.old.items ++ text_of_lines (printed source.now)) }
 {
     put_line(alloc, out, &[Word::Ascii(".bytecode 49.0")])?;
     put_class_line(alloc, out, source)?;

@@ -1,26 +1,26 @@
-//! The lines of a method's code.
+//! Writes the lines of a method's code.
 
 ghost use Rattle.std.specs.Prelude.{◌≡◌, ◌++◌, ◌∷◌, [], map, OnOk, Some, codes};
 ghost use Rattle.std.specs.Option.{unwrap_or};
 ghost use Rattle.std.specs.List.{flat_map};
 ghost use Rattle.std.specs.Fmt.{decimal, signed_decimal};
 ghost use Rattle.jvms_file.specs.Instructions.{interface_count as count_of};
-ghost use Rattle.listings.specs.Printed.{opcode_of as code_of, mnemonic as name_of_code, loaded_word as word_loaded, joined, operand_words, count_words, switch_line, default_line, match_line, lines_behind, item_lines, member_word};
+ghost use Rattle.listing_spec.specs.Printed.{opcode_of as code_of, mnemonic as name_of_code, loaded_word as word_loaded, joined, operand_words, count_words, switch_line, default_line, match_line, lines_after, item_lines, member_word};
 ghost use Rattle.source_text.specs.Words.{units_in};
-ghost use Rattle.source_text.specs.Lines.{ended, all_ended};
+ghost use Rattle.source_text.specs.Lines.{ended, text_of_lines};
 
 use crate::mnemonic::{array_type_name, mnemonic};
 use crate::opcodes::opcode_of;
 use crate::word::{Word, put_ascii, put_line};
 use descriptor::method_units;
-use held::shared::Text;
+use shared_data::shared::Text;
 use jasmin::source::{
     CodeItem, FieldName, LoadedConstant, LookupLines, MatchLine, MethodName, Operation, TableLines,
 };
 use jvms_file::insn::Invoke;
 use std::alloc::{AllocError, Global};
 
-/// Puts an instruction's line behind the units: its words behind two spaces.
+/// Appends an instruction's line, indented by two spaces.
 fn put_instruction(alloc: Global, out: &mut Vec<u16>, words: &[Word<'_>]) -> Result<(), AllocError>
     ensures { OnOk result (out.new.items ≡ out.old.items ++ ended (codes "  " ++ joined (map units_in words.now))) }
 {
@@ -28,7 +28,7 @@ fn put_instruction(alloc: Global, out: &mut Vec<u16>, words: &[Word<'_>]) -> Res
     put_line(alloc, out, words)
 }
 
-/// Puts a line of a switch behind the units: its words behind four spaces.
+/// Appends a line of a switch, indented by four spaces.
 fn put_case(alloc: Global, out: &mut Vec<u16>, words: &[Word<'_>]) -> Result<(), AllocError>
     ensures { OnOk result (out.new.items ≡ out.old.items ++ ended (switch_line (map units_in words.now))) }
 {
@@ -36,7 +36,7 @@ fn put_case(alloc: Global, out: &mut Vec<u16>, words: &[Word<'_>]) -> Result<(),
     put_line(alloc, out, words)
 }
 
-/// Puts the line of a switch's default behind the units.
+/// Appends the line of a switch's default.
 fn put_default(alloc: Global, out: &mut Vec<u16>, label: &Text) -> Result<(), AllocError>
     ensures { OnOk result (out.new.items ≡ out.old.items ++ ended (default_line label.now)) }
 {
@@ -51,7 +51,7 @@ fn put_default(alloc: Global, out: &mut Vec<u16>, label: &Text) -> Result<(), Al
     )
 }
 
-/// Puts the lines of labels behind the units.
+/// Appends the lines of labels.
 fn put_labels(alloc: Global, out: &mut Vec<u16>, labels: &[Text]) -> Result<(), AllocError>
     ensures { OnOk result (out.new.items ≡ out.old.items ++ flat_map (λ label. ended (switch_line (label ∷ []))) labels.now) }
 {
@@ -61,7 +61,7 @@ fn put_labels(alloc: Global, out: &mut Vec<u16>, labels: &[Text]) -> Result<(), 
     Ok(())
 }
 
-/// Puts a line `number : label` behind the units.
+/// Appends a line `number : label`.
 fn put_match(alloc: Global, out: &mut Vec<u16>, line: &MatchLine) -> Result<(), AllocError>
     ensures { OnOk result (out.new.items ≡ out.old.items ++ ended (match_line line.now)) }
 {
@@ -76,7 +76,7 @@ fn put_match(alloc: Global, out: &mut Vec<u16>, line: &MatchLine) -> Result<(), 
     )
 }
 
-/// Puts the lines of numbers and labels behind the units.
+/// Appends the lines of matches.
 fn put_matches(alloc: Global, out: &mut Vec<u16>, matches: &[MatchLine]) -> Result<(), AllocError>
     ensures { OnOk result (out.new.items ≡ out.old.items ++ flat_map (λ m. ended (match_line m)) matches.now) }
 {
@@ -86,7 +86,7 @@ fn put_matches(alloc: Global, out: &mut Vec<u16>, matches: &[MatchLine]) -> Resu
     Ok(())
 }
 
-/// Puts the lines of a `tableswitch` behind the units.
+/// Appends the lines of a `tableswitch` after its first.
 fn put_table(alloc: Global, out: &mut Vec<u16>, lines: &TableLines) -> Result<(), AllocError>
     ensures { OnOk result (out.new.items ≡ out.old.items ++ (flat_map (λ label. ended (switch_line (label ∷ []))) lines.now.labels ++ ended (default_line lines.now.default))) }
 {
@@ -94,7 +94,7 @@ fn put_table(alloc: Global, out: &mut Vec<u16>, lines: &TableLines) -> Result<()
     put_default(alloc, out, &lines.default)
 }
 
-/// Puts the lines of a `lookupswitch` behind the units.
+/// Appends the lines of a `lookupswitch` after its first.
 fn put_lookup(alloc: Global, out: &mut Vec<u16>, lines: &LookupLines) -> Result<(), AllocError>
     ensures { OnOk result (out.new.items ≡ out.old.items ++ (flat_map (λ m. ended (match_line m)) lines.now.matches ++ ended (default_line lines.now.default))) }
 {
@@ -102,10 +102,10 @@ fn put_lookup(alloc: Global, out: &mut Vec<u16>, lines: &LookupLines) -> Result<
     put_default(alloc, out, &lines.default)
 }
 
-/// Puts the lines behind that of an instruction's name behind the units.
+/// Appends the lines that follow that of an instruction's mnemonic.
 #[tactic(auto, using(crate::proofs::Ended::table_lines, crate::proofs::Ended::lookup_lines))]
 fn put_behind(alloc: Global, out: &mut Vec<u16>, operation: &Operation) -> Result<(), AllocError>
-    ensures { OnOk result (out.new.items ≡ out.old.items ++ all_ended (lines_behind operation.now)) }
+    ensures { OnOk result (out.new.items ≡ out.old.items ++ text_of_lines (lines_after operation.now)) }
 {
     match operation {
         Operation::Table(lines) => put_table(alloc, out, lines.get()),
@@ -114,7 +114,7 @@ fn put_behind(alloc: Global, out: &mut Vec<u16>, operation: &Operation) -> Resul
     }
 }
 
-/// What `ldc` loads.
+/// Returns the word of a constant that `ldc` loads.
 fn loaded_word(constant: &LoadedConstant) -> Word<'_>
     ensures { units_in result ≡ word_loaded constant.now }
 {
@@ -125,7 +125,8 @@ fn loaded_word(constant: &LoadedConstant) -> Word<'_>
     }
 }
 
-/// The units of the arguments of an `invokeinterface` with the object.
+/// Returns the number of units of the arguments of an `invokeinterface` with the object, or 0 for a malformed
+/// descriptor.
 fn interface_count(descriptor: &[u16]) -> u16
     ensures { result ≡ unwrap_or (count_of (Some ([], descriptor.now))) 0 }
 {
@@ -135,7 +136,7 @@ fn interface_count(descriptor: &[u16]) -> u16
     }
 }
 
-/// Puts the line of an instruction with an operand behind the units, by its name.
+/// Appends the line of an instruction with one operand.
 fn put_with<'a>(
     alloc: Global,
     out: &mut Vec<u16>,
@@ -147,7 +148,7 @@ fn put_with<'a>(
     put_instruction(alloc, out, &[name, operand])
 }
 
-/// Puts the line of an instruction with two operands behind the units, by its name.
+/// Appends the line of an instruction with two operands.
 fn put_with_two<'a>(
     alloc: Global,
     out: &mut Vec<u16>,
@@ -160,7 +161,7 @@ fn put_with_two<'a>(
     put_instruction(alloc, out, &[name, first, second])
 }
 
-/// Puts the line of an invoke behind the units, by its name.
+/// Appends the line of an invoke instruction.
 fn put_invoke<'a>(
     alloc: Global,
     out: &mut Vec<u16>,
@@ -181,7 +182,7 @@ fn put_invoke<'a>(
     }
 }
 
-/// Puts the line of a field's instruction behind the units, by its name.
+/// Appends the line of an instruction that names a field.
 fn put_field_use<'a>(
     alloc: Global,
     out: &mut Vec<u16>,
@@ -195,7 +196,7 @@ fn put_field_use<'a>(
     put_with_two(alloc, out, name, member, descriptor)
 }
 
-/// Puts the line of an `iinc` behind the units, by its name.
+/// Appends the line of an `iinc`.
 fn put_increment(
     alloc: Global,
     out: &mut Vec<u16>,
@@ -210,7 +211,7 @@ fn put_increment(
     put_with_two(alloc, out, name, local, by)
 }
 
-/// Puts the line of a `multianewarray` behind the units, by its name.
+/// Appends the line of a `multianewarray`.
 fn put_array<'a>(
     alloc: Global,
     out: &mut Vec<u16>,
@@ -225,8 +226,8 @@ fn put_array<'a>(
     put_with_two(alloc, out, name, class, dimensions)
 }
 
-/// Puts an instruction's line behind the units, by its name.
-#[tactic(auto, unfolding(listings::specs::Printed::operand_words))]
+/// Appends the line of an instruction.
+#[tactic(auto, unfolding(listing_spec::specs::Printed::operand_words))]
 fn put_operation<'a>(
     alloc: Global,
     out: &mut Vec<u16>,
@@ -260,7 +261,7 @@ fn put_operation<'a>(
     put_with(alloc, out, name, operand)
 }
 
-/// Puts a label's line behind the units.
+/// Appends the line of a label.
 fn put_label(out: &mut Vec<u16>, name: &[u16]) -> Result<(), AllocError>
     ensures { OnOk result (out.new.items ≡ out.old.items ++ ended (name.now ++ codes ":")) }
 {
@@ -268,23 +269,23 @@ fn put_label(out: &mut Vec<u16>, name: &[u16]) -> Result<(), AllocError>
     put_ascii(out, ":\n")
 }
 
-/// Puts the lines of an instruction behind the units.
+/// Appends the lines of an instruction.
 fn put_operation_lines(
     alloc: Global,
     out: &mut Vec<u16>,
     operation: &Operation,
 ) -> Result<(), AllocError>
-    ensures { OnOk result (out.new.items ≡ out.old.items ++ (ended (codes "  " ++ joined (name_of_code (code_of operation.now) ∷ operand_words operation.now)) ++ all_ended (lines_behind operation.now))) }
+    ensures { OnOk result (out.new.items ≡ out.old.items ++ (ended (codes "  " ++ joined (name_of_code (code_of operation.now) ∷ operand_words operation.now)) ++ text_of_lines (lines_after operation.now))) }
 {
     let name = Word::Ascii(mnemonic(opcode_of(operation)));
     put_operation(alloc, out, name, operation)?;
     put_behind(alloc, out, operation)
 }
 
-/// Puts the lines of a label or an instruction behind the units.
+/// Appends the lines of a label or an instruction.
 #[tactic(auto, using(crate::proofs::Ended::label_line, crate::proofs::Ended::operation_lines))]
 fn put_item(alloc: Global, out: &mut Vec<u16>, item: &CodeItem) -> Result<(), AllocError>
-    ensures { OnOk result (out.new.items ≡ out.old.items ++ all_ended (item_lines item.now)) }
+    ensures { OnOk result (out.new.items ≡ out.old.items ++ text_of_lines (item_lines item.now)) }
 {
     match item {
         CodeItem::Label(name) => put_label(out, name.as_slice()),
@@ -292,13 +293,13 @@ fn put_item(alloc: Global, out: &mut Vec<u16>, item: &CodeItem) -> Result<(), Al
     }
 }
 
-/// Puts the lines of a method's code behind the units.
+/// Appends the lines of a method's code.
 pub(crate) fn put_code(
     alloc: Global,
     out: &mut Vec<u16>,
     code: &[CodeItem],
 ) -> Result<(), AllocError>
-    ensures { OnOk result (out.new.items ≡ out.old.items ++ flat_map (λ i. all_ended (item_lines i)) code.now) }
+    ensures { OnOk result (out.new.items ≡ out.old.items ++ flat_map (λ i. text_of_lines (item_lines i)) code.now) }
 {
     for item in code {
         put_item(alloc, out, item)?;

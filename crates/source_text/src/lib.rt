@@ -1,5 +1,5 @@
-//! The text of the tree of a source in Jasmin, one statement a line: where each name of the tree can be spelled by a
-//! word, the lines of the text are those that the definition has.
+//! Writes the text of a Jasmin source's tree, one statement on each line. If words can spell all names of the tree, the
+//! lines of the text are those of the definition.
 #![tactic(auto)]
 
 mod access;

@@ -1,23 +1,23 @@
-//! The lines of fields and methods.
+//! Writes the lines of fields and methods.
 
 ghost use Rattle.std.specs.Prelude.{◌≡◌, ◌++◌, ◌∷◌, [], map, OnOk, IfOk, true, codes};
 ghost use Rattle.std.specs.Fmt.{decimal};
 ghost use Rattle.std.specs.List.{flat_map};
 ghost use Rattle.jasmin.specs.Denote.{has_code as method_has_code};
 ghost use Rattle.jasmin.specs.Operands.{field_words, method_words};
-ghost use Rattle.listings.specs.Printed.{joined, access_names, value_words, field_line, caught_word as word_caught, catch_line, throws_line, body_lines, method_text};
+ghost use Rattle.listing_spec.specs.Printed.{joined, access_names, value_words, field_line, caught_word as word_caught, catch_line, throws_line, body_lines, method_text};
 ghost use Rattle.source_text.specs.Words.{units_in};
-ghost use Rattle.source_text.specs.Lines.{ended, all_ended};
+ghost use Rattle.source_text.specs.Lines.{ended, text_of_lines};
 
 use crate::access::{push_field_words, push_method_words, push_word};
 use crate::code::put_code;
 use crate::word::{Word, put_line};
 use descriptor::{Flags, is_initializer_name};
-use held::shared::Text;
+use shared_data::shared::Text;
 use jasmin::source::{CatchLine, Caught, FieldConstant, FieldLine, MethodLines};
 use std::alloc::{AllocError, Global};
 
-/// Adds the words of a field's value.
+/// Appends the words of a field's constant.
 fn push_value<'a>(
     words: &mut Vec<Word<'a>>,
     value: &'a Option<FieldConstant>,
@@ -34,7 +34,7 @@ fn push_value<'a>(
     push_word(words, value)
 }
 
-/// The words of a field's line.
+/// Returns the words of a field's line.
 fn words_of_field<'a>(alloc: Global, field: &'a FieldLine) -> Result<Vec<Word<'a>>, AllocError>
     ensures { IfOk result (λ words. map units_in words.items ≡ codes ".field" ∷ access_names field_words field.now.access ++ (field.now.name ∷ field.now.descriptor ∷ value_words field.now.constant)) }
 {
@@ -47,8 +47,8 @@ fn words_of_field<'a>(alloc: Global, field: &'a FieldLine) -> Result<Vec<Word<'a
     Ok(words)
 }
 
-/// Puts a field's line behind the units.
-#[tactic(auto, unfolding(listings::specs::Printed::field_line))]
+/// Appends the line of a field.
+#[tactic(auto, unfolding(listing_spec::specs::Printed::field_line))]
 fn put_field(alloc: Global, out: &mut Vec<u16>, field: &FieldLine) -> Result<(), AllocError>
     ensures { OnOk result (out.new.items ≡ out.old.items ++ ended (field_line field.now)) }
 {
@@ -56,7 +56,7 @@ fn put_field(alloc: Global, out: &mut Vec<u16>, field: &FieldLine) -> Result<(),
     put_line(alloc, out, &words)
 }
 
-/// Puts the lines of fields behind the units.
+/// Appends the lines of fields.
 pub(crate) fn put_fields(
     alloc: Global,
     out: &mut Vec<u16>,
@@ -70,7 +70,7 @@ pub(crate) fn put_fields(
     Ok(())
 }
 
-/// The words of a method's first line.
+/// Returns the words of a method's first line.
 fn words_of_method<'a>(alloc: Global, method: &'a MethodLines) -> Result<Vec<Word<'a>>, AllocError>
     ensures { IfOk result (λ words. map units_in words.items ≡ codes ".method" ∷ access_names method_words method.now.access ++ (method.now.name ++ method.now.descriptor) ∷ []) }
 {
@@ -85,7 +85,7 @@ fn words_of_method<'a>(alloc: Global, method: &'a MethodLines) -> Result<Vec<Wor
     Ok(words)
 }
 
-/// Puts the line of an exception that a method throws behind the units.
+/// Appends the line of an exception that a method throws.
 fn put_thrown(alloc: Global, out: &mut Vec<u16>, name: &Text) -> Result<(), AllocError>
     ensures { OnOk result (out.new.items ≡ out.old.items ++ ended (throws_line name.now)) }
 {
@@ -93,7 +93,7 @@ fn put_thrown(alloc: Global, out: &mut Vec<u16>, name: &Text) -> Result<(), Allo
     put_line(alloc, out, &[Word::Ascii(".throws"), name])
 }
 
-/// Puts the lines of the exceptions that a method throws behind the units.
+/// Appends the lines of the exceptions that a method throws.
 fn put_throws(alloc: Global, out: &mut Vec<u16>, names: &[Text]) -> Result<(), AllocError>
     ensures { OnOk result (out.new.items ≡ out.old.items ++ flat_map (λ name. ended (throws_line name)) names.now) }
 {
@@ -103,7 +103,7 @@ fn put_throws(alloc: Global, out: &mut Vec<u16>, names: &[Text]) -> Result<(), A
     Ok(())
 }
 
-/// What is caught.
+/// Returns the word of what a handler catches.
 fn caught_word(caught: &Caught) -> Word<'_>
     ensures { units_in result ≡ word_caught caught.now }
 {
@@ -113,7 +113,7 @@ fn caught_word(caught: &Caught) -> Word<'_>
     }
 }
 
-/// Puts the line of a handler behind the units.
+/// Appends the line of a handler.
 fn put_catch(alloc: Global, out: &mut Vec<u16>, line: &CatchLine) -> Result<(), AllocError>
     ensures { OnOk result (out.new.items ≡ out.old.items ++ ended (catch_line line.now)) }
 {
@@ -133,7 +133,7 @@ fn put_catch(alloc: Global, out: &mut Vec<u16>, line: &CatchLine) -> Result<(), 
     )
 }
 
-/// Puts the lines of handlers behind the units.
+/// Appends the lines of handlers.
 fn put_catches(alloc: Global, out: &mut Vec<u16>, catches: &[CatchLine]) -> Result<(), AllocError>
     ensures { OnOk result (out.new.items ≡ out.old.items ++ flat_map (λ c. ended (catch_line c)) catches.now) }
 {
@@ -143,7 +143,7 @@ fn put_catches(alloc: Global, out: &mut Vec<u16>, catches: &[CatchLine]) -> Resu
     Ok(())
 }
 
-/// Puts the lines of a method's limits behind the units.
+/// Appends the lines of a method's limits.
 fn put_limits(
     alloc: Global,
     out: &mut Vec<u16>,
@@ -166,7 +166,7 @@ fn put_limits(
     )
 }
 
-/// Whether a method has code: it is neither native nor abstract, or is `<clinit>`.
+/// Decides whether a method has code: it is neither native nor abstract, or is `<clinit>`.
 fn has_code(method: &MethodLines) -> bool
     ensures { result ≡ method_has_code method.now.name method.now.access }
 {
@@ -174,25 +174,25 @@ fn has_code(method: &MethodLines) -> bool
     is_initializer_name(method.name.as_slice()) || !(flags.is_native() || flags.is_abstract())
 }
 
-/// Puts the limits, the handlers and the code of a method behind the units.
+/// Appends the limits, the handlers and the code of a method.
 #[tactic(auto, using(crate::proofs::Methods::body_pieces))]
 fn put_body(alloc: Global, out: &mut Vec<u16>, method: &MethodLines) -> Result<(), AllocError>
     requires { method_has_code method.now.name method.now.access ≡ true }
-    ensures { OnOk result (out.new.items ≡ out.old.items ++ all_ended (body_lines method.now)) }
+    ensures { OnOk result (out.new.items ≡ out.old.items ++ text_of_lines (body_lines method.now)) }
 {
     put_limits(alloc, out, method.max_stack, method.max_locals)?;
     put_catches(alloc, out, method.catches.as_slice())?;
     put_code(alloc, out, method.code.as_slice())
 }
 
-/// Puts what stands between the exceptions of a method and its end behind the units.
+/// Appends the limits, the handlers and the code of a method that has code.
 #[tactic(auto, using(crate::proofs::Methods::no_body))]
 fn put_body_if_any(
     alloc: Global,
     out: &mut Vec<u16>,
     method: &MethodLines,
 ) -> Result<(), AllocError>
-    ensures { OnOk result (out.new.items ≡ out.old.items ++ all_ended (body_lines method.now)) }
+    ensures { OnOk result (out.new.items ≡ out.old.items ++ text_of_lines (body_lines method.now)) }
 {
     if has_code(method) {
         put_body(alloc, out, method)
@@ -201,10 +201,10 @@ fn put_body_if_any(
     }
 }
 
-/// Puts a method behind the units.
+/// Appends the lines of a method.
 #[tactic(auto, using(crate::proofs::Methods::method_pieces))]
 fn put_method(alloc: Global, out: &mut Vec<u16>, method: &MethodLines) -> Result<(), AllocError>
-    ensures { OnOk result (out.new.items ≡ out.old.items ++ all_ended (method_text method.now)) }
+    ensures { OnOk result (out.new.items ≡ out.old.items ++ text_of_lines (method_text method.now)) }
 {
     let words = words_of_method(alloc, method)?;
     put_line(alloc, out, &words)?;
@@ -213,13 +213,13 @@ fn put_method(alloc: Global, out: &mut Vec<u16>, method: &MethodLines) -> Result
     put_line(alloc, out, &[Word::Ascii(".end method")])
 }
 
-/// Puts methods behind the units.
+/// Appends the lines of methods.
 pub(crate) fn put_methods(
     alloc: Global,
     out: &mut Vec<u16>,
     methods: &[MethodLines],
 ) -> Result<(), AllocError>
-    ensures { OnOk result (out.new.items ≡ out.old.items ++ flat_map (λ m. all_ended (method_text m)) methods.now) }
+    ensures { OnOk result (out.new.items ≡ out.old.items ++ flat_map (λ m. text_of_lines (method_text m)) methods.now) }
 {
     for method in methods {
         put_method(alloc, out, method)?;

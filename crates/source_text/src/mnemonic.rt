@@ -1,13 +1,13 @@
-//! The names of instructions and of the types of arrays.
+//! Finds the names of instructions and of the component types of arrays.
 
 ghost use Rattle.std.specs.Prelude.{◌≡◌, [], map, slice_get};
 ghost use Rattle.std.specs.Option.{unwrap_or};
-ghost use Rattle.listings.specs.Printed.{mnemonic as name_of_code, array_type_name as name_of_type};
+ghost use Rattle.listing_spec.specs.Printed.{mnemonic as name_of_code, array_type_name as name_of_type};
 
 use jasmin::mnemonic::MNEMONICS;
 use jvms_file::insn::ArrayType;
 
-/// The name at a place, or nothing.
+/// Returns the name at a place, or the empty text if there is none.
 fn name_at<'a>(names: &[&'a str], place: usize) -> &'a str
     ensures { result.now ≡ unwrap_or (slice_get (map (λ name. name.now) names.now) place) [] }
 {
@@ -17,14 +17,14 @@ fn name_at<'a>(names: &[&'a str], place: usize) -> &'a str
     }
 }
 
-/// The name of an opcode (JVMS 6.5).
+/// Returns the mnemonic of an opcode (JVMS 6.5).
 pub(crate) fn mnemonic(code: u8) -> &'static str
     ensures { result.now ≡ name_of_code code }
 {
     name_at(&MNEMONICS, usize::from(code))
 }
 
-/// The name of the type of an array's elements (JVMS 6.5 newarray).
+/// Returns the name of an array's component type (JVMS 6.5 `newarray`).
 pub(crate) fn array_type_name(component: ArrayType) -> &'static str
     ensures { result.now ≡ name_of_type component }
 {

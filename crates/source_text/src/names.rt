@@ -1,26 +1,26 @@
-//! Which names a word can spell.
+//! Decides which names words can spell.
 
 ghost use Rattle.std.specs.Prelude.{◌≡◌, ◌≢◌, ◌<◌, [], length, true, false, not, ◌&&◌, ◌||◌, ◌==◌, IfSome, MatchOption};
 ghost use Rattle.std.specs.List.{list_all, list_any};
 ghost use Rattle.jasmin.specs.Lexing.{ends_word as unit_ends_word};
-ghost use Rattle.listings.specs.Printable.{is_high as high_half, is_low as low_half, is_paired as halves_paired, is_word_unit as unit_of_word, is_word as name_is_word, is_before_descriptor as name_before_descriptor};
+ghost use Rattle.listing_spec.specs.Printable.{is_high as high_half, is_low as low_half, is_paired as halves_paired, is_word_unit as unit_of_word, is_word as name_is_word, is_before_descriptor as name_before_descriptor};
 
-/// Whether a unit is the first half of a supplementary character.
+/// Decides whether a unit is a high surrogate, the first half of a supplementary character.
 fn is_high(unit: u16) -> bool
     ensures { result ≡ high_half unit }
 {
     0xd800 <= unit && unit <= 0xdbff
 }
 
-/// Whether a unit is the second half of a supplementary character.
+/// Decides whether a unit is a low surrogate, the second half of a supplementary character.
 fn is_low(unit: u16) -> bool
     ensures { result ≡ low_half unit }
 {
     0xdc00 <= unit && unit <= 0xdfff
 }
 
-/// What stands behind the first character, if each half that it has is there.
-#[tactic(auto, unfolding(listings::specs::Printable::is_paired))]
+/// Returns the units after the first character, or `None` if it is half of a supplementary character.
+#[tactic(auto, unfolding(listing_spec::specs::Printable::is_paired))]
 fn behind_character(units: &[u16]) -> Option<&[u16]>
     requires { units.now ≢ [] }
     ensures exact { MatchOption result (halves_paired units.now ≡ false) (λ behind. halves_paired units.now ≡ halves_paired behind.now) }
@@ -41,7 +41,7 @@ fn behind_character(units: &[u16]) -> Option<&[u16]>
     }
 }
 
-/// Whether each half of a supplementary character has the other.
+/// Decides whether each surrogate has its other half.
 #[tactic(auto, using(crate::proofs::Halves::none_left))]
 fn is_paired(units: &[u16]) -> bool
     ensures { result ≡ halves_paired units.now }
@@ -56,36 +56,36 @@ fn is_paired(units: &[u16]) -> bool
     true
 }
 
-/// Whether a unit may stand in a word: it is no white space, quote, colon, equals sign or end of a line.
+/// Decides whether a word may contain a unit: it is no white space, quote, colon, equals sign or line end.
 fn is_word_unit(unit: u16) -> bool
     ensures { result ≡ unit_of_word unit }
 {
     !matches!(unit, 32 | 9 | 12 | 13 | 34 | 58 | 61 | 10)
 }
 
-/// Whether all units of a name may stand in a word.
+/// Decides whether a word may contain all units of a name.
 fn are_word_units(name: &[u16]) -> bool
     ensures { result ≡ list_all unit_of_word name.now }
 {
     name.iter().all(|unit| is_word_unit(*unit))
 }
 
-/// Whether a word spells a name.
-#[tactic(auto, unfolding(listings::specs::Printable::is_word))]
+/// Decides whether a name can be spelled as a word.
+#[tactic(auto, unfolding(listing_spec::specs::Printable::is_word))]
 pub(crate) fn is_word(name: &[u16]) -> bool
     ensures { result ≡ name_is_word name.now }
 {
     are_word_units(name) && is_paired(name)
 }
 
-/// Whether a name has a parenthesis, at which a method's descriptor would begin.
+/// Decides whether a name has a parenthesis, at which a method's descriptor would begin.
 fn has_parenthesis(name: &[u16]) -> bool
     ensures { result ≡ list_any (λ u. u == 40) name.now }
 {
     name.iter().any(|unit| *unit == 40)
 }
 
-/// Whether a word spells a name with a method's descriptor behind it.
+/// Decides whether a name can be spelled before a method's descriptor.
 pub(crate) fn is_before_descriptor(name: &[u16]) -> bool
     ensures { result ≡ name_before_descriptor name.now }
 {

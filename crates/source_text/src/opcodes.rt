@@ -1,13 +1,13 @@
-//! The opcodes of instructions with operands (JVMS 7).
+//! Maps operations to their opcodes (JVMS 7).
 
 ghost use Rattle.std.specs.Prelude.{◌≡◌, ◌≤◌};
 ghost use Rattle.assembly.specs.Opcodes.{kind_number as number_of_kind, local_opcode as local_code, comparison_number as number_of_comparison, branch_opcode as branch_code, wide_branch_opcode as wide_branch_code, field_opcode as field_code, invoke_opcode as invoke_code, class_opcode as class_code};
-ghost use Rattle.listings.specs.Printed.{opcode_of as code_of};
+ghost use Rattle.listing_spec.specs.Printed.{opcode_of as code_of};
 
 use jasmin::source::{BranchWidth, ConstantWidth, Operation};
 use jvms_file::insn::{Branch, ClassUse, Comparison, FieldUse, Invoke, Kind, LocalUse};
 
-/// The place of a kind among the loads, and among the stores.
+/// Returns the position of a kind among the opcodes of loads, and among those of stores.
 fn kind_number(kind: Kind) -> u8
     ensures exact { result ≡ number_of_kind kind }
     ensures few { result ≤ 4 }
@@ -21,7 +21,7 @@ fn kind_number(kind: Kind) -> u8
     }
 }
 
-/// iload to aload, istore to astore, ret.
+/// Returns the opcode of iload to aload, of istore to astore, or of ret.
 fn local_opcode(how: LocalUse) -> u8
     ensures { result ≡ local_code how }
 {
@@ -32,7 +32,7 @@ fn local_opcode(how: LocalUse) -> u8
     }
 }
 
-/// The place of a comparison among the branches that compare.
+/// Returns the position of a comparison among the opcodes of branches that compare.
 fn comparison_number(comparison: Comparison) -> u8
     ensures exact { result ≡ number_of_comparison comparison }
     ensures few { result ≤ 5 }
@@ -47,7 +47,7 @@ fn comparison_number(comparison: Comparison) -> u8
     }
 }
 
-/// A branch with an offset of two bytes.
+/// Returns the opcode of a branch with an offset of two bytes.
 fn short_branch_opcode(how: Branch) -> u8
     ensures { result ≡ branch_code how }
 {
@@ -63,7 +63,8 @@ fn short_branch_opcode(how: Branch) -> u8
     }
 }
 
-/// A branch with an offset of four bytes: goto_w and jsr_w, and no other.
+/// Returns the opcode of a branch with an offset of four bytes: goto_w or jsr_w. The value for any other branch isn't
+/// used.
 fn wide_branch_opcode(how: Branch) -> u8
     ensures { result ≡ wide_branch_code how }
 {
@@ -79,7 +80,7 @@ fn wide_branch_opcode(how: Branch) -> u8
     }
 }
 
-/// getstatic to putfield.
+/// Returns the opcode of getstatic to putfield.
 fn field_opcode(how: FieldUse) -> u8
     ensures { result ≡ field_code how }
 {
@@ -91,7 +92,7 @@ fn field_opcode(how: FieldUse) -> u8
     }
 }
 
-/// invokevirtual to invokeinterface.
+/// Returns the opcode of invokevirtual to invokeinterface.
 fn invoke_opcode(how: Invoke) -> u8
     ensures { result ≡ invoke_code how }
 {
@@ -103,7 +104,7 @@ fn invoke_opcode(how: Invoke) -> u8
     }
 }
 
-/// new, anewarray, checkcast, instanceof.
+/// Returns the opcode of new, anewarray, checkcast or instanceof.
 fn class_opcode(how: ClassUse) -> u8
     ensures { result ≡ class_code how }
 {
@@ -115,7 +116,7 @@ fn class_opcode(how: ClassUse) -> u8
     }
 }
 
-/// An operation's opcode, without `wide`.
+/// Returns the opcode of an operation, without `wide`.
 pub(crate) fn opcode_of(operation: &Operation) -> u8
     ensures { result ≡ code_of operation.now }
 {

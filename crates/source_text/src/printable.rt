@@ -1,24 +1,24 @@
-//! Which trees have a text.
+//! Decides which trees have a text.
 
 ghost use Rattle.std.specs.Prelude.{◌≡◌};
 ghost use Rattle.std.specs.List.{list_all};
-ghost use Rattle.listings.specs.Printable.{is_word as name_is_word, is_loadable_word as constant_is_loadable, is_printable_operation as operation_is_printable, is_printable_item as item_is_printable, is_printable_caught as caught_is_printable, is_printable_field as field_is_printable, is_printable_method as method_is_printable, is_printable as is_printable_source};
+ghost use Rattle.listing_spec.specs.Printable.{is_word as name_is_word, is_loadable_word as constant_is_loadable, is_printable_operation as operation_is_printable, is_printable_item as item_is_printable, is_printable_caught as caught_is_printable, is_printable_field as field_is_printable, is_printable_method as method_is_printable, is_printable as is_printable_source};
 
 use crate::names::{is_before_descriptor, is_word};
-use held::shared::Text;
+use shared_data::shared::Text;
 use jasmin::source::{
     CatchLine, Caught, CodeItem, FieldLine, LoadedConstant, MethodLines, Operation, Source,
 };
 use jasmin_operands::{same_word, spells_number};
 
-/// Whether words spell all names of a list.
+/// Decides whether all names of a list can be spelled as words.
 fn are_words(names: &[Text]) -> bool
     ensures { result ≡ list_all name_is_word names.now }
 {
     names.iter().all(|name| is_word(name.as_slice()))
 }
 
-/// Whether a word spells what `ldc` loads: a class isn't read as a number.
+/// Decides whether a constant of `ldc` can be spelled. The name of a class must not spell a number.
 fn is_loadable(constant: &LoadedConstant) -> bool
     ensures { result ≡ constant_is_loadable constant.now }
 {
@@ -28,8 +28,8 @@ fn is_loadable(constant: &LoadedConstant) -> bool
     }
 }
 
-/// Whether words spell the names of an instruction.
-#[tactic(auto, unfolding(listings::specs::Printable::is_printable_operation))]
+/// Decides whether the names of an instruction can be spelled as words.
+#[tactic(auto, unfolding(listing_spec::specs::Printable::is_printable_operation))]
 fn is_printable_operation(operation: &Operation) -> bool
     ensures { result ≡ operation_is_printable operation.now }
 {
@@ -52,7 +52,7 @@ fn is_printable_operation(operation: &Operation) -> bool
     }
 }
 
-/// Whether words spell the names of what stands in a method's code. A label is spelled by what made it.
+/// Decides whether the names of an item of code can be spelled as words. A label can always be.
 fn is_printable_item(item: &CodeItem) -> bool
     ensures { result ≡ item_is_printable item.now }
 {
@@ -62,14 +62,14 @@ fn is_printable_item(item: &CodeItem) -> bool
     }
 }
 
-/// Whether words spell all names of a method's code.
+/// Decides whether all names of a method's code can be spelled as words.
 fn is_printable_code(code: &[CodeItem]) -> bool
     ensures { result ≡ list_all item_is_printable code.now }
 {
     code.iter().all(|item| is_printable_item(item))
 }
 
-/// Whether a word spells what is caught: a class isn't read as `all`.
+/// Decides whether a caught class can be spelled. Its name must not be `all`.
 fn is_printable_caught(caught: &Caught) -> bool
     ensures { result ≡ caught_is_printable caught.now }
 {
@@ -79,29 +79,29 @@ fn is_printable_caught(caught: &Caught) -> bool
     }
 }
 
-/// Whether words spell all that is caught.
+/// Decides whether all caught classes can be spelled.
 fn are_printable_catches(catches: &[CatchLine]) -> bool
     ensures { result ≡ list_all (λ c. caught_is_printable c.caught) catches.now }
 {
     catches.iter().all(|line| is_printable_caught(&line.caught))
 }
 
-/// Whether words spell the name and the descriptor of a field.
+/// Decides whether the name and the descriptor of a field can be spelled as words.
 fn is_printable_field(field: &FieldLine) -> bool
     ensures { result ≡ field_is_printable field.now }
 {
     is_word(field.name.as_slice()) && is_word(field.descriptor.as_slice())
 }
 
-/// Whether words spell the names of all fields.
+/// Decides whether the names of all fields can be spelled as words.
 fn are_printable_fields(fields: &[FieldLine]) -> bool
     ensures { result ≡ list_all field_is_printable fields.now }
 {
     fields.iter().all(|field| is_printable_field(field))
 }
 
-/// Whether words spell all names of a method.
-#[tactic(auto, unfolding(listings::specs::Printable::is_printable_method))]
+/// Decides whether all names of a method can be spelled as words.
+#[tactic(auto, unfolding(listing_spec::specs::Printable::is_printable_method))]
 fn is_printable_method(method: &MethodLines) -> bool
     ensures { result ≡ method_is_printable method.now }
 {
@@ -112,15 +112,15 @@ fn is_printable_method(method: &MethodLines) -> bool
         && is_printable_code(method.code.as_slice())
 }
 
-/// Whether words spell the names of all methods.
+/// Decides whether the names of all methods can be spelled as words.
 fn are_printable_methods(methods: &[MethodLines]) -> bool
     ensures { result ≡ list_all method_is_printable methods.now }
 {
     methods.iter().all(|method| is_printable_method(method))
 }
 
-/// Whether all names of a tree are spelled by words.
-#[tactic(auto, unfolding(listings::specs::Printable::is_printable))]
+/// Decides whether all names of a tree can be spelled as words.
+#[tactic(auto, unfolding(listing_spec::specs::Printable::is_printable))]
 pub fn is_printable(source: &Source) -> bool
     ensures { result ≡ is_printable_source source.now }
 {

@@ -1,19 +1,19 @@
-//! The text of a source.
+//! Returns the text of a source.
 
 ghost use Rattle.std.specs.Prelude.{◌≡◌, map, true, IfOk};
 ghost use Rattle.std.specs.String.{string_bytes};
 ghost use Rattle.std.specs.Str.Lines.{lines};
 ghost use Rattle.jasmin.specs.Sources.{units_of};
-ghost use Rattle.listings.specs.Listable.{IsListable};
-ghost use Rattle.listings.specs.Printable.{is_paired, is_printable as is_printable_source};
-ghost use Rattle.listings.specs.Printed.{printed};
-ghost use Rattle.source_text.specs.Lines.{all_ended};
+ghost use Rattle.listing_spec.specs.Listable.{IsListable};
+ghost use Rattle.listing_spec.specs.Printable.{is_paired, is_printable as is_printable_source};
+ghost use Rattle.listing_spec.specs.Printed.{printed};
+ghost use Rattle.source_text.specs.Lines.{text_of_lines};
 
 use crate::class::put_source;
 use jasmin::source::Source;
 use std::alloc::{AllocError, Global};
 
-/// The text that has these units.
+/// Returns the text with these UTF-16 code units.
 fn decoded(alloc: Global, units: &[u16]) -> Result<String, AllocError>
     requires { is_paired units.now ≡ true }
     ensures { IfOk result (λ text. units_of (string_bytes text) ≡ units.now) }
@@ -21,23 +21,23 @@ fn decoded(alloc: Global, units: &[u16]) -> Result<String, AllocError>
     Ok(String::from_utf16(alloc, units)?.unwrap())
 }
 
-/// The units of a source's lines, each ended by LF.
+/// Returns the units of a source's lines, each ended by LF.
 fn units_of_lines(alloc: Global, source: &Source) -> Result<Vec<u16>, AllocError>
-    ensures { IfOk result (λ units. units.items ≡ all_ended (printed source.now)) }
+    ensures { IfOk result (λ units. units.items ≡ text_of_lines (printed source.now)) }
 {
     let mut units = Vec::new(alloc);
     put_source(alloc, &mut units, source)?;
     Ok(units)
 }
 
-/// The text of a source, one statement a line, each ended by LF. All names of the source are spelled by words, its labels
-/// name places, and what isn't written of a method without code is what is read where it isn't written.
+/// Returns the text of a source, one statement on each line, each ended by LF. All names of the source can be spelled
+/// as words, and its labels are those of places. A method without code has nothing that isn't written.
 pub fn text_of(alloc: Global, source: &Source) -> Result<String, AllocError>
     requires listable { IsListable source.now }
     requires printable { is_printable_source source.now ≡ true }
     ensures exact { IfOk result (λ text. map units_of (lines (string_bytes text)) ≡ printed source.now) }
-    // Nothing but LF stands behind a line, and behind the last one too.
-    ensures ended { IfOk result (λ text. units_of (string_bytes text) ≡ all_ended (printed source.now)) }
+    // LF follows each line, the last one included, and nothing else separates them.
+    ensures ended { IfOk result (λ text. units_of (string_bytes text) ≡ text_of_lines (printed source.now)) }
 {
     let units = units_of_lines(alloc, source)?;
     decoded(alloc, units.as_slice())

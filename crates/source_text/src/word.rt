@@ -1,15 +1,15 @@
-//! The words of a line.
+//! Writes the words of a line.
 
 ghost use Rattle.std.specs.Prelude.{◌≡◌, ◌++◌, ◌∷◌, ◌<◌, [], map, OnOk};
 ghost use Rattle.std.specs.List.{flat_map};
 ghost use Rattle.std.specs.Fmt.{signed_decimal};
-ghost use Rattle.listings.specs.Printed.{hexadecimal as hexadecimal_digit, four_digits as four_digit_units, escaped as escaped_unit, quoted as quoted_text, member_word, joined};
+ghost use Rattle.listing_spec.specs.Printed.{hexadecimal as hexadecimal_digit, four_digits as four_digit_units, escaped as escaped_unit, quoted as quoted_text, member_word, joined};
 ghost use Rattle.source_text.specs.Words.{units_in};
 ghost use Rattle.source_text.specs.Lines.{ended};
 
 use std::alloc::{AllocError, Global};
 
-/// A word of a line, by what it spells.
+/// A word of a line, with what it spells.
 #[derive(Clone, Copy)]
 pub(crate) enum Word<'a> {
     /// A word of the language.
@@ -35,7 +35,7 @@ const SLASH: u16 = 47;
 
 const LINE_FEED: u16 = 10;
 
-/// Puts an ASCII text behind the units.
+/// Appends an ASCII text.
 pub(crate) fn put_ascii(out: &mut Vec<u16>, text: &str) -> Result<(), AllocError>
     ensures { OnOk result (out.new.items ≡ out.old.items ++ text.now) }
 {
@@ -45,7 +45,7 @@ pub(crate) fn put_ascii(out: &mut Vec<u16>, text: &str) -> Result<(), AllocError
     Ok(())
 }
 
-/// Puts a number in decimal digits behind the units.
+/// Appends a number in decimal digits.
 fn put_number(alloc: Global, out: &mut Vec<u16>, number: i64) -> Result<(), AllocError>
     ensures { OnOk result (out.new.items ≡ out.old.items ++ signed_decimal number) }
 {
@@ -53,7 +53,7 @@ fn put_number(alloc: Global, out: &mut Vec<u16>, number: i64) -> Result<(), Allo
     put_ascii(out, text.as_str())
 }
 
-/// A hexadecimal digit.
+/// Returns a hexadecimal digit, in lower case.
 fn hexadecimal(digit: u16) -> u16
     requires { digit < 16 }
     ensures { result ≡ hexadecimal_digit digit }
@@ -61,7 +61,7 @@ fn hexadecimal(digit: u16) -> u16
     if digit < 10 { 48 + digit } else { 87 + digit }
 }
 
-/// Puts a unit by its number behind the units: `\u` and four hexadecimal digits.
+/// Appends a unit as `\u` and four hexadecimal digits.
 fn put_numbered(out: &mut Vec<u16>, unit: u16) -> Result<(), AllocError>
     ensures { OnOk result (out.new.items ≡ out.old.items ++ 92 ∷ 117 ∷ four_digit_units unit) }
 {
@@ -73,7 +73,7 @@ fn put_numbered(out: &mut Vec<u16>, unit: u16) -> Result<(), AllocError>
     Ok(())
 }
 
-/// Puts a unit of a text in quotes behind the units.
+/// Appends a unit of a text in quotes.
 fn put_escaped(out: &mut Vec<u16>, unit: u16) -> Result<(), AllocError>
     ensures { OnOk result (out.new.items ≡ out.old.items ++ escaped_unit unit) }
 {
@@ -93,7 +93,7 @@ fn put_escaped(out: &mut Vec<u16>, unit: u16) -> Result<(), AllocError>
     }
 }
 
-/// Puts the units of a text in quotes behind the units.
+/// Appends the units of a text in quotes.
 fn put_inside(out: &mut Vec<u16>, text: &[u16]) -> Result<(), AllocError>
     ensures { OnOk result (out.new.items ≡ out.old.items ++ flat_map escaped_unit text.now) }
 {
@@ -103,8 +103,8 @@ fn put_inside(out: &mut Vec<u16>, text: &[u16]) -> Result<(), AllocError>
     Ok(())
 }
 
-/// Puts a text in quotes behind the units.
-#[tactic(auto, unfolding(listings::specs::Printed::quoted))]
+/// Appends a text in quotes.
+#[tactic(auto, unfolding(listing_spec::specs::Printed::quoted))]
 fn put_quoted(out: &mut Vec<u16>, text: &[u16]) -> Result<(), AllocError>
     ensures { OnOk result (out.new.items ≡ out.old.items ++ quoted_text text.now) }
 {
@@ -114,7 +114,7 @@ fn put_quoted(out: &mut Vec<u16>, text: &[u16]) -> Result<(), AllocError>
     Ok(())
 }
 
-/// Puts `class/name` behind the units.
+/// Appends `class/name`.
 fn put_member(out: &mut Vec<u16>, class: &[u16], name: &[u16]) -> Result<(), AllocError>
     ensures { OnOk result (out.new.items ≡ out.old.items ++ member_word class.now name.now) }
 {
@@ -123,7 +123,7 @@ fn put_member(out: &mut Vec<u16>, class: &[u16], name: &[u16]) -> Result<(), All
     out.extend_from_slice(name)
 }
 
-/// Puts two names behind the units.
+/// Appends a name and a descriptor.
 fn put_described(out: &mut Vec<u16>, name: &[u16], descriptor: &[u16]) -> Result<(), AllocError>
     ensures { OnOk result (out.new.items ≡ out.old.items ++ (name.now ++ descriptor.now)) }
 {
@@ -131,7 +131,7 @@ fn put_described(out: &mut Vec<u16>, name: &[u16], descriptor: &[u16]) -> Result
     out.extend_from_slice(descriptor)
 }
 
-/// Puts `class/name` and a descriptor behind the units.
+/// Appends `class/name` and a descriptor.
 fn put_method(
     out: &mut Vec<u16>,
     class: &[u16],
@@ -144,7 +144,7 @@ fn put_method(
     out.extend_from_slice(descriptor)
 }
 
-/// Puts a word behind the units.
+/// Appends a word.
 fn put_word(alloc: Global, out: &mut Vec<u16>, word: Word<'_>) -> Result<(), AllocError>
     ensures { OnOk result (out.new.items ≡ out.old.items ++ units_in word.entry) }
 {
@@ -159,7 +159,7 @@ fn put_word(alloc: Global, out: &mut Vec<u16>, word: Word<'_>) -> Result<(), All
     }
 }
 
-/// Puts a word behind the units, and a space before it.
+/// Appends a space and a word.
 fn put_spaced(alloc: Global, out: &mut Vec<u16>, word: Word<'_>) -> Result<(), AllocError>
     ensures { OnOk result (out.new.items ≡ out.old.items ++ 32 ∷ units_in word.entry) }
 {
@@ -167,7 +167,7 @@ fn put_spaced(alloc: Global, out: &mut Vec<u16>, word: Word<'_>) -> Result<(), A
     put_word(alloc, out, word)
 }
 
-/// Puts words behind the units, each behind a space.
+/// Appends words, each after a space.
 fn put_others(alloc: Global, out: &mut Vec<u16>, words: &[Word<'_>]) -> Result<(), AllocError>
     ensures { OnOk result (out.new.items ≡ out.old.items ++ flat_map (λ w. 32 ∷ units_in w) words.now) }
 {
@@ -177,7 +177,7 @@ fn put_others(alloc: Global, out: &mut Vec<u16>, words: &[Word<'_>]) -> Result<(
     Ok(())
 }
 
-/// Puts words that are parted by one space behind the units.
+/// Appends words, separated by single spaces.
 #[tactic(auto, using(crate::proofs::Joined::no_words, crate::proofs::Joined::some_words))]
 fn put_words(alloc: Global, out: &mut Vec<u16>, words: &[Word<'_>]) -> Result<(), AllocError>
     ensures { OnOk result (out.new.items ≡ out.old.items ++ joined (map units_in words.now)) }
@@ -191,7 +191,7 @@ fn put_words(alloc: Global, out: &mut Vec<u16>, words: &[Word<'_>]) -> Result<()
     }
 }
 
-/// Puts a line of words behind the units.
+/// Appends a line of words.
 pub(crate) fn put_line(
     alloc: Global,
     out: &mut Vec<u16>,

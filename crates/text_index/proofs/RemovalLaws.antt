@@ -1,4 +1,4 @@
--- Texts that are taken out of an index.
+-- Texts that are removed from an index.
 use Rattle.std.proofs.Common.{◌≡◌, ℕ, Bool, true, false, cond, List, [], ◌∷◌, Some, None, Vec, Global, refl, sym, ap, ◌∙◌}
 use Rattle.std.specs.Map.{lookup, remove_entry}
 use Rattle.std.specs.Ordering.{is_eq, nat_cmp}
@@ -11,7 +11,7 @@ use Rattle.text_index.proofs.IndexLaws.{Entries, seen, found_among, same_turned,
 abbrev pub asks : List ℕ → Vec ℕ Global → Bool
 asks units k = is_eq (slice_cmp nat_cmp units k.items)
 
--- Another text than one that is asked for isn't the one of the same entry.
+-- A text that differs from the one that is looked up isn't at its entry.
 asked_apart : (units q k : List ℕ) → is_eq (slice_cmp nat_cmp units k) ≡ true → same_text units q ≡ false → is_eq (slice_cmp nat_cmp q k) ≡ false
 asked_apart units q k is other =
     let same : units ≡ k = same_is units k (sym (is_eq-slice_cmp units k) ∙ is) in
@@ -23,7 +23,7 @@ module _ (units q : List ℕ) (other : same_text units q ≡ false) where
   kept_by true e entries is more = sym (ap (λ b. cond b (Some e.1) (found (seen entries) q)) (asked_apart units q e.0.items is other))
   kept_by false e entries is more = ap (λ o. cond (is_eq (slice_cmp nat_cmp q e.0.items)) (Some e.1) o) more
 
-  -- Other texts are found as before.
+  -- The other texts are found as before.
   still_found : (entries : Entries) → found (seen (remove_entry (asks units) entries)) q ≡ found (seen entries) q
   still_found [] = refl
   still_found (e ∷ entries) = kept_by (asks units e.0) e entries refl (still_found entries)

@@ -1,4 +1,4 @@
-//! References of objects by a text.
+//! Maps texts to references of objects.
 
 ghost use Rattle.std.specs.Prelude.{◌≡◌, ℕ, List, [], IfOk, OnOk, OnErr, Some, None, if◌then◌else◌};
 ghost use Rattle.std.specs.Option.{option_or};
@@ -11,7 +11,7 @@ use std::alloc::{AllocError, Global};
 use std::collections::BTreeMap;
 use std::marker::Model;
 
-/// References by texts, in the texts' order. Contracts see the list of both.
+/// References by texts, in the order of the texts. Contracts see the list of both.
 #[derive(Drop)]
 pub struct Index {
     references: BTreeMap<Vec<u16>, u32>,
@@ -26,7 +26,7 @@ impl Model for Index {
 }
 
 impl Index {
-    /// An index in which nothing is found.
+    /// Creates an empty index.
     pub fn new(alloc: Global) -> Index
         ensures { result ≡ [] }
     {
@@ -35,7 +35,7 @@ impl Index {
         }
     }
 
-    /// The same index once more.
+    /// Copies the index.
     pub fn copy(&self) -> Result<Index, AllocError>
         ensures { IfOk result (λ i. i ≡ self.now) }
     {
@@ -44,7 +44,7 @@ impl Index {
         })
     }
 
-    /// The reference for a text.
+    /// Returns the reference of a text.
     #[tactic(auto, using(crate::proofs::IndexLaws::found_among))]
     pub fn find(&self, units: &[u16]) -> Option<u32>
         ensures { result ≡ found self.now units.now }
@@ -52,7 +52,7 @@ impl Index {
         self.references.get(units).copied()
     }
 
-    /// Puts a reference for a text. Without memory nothing changes.
+    /// Stores a reference for a text. Without memory nothing changes.
     fn put_new(&mut self, alloc: Global, units: &[u16], reference: u32) -> Result<(), AllocError>
         ensures ok { OnOk result ((q : List ℕ) → found self.new q ≡ (if same_text units.now q then Some reference else found self.old q)) }
         ensures err { OnErr result (self.new ≡ self.old) }
@@ -62,7 +62,7 @@ impl Index {
         Ok(())
     }
 
-    /// Puts a reference for a text, where there is none. Without memory nothing changes.
+    /// Stores a reference for a text, unless the text has one. Without memory nothing changes.
     #[tactic(auto, using(crate::proofs::IndexLaws::put_first, crate::proofs::IndexLaws::put_again))]
     pub fn put(&mut self, alloc: Global, units: &[u16], reference: u32) -> Result<(), AllocError>
         ensures ok { OnOk result ((q : List ℕ) → found self.new q ≡ option_or (found self.old q) (if same_text units.now q then Some reference else None)) }

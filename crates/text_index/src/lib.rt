@@ -1,4 +1,4 @@
-//! References of objects, found by a text.
+//! References of objects by their texts.
 #![tactic(auto)]
 
 mod index;

@@ -1,13 +1,13 @@
--- Reads one behind another.
+-- Consecutive reads.
 use Rattle.std.proofs.Common.{ℕ, List, Option, Some, None, sym, ◌∙◌, refl}
 use Rattle.std.specs.Io.KnownBytes.{Consumes, Keeps}
 
--- Nothing was read yet.
+-- Nothing has been read yet.
 pub kept_all : (left : Option (List ℕ)) → Keeps left left
 kept_all None = tt
 kept_all (Some xs) = refl
 
--- Nothing was read, and then nothing.
+-- Nothing was read, twice in a row.
 pub kept_twice : (old mid new : Option (List ℕ)) → Keeps old mid → Keeps mid new → Keeps old new
 kept_twice None mid new first second = tt
 kept_twice (Some xs) None new first second = absurd first

@@ -1,21 +1,21 @@
--- Items that are put behind those that are kept.
+-- Items that are appended to a recording.
 use Rattle.std.proofs.Common.{◌≡◌, List, [], ◌++◌, Option, Some, None, refl, ap}
 use Rattle.std.proofs.lemmas.List.{append-nil, append_assoc}
 use Rattle.std.proofs.Math.Seq.{take-append_seam}
 use Rattle.jvms_machine.specs.declared.trace.Item.{Item}
 use Rattle.trace.specs.Recording.{recorded, count_of, cut}
 
--- No item changes nothing.
+-- Appending no items changes nothing.
 pub recorded_none : (r : Option (List Item)) → recorded r [] ≡ r
 recorded_none None = refl
 recorded_none (Some items) = ap Some (append-nil items)
 
--- Items, and then more.
+-- Appending items and then more appends both.
 pub recorded_both : (r : Option (List Item)) (first second : List Item) → recorded (recorded r first) second ≡ recorded r (first ++ second)
 recorded_both None first second = refl
 recorded_both (Some items) first second = ap Some (append_assoc items first second)
 
--- Those that were put behind are taken away again.
+-- Cutting to the old count removes the appended items.
 pub cut_recorded : (r : Option (List Item)) (more : List Item) → cut (count_of r) (recorded r more) ≡ r
 cut_recorded None more = refl
 cut_recorded (Some items) more = ap Some (take-append_seam items more)

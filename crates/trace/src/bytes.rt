@@ -1,4 +1,4 @@
-//! Bytes that go out and bytes that come in.
+//! The interfaces by which programs read and write bytes.
 
 ghost use Rattle.std.specs.Prelude.{◌≡◌, ℕ, ◌+◌, ◌≤◌, ◌<◌, List, length, take, Option, OnOk, OnErr, IfOk};
 ghost use Rattle.std.specs.Io.KnownBytes.{Appends, Keeps, Consumes, IsAtEnd};
@@ -8,19 +8,19 @@ use crate::failures::Failures;
 use std::io::{ErrorKind, Read, Write};
 use std::sync::ledger::Ledger;
 
-/// A read or a write failed.
+/// The failure of a read or a write.
 #[derive(Clone, Copy, Debug, PartialEq, Eq)]
 pub struct DeviceFailure;
 
-/// What takes bytes.
+/// A writer of bytes.
 pub trait ByteOut {
-    // The bytes written so far, where the type tells them.
+    // The bytes written so far, if the type records them.
     ghost written: { Self → Option (List ℕ) };
 
-    // How many calls have failed so far.
+    // The number of calls that have failed so far.
     ghost failures: { Self → ℕ };
 
-    /// Writes all of these bytes. Where that fails, a beginning of them was written.
+    /// Writes all of the bytes. If that fails, a prefix of them was written.
     fn write_all(&mut self, bytes: &[u8]) -> Result<(), DeviceFailure>
         ensures bytes { OnOk result (Appends (written self.old) (written self.new) bytes.now) }
         ensures count { OnOk result (failures self.new ≡ failures self.old) }
@@ -28,15 +28,15 @@ pub trait ByteOut {
         ensures failed { OnErr result (failures self.new ≡ failures self.old + 1) };
 }
 
-/// What gives bytes.
+/// A reader of bytes.
 pub trait ByteIn {
-    // The bytes that are left, where the type tells them.
+    // The bytes that are left, if the type knows them.
     ghost left: { Self → Option (List ℕ) };
 
-    // How many calls have failed so far.
+    // The number of calls that have failed so far.
     ghost failures: { Self → ℕ };
 
-    /// Reads some of the bytes into the buffer: none only at the end, or where the buffer is empty.
+    /// Reads some bytes into the buffer and returns their count. It is 0 only at the end or if the buffer is empty.
     fn read(&mut self, buffer: &mut [u8]) -> Result<usize, DeviceFailure>
         ensures within { IfOk result (λ n. n ≤ length buffer.new) }
         ensures bytes { IfOk result (λ n. Consumes (left self.old) (left self.new) (take n buffer.new)) }
@@ -54,7 +54,7 @@ pub struct Counted<T, L: Ledger> {
 }
 
 impl<T, L: Ledger> Counted<T, L> {
-    /// The reader or writer, with the failures so far.
+    /// Wraps a reader or a writer, with the failures so far.
     pub fn new(inner: T, failures: Failures<L>) -> Self
         ensures inner { result.inner ≡ inner }
         ensures failures { result.failures ≡ failures }
@@ -62,7 +62,7 @@ impl<T, L: Ledger> Counted<T, L> {
         Counted { inner, failures }
     }
 
-    /// The reader or writer itself.
+    /// Returns the wrapped reader or writer.
     pub fn inner(&self) -> &T
         ensures { result.now ≡ self.now.inner }
     {
@@ -70,7 +70,7 @@ impl<T, L: Ledger> Counted<T, L> {
     }
 }
 
-/// Writes all of the bytes; a write that a signal interrupts is made again.
+/// Writes all of the bytes. Repeats a write that a signal interrupts.
 fn write_whole<W: Write>(writer: &mut W, bytes: &[u8]) -> Result<(), DeviceFailure>
     ensures bytes { OnOk result (Appends (W.contents writer.old) (W.contents writer.new) bytes.now) }
     ensures beginning { OnErr result (AppendsBeginning (W.contents writer.old) (W.contents writer.new) bytes.now) }
@@ -93,7 +93,7 @@ fn write_whole<W: Write>(writer: &mut W, bytes: &[u8]) -> Result<(), DeviceFailu
     Err(DeviceFailure)
 }
 
-/// Reads some bytes; a read that a signal interrupts is made again.
+/// Reads some bytes. Repeats a read that a signal interrupts.
 fn read_some<R: Read>(reader: &mut R, buffer: &mut [u8]) -> Result<usize, DeviceFailure>
     ensures within { IfOk result (λ n. n ≤ length buffer.new) }
     ensures bytes { IfOk result (λ n. Consumes (R.remaining reader.old) (R.remaining reader.new) (take n buffer.new)) }

@@ -1,11 +1,11 @@
-//! A count of failures.
+//! The number of failures, as a ghost count.
 
 ghost use Rattle.std.specs.Prelude.{◌≡◌, ◌+◌, ◌<◌};
 
 use std::marker::Model;
 use std::sync::ledger::{Blank, Book, Ledger, Share};
 
-/// How often a device failed. It takes no bytes, has no last value, and is a number of the contracts alone.
+/// The number of failures of a device. It exists only in contracts, takes no bytes and has no upper limit.
 #[derive(Drop)]
 pub struct Failures<L: Ledger> {
     book: Book<L>,
@@ -23,7 +23,7 @@ impl<L: Ledger> Model for Failures<L> {
 }
 
 impl<L: Ledger> Failures<L> {
-    /// No failure yet. The blank is that of the ledger `L`.
+    /// Returns a count of 0. `blank` must be the blank of the ledger `L`.
     pub fn none(blank: Blank) -> Self
         requires name { blank.name ≡ L.name }
         requires parts { blank.parts ≡ L.parts }
@@ -34,7 +34,7 @@ impl<L: Ledger> Failures<L> {
         Failures { book, share }
     }
 
-    /// One failure more.
+    /// Adds one failure.
     pub(crate) fn count(&mut self)
         ensures { self.new ≡ self.old + 1 }
     {

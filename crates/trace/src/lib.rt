@@ -1,4 +1,5 @@
-//! The trace of a run: the items of its turns, in order; and the bytes that programs read and write.
+//! The trace of a run: the items of its turns, in order. It also has the interfaces by which programs read and write
+//! bytes.
 #![tactic(auto)]
 
 mod bytes;

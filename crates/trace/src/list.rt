@@ -1,4 +1,4 @@
-//! The list of items.
+//! The list of a run's items.
 
 ghost use Rattle.std.specs.Prelude.{◌≡◌, ◌<◌, ◌^◌, ◌++◌, ◌∷◌, [], length, take, IsTrue, ◌↔◌, OnOk, OnErr};
 
@@ -6,7 +6,7 @@ use jvms_machine::trace::Item;
 use std::alloc::{AllocError, Global};
 use std::marker::Model;
 
-/// The items of a run so far. Contracts see the list of them.
+/// The items of a run so far. Contracts see them as a list.
 #[derive(Debug, Drop)]
 pub struct Trace {
     items: Vec<Item>,
@@ -22,7 +22,7 @@ impl Model for Trace {
 }
 
 impl Trace {
-    /// A trace with no items.
+    /// Returns a trace with no items.
     pub fn new(alloc: Global) -> Self
         ensures { result ≡ [] }
     {
@@ -31,7 +31,7 @@ impl Trace {
         }
     }
 
-    /// Puts an item behind the others. Without memory for it nothing changes.
+    /// Appends an item. Without memory for it nothing changes.
     #[inline(always)]
     pub fn push(&mut self, item: Item) -> Result<(), AllocError>
         ensures ok { OnOk result (self.new ≡ self.old ++ item ∷ []) }
@@ -41,7 +41,7 @@ impl Trace {
         Ok(())
     }
 
-    /// Keeps the first `count` items, and appends those of another trace to them. Without memory nothing changes.
+    /// Keeps the first `count` items and appends those of another trace. Without memory nothing changes.
     pub fn replace_after(&mut self, count: usize, other: Trace) -> Result<(), AllocError>
         ensures ok { OnOk result (self.new ≡ take count self.old ++ other) }
         ensures err { OnErr result (self.new ≡ self.old) }
@@ -54,7 +54,7 @@ impl Trace {
         Ok(())
     }
 
-    /// Takes away the items behind so many.
+    /// Drops the items after the first `count`.
     #[inline(always)]
     pub fn truncate(&mut self, count: usize)
         ensures { self.new ≡ take count self.old }
@@ -62,24 +62,24 @@ impl Trace {
         self.items.truncate(count);
     }
 
-    /// The items in order.
+    /// Returns the items in order.
     pub fn items(&self) -> &[Item]
         ensures { result.now ≡ self.now }
     {
         self.items.as_slice()
     }
 
-    /// How many items there are.
+    /// Returns the number of items.
     #[inline(always)]
     pub fn len(&self) -> usize
         ensures count { result ≡ length self.now }
-        // No vector holds more.
+        // A vector holds fewer.
         ensures few { result < 2 ^ 63 }
     {
         self.items.len()
     }
 
-    /// Whether there are none.
+    /// Decides whether the trace has no items.
     pub fn is_empty(&self) -> bool
         ensures { IsTrue result ↔ (self.now ≡ []) }
     {

@@ -1,4 +1,4 @@
-//! What becomes of the items of turns.
+//! Decides what happens to the items of turns: they are recorded or dropped.
 
 ghost use Rattle.std.specs.Prelude.{◌≡◌, ◌∷◌, [], false, None, Some, IsSome, IsTrue, OnOk, OnErr};
 ghost use Rattle.trace.specs.Recording.{recorded, count_of, cut};
@@ -9,8 +9,8 @@ use std::alloc::{AllocError, Global};
 use std::marker::Model;
 use std::mem;
 
-/// What becomes of the items of turns: they are put behind those of a trace, or nobody asks for them. Contracts see the
-/// list of those that are kept, if they are.
+/// A recording of items: a trace to which they are appended, or nothing if they are dropped. Contracts see the recorded
+/// list, if there is one.
 #[derive(Debug, Drop)]
 pub struct Recording {
     trace: Option<Trace>,
@@ -26,28 +26,28 @@ impl Model for Recording {
 }
 
 impl Recording {
-    /// Items are put behind those of a trace.
+    /// Returns a recording that appends items to a trace.
     pub fn of(trace: Trace) -> Self
         ensures { result ≡ Some trace }
     {
         Recording { trace: Some(trace) }
     }
 
-    /// Nobody asks for items.
+    /// Returns a recording that drops items.
     pub fn of_nothing() -> Self
         ensures { result ≡ None }
     {
         Recording { trace: None }
     }
 
-    /// Takes the items out of a trace, to append others to them. The trace is empty until they are given back.
+    /// Moves the items out of a trace, so that others can be appended. The trace is empty until `give_back`.
     pub fn taken_from(alloc: Global, trace: &mut Trace) -> Self
         ensures { result ≡ Some trace.old }
     {
         Recording::of(mem::replace(trace, Trace::new(alloc)))
     }
 
-    /// Gives a trace its items back, followed by those that were appended.
+    /// Moves the items back into a trace, with those that were appended.
     pub fn give_back(self, trace: &mut Trace)
         requires { IsSome self }
         ensures { self ≡ Some trace.new }
@@ -58,7 +58,7 @@ impl Recording {
         }
     }
 
-    /// Whether items are kept.
+    /// Decides whether items are recorded.
     #[inline(always)]
     pub fn keeps(&self) -> bool
         ensures some { IsTrue result → IsSome self.now }
@@ -67,7 +67,7 @@ impl Recording {
         self.trace.is_some()
     }
 
-    /// Puts an item behind the others. Without memory for it nothing changes.
+    /// Appends an item, if items are recorded. Without memory for it nothing changes.
     #[inline(always)]
     pub fn push(&mut self, item: Item) -> Result<(), AllocError>
         ensures ok { OnOk result (self.new ≡ recorded self.old (item ∷ [])) }
@@ -79,7 +79,7 @@ impl Recording {
         }
     }
 
-    /// Takes away the items behind so many.
+    /// Drops the recorded items after the first `count`.
     #[inline(always)]
     pub fn truncate(&mut self, count: usize)
         ensures { self.new ≡ cut count self.old }
@@ -89,7 +89,7 @@ impl Recording {
         }
     }
 
-    /// How many items are kept.
+    /// Returns the number of recorded items.
     #[inline(always)]
     pub fn len(&self) -> usize
         ensures { result ≡ count_of self.now }
@@ -100,7 +100,7 @@ impl Recording {
         }
     }
 
-    /// The trace of the items that were kept, if they were.
+    /// Returns the trace of the recorded items, if items are recorded.
     pub fn into_trace(self) -> Option<Trace>
         ensures { result ≡ self }
     {

@@ -1,4 +1,4 @@
--- What is said of a trace's text (own): the verdict of the walk of its items, or the first fault.
+-- Defines the verdict on a trace's text (own): that of its items, or the first fault.
 use Rattle.std.specs.Prelude.{◌≡◌, ℕ, ◌+◌, Bool, true, false, cond, List, [], ◌∷◌, ◌++◌, length, Option, Some, None, Err}
 use Rattle.std.specs.Io.KnownBytes.{Appends}
 use Rattle.jvms_machine.specs.declared.trace.Item.{Item}
@@ -6,7 +6,7 @@ use Rattle.velodrome.specs.declared.verdict.Verdict.{Verdict}
 use Rattle.velodrome.specs.declared.verdict.Verdict.TheVariants as verdict
 use Rattle.velodrome.specs.Rearrangements.{IsSerial}
 use Rattle.velodrome.specs.Specification.{Specification}
-use Rattle.velodrome.specs.Transactions.{Walk}
+use Rattle.velodrome.specs.Transactions.{TraceState}
 use Rattle.velodrome.specs.Verdicts.{IsVerdict}
 use Rattle.trace.specs.Bytes.{AppendsBeginning}
 use Rattle.trace_text.specs.Traces.{IsRead, IsTextOf}
@@ -26,12 +26,12 @@ use Rattle.trace_check.specs.declared.fault.CheckFault.TheVariants as check
 abbrev pub fed_nothing : Specification → Fed
 fed_nothing lines = record { lines = lines; items = [] }
 
--- The item of this line is refused, or else the first behind it.
+-- Returns the refused item of this line, or else the first refused one after it.
 abbrev pub refused_or : ℕ → Option FeedFault → Option (ℕ × FeedFault) → Option (ℕ × FeedFault)
 refused_or line None behind = behind
 refused_or line (Some why) behind = Some (line, why)
 
--- The first of these items, an item a line from this line on, that isn't taken behind those that were.
+-- Returns the first of these items that is refused, with its line. Each item takes a line, from this one on.
 abbrev pub first_refused : Fed → ℕ → List Item → Option (ℕ × FeedFault)
 first_refused fed line [] = None
 first_refused fed line (i ∷ items) = refused_or line (fault_of fed i) (first_refused (with_item i fed) (line + 1) items)
@@ -41,27 +41,28 @@ refusal_of line feed.Unmatched = check.Unmatched line
 refusal_of line feed.TooMany = check.TooMany
 refusal_of line feed.Memory = check.ItemMemory
 
--- A fault is that of the item that isn't taken, unless memory ran out.
+-- The fault is that of the refused item, unless memory ran out.
 abbrev pub IsRefused : Option (ℕ × FeedFault) → CheckFault → Type 0
 IsRefused refused check.Memory = Unit {0}
 IsRefused refused check.ItemMemory = Unit {0}
 IsRefused refused fault = (line : ℕ) × (why : FeedFault) × (refused ≡ Some (line, why)) × (fault ≡ refusal_of line why)
 
--- ---- What is said
+-- ---- Verdicts
 
-abbrev pub counts_of : Walk → Counts
+abbrev pub counts_of : TraceState → Counts
 counts_of w = record { events = length w.events; transactions = w.transactions }
 
--- The lines of the events in a serial order.
-abbrev pub AreSerialLines : Walk → List Item → List ℕ → Type 0
+-- The text has the events in a serial order, one a line.
+abbrev pub AreSerialLines : TraceState → List Item → List ℕ → Type 0
 AreSerialLines w items part = (numbers : List ℕ) × IsSerial w.events numbers × (part ≡ serial_text items numbers)
 
--- What follows the line of an atomic trace: the events in a serial order, if they are asked for.
+-- The text follows the line of an atomic trace: the events in a serial order, if they are requested.
 abbrev pub IsSerialPart : Fed → Bool → List ℕ → Type 0
 IsSerialPart fed false part = part ≡ []
 IsSerialPart fed true part = AreSerialLines (walk_of fed) fed.items part
 
--- What follows the line of a cycle: the lines that explain it, if they are asked for. No turns are known of a trace.
+-- Returns what follows the line of a cycle: the lines that explain it, if they are requested. The turns of a trace are
+-- unknown.
 abbrev pub explained_part : Fed → Bool → Verdict → List ℕ
 explained_part fed explains v =
     cond explains (explanation (record { lines = fed.lines; items = fed.items; turns = [] }) v) []
@@ -75,7 +76,7 @@ abbrev pub IsSaid : Fed → Details → Verdict → List ℕ → Type 0
 IsSaid fed details v said =
     (part : List ℕ) × IsPart fed details v part × (said ≡ verdict_text v (counts_of (walk_of fed)) ++ part)
 
--- The text is that of items, all of which are taken; the verdict is of their walk, and this is said.
+-- The text has items that are all accepted, the verdict is theirs, and this is its text.
 pub record IsChecked (lines : Specification) (text : List ℕ) (details : Details) (v : Verdict) (said : List ℕ) : Type 0 where
   pub items : List Item
   pub spelled : IsTextOf text items
@@ -83,24 +84,24 @@ pub record IsChecked (lines : Specification) (text : List ℕ) (details : Detail
   pub judged : IsVerdict (walk_of (record { lines = lines; items = items })) v
   pub told : IsSaid (record { lines = lines; items = items }) details v said
 
--- What is said was written, and nothing else.
+-- The text of the verdict was written, and nothing else.
 abbrev pub Wrote : Specification → List ℕ → Details → Option (List ℕ) → Option (List ℕ) → Verdict → Type 0
 Wrote lines text details old new v = (said : List ℕ) × IsChecked lines text details v said × Appends old new said
 
--- A beginning of it was written.
+-- A prefix of the text of the verdict was written.
 abbrev pub WroteBeginning : Specification → List ℕ → Details → Option (List ℕ) → Option (List ℕ) → Type 0
 WroteBeginning lines text details old new =
     (v : Verdict) × (said : List ℕ) × IsChecked lines text details v said × AppendsBeginning old new said
 
 -- ---- Faults
 
--- The text is that of items, of which the first that isn't taken has this fault.
+-- The text has items, and the first one that is refused has this fault.
 abbrev pub IsRefusedIn : Specification → List ℕ → CheckFault → Type 0
 IsRefusedIn lines text fault =
     (items : List Item) × IsTextOf text items × IsRefused (first_refused (fed_nothing lines) 1 items) fault
 
--- A fault is the first that stands: lines that are no items' come before items that aren't taken. Where memory ran out, or
--- the writer failed, none need stand.
+-- The fault is the first one in the text: lines that are no items come before refused items. If memory ran out or the
+-- writer failed, the text may have none.
 abbrev pub IsFault : Specification → List ℕ → CheckFault → Type 0
 IsFault lines text (check.Trace why) = IsRead text (Err why)
 IsFault lines text (check.Unmatched line) = IsRefusedIn lines text (check.Unmatched line)
@@ -111,7 +112,7 @@ IsFault lines text check.Output = Unit {0}
 
 -- ---- Checkers
 
--- The text is that of items, all of which a checker was fed.
+-- The text has items, and the checker was fed all of them.
 pub record IsFedText (lines : Specification) (text : List ℕ) (fed : Fed) : Type 0 where
   pub items : List Item
   pub spelled : IsTextOf text items

@@ -1,10 +1,10 @@
-//! What is said of a trace besides the verdict.
+//! The details that may follow a verdict.
 
-/// What is said of a trace besides the verdict's line.
+/// The details that follow the verdict's line.
 #[derive(Clone, Copy, Debug)]
 pub struct Details {
-    /// Whether the events of an atomic trace follow, in a serial order.
+    /// `true` if the events of an atomic trace follow, in a serial order.
     pub serial: bool,
-    /// Whether the lines follow that explain a cycle.
+    /// `true` if the lines that explain a cycle follow.
     pub explains: bool,
 }

@@ -1,4 +1,4 @@
-//! Why nothing is said of a trace, or what is said wasn't written.
+//! The reasons why a trace has no verdict, or it wasn't written.
 
 ghost use Rattle.std.specs.Prelude.{◌≡◌};
 ghost use Rattle.trace_check.specs.declared.fault.CheckFault.TheVariants as check;
@@ -10,22 +10,22 @@ use thiserror::Error;
 use trace::DeviceFailure;
 use trace_text::TraceFault;
 
-/// Why nothing is said of a trace, or what is said wasn't written.
+/// A reason why a trace has no verdict, or it wasn't written.
 #[derive(Clone, Copy, Debug, PartialEq, Eq, Error)]
 pub enum CheckFault {
-    /// X01, X02: the text is no trace, or there was no memory for it.
+    /// X01, X02: the text is no trace, or memory ran out while reading it.
     #[error("{0}")]
     Trace(TraceFault),
-    /// F01: the item of this line, from 1, is an exit of another method than its thread's innermost open one.
+    /// F01: the item of this line, from 1, is an exit of a method other than its thread's innermost open one.
     #[error("F01 Unmatched line {line}")]
     Unmatched { line: usize },
     /// F02: the trace has more than 100,000,000 events.
     #[error("F02 TooMany")]
     TooMany,
-    /// F03: there was no memory for an item.
+    /// F03: memory ran out for an item.
     #[error("F03 Memory")]
     ItemMemory,
-    /// There was no memory for anything else.
+    /// Memory ran out for anything else.
     #[error("Memory")]
     Memory,
     /// P05: the writer failed.
@@ -34,7 +34,7 @@ pub enum CheckFault {
 }
 
 impl CheckFault {
-    /// Whether memory ran out.
+    /// Decides whether memory ran out.
     pub fn is_memory(self) -> bool {
         matches!(
             self,
@@ -42,7 +42,7 @@ impl CheckFault {
         )
     }
 
-    /// The item of a line, from 1, wasn't taken.
+    /// Returns the fault of an item that was refused. `line` is its line, from 1.
     pub(crate) fn of_item(line: usize, fault: FeedFault) -> CheckFault
         ensures { result ≡ refusal_of line fault }
     {

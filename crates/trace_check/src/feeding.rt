@@ -1,4 +1,4 @@
-//! A checker that was fed a trace.
+//! Feeds a trace to a checker.
 
 ghost use Rattle.std.specs.Prelude.{◌≡◌, [], IfOk, IfErr, None};
 ghost use Rattle.atom_graph.specs.Checking.{Fed};
@@ -10,7 +10,7 @@ use atom_spec::Spec;
 use jvms_machine::trace::Item;
 use std::alloc::Global;
 
-/// A checker of a specification that was fed all items, or the first that it didn't take.
+/// Returns a checker that was fed all items. Fails at the first item that it refuses.
 pub(crate) fn fed(alloc: Global, spec: Spec, items: &[Item]) -> Result<Checker, CheckFault>
     ensures taken { IfOk result (λ checker. first_refused (fed_nothing spec) 1 items.now ≡ None) }
     ensures checker { IfOk result (λ checker. checker ≡ record { lines = spec; items = items.now }) }

@@ -1,4 +1,4 @@
-//! What is said of a trace's text: whether the methods that a specification calls atomic were.
+//! The verdict on a trace's text: whether the methods that a specification calls atomic were.
 #![tactic(auto)]
 
 mod checking;

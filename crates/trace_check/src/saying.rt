@@ -1,4 +1,4 @@
-//! What is said of a trace.
+//! Makes the text of a verdict.
 
 ghost use Rattle.std.specs.Prelude.{◌≡◌, ◌≢◌, IfOk, IfErr};
 ghost use Rattle.std.specs.String.{string_bytes};
@@ -17,15 +17,15 @@ use report::{explain, serial_lines, verdict_line};
 use std::alloc::{AllocError, Global};
 use velodrome::verdict::Verdict;
 
-/// What is said of a trace: the verdict and the text.
+/// The verdict on a trace, and its text.
 #[derive(Debug, Drop)]
 pub struct Checked {
     pub verdict: Verdict,
-    /// The verdict's line, and the lines that were asked for.
+    /// The verdict's line, and the requested details.
     pub text: String,
 }
 
-/// The lines of the events of an atomic trace in a serial order.
+/// Returns the lines of the events of an atomic trace in a serial order.
 fn atomic_part(alloc: Global, checker: &Checker, items: &[Item]) -> Result<String, AllocError>
     requires { AreAtomic (walk_of checker.now).events }
     ensures { IfOk result (λ part. AreSerialLines (walk_of checker.now) items.now (string_bytes part)) }
@@ -89,8 +89,8 @@ fn part_of(
     }
 }
 
-/// Returns what is said of the items that a checker was fed.
-fn said_of(
+/// Returns the verdict on the items that a checker was fed, with its text.
+fn verdict_with_text(
     alloc: Global,
     checker: &Checker,
     items: &[Item],
@@ -107,7 +107,7 @@ fn said_of(
     Ok(Checked { verdict, text })
 }
 
-/// Returns what a specification says of the trace that a text is, with the details that are asked for.
+/// Returns the verdict of a specification on the trace of a text, with the requested details.
 pub(crate) fn say(
     alloc: Global,
     spec: Spec,
@@ -120,15 +120,15 @@ pub(crate) fn say(
 {
     let trace = trace_text::read(alloc, text)?;
     let checker = fed(alloc, spec, trace.items())?;
-    let checked = said_of(alloc, &checker, trace.items(), details)?;
+    let checked = verdict_with_text(alloc, &checker, trace.items(), details)?;
     Ok(checked)
 }
 
-/// Feeds a checker of a specification with the trace that a text is.
+/// Feeds the trace of a text to a checker.
 ///
 /// # Errors
 ///
-/// X01 and F01 as `check` has them; F02; X02, F03 and Memory where there was no memory.
+/// X01 and F01 as `check` has them. F02 past 100,000,000 events. X02, F03 and Memory if memory ran out.
 pub fn fed_text(alloc: Global, spec: Spec, text: &str) -> Result<Checker, CheckFault>
     ensures fed { IfOk result (IsFedText spec text.now) }
     ensures fault { IfErr result (IsFault spec text.now) }

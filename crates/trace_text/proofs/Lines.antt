@@ -1,4 +1,4 @@
--- Items, and the lines that write none.
+-- Items, and the lines that are no items.
 use Rattle.std.proofs.Common.{◌≡◌, ◌≢◌, ℕ, ◌<◌, Bool, true, false, List, [], ◌∷◌, ◌++◌, Option, Some, None, refl, sym, ap, ◌∙◌, append_assoc, arith}
 use Rattle.std.specs.Prelude.{codes, if◌then◌else◌}
 use Rattle.std.specs.Fmt.{decimal}
@@ -71,7 +71,7 @@ one_word v w e = same_Some v w (sym (word_again v) ∙ ap word_in e ∙ word_aga
 
 -- ---- Lines
 
--- An item's line, cut at its first two spaces.
+-- The first two spaces cut an item's line into its word, its thread and what it touches.
 pub item_parts : (i : Item) → IsItem i → AreParts 32 (item_text i) (word_of i) (decimal (thread_of i)) (touched_text i)
 item_parts i is = record {
   split = append_assoc (word_of i) (32 ∷ decimal (thread_of i)) (32 ∷ touched_text i);
@@ -97,7 +97,7 @@ pub no_thread : (line first second third : List ℕ) → AreParts 32 line first 
 no_thread line first second third parts none i is e =
     none (thread_of i) is.0 (are_item line first second third i parts is e).same_second
 
--- An item of this word and this thread, by what it touches.
+-- A line is an item if its parts are a word, a thread and what such an item touches.
 pub of_parts : (line first second third : List ℕ) (w : Word) (t : ℕ) (o : Option Item) → AreParts 32 line first second third → first ≡ word_text w → IsNumber t → second ≡ decimal t
     → IsReadAs (IsItemOf w t) touched_text third o → IsReadAs IsItem item_text line o
 of_parts line first second third w t (Some i) parts is_word number is_thread read =
@@ -113,7 +113,7 @@ of_parts line first second third w t None parts is_word number is_thread read = 
     let thread = one_number (thread_of i) t is.0 number (sym same.same_second ∙ is_thread) in
     read i (record { kind = kind; thread = thread; item = is }) same.same_third
 
--- ---- No item's text holds the end of a line
+-- ---- No item's text has an LF
 
 word_no_end : (w : Word) → has 10 (word_text w) ≡ false
 word_no_end word.Read = refl
@@ -156,7 +156,7 @@ item_no_end i is =
     has_append 10 (word_of i ++ 32 ∷ decimal (thread_of i)) (32 ∷ touched_text i)
     (has_append 10 (word_of i) (32 ∷ decimal (thread_of i)) (ap (has 10) (sym (word_is i)) ∙ word_no_end (kind_of i)) (number_no_end (thread_of i) is.0)) (touched_no_end i is.1)
 
--- Texts that begin with items' lines begin with the same item's text.
+-- If a text begins with a line and with an item's line, the line is the item's text.
 pub one_line : (i : Item) (text line behind rest : List ℕ) → text ≡ line ++ 10 ∷ behind → has 10 line ≡ false → IsItem i → text ≡ item_line i ++ rest → (line ≡ item_text i) × (behind ≡ rest)
 one_line i text line behind rest split clear is e =
     one_cut 10 line behind (item_text i) rest clear (item_no_end i is) (sym split ∙ e ∙ append_assoc (item_text i) (10 ∷ []) rest)

@@ -1,4 +1,4 @@
--- Numbers in decimal, and the texts that write none.
+-- Numbers in decimal, and the texts that are none.
 use Rattle.std.proofs.Common.{◌≡◌, ◌≢◌, ℕ, zero, suc, ◌+◌, ◌-◌, ◌*◌, ◌/◌, ◌%◌, ◌^◌, ◌<◌, ◌≤◌, ◌==◌, Bool, true, false, List, [], ◌∷◌, ◌++◌, length, get_or, take, refl, sym, ap, subst, ◌∙◌, arith}
 use Rattle.std.specs.Fmt.{decimal}
 use Rattle.std.specs.Str.Parse.{AllDigits, digits_value, IsNumeral}
@@ -12,7 +12,7 @@ use Rattle.std.proofs.lemmas.Str.Parse.{digit_at, digit_from_value, digits_value
 use Rattle.escapes.specs.Cuts.{has}
 use Rattle.trace_text.specs.Items.{IsNumber}
 
--- What is known of a number in decimal.
+-- Facts about a number in decimal.
 record IsDecimal (ds : List ℕ) (n : ℕ) : Type 0 where
   some : 0 < length ds
   digits : AllDigits 10 ds
@@ -26,7 +26,7 @@ decimal_is n small =
 of_number : (n : ℕ) → IsNumber n → n < 2 ^ 40
 of_number n small = omega arith
 
--- ---- Texts of no number
+-- ---- Texts that are no number
 
 pub not_of_nothing : (text : List ℕ) → length text ≡ 0 → (n : ℕ) → IsNumber n → text ≢ decimal n
 not_of_nothing text none n is e =
@@ -41,7 +41,7 @@ digit_in ds i digits within none =
     let high : get_or ds i 0 ≤ 57 = range.1 in
     none (get_or ds i 0 - 48) (omega arith) (omega arith)
 
--- A byte that is no digit.
+-- A text with a byte that is no digit is no number.
 pub not_of_byte : (text behind : List ℕ) (first i : ℕ) → text ≡ first ∷ behind → i < length (first ∷ behind) → ((d : ℕ) → d < 10 → get_or (first ∷ behind) i 0 ≢ 48 + d)
     → (n : ℕ) → IsNumber n → text ≢ decimal n
 not_of_byte text behind first i split within none n is e =
@@ -57,7 +57,7 @@ positive : (n : ℕ) → 1 < length (decimal n) → 0 < n
 positive zero long = let short : length (decimal 0) ≡ 1 = ap length (decimal_digit 0 (omega arith)) in absurd (omega arith)
 positive (suc n) long = omega arith
 
--- A zero before other digits.
+-- A text with a zero before other digits is no number.
 pub not_of_leading_zero : (text : List ℕ) (i : ℕ) → decimal 0 ≡ take (suc i) text → suc i < length text → (n : ℕ) → IsNumber n → text ≢ decimal n
 not_of_leading_zero text i zeros more n is e =
     let same = ap length e in
@@ -67,7 +67,7 @@ not_of_leading_zero text i zeros more n is e =
     let along = ap (λ (ds : List ℕ). get_or ds 0 0) e in
     omega arith
 
--- Digits of a number that is too large already.
+-- A text whose first digits are too large a number is no number.
 pub not_of_large : (text : List ℕ) (k m : ℕ) → decimal m ≡ take k text → m < 2 ^ 40 → 4294967295 < m → (n : ℕ) → IsNumber n → text ≢ decimal n
 not_of_large text k m digits small large n is e =
     let part : digits_value 10 (take k text) ≡ m = ap (digits_value 10) (sym digits) ∙ (decimal_is m small).value in
@@ -94,13 +94,13 @@ next_digit text behind first i m d split before small some within digit is =
     step ∙ ap (λ (x : ℕ). decimal x ++ (48 + (m * 10 + d) % 10) ∷ []) front ∙ ap (λ (x : ℕ). decimal m ++ (48 + x) ∷ []) last
     ∙ ap (λ (ds : List ℕ). ds ++ (48 + d) ∷ []) before ∙ ap (λ (x : ℕ). take (suc i) text ++ x ∷ []) (sym byte) ∙ sym more ∙ ap (λ (k : ℕ). take k text) (sym place)
 
--- All digits were read.
+-- All digits have been read.
 pub whole_number : (text behind : List ℕ) (first i m : ℕ) → text ≡ first ∷ behind → decimal m ≡ take (suc i) text → length behind ≤ i → text ≡ decimal m
 whole_number text behind first i m split digits done =
     let size = ap length split in
     sym (digits ∙ take_all (suc i) text (omega arith))
 
--- ---- Numbers hold nothing but digits
+-- ---- Numbers have only digits
 
 digits_clear : (b : ℕ) (ds : List ℕ) → ((d : ℕ) → 48 ≤ d → d ≤ 57 → d ≢ b) → AllDigits 10 ds → has b ds ≡ false
 digits_clear b [] isnt are = refl

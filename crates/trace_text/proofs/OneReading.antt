@@ -101,7 +101,7 @@ some_line i rest e = nothing (item_text i) (sym (line_then i rest) ∙ e)
     nothing [] h = cc
     nothing (x ∷ xs) h = cc
 
--- Lines that begin the same text begin with the same item.
+-- Two lines at the beginning of one text are of the same item.
 first_same : (a b : Item) (xs ys : List ℕ) → IsItem a → IsItem b → item_line a ++ xs ≡ item_line b ++ ys → (a ≡ b) × (xs ≡ ys)
 first_same a b xs ys left right e =
     let parts = one_line b (item_line a ++ xs) (item_text a) xs ys (line_then a xs) (item_no_end a left) right e in
@@ -115,7 +115,7 @@ one_trace (a ∷ as') (b ∷ bs) left right e =
     let parts = first_same a b (trace_text as') (trace_text bs) left.0 right.0 e in
     ap (λ (x : Item). x ∷ as') parts.0 ∙ ap (λ (xs : List Item). b ∷ xs) (one_trace as' bs left.1 right.1 parts.1)
 
--- Items whose text goes on with no item's line aren't all of a text of items.
+-- A text of items followed by no item's line is not the text of any items.
 no_fault_in : (before items : List Item) (rest : List ℕ) → AllByRecursion IsItem before → AllByRecursion IsItem items → trace_text before ++ rest ≡ trace_text items → BeginsWithNoItem rest → ⊥
 no_fault_in [] [] rest left right e fault = fault.some e
 no_fault_in [] (i ∷ items) rest left right e fault = fault.none i (trace_text items) right.0 e
@@ -127,7 +127,7 @@ no_fault_in (b ∷ before) (i ∷ items) rest left right e fault =
 pub no_fault : (text : List ℕ) (items : List Item) (line : ℕ) → IsTextOf text items → IsFaulty text line → ⊥
 no_fault text items line is fault = no_fault_in fault.items items fault.rest fault.may_stand is.may_stand (sym fault.split ∙ is.written) fault.fault
 
--- Two beginnings that both end before the first line of no item are as long as each other.
+-- Two prefixes of a text that both end before the first faulty line have the same length.
 same_length : (xs ys : List Item) (left_rest right_rest : List ℕ) → AllByRecursion IsItem xs → AllByRecursion IsItem ys → trace_text xs ++ left_rest ≡ trace_text ys ++ right_rest
     → BeginsWithNoItem left_rest → BeginsWithNoItem right_rest → length xs ≡ length ys
 same_length [] [] left_rest right_rest xa ya e left right = refl
@@ -145,7 +145,7 @@ one_fault text j k left right =
     let same = same_length left.items right.items left.rest right.rest left.may_stand right.may_stand (sym left.split ∙ right.split) left.fault right.fault in
     left.count ∙ ap suc same ∙ sym right.count
 
--- Read again, what was written is the same items.
+-- Reading the text of items returns the same items.
 pub read_again : (items : List Item) (answer : Result (List Item) TraceFault) → AllByRecursion IsItem items → IsRead (trace_text items) answer → (answer ≡ Ok items) ⊎ (answer ≡ Err fault.Memory)
 read_again items (Ok again) are read = inl (ap (λ (xs : List Item). Ok xs) (sym (one_trace items again are read.may_stand read.written)))
 read_again items (Err (fault.Syntax line)) are read = absurd (no_fault (trace_text items) items line (record { may_stand = are; written = refl }) read)

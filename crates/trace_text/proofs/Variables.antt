@@ -1,4 +1,4 @@
--- Variables, and the texts that write none.
+-- Variables, and the texts that are none.
 use Rattle.std.proofs.Common.{◌≡◌, ◌≢◌, ℕ, zero, suc, ◌+◌, ◌<◌, ◌≤◌, ◌==◌, Bool, true, false, cond, List, [], ◌∷◌, ◌++◌, length, Option, Some, None, refl, sym, ap, ◌∙◌, append_assoc, arith}
 use Rattle.std.specs.Fmt.{decimal}
 use Rattle.jvms_program.specs.declared.key.FieldKey.{FieldKey}
@@ -22,7 +22,7 @@ field_dots f is = member_dots sort.Field sort.FieldDescriptor f.class f.name f.d
 number_dots : (n : ℕ) → IsNumber n → dots_in (decimal n) ≡ 0
 number_dots n is = none_counted (decimal n) (number_below 46 n (omega arith) is)
 
--- A variable's sort shows in its dots.
+-- The dots of a variable's text show its kind.
 pub variable_dots : (v : Variable) → IsVariable v → dots_in (variable_text v) ≡ dots_of v
 variable_dots (variable.Instance r f) is =
     joined_count (decimal r) (46 ∷ field_text f) 0 3 (number_dots r is.0) (behind_dot (field_text f) 2 (field_dots f is.1))
@@ -30,7 +30,7 @@ variable_dots (variable.Static f) is = field_dots f is
 variable_dots (variable.Element r i) is =
     joined_count (decimal r ++ 91 ∷ decimal i) (93 ∷ []) 0 0 (joined_count (decimal r) (91 ∷ decimal i) 0 0 (number_dots r is.0) (number_dots i is.1)) refl
 
--- A text with so many dots is that of a variable with so many.
+-- A text with n dots can only be that of a variable with n dots.
 pub of_so_many : (n : ℕ) (text : List ℕ) (o : Option Variable) → dots_in text ≡ n → IsReadAs (IsVariableWith n) variable_text text o → IsReadAs IsVariable variable_text text o
 of_so_many n text (Some v) many read = (read.0.variable, read.1)
 of_so_many n text None many read = λ v is e. read v (record { has = sym (variable_dots v is) ∙ ap dots_in (sym e) ∙ many; variable = is }) e
@@ -45,7 +45,7 @@ of_no_sort text first second third (variable.Element r i) is e = first (ap dots_
 pub element_is : (r i : ℕ) → variable_text (variable.Element r i) ≡ decimal r ++ 91 ∷ (decimal i ++ 93 ∷ [])
 element_is r i = append_assoc (decimal r) (91 ∷ decimal i) (93 ∷ [])
 
--- An element's text, cut at its brackets.
+-- A text that is no element is no variable without dots.
 pub element_only : (text : List ℕ) → ((r i : ℕ) → IsNumber r → IsNumber i → text ≢ decimal r ++ 91 ∷ (decimal i ++ 93 ∷ [])) → (v : Variable) → IsVariableWith 0 v → text ≢ variable_text v
 element_only text none (variable.Instance r f) is e = absurd (let no = is.has in omega arith)
 element_only text none (variable.Static f) is e = absurd (let no = is.has in omega arith)
@@ -54,7 +54,7 @@ element_only text none (variable.Element r i) is e = none r i is.variable.0 is.v
 pub no_open : (text : List ℕ) → has 91 text ≡ false → (v : Variable) → IsVariableWith 0 v → text ≢ variable_text v
 no_open text none = element_only text (λ r i left right e. no_first 91 text (decimal r) (decimal i ++ 93 ∷ []) none e)
 
--- Behind the opening bracket.
+-- The opening bracket cuts an element's text into its reference and the rest.
 cut_open : (text reference behind : List ℕ) (r i : ℕ) → text ≡ reference ++ 91 ∷ behind → has 91 reference ≡ false → IsNumber r → text ≡ decimal r ++ 91 ∷ (decimal i ++ 93 ∷ [])
     → (reference ≡ decimal r) × (behind ≡ decimal i ++ 93 ∷ [])
 cut_open text reference behind r i split clear is e =

@@ -1,4 +1,4 @@
--- The items of a trace as lines of a text.
+-- Defines the lines of items.
 use Rattle.std.specs.Prelude.{ℕ, ◌<◌, ◌^◌, List, [], ◌∷◌, ◌++◌, codes}
 use Rattle.std.specs.Fmt.{decimal}
 use Rattle.jvms_machine.specs.declared.trace.Item.{Item}
@@ -7,13 +7,13 @@ use Rattle.jvms_machine.specs.declared.trace.Variable.{Variable}
 use Rattle.jvms_machine.specs.declared.trace.Variable.TheVariants as variable
 use Rattle.escapes.specs.Keys.{IsFieldKey, IsMethodKey, field_text, method_text}
 
--- An instance field is `R.C.x.D`, a static one `C.x.D`, and an element `R[i]`.
+-- Returns the text of a variable: `R.C.x.D` for an instance field, `C.x.D` for a static one, and `R[i]` for an element.
 abbrev pub variable_text : Variable → List ℕ
 variable_text (variable.Instance r f) = decimal r ++ 46 ∷ field_text f
 variable_text (variable.Static f) = field_text f
 variable_text (variable.Element r i) = decimal r ++ 91 ∷ decimal i ++ 93 ∷ []
 
--- The word of an item.
+-- Returns the word of an item.
 abbrev pub word_of : Item → List ℕ
 word_of (item.Read t v) = codes "rd"
 word_of (item.Write t v) = codes "wr"
@@ -24,7 +24,7 @@ word_of (item.Join t u) = codes "join"
 word_of (item.Enter t m) = codes "enter"
 word_of (item.Exit t m) = codes "exit"
 
--- The thread whose item it is.
+-- Returns the thread of an item.
 abbrev pub thread_of : Item → ℕ
 thread_of (item.Read t v) = t
 thread_of (item.Write t v) = t
@@ -35,7 +35,7 @@ thread_of (item.Join t u) = t
 thread_of (item.Enter t m) = t
 thread_of (item.Exit t m) = t
 
--- What it touches: a variable, an object, a thread or a method.
+-- Returns the text of what an item touches: a variable, an object, a thread or a method.
 abbrev pub touched_text : Item → List ℕ
 touched_text (item.Read t v) = variable_text v
 touched_text (item.Write t v) = variable_text v
@@ -46,7 +46,7 @@ touched_text (item.Join t u) = decimal u
 touched_text (item.Enter t m) = method_text m
 touched_text (item.Exit t m) = method_text m
 
--- An item as it is written: its word, its thread and what it touches, parted by one space.
+-- Returns the text of an item: its word, its thread and what it touches, separated by one space.
 abbrev pub item_text : Item → List ℕ
 item_text i = word_of i ++ 32 ∷ decimal (thread_of i) ++ 32 ∷ touched_text i
 
@@ -54,7 +54,7 @@ item_text i = word_of i ++ 32 ∷ decimal (thread_of i) ++ 32 ∷ touched_text i
 abbrev pub IsNumber : ℕ → Type 0
 IsNumber n = n < 2 ^ 32
 
--- A variable that may stand in a text.
+-- A text may have this variable.
 abbrev pub IsVariable : Variable → Type 0
 IsVariable (variable.Instance r f) = IsNumber r × IsFieldKey f
 IsVariable (variable.Static f) = IsFieldKey f
@@ -70,6 +70,6 @@ IsTouched (item.Join t u) = IsNumber u
 IsTouched (item.Enter t m) = IsMethodKey m
 IsTouched (item.Exit t m) = IsMethodKey m
 
--- An item that may stand in a text: its names and descriptors are well formed (JVMS 4.2, 4.3).
+-- A text may have this item: its names and descriptors are well formed (JVMS 4.2, 4.3), and its numbers have 32 bits.
 abbrev pub IsItem : Item → Type 0
 IsItem i = IsNumber (thread_of i) × IsTouched i

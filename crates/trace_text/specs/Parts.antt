@@ -1,4 +1,4 @@
--- The parts of lines that have functions of their own.
+-- Defines the parts of lines that are read by functions of their own.
 use Rattle.std.specs.Prelude.{◌≡◌, ℕ, List, codes}
 use Rattle.jvms_machine.specs.declared.trace.Item.{Item}
 use Rattle.jvms_machine.specs.declared.trace.Item.TheVariants as item
@@ -31,19 +31,19 @@ kind_of (item.Join t u) = word.Join
 kind_of (item.Enter t m) = word.Enter
 kind_of (item.Exit t m) = word.Exit
 
--- An item with this word and this thread.
+-- The item has this word and this thread, and a text may have it.
 pub record IsItemOf (w : Word) (t : ℕ) (i : Item) : Type 0 where
   pub kind : kind_of i ≡ w
   pub thread : thread_of i ≡ t
   pub item : IsItem i
 
--- How many dots a variable's text has.
+-- Returns the number of dots in the text of a variable.
 abbrev pub dots_of : Variable → ℕ
 dots_of (variable.Instance r f) = 3
 dots_of (variable.Static f) = 2
 dots_of (variable.Element r i) = 0
 
--- A variable with so many dots.
+-- A text may have this variable, and the variable's text has this number of dots.
 pub record IsVariableWith (dots : ℕ) (v : Variable) : Type 0 where
   pub has : dots_of v ≡ dots
   pub variable : IsVariable v

@@ -1,4 +1,4 @@
--- Traces as texts, one item a line.
+-- Defines the texts of traces, one item a line.
 use Rattle.std.specs.Prelude.{◌≡◌, ◌≢◌, ℕ, suc, List, [], ◌∷◌, ◌++◌, length, Result, Ok, Err}
 use Rattle.std.specs.List.{flat_map, AllByRecursion}
 use Rattle.jvms_machine.specs.declared.trace.Item.{Item}
@@ -6,25 +6,25 @@ use Rattle.trace_text.specs.declared.fault.TraceFault.{TraceFault}
 use Rattle.trace_text.specs.declared.fault.TraceFault.TheVariants as fault
 use Rattle.trace_text.specs.Items.{IsItem, item_text}
 
--- An item's line, with the LF that ends it.
+-- Returns the line of an item, with the LF that ends it.
 abbrev pub item_line : Item → List ℕ
 item_line i = item_text i ++ 10 ∷ []
 
--- The lines of items, one behind another.
+-- Returns the lines of items in order.
 abbrev pub trace_text : List Item → List ℕ
 trace_text items = flat_map item_line items
 
--- The text is that of items that may stand in one.
+-- The text is that of these items, and a text may have them.
 pub record IsTextOf (text : List ℕ) (items : List Item) : Type 0 where
   pub may_stand : AllByRecursion IsItem items
   pub written : text ≡ trace_text items
 
--- Some text that isn't empty, but begins with no item's line.
+-- The text is not empty, and it begins with no item's line.
 pub record BeginsWithNoItem (text : List ℕ) : Type 0 where
   pub some : text ≢ []
   pub none : (i : Item) (behind : List ℕ) → IsItem i → text ≢ item_line i ++ behind
 
--- Line `line` is the first that no item is written by, or that has no LF: the lines before it are those of items.
+-- Line `line` is the first that is no item or has no LF. All lines before it are items.
 pub record IsFaulty (text : List ℕ) (line : ℕ) : Type 0 where
   pub items : List Item
   pub rest : List ℕ
@@ -33,7 +33,7 @@ pub record IsFaulty (text : List ℕ) (line : ℕ) : Type 0 where
   pub count : line ≡ suc (length items)
   pub fault : BeginsWithNoItem rest
 
--- The answer is the trace that the text is, or its first faulty line. Where memory ran out it is neither.
+-- The result is the trace of the text, or its first faulty line. If memory ran out the result says nothing of the text.
 abbrev pub IsRead : List ℕ → Result (List Item) TraceFault → Type 0
 IsRead text (Ok items) = IsTextOf text items
 IsRead text (Err (fault.Syntax line)) = IsFaulty text line

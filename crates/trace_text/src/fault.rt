@@ -1,4 +1,4 @@
-//! Why a text is no trace.
+//! The reasons why a text is no trace.
 
 ghost use Rattle.std.specs.Prelude.{◌≡◌};
 ghost use Rattle.trace_text.specs.declared.fault.TraceFault.TheVariants as fault;
@@ -6,13 +6,13 @@ ghost use Rattle.trace_text.specs.declared.fault.TraceFault.TheVariants as fault
 use std::alloc::AllocError;
 use thiserror::Error;
 
-/// Why a text is no trace.
+/// A reason why a text is no trace.
 #[derive(Clone, Copy, Debug, PartialEq, Eq, Error)]
 pub enum TraceFault {
-    /// X01: the first line, from 1, that no item is written by, or that has no LF.
+    /// X01: the number of the first faulty line, from 1. It is no item, or no LF ends it.
     #[error("X01 Syntax line {line}")]
     Syntax { line: usize },
-    /// X02: there was no memory.
+    /// X02: memory ran out.
     #[error("X02 Memory")]
     Memory,
 }

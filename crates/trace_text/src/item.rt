@@ -1,4 +1,4 @@
-//! Items, written and read.
+//! Writes and reads one item.
 
 ghost use Rattle.std.specs.Prelude.{◌≡◌, ◌++◌, ◌∷◌, OnOk, IfOk};
 ghost use Rattle.std.specs.Fmt.{decimal};
@@ -18,7 +18,7 @@ use std::alloc::AllocError;
 
 const SPACE: u8 = b' ';
 
-/// The word of an item.
+/// Returns the word of an item.
 fn kind_of(item: &Item) -> Word
     ensures { result ≡ kind_of_item item.now }
 {
@@ -34,7 +34,7 @@ fn kind_of(item: &Item) -> Word
     }
 }
 
-/// The thread whose item it is.
+/// Returns the thread of an item.
 fn thread_of(item: &Item) -> ThreadId
     ensures { result ≡ thread_of_item item.now }
 {
@@ -50,7 +50,7 @@ fn thread_of(item: &Item) -> ThreadId
     }
 }
 
-/// Puts what an item touches behind a text.
+/// Appends what an item touches to a text.
 fn put_touched(out: &mut String, item: &Item) -> Result<(), AllocError>
     ensures { OnOk result (string_bytes out.new ≡ string_bytes out.old ++ touched_text item.now) }
 {
@@ -65,7 +65,7 @@ fn put_touched(out: &mut String, item: &Item) -> Result<(), AllocError>
     }
 }
 
-/// Puts an item behind a text, without the end of its line.
+/// Appends an item to a text, without the LF that ends its line.
 pub(crate) fn put_item(out: &mut String, item: &Item) -> Result<(), AllocError>
     ensures { OnOk result (string_bytes out.new ≡ string_bytes out.old ++ item_text item.now) }
 {
@@ -76,7 +76,8 @@ pub(crate) fn put_item(out: &mut String, item: &Item) -> Result<(), AllocError>
     put_touched(out, item)
 }
 
-/// The item with this word and this thread whose touched part a text writes; `None` where it writes none.
+/// Reads what an item touches, and returns the item with this word and this thread. Returns `None` if the text is not
+/// what such an item touches.
 fn touching<'t>(
     keys: &mut Keys<'t>,
     word: Word,
@@ -103,7 +104,7 @@ fn touching<'t>(
     })
 }
 
-/// The item that a line writes; `None` where it writes none. An item has one spelling.
+/// Reads an item from a line. Returns `None` if the line is no item. An item has exactly one spelling.
 pub(crate) fn item_of<'t>(keys: &mut Keys<'t>, line: &'t [u8]) -> Result<Option<Item>, AllocError>
     ensures { IfOk result (IsReadAs IsItem item_text line.now) }
 {

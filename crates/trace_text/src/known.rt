@@ -1,5 +1,5 @@
-//! Members that were read before. A trace names the same few again and again: a text is read once, and its member's
-//! names then have one more owner at each line.
+//! A cache of members. A trace repeats the same few members: a text is parsed once, and each further line clones the
+//! references to its names.
 
 ghost use Rattle.std.specs.Prelude.{◌≡◌, ℕ, List, IfOk, MatchOption};
 ghost use Rattle.escapes.specs.Readings.{IsReadAs};
@@ -7,27 +7,27 @@ ghost use Rattle.escapes.specs.Readings.{IsReadAs};
 use std::alloc::{AllocError, Global};
 use std::marker::Model;
 
-/// How many members are remembered at most.
+/// The number of slots of the cache.
 const SLOTS: usize = 512;
 
-/// A field or a method, as the lines of a trace write it.
+/// A field or a method, as the lines of a trace spell it.
 pub(crate) trait Member: Drop {
-    // Whether it may stand in a text.
+    // The condition under which a text may have the member.
     ghost may_stand: { Self → Type 0 };
 
-    // Its text.
+    // The text of the member.
     ghost text_of: { Self → List ℕ };
 
-    /// The member that a text writes; `None` where it writes none.
+    /// Reads a member from its text. Returns `None` if the text is no member.
     fn read(alloc: Global, text: &[u8]) -> Result<Option<Self>, AllocError>
         ensures { IfOk result (IsReadAs may_stand text_of text.now) };
 
-    /// The member once more: its names have one more owner.
+    /// Clones the member. The clone shares its names.
     fn share(&self) -> Result<Self, AllocError>
         ensures { IfOk result (λ m. m ≡ self.now) };
 }
 
-/// A member, with the text that it was read of.
+/// A cached member with its text.
 #[derive(Drop)]
 struct Known<'t, M: Member> {
     text: &'t [u8],
@@ -45,7 +45,7 @@ impl<'t, M: Member> Model for Known<'t, M> {
 }
 
 impl<'t, M: Member> Known<'t, M> {
-    /// The member, if it is this text's.
+    /// Returns a clone of the member if the text is its text.
     fn of(&self, text: &[u8]) -> Result<Option<M>, AllocError>
         ensures { IfOk result (λ o. MatchOption o (Unit {0}) (λ m. M.may_stand m × (text.now ≡ M.text_of m))) }
     {
@@ -57,7 +57,7 @@ impl<'t, M: Member> Known<'t, M> {
     }
 }
 
-/// Where the member of a text is remembered.
+/// Returns the slot of a text in the cache, by a hash.
 fn slot_of(text: &[u8]) -> usize {
     let mut sum: u32 = 0;
     for byte in text {
@@ -66,7 +66,7 @@ fn slot_of(text: &[u8]) -> usize {
     sum as usize % SLOTS
 }
 
-/// Members that were read before, a few of them: each in the slot of its text, in the place of the one before.
+/// A direct-mapped cache of members. Each text has one slot, and a new member replaces the old one there.
 #[derive(Drop)]
 pub(crate) struct Members<'t, M: Member> {
     known: Vec<Option<Known<'t, M>>>,
@@ -74,7 +74,7 @@ pub(crate) struct Members<'t, M: Member> {
 }
 
 impl<'t, M: Member> Members<'t, M> {
-    /// None was read.
+    /// Returns an empty cache.
     pub(crate) fn new(alloc: Global) -> Result<Self, AllocError> {
         let mut known = Vec::with_capacity(alloc, SLOTS)?;
         for _ in 0..SLOTS {
@@ -83,7 +83,7 @@ impl<'t, M: Member> Members<'t, M> {
         Ok(Members { known, alloc })
     }
 
-    /// The member that a text writes; `None` where it writes none.
+    /// Reads a member from its text, by the cache if it is there. Returns `None` if the text is no member.
     pub(crate) fn read(&mut self, text: &'t [u8]) -> Result<Option<M>, AllocError>
         ensures { IfOk result (IsReadAs M.may_stand M.text_of text.now) }
     {
@@ -100,7 +100,7 @@ impl<'t, M: Member> Members<'t, M> {
         }
     }
 
-    /// The member in a slot, if it is this text's.
+    /// Returns the member in a slot if the text is its text.
     fn known_in(&self, slot: usize, text: &[u8]) -> Result<Option<M>, AllocError>
         ensures { IfOk result (λ o. MatchOption o (Unit {0}) (λ m. M.may_stand m × (text.now ≡ M.text_of m))) }
     {
@@ -110,7 +110,7 @@ impl<'t, M: Member> Members<'t, M> {
         }
     }
 
-    /// Remembers a member and its text.
+    /// Stores a member and its text in a slot.
     fn keep(&mut self, slot: usize, text: &'t [u8], member: &M) -> Result<(), AllocError>
         requires stands { M.may_stand member.now }
         requires written { text.now ≡ M.text_of member.now }

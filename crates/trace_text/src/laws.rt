@@ -1,4 +1,4 @@
-//! Laws about the definitions, owed to the gate: each is the contract of a function that does nothing.
+//! Laws about the definitions. Each is the contract of a function that does nothing.
 
 ghost use Rattle.std.specs.Prelude.{◌≡◌, ◌⊎◌, ℕ, List, Result, Ok, Err};
 ghost use Rattle.std.specs.List.{AllByRecursion};
@@ -8,23 +8,23 @@ ghost use Rattle.trace_text.specs.declared.fault.TraceFault.TheVariants as fault
 ghost use Rattle.trace_text.specs.Items.{IsItem};
 ghost use Rattle.trace_text.specs.Traces.{trace_text, IsTextOf, IsFaulty, IsRead};
 
-/// The text of items has one reading.
+/// Proves that a text is that of one list of items at most.
 pub fn a_text_is_of_one_trace()
     ensures { (a b : List Item) → AllByRecursion IsItem a → AllByRecursion IsItem b → trace_text a ≡ trace_text b → a ≡ b }
 {}
 
-/// The text of items has no faulty line.
+/// Proves that the text of items has no faulty line.
 pub fn a_text_of_items_has_no_fault()
     ensures { (text : List ℕ) (items : List Item) (line : ℕ) → IsTextOf text items → IsFaulty text line → ⊥ }
 {}
 
-/// One line alone is the first faulty one.
+/// Proves that a text has at most one first faulty line.
 pub fn a_text_has_one_first_fault()
     ensures { (text : List ℕ) (j k : ℕ) → IsFaulty text j → IsFaulty text k → j ≡ k }
 {}
 
-/// What is written is read again as the same items, wherever there is memory for them: of all items whose names and
-/// descriptors are well formed, and whose numbers have 32 bits.
+/// Proves that reading the text of items returns the same items, unless memory runs out. The names and descriptors of
+/// the items must be well formed, and their numbers must have 32 bits.
 pub fn what_is_written_is_read_again()
     ensures { (items : List Item) (answer : Result (List Item) TraceFault) → AllByRecursion IsItem items → IsRead (trace_text items) answer → (answer ≡ Ok items) ⊎ (answer ≡ Err fault.Memory) }
 {}

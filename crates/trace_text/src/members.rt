@@ -1,4 +1,4 @@
-//! Fields and methods, as the members that are read of lines.
+//! Reads and clones fields and methods, for the cache.
 
 ghost use Rattle.escapes.specs.Keys.{IsFieldKey, IsMethodKey, field_text, method_text};
 
@@ -43,7 +43,7 @@ impl Member for MethodKey {
     }
 }
 
-/// The fields and the methods that were read before.
+/// The caches of fields and of methods.
 #[derive(Drop)]
 pub(crate) struct Keys<'t> {
     pub fields: Members<'t, FieldKey>,
@@ -51,7 +51,7 @@ pub(crate) struct Keys<'t> {
 }
 
 impl<'t> Keys<'t> {
-    /// None was read.
+    /// Returns empty caches.
     pub(crate) fn new(alloc: Global) -> Result<Self, AllocError> {
         Ok(Keys {
             fields: Members::new(alloc)?,

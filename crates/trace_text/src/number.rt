@@ -1,4 +1,4 @@
-//! Numbers in decimal, without leading zeros.
+//! Writes and reads numbers in decimal, without leading zeros.
 
 ghost use Rattle.std.specs.Prelude.{◌≡◌, ◌≢◌, ℕ, ◌+◌, ◌<◌, ◌++◌, OnOk, MatchOption};
 ghost use Rattle.std.specs.Fmt.{decimal};
@@ -11,7 +11,7 @@ use std::alloc::AllocError;
 
 const MOST: u64 = u32::MAX as u64;
 
-/// Puts a number in decimal behind a text.
+/// Appends a number in decimal to a text.
 pub(crate) fn put_number(out: &mut String, number: u32) -> Result<(), AllocError>
     ensures { OnOk result (string_bytes out.new ≡ string_bytes out.old ++ decimal number) }
 {
@@ -19,7 +19,7 @@ pub(crate) fn put_number(out: &mut String, number: u32) -> Result<(), AllocError
     out.push_str(buffer.format(number))
 }
 
-/// What a decimal digit stands for.
+/// Returns the value of a decimal digit, or `None` for another byte.
 fn digit_of(byte: u8) -> Option<u64>
     ensures { MatchOption result ((d : ℕ) → d < 10 → byte ≢ 48 + d) (λ d. (d < 10) × (byte ≡ 48 + d)) }
 {
@@ -29,7 +29,7 @@ fn digit_of(byte: u8) -> Option<u64>
     }
 }
 
-/// The number that a text writes; `None` where it writes none below 4,294,967,296. A number has one spelling.
+/// Reads a number below 4,294,967,296. Returns `None` if the text is none. A number has exactly one spelling.
 pub(crate) fn number_of(text: &[u8]) -> Option<u32>
     ensures { IsReadAs IsNumber decimal text.now result }
 {

@@ -1,4 +1,4 @@
-//! Traces, read.
+//! Reads traces.
 
 ghost use Rattle.trace_text.specs.Traces.{IsRead};
 
@@ -11,13 +11,13 @@ use trace::Trace;
 
 const LINE_FEED: u8 = b'\n';
 
-/// The trace that a text is: one item a line, each ended by LF.
+/// Reads a trace: one item a line, each line ended by LF.
 ///
 /// # Errors
 ///
-/// X01 with the first line, from 1, that no item is written by, or that has no LF; X02 where there was no memory.
+/// X01 with the number of the first line, from 1, that is no item or has no LF. X02 if memory ran out.
 pub fn read(alloc: Global, text: &str) -> Result<Trace, TraceFault>
-    // The trace that the text is, or its first faulty line, unless memory runs out.
+    // The result is the trace of the text, or its first faulty line, unless memory runs out.
     ensures { IsRead text.now result }
 {
     let mut trace = Trace::new(alloc);

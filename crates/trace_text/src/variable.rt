@@ -1,4 +1,4 @@
-//! The variables that items read and write.
+//! Writes and reads the variables of items.
 
 ghost use Rattle.std.specs.Prelude.{◌≡◌, ◌++◌, OnOk, IfOk};
 ghost use Rattle.std.specs.String.{string_bytes};
@@ -18,7 +18,7 @@ const OPEN: u8 = b'[';
 
 const CLOSE: u8 = b']';
 
-/// Puts an element behind a text: `R[i]`.
+/// Appends an element to a text: `R[i]`.
 fn put_element(out: &mut String, reference: u32, index: u32) -> Result<(), AllocError>
     ensures { OnOk result (string_bytes out.new ≡ string_bytes out.old ++ variable_text (Variable.Element reference index)) }
 {
@@ -28,7 +28,7 @@ fn put_element(out: &mut String, reference: u32, index: u32) -> Result<(), Alloc
     out.push_str("]")
 }
 
-/// Puts a variable behind a text: `R.C.x.D`, `C.x.D` or `R[i]`.
+/// Appends a variable to a text: `R.C.x.D`, `C.x.D` or `R[i]`.
 pub(crate) fn put_variable(out: &mut String, variable: &Variable) -> Result<(), AllocError>
     ensures { OnOk result (string_bytes out.new ≡ string_bytes out.old ++ variable_text variable.now) }
 {
@@ -43,7 +43,7 @@ pub(crate) fn put_variable(out: &mut String, variable: &Variable) -> Result<(), 
     }
 }
 
-/// The element that a text without dots writes: `R[i]`.
+/// Reads an element, `R[i]`, from a text without dots.
 fn element_of(text: &[u8]) -> Option<Variable>
     ensures { IsReadAs (IsVariableWith 0) variable_text text.now result }
 {
@@ -57,7 +57,7 @@ fn element_of(text: &[u8]) -> Option<Variable>
     Some(Variable::Element { reference, index })
 }
 
-/// The static field that a text with two dots writes: `C.x.D`.
+/// Reads a static field, `C.x.D`, from a text with two dots.
 fn static_of<'t>(keys: &mut Keys<'t>, text: &'t [u8]) -> Result<Option<Variable>, AllocError>
     ensures { IfOk result (IsReadAs (IsVariableWith 2) variable_text text.now) }
 {
@@ -67,7 +67,7 @@ fn static_of<'t>(keys: &mut Keys<'t>, text: &'t [u8]) -> Result<Option<Variable>
     }
 }
 
-/// The instance field that a text with three dots writes: `R.C.x.D`.
+/// Reads an instance field, `R.C.x.D`, from a text with three dots.
 fn instance_of<'t>(keys: &mut Keys<'t>, text: &'t [u8]) -> Result<Option<Variable>, AllocError>
     ensures { IfOk result (IsReadAs (IsVariableWith 3) variable_text text.now) }
 {
@@ -83,7 +83,7 @@ fn instance_of<'t>(keys: &mut Keys<'t>, text: &'t [u8]) -> Result<Option<Variabl
     }
 }
 
-/// The variable that a text writes; `None` where it writes none.
+/// Reads a variable. Returns `None` if the text is none.
 pub(crate) fn variable_of<'t>(
     keys: &mut Keys<'t>,
     text: &'t [u8],

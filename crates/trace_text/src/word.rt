@@ -3,7 +3,7 @@
 ghost use Rattle.std.specs.Prelude.{◌≡◌};
 ghost use Rattle.escapes.specs.Readings.{IsReadAs};
 
-/// What an item is, by the word that its line begins with.
+/// The kind of an item, as the word that its line begins with.
 #[derive(Clone, Copy, Debug, PartialEq, Eq)]
 pub(crate) enum Word {
     Read,
@@ -19,7 +19,7 @@ pub(crate) enum Word {
 impl Word {
     ghost use Rattle.trace_text.specs.Parts.{word_text, IsWord};
 
-    /// The word as it is written.
+    /// Returns the spelling of the word.
     pub(crate) fn text(self) -> &'static str
         ensures { result.now ≡ word_text self }
     {
@@ -35,7 +35,7 @@ impl Word {
         }
     }
 
-    /// The word that a text is, if it is one.
+    /// Reads a word. Returns `None` if the text is none.
     pub(crate) fn of(text: &[u8]) -> Option<Word>
         ensures { IsReadAs IsWord word_text text.now result }
     {

@@ -1,4 +1,4 @@
-//! Traces, written.
+//! Writes traces.
 
 ghost use Rattle.std.specs.Prelude.{◌≡◌, ◌++◌, OnOk, IfOk};
 ghost use Rattle.std.specs.String.{string_bytes};
@@ -9,7 +9,7 @@ use jvms_machine::trace::Item;
 use std::alloc::{AllocError, Global};
 use trace::Trace;
 
-/// Puts the line of an item, with the LF that ends it, behind a text.
+/// Appends the line of an item, with its LF, to a text.
 pub fn put_line(out: &mut String, item: &Item) -> Result<(), AllocError>
     ensures { OnOk result (string_bytes out.new ≡ string_bytes out.old ++ item_line item.now) }
 {
@@ -17,7 +17,7 @@ pub fn put_line(out: &mut String, item: &Item) -> Result<(), AllocError>
     out.push_str("\n")
 }
 
-/// The text of a trace: one item a line, each ended by LF. Without memory there is none.
+/// Returns the text of a trace: one item a line, each ended by LF. Fails if memory runs out.
 pub fn write(alloc: Global, trace: &Trace) -> Result<String, AllocError>
     ensures { IfOk result (λ text. string_bytes text ≡ trace_text trace.now) }
 {

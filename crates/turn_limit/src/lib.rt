@@ -5,10 +5,10 @@ ghost use Rattle.std.specs.Prelude.{◌≡◌, ◌<◌, ◌≤◌, MatchOption};
 
 use std::marker::Model;
 
-/// Bounds the turns of a run: the greatest `TurnLimit`.
+/// The greatest `TurnLimit`, which bounds the turns of a run.
 pub const MOST_TURNS: u64 = 100_000_000;
 
-/// Limits a run to a number of turns, at most 100,000,000. Contracts see the number.
+/// A limit on the turns of a run, at most 100,000,000. Contracts see the number.
 #[derive(Clone, Copy, Debug, PartialEq, Eq)]
 pub struct TurnLimit {
     turns: u64,

@@ -1,4 +1,4 @@
--- What a class's failed initialisation leaves pending, told from the class of the pending object.
+-- The exception that is pending after a failed initialisation, by the class of the pending object.
 use Rattle.std.proofs.Common.{◌≡◌, ℕ, Bool, true, false, cond, List, sym, ap, ◌∙◌}
 use Rattle.jvms_program.specs.declared.program.Class.{Class}
 use Rattle.jvms_program.specs.declared.thrown.Thrown.TheVariants as thrown

@@ -1,4 +1,5 @@
-//! A pending exception (JVMS 2.10): the handler that takes it, or the frame that it pops; and athrow (JVMS 6.5).
+//! Decisions on a pending exception (JVMS 2.10), which a handler takes or which pops a frame, and on `athrow` (JVMS
+//! 6.5).
 
 ghost use Rattle.std.specs.Prelude.{◌≡◌, option_copied, drop};
 ghost use Rattle.jvms_machine.specs.declared.value.Value.TheVariants as value;
@@ -29,14 +30,14 @@ const THROWABLE: [u16; 19] = [
     106, 97, 118, 97, 47, 108, 97, 110, 103, 47, 84, 104, 114, 111, 119, 97, 98, 108, 101,
 ];
 
-/// Whether a handler's range holds a place.
+/// Decides whether a handler's range covers a pc.
 fn covers(place: usize, handler: &ExceptionHandler) -> bool
     ensures { result ≡ covers place handler.now }
 {
     handler.start as usize <= place && place < handler.end as usize
 }
 
-/// Whether a handler takes objects of a class. A class that isn't there takes none.
+/// Decides whether a handler takes objects of a class. A handler whose class doesn't exist takes none.
 fn takes_class(program: &Program, class: &[u16], catch: &Catch) -> bool
     ensures { result ≡ takes_class program.now class.now catch.now }
 {
@@ -52,7 +53,7 @@ fn handles(program: &Program, class: &[u16], place: usize, handler: &ExceptionHa
     covers(place, handler) && takes_class(program, class, &handler.catch)
 }
 
-/// The first handler in the table's order that covers the place of a call and takes objects of a class.
+/// Returns the first handler in the table's order that covers the pc of a call and takes objects of a class.
 fn handler_of<'p>(
     program: &Program,
     class: &[u16],
@@ -69,7 +70,7 @@ fn handler_of<'p>(
         .find(|handler| handles(program, class, place, handler))
 }
 
-/// The call of this frame is popped, and leaves its monitor.
+/// Decides that the call of this frame is popped, and leaves its monitor.
 fn popped_decision<'p>(parts: &Parts<'p>, t: usize, thread: &Thread, frame: &Frame) -> Decided<'p>
     ensures { seen result ≡ pops parts.now.limits parts.now.state t frame.now (drop 1 thread.now.frames) }
 {
@@ -83,8 +84,8 @@ fn popped_decision<'p>(parts: &Parts<'p>, t: usize, thread: &Thread, frame: &Fra
     }
 }
 
-/// The call of this frame, with an object of a class pending: a handler takes it, for which there has to be room, or
-/// the call is popped.
+/// Decides the turn of the call of this frame with a pending object of a class. A handler takes it, if there is one and
+/// `max_stack` has room for it, else the call is popped.
 fn handler_decision<'p>(
     parts: &Parts<'p>,
     t: usize,
@@ -109,15 +110,15 @@ fn handler_decision<'p>(
     }
 }
 
-/// Whether a pending object of a class is replaced where a class's initialisation fails: its `<clinit>` was running,
-/// and the object is no Error.
+/// Decides whether a failed initialisation of a class replaces a pending object of a class. It does if its `<clinit>`
+/// was called and the object is no Error.
 fn is_replaced(parts: &Parts, called: bool, class: &[u16]) -> bool
     ensures { result ≡ is_replaced parts.now.program called class.now }
 {
     called && !parts.program().fits(class, &ERROR)
 }
 
-/// What a class's failed initialisation leaves pending.
+/// Returns the exception that is pending after a class's failed initialisation.
 #[tactic(auto, using(crate::proofs::FailedClasses::failed_anew, crate::proofs::FailedClasses::failed_still))]
 fn failed_with(parts: &Parts, called: bool, reference: u32, class: &[u16]) -> Exception
     ensures { (o : Object) → class.now ≡ class_of o → result ≡ failed_with parts.now.program parts.now.limits parts.now.state called reference o }
@@ -129,7 +130,7 @@ fn failed_with(parts: &Parts, called: bool, reference: u32, class: &[u16]) -> Ex
     }
 }
 
-/// The turn of a thread with an object of a class pending.
+/// Decides the turn of a thread with a pending object of a class.
 fn unwound_by_top<'p>(
     parts: &Parts<'p>,
     t: usize,
@@ -159,7 +160,7 @@ fn unwound_by_top<'p>(
     }
 }
 
-/// The turn of a thread with a pending exception.
+/// Decides the turn of a thread with a pending exception.
 #[tactic(auto, unfolding(jvms_machine::specs::Unwinding::unwinding_decision))]
 pub fn unwinding_decision<'p>(
     parts: &Parts<'p>,
@@ -175,7 +176,7 @@ pub fn unwinding_decision<'p>(
     }
 }
 
-/// The object of a reference is thrown, if it is a Throwable.
+/// Decides the throw of the object of a reference. Stops with `Kind` if it is no Throwable.
 fn throwable_decision<'p>(parts: &Parts<'p>, thread: &Thread, reference: u32) -> Decided<'p>
     ensures { seen result ≡ with_object_of parts.now.limits parts.now.state thread.now (value.Reference reference) (throwable parts.now.program) }
 {
@@ -191,7 +192,7 @@ fn throwable_decision<'p>(parts: &Parts<'p>, thread: &Thread, reference: u32) ->
     }
 }
 
-/// JVMS 6.5 athrow. In this order: the depth; null; that the object is a Throwable.
+/// Decides JVMS 6.5 `athrow`. It tests the depth and null, then that the object is a Throwable.
 #[tactic(auto, unfolding(jvms_machine::specs::Unwinding::throw_decision))]
 pub fn throw_decision<'p>(parts: &Parts<'p>, thread: &Thread, frame: &Frame) -> Decided<'p>
     ensures { seen result ≡ throws_it parts.now.program parts.now.limits parts.now.state thread.now frame.now }

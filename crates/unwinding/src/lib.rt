@@ -1,5 +1,5 @@
-//! Exceptions (JVMS 2.10): athrow, the handler that takes a pending exception, or the frame that it pops. What the turn
-//! of each comes to, with nothing changed, and what its action makes of the parts of a machine.
+//! Exceptions (JVMS 2.10): `athrow`, and the handler of a pending exception, or the frame that it pops. Each turn is
+//! decided with nothing changed, and its action is then applied to the parts of a machine.
 #![tactic(auto)]
 
 mod decisions;

@@ -1,4 +1,4 @@
-//! What a pending exception makes of a machine (JVMS 2.10).
+//! The actions of exceptions, applied to a machine (JVMS 2.10).
 
 ghost use Rattle.std.specs.Prelude.{◌≡◌, [], IsOk, IsTrue, OnOk, OnErr};
 ghost use Rattle.jvms_machine.specs.declared.action.Action.TheVariants as action;
@@ -18,7 +18,7 @@ use machine_parts::{Parts, push_listed};
 use std::alloc::AllocError;
 use trace::Recording;
 
-/// The object on top of the operands is taken off, and is pending.
+/// Removes the topmost operand and makes it the pending exception (JVMS 6.5 `athrow`).
 #[tactic(auto, unfolding(jvms_machine::specs::Actions::applied_to))]
 pub fn throw_object(parts: &mut Parts, t: ThreadId, reference: u32)
     requires { IsReady parts.old.start parts.old.state t (action.Throws reference) }
@@ -29,7 +29,7 @@ pub fn throw_object(parts: &mut Parts, t: ThreadId, reference: u32)
     }
 }
 
-/// A handler of the call on top takes the pending object.
+/// Enters a handler of the top call with the pending exception.
 #[tactic(auto, unfolding(jvms_machine::specs::Actions::applied_to))]
 pub fn catch(parts: &mut Parts, t: ThreadId, reference: u32, target: usize)
     requires { IsReady parts.old.start parts.old.state t (action.Catches reference target) }
@@ -40,7 +40,7 @@ pub fn catch(parts: &mut Parts, t: ThreadId, reference: u32, target: usize)
     }
 }
 
-/// The call on top, of this method, is popped.
+/// Pops the top call, of this method. If there is no memory, nothing changes.
 #[tactic(auto, unfolding(jvms_machine::specs::Actions::applied_to, jvms_machine::specs::Actions::items_of))]
 pub fn unwind(
     parts: &mut Parts,
@@ -64,7 +64,8 @@ pub fn unwind(
     Ok(())
 }
 
-/// The call on top, of this method, is popped, and this exception is pending: its thread doesn't own the monitor.
+/// Pops the top call, of this method, whose thread doesn't own its monitor. This exception is then pending. If there is
+/// no memory, nothing changes.
 #[tactic(auto, using(trace::proofs::Recorded::cut_recorded), unfolding(jvms_machine::specs::Actions::applied_to, jvms_machine::specs::Actions::items_of))]
 pub fn fail_to_unlock(
     parts: &mut Parts,
@@ -98,7 +99,8 @@ pub fn fail_to_unlock(
     Ok(())
 }
 
-/// The initialisation of a class, which is on top, is popped: the class is erroneous.
+/// Pops the initialisation of a class, which is on top, and marks the class as erroneous. If there is no memory,
+/// nothing changes.
 #[tactic(auto, unfolding(jvms_machine::specs::Actions::applied_to))]
 pub fn fail_initialisation(
     parts: &mut Parts,

@@ -1,5 +1,6 @@
--- The transactions of a trace (Velodrome, section 3): the events of a thread from the entry of an outermost atomic method
--- to its exit, or to the end, are one; each other event is one alone. Marks aren't events.
+-- Defines the transactions of a trace (Velodrome, section 3). The events of a thread from the entry of an outermost
+-- atomic method to its exit, or to the end, are one transaction. Each other event is a transaction alone. Marks are not
+-- events.
 use Rattle.std.specs.Prelude.{◌≡◌, ℕ, ◌+◌, Bool, true, false, not, ◌==◌, ◌&&◌, if◌then◌else◌, List, [], ◌∷◌, ◌++◌, drop, fold, length, Option, Some, None}
 use Rattle.std.specs.List.{list_any}
 use Rattle.jvms_file.specs.Names.{same_text}
@@ -9,73 +10,74 @@ use Rattle.jvms_machine.specs.declared.trace.Item.TheVariants as item
 use Rattle.velodrome.specs.Conflicts.{thread_of}
 use Rattle.velodrome.specs.Specification.{Specification, is_atomic}
 
--- An event of a trace: its number and its transaction's number, both from 1.
+-- An event of a trace, with its number and the number of its transaction. Both count from 1.
 pub record Event : Type 0 where
   pub number : ℕ
   pub transaction : ℕ
   pub item : Item
 
--- The methods that a thread has open, the innermost first; and the transaction of its outermost atomic one, once that
--- has an event.
-pub record Course : Type 0 where
+-- A thread's state: its open methods, innermost first, and the transaction of its outermost atomic method. There is no
+-- transaction before that method has an event.
+pub record ThreadState : Type 0 where
   pub methods : List MethodKey
   pub transaction : Option ℕ
 
--- What a trace has come to: each thread's course, the events, and how many transactions they are.
-pub record Walk : Type 0 where
-  pub courses : ℕ → Course
+-- The state of a trace: the state of each thread, the events, and the number of transactions.
+pub record TraceState : Type 0 where
+  pub courses : ℕ → ThreadState
   pub events : List Event
   pub transactions : ℕ
 
-abbrev pub opening_walk : Walk
-opening_walk = record { courses = λ t. record { methods = []; transaction = None }; events = []; transactions = 0 }
+abbrev pub opening_trace_state : TraceState
+opening_trace_state = record { courses = λ t. record { methods = []; transaction = None }; events = []; transactions = 0 }
 
--- A thread's course is changed.
-abbrev pub with_course : ℕ → Course → Walk → Walk
-with_course t course w = record w { courses = λ u. if u == t then course else w.courses u }
+-- Replaces the state of a thread.
+abbrev pub with_thread_state : ℕ → ThreadState → TraceState → TraceState
+with_thread_state t course w = record w { courses = λ u. if u == t then course else w.courses u }
 
 abbrev pub has_atomic : Specification → List MethodKey → Bool
 has_atomic lines methods = list_any (is_atomic lines) methods
 
-abbrev pub entered : MethodKey → Course → Course
+abbrev pub entered : MethodKey → ThreadState → ThreadState
 entered m course = record { methods = m ∷ course.methods; transaction = course.transaction }
 
--- The transaction is over with the exit of its outermost atomic method.
-abbrev pub exited : Specification → Course → Course
+-- Closes the innermost method of a thread. With its last atomic method the transaction ends.
+abbrev pub exited : Specification → ThreadState → ThreadState
 exited lines course =
     record {
       methods = drop 1 course.methods;
       transaction = if has_atomic lines (drop 1 course.methods) then course.transaction else None;
     }
 
--- The transaction of a thread's next event, where so many have begun: the one that it is in, else the next.
+-- Returns the transaction of a thread's next event when `begun` transactions have begun. It is the open transaction, or
+-- else a new one.
 abbrev pub next_transaction : Option ℕ → ℕ → ℕ
 next_transaction (Some n) begun = n
 next_transaction None begun = begun + 1
 
-abbrev pub begun_after : Option ℕ → ℕ → ℕ
-begun_after (Some n) begun = begun
-begun_after None begun = begun + 1
+abbrev pub transactions_after : Option ℕ → ℕ → ℕ
+transactions_after (Some n) begun = begun
+transactions_after None begun = begun + 1
 
--- An event has happened, in this transaction, which goes on where an atomic method is open.
-abbrev pub happened : Specification → Item → Course → ℕ → Walk → Walk
+-- Appends an event in transaction n. The transaction stays open if an atomic method of the thread is open.
+abbrev pub happened : Specification → Item → ThreadState → ℕ → TraceState → TraceState
 happened lines i course n w =
-    with_course (thread_of i) (record course { transaction = if has_atomic lines course.methods then Some n else None })
+    with_thread_state (thread_of i) (record course { transaction = if has_atomic lines course.methods then Some n else None })
     (record {
       courses = w.courses;
       events = w.events ++ record { number = length w.events + 1; transaction = n; item = i } ∷ [];
-      transactions = begun_after course.transaction w.transactions;
+      transactions = transactions_after course.transaction w.transactions;
     })
 
--- What an item makes of it.
-unfoldable pub walked_on : Specification → Walk → Item → Walk
-walked_on lines w (item.Enter t m) = with_course t (entered m (w.courses t)) w
-walked_on lines w (item.Exit t m) = with_course t (exited lines (w.courses t)) w
-walked_on lines w i =
+-- Returns the trace state after an item.
+unfoldable pub state_after_item : Specification → TraceState → Item → TraceState
+state_after_item lines w (item.Enter t m) = with_thread_state t (entered m (w.courses t)) w
+state_after_item lines w (item.Exit t m) = with_thread_state t (exited lines (w.courses t)) w
+state_after_item lines w i =
     let course = w.courses (thread_of i) in happened lines i course (next_transaction course.transaction w.transactions) w
 
-unfoldable pub walk : Specification → List Item → Walk
-walk lines items = fold (walked_on lines) opening_walk items
+unfoldable pub walk : Specification → List Item → TraceState
+walk lines items = fold (state_after_item lines) opening_trace_state items
 
 -- ---- Which items may follow
 
@@ -86,12 +88,12 @@ abbrev pub is_innermost : MethodKey → List MethodKey → Bool
 is_innermost m [] = false
 is_innermost m (n ∷ methods) = same_method m n
 
--- An exit is of the innermost open method of its thread.
-abbrev pub is_matched : Walk → Item → Bool
+-- An exit must be of the innermost open method of its thread.
+abbrev pub is_matched : TraceState → Item → Bool
 is_matched w (item.Exit t m) = is_innermost m (w.courses t).methods
 is_matched w i = true
 
--- Marks are no events.
+-- Decides whether an item is an event. Marks are not.
 abbrev pub is_event : Item → Bool
 is_event (item.Enter t m) = false
 is_event (item.Exit t m) = false

@@ -1,8 +1,8 @@
-//! Which methods are to be atomic.
+//! Data of a specification: which methods are to be atomic.
 
-use held::shared::Text;
+use shared_data::shared::Text;
 
-/// The methods that a line of a specification speaks of, by the class that declares them.
+/// The methods that a line of a specification is about, by the class that declares them.
 #[derive(Debug, PartialEq, Eq, Drop)]
 pub enum Pattern {
     /// `*`: every method.
@@ -11,7 +11,7 @@ pub enum Pattern {
     Class {
         class: Text,
     },
-    /// `C.m`: the methods of a class with a name.
+    /// `C.m`: the methods of a class with one name.
     Named {
         class: Text,
         name: Text,

@@ -1,5 +1,5 @@
-//! Finds a shortest cycle that a link closes, by the distances of specs/Distances.antt. Called only once a cycle is known to
-//! be closed, so that links that close none cost nothing more.
+//! Finds a shortest cycle that a link closes, by the distances of specs/Distances.antt. It runs only if a cycle is
+//! known, so other links cost nothing more.
 
 ghost use Rattle.std.specs.Prelude.{◌≡◌, ◌≢◌, ℕ, ◌+◌, ◌<◌, ◌^◌, Some, length, get_or, IfOk, MatchOption};
 ghost use Rattle.std.specs.List.{list_any};
@@ -16,8 +16,8 @@ use std::alloc::AllocError;
 use std::collections::{BTreeMap, BTreeSet};
 
 impl Graph {
-    /// Returns the distance of a transaction from a start, if it has one: 0 for the start itself, else 1 more than the
-    /// least among those that links lead from.
+    /// Returns the distance of y from the start, if it has one. It is 0 for the start, else 1 more than the least
+    /// distance of a transaction with a link into y.
     fn distance(&self, y: u64, start: u64, distances: &BTreeMap<u64, usize>) -> Option<usize>
         requires fits { (x n : ℕ) → distance_in distances.now.entries x ≡ Some n → n + 1 < 2 ^ 64 }
         ensures { MatchOption result ((y ≢ start) × AreFar (into_in self.now y) distances.now.entries)
@@ -32,7 +32,7 @@ impl Graph {
         }
     }
 
-    /// Returns the distance of each transaction that the one at a place reaches, in one pass over the order.
+    /// Returns the distance of each transaction that the one at a place reaches. It makes one pass over the order.
     fn distances(&self, transaction: u64, place: usize) -> Result<BTreeMap<u64, usize>, AllocError>
         requires place { place < length self.now.live }
         requires there { get_or self.now.live place 0 ≡ transaction }
@@ -48,7 +48,7 @@ impl Graph {
         Ok(distances)
     }
 
-    /// Returns as few links as lead back to a transaction from where a link begins.
+    /// Returns a shortest list of links that lead back to a transaction from where the start link begins.
     fn trail(
         &self,
         transaction: u64,
@@ -74,7 +74,7 @@ impl Graph {
         Ok(trail)
     }
 
-    /// Returns a shortest cycle that one of the links would close into the transaction at a place, if any would.
+    /// Returns a shortest cycle that one of the links would close, if any would.
     pub(super) fn closing(
         &self,
         transaction: u64,
@@ -97,7 +97,7 @@ impl Graph {
     }
 }
 
-/// Returns whether a link leads from a marked transaction.
+/// Decides whether a link leads from a marked transaction.
 pub(super) fn is_closing(links: &[Link], marks: &BTreeSet<u64>) -> bool
     ensures { result ≡ list_any (λ (l : Link). has_key marks.now.keys l.from) links.now }
 {

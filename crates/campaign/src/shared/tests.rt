@@ -1,4 +1,4 @@
-//! Tests that steps on a desk wait for no holder of the book's lock.
+//! Tests that steps on a desk don't wait for the thread that holds the book's lock.
 
 ghost use Rattle.std.specs.Prelude.{◌≡◌};
 ghost use Rattle.campaign_desk.specs.Desk.{IsSeatOf};
@@ -8,7 +8,7 @@ use atom_spec::Spec;
 use campaign_book::Book;
 use campaign_desk::{Claim, Desk, Seat};
 use campaign_jobs::Plan;
-use held::items::Items;
+use shared_data::items::Items;
 use jvms_machine::machine::{Entry, Limits};
 use linker::link;
 use program::Program;
@@ -22,10 +22,10 @@ use std::thread;
 use std::thread::{Threads, yield_now};
 use turn_limit::TurnLimit;
 
-/// Limits the rounds for which a thread waits.
+/// The maximum number of rounds for which a thread waits.
 const MOST_ROUNDS: u64 = 1_000_000_000;
 
-/// Limits nothing: no machine is made.
+/// The limits for tests that make no machine.
 const LIMITS: Limits = Limits {
     objects: 0,
     elements: 0,
@@ -33,7 +33,7 @@ const LIMITS: Limits = Limits {
     frames: 0,
 };
 
-/// Waits until a flag is 1. Returns whether it was within the rounds.
+/// Waits until a flag is 1. Returns whether that happened within the rounds.
 fn is_raised(flag: &AtomicU64) -> bool {
     for _ in 0..MOST_ROUNDS {
         if flag.load(Ordering::SeqCst) == 1 {
@@ -44,7 +44,7 @@ fn is_raised(flag: &AtomicU64) -> bool {
     false
 }
 
-/// Holds the book's lock until the steps are taken. Returns whether they were within the rounds.
+/// Holds the book's lock until the steps are taken. Returns whether that happened within the rounds.
 fn hold<C: Campaign>(
     rt: &impl Wait,
     book: &SharedBook<'_, C>,
@@ -58,8 +58,8 @@ fn hold<C: Campaign>(
     in_time
 }
 
-/// Once the lock is held, claims until no job is left, lowers the bound to 1 and reads it. Returns the number of jobs that
-/// were drawn, and the bound. None if the lock wasn't held within the rounds.
+/// Waits until the lock is held. Then claims until no job is left, lowers the bound to 1 and reads it. Returns the
+/// number of jobs that were drawn and the bound, or `None` if the lock wasn't held within the rounds.
 fn step(desk: &Desk, seat: &mut Seat, locked: &AtomicU64, stepped: &AtomicU64) -> Option<(u64, u64)>
     requires desk { IsSeatOf desk.now seat.old }
     requires jobs { desk.now.jobs ≡ 3 }
@@ -79,8 +79,8 @@ fn step(desk: &Desk, seat: &mut Seat, locked: &AtomicU64, stepped: &AtomicU64) -
     Some((drawn, bound))
 }
 
-/// Holds the lock of an empty book in one thread while another takes its steps. Returns whether the lock was held until
-/// they were taken, and what the steps returned.
+/// Holds the lock of an empty book in one thread while another takes its steps. Returns whether the steps were taken
+/// while the lock was held, and what they returned.
 fn run_both<C: Campaign + Send + Sync, R: Threads + Wait + Sync>(
     rt: &R,
     alloc: Global,
@@ -110,7 +110,8 @@ fn run_both<C: Campaign + Send + Sync, R: Threads + Wait + Sync>(
     Ok(answers)
 }
 
-/// Opens a desk of three jobs, and takes its steps while another thread holds the lock. None if memory ran out.
+/// Opens a desk of three jobs, and takes its steps while another thread holds the lock. Returns `None` if memory ran
+/// out.
 fn steps_past_the_lock<R: Threads + Wait + Sync>(
     rt: &R,
     alloc: Global,

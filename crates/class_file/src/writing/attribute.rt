@@ -8,7 +8,7 @@ use file_bytes::{write_count, write_length, write_u2};
 use jvms_file::class_file::KeptAttribute;
 use std::alloc::AllocError;
 
-/// Puts an attribute behind the bytes: its name, the length of its content, and the content.
+/// Appends an attribute: its name, the length of its content, and the content.
 pub(crate) fn write_framed(out: &mut Vec<u8>, name: u16, content: &[u8]) -> Result<(), AllocError>
     ensures { OnOk result (out.new.items ≡ out.old.items ++ framed_bytes name content.now) }
 {
@@ -17,7 +17,7 @@ pub(crate) fn write_framed(out: &mut Vec<u8>, name: u16, content: &[u8]) -> Resu
     out.extend_from_slice(content)
 }
 
-/// Puts an attribute that is kept behind the bytes.
+/// Appends a kept attribute.
 #[tactic(auto, unfolding(crate::specs::Writing::kept_bytes))]
 pub(crate) fn write_kept(out: &mut Vec<u8>, attribute: &KeptAttribute) -> Result<(), AllocError>
     ensures { OnOk result (out.new.items ≡ out.old.items ++ kept_bytes attribute.now) }
@@ -25,7 +25,7 @@ pub(crate) fn write_kept(out: &mut Vec<u8>, attribute: &KeptAttribute) -> Result
     write_framed(out, attribute.name, attribute.bytes.as_slice())
 }
 
-/// Puts attributes_count and the attributes, all kept, behind the bytes.
+/// Appends attributes_count and the attributes, all kept.
 pub(crate) fn write_kept_attributes(
     out: &mut Vec<u8>,
     attributes: &[KeptAttribute],
@@ -39,7 +39,7 @@ pub(crate) fn write_kept_attributes(
     Ok(())
 }
 
-/// Puts a count and the numbers of so many entries behind the bytes.
+/// Appends a count and that many numbers of entries.
 pub(crate) fn write_numbers(out: &mut Vec<u8>, numbers: &[u16]) -> Result<(), AllocError>
     ensures { OnOk result (out.new.items ≡ out.old.items ++ counted_bytes u2 numbers.now) }
 {

@@ -11,7 +11,7 @@ use file_bytes::{write_u2, write_u4};
 use jvms_file::class_file::ClassFile;
 use std::alloc::{AllocError, Global};
 
-/// Puts the magic number and the versions behind the bytes.
+/// Appends the magic number and the versions.
 fn write_header(out: &mut Vec<u8>, class: &ClassFile) -> Result<(), AllocError>
     ensures { OnOk result (out.new.items ≡ out.old.items ++ header_bytes class.now) }
 {
@@ -20,7 +20,7 @@ fn write_header(out: &mut Vec<u8>, class: &ClassFile) -> Result<(), AllocError>
     write_u2(out, class.major)
 }
 
-/// Puts the access flags, the class and its superclass behind the bytes.
+/// Appends the access flags, the class and its superclass.
 fn write_names(out: &mut Vec<u8>, class: &ClassFile) -> Result<(), AllocError>
     ensures { OnOk result (out.new.items ≡ out.old.items ++ names_bytes class.now) }
 {
@@ -29,7 +29,7 @@ fn write_names(out: &mut Vec<u8>, class: &ClassFile) -> Result<(), AllocError>
     write_u2(out, class.super_class)
 }
 
-/// Puts what stands behind the superclass behind the bytes.
+/// Appends the parts after the superclass.
 fn write_members(alloc: Global, out: &mut Vec<u8>, class: &ClassFile) -> Result<(), AllocError>
     ensures { OnOk result (out.new.items ≡ out.old.items ++ members_bytes class.now) }
 {
@@ -39,7 +39,7 @@ fn write_members(alloc: Global, out: &mut Vec<u8>, class: &ClassFile) -> Result<
     write_kept_attributes(out, class.attributes.as_slice())
 }
 
-/// The bytes of a class. Any value has some, so only memory can be wanting.
+/// Writes the bytes of a class. Any value has bytes, so it fails only without memory.
 #[tactic(auto, unfolding(crate::specs::Writing::class_bytes))]
 pub(crate) fn write_class(alloc: Global, class: &ClassFile) -> Result<Vec<u8>, AllocError>
     ensures exact { IfOk result (λ bytes. bytes.items ≡ class_bytes class.now) }

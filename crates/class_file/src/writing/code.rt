@@ -9,7 +9,7 @@ use insn::encode;
 use jvms_file::class_file::{Code, Handler, Layout};
 use std::alloc::AllocError;
 
-/// The byte at which the instruction at a place starts; behind the last instruction, the code's length.
+/// Returns the byte at which the instruction at a place starts, or the code's length for the place after the last.
 fn pc_of(layout: &Layout, place: u32) -> usize
     ensures { result ≡ pc_at layout.now place }
 {
@@ -19,7 +19,7 @@ fn pc_of(layout: &Layout, place: u32) -> usize
     }
 }
 
-/// Puts an entry of the exception table behind the bytes, with bytes for its places.
+/// Appends an entry of the exception table, with bytes for its places.
 #[tactic(auto, unfolding(crate::specs::Writing::handler_bytes))]
 fn write_handler(out: &mut Vec<u8>, layout: &Layout, handler: &Handler) -> Result<(), AllocError>
     ensures { OnOk result (out.new.items ≡ out.old.items ++ handler_bytes layout.now handler.now) }
@@ -30,7 +30,7 @@ fn write_handler(out: &mut Vec<u8>, layout: &Layout, handler: &Handler) -> Resul
     write_u2(out, handler.catch_type)
 }
 
-/// Puts exception_table_length and the entries of the table behind the bytes.
+/// Appends exception_table_length and the entries of the table.
 fn write_table(out: &mut Vec<u8>, layout: &Layout, handlers: &[Handler]) -> Result<(), AllocError>
     ensures { OnOk result (out.new.items ≡ out.old.items ++ counted_bytes (handler_bytes layout.now) handlers.now) }
 {
@@ -41,7 +41,7 @@ fn write_table(out: &mut Vec<u8>, layout: &Layout, handlers: &[Handler]) -> Resu
     Ok(())
 }
 
-/// Puts a Code's content behind the bytes.
+/// Appends the content of a Code attribute.
 #[tactic(auto, unfolding(crate::specs::Writing::code_bytes))]
 pub(crate) fn write_code(out: &mut Vec<u8>, code: &Code) -> Result<(), AllocError>
     ensures { OnOk result (out.new.items ≡ out.old.items ++ code_bytes code.now) }

@@ -9,7 +9,7 @@ use file_bytes::{write_count, write_u2};
 use jvms_file::class_file::{FieldAttribute, FieldInfo, MethodAttribute, MethodInfo};
 use std::alloc::{AllocError, Global};
 
-/// Puts the access flags, the name and the descriptor of a member behind the bytes.
+/// Appends the access flags, the name and the descriptor of a member.
 fn write_member(
     out: &mut Vec<u8>,
     access: u16,
@@ -23,7 +23,7 @@ fn write_member(
     write_u2(out, descriptor)
 }
 
-/// Puts an attribute of a field behind the bytes.
+/// Appends an attribute of a field.
 #[tactic(auto, unfolding(crate::specs::Writing::field_attribute_bytes, jvms_file::specs::Spelling::u2))]
 fn write_field_attribute(out: &mut Vec<u8>, attribute: &FieldAttribute) -> Result<(), AllocError>
     ensures { OnOk result (out.new.items ≡ out.old.items ++ field_attribute_bytes attribute.now) }
@@ -36,7 +36,7 @@ fn write_field_attribute(out: &mut Vec<u8>, attribute: &FieldAttribute) -> Resul
     }
 }
 
-/// Puts attributes_count and the attributes of a field behind the bytes.
+/// Appends attributes_count and the attributes of a field.
 fn write_field_attributes(
     out: &mut Vec<u8>,
     attributes: &[FieldAttribute],
@@ -50,7 +50,7 @@ fn write_field_attributes(
     Ok(())
 }
 
-/// Puts a field behind the bytes.
+/// Appends a field.
 #[tactic(auto, unfolding(crate::specs::Writing::field_bytes))]
 fn write_field(out: &mut Vec<u8>, field: &FieldInfo) -> Result<(), AllocError>
     ensures { OnOk result (out.new.items ≡ out.old.items ++ field_bytes field.now) }
@@ -59,7 +59,7 @@ fn write_field(out: &mut Vec<u8>, field: &FieldInfo) -> Result<(), AllocError>
     write_field_attributes(out, field.attributes.as_slice())
 }
 
-/// Puts fields_count and the fields behind the bytes.
+/// Appends fields_count and the fields.
 pub(crate) fn write_fields(out: &mut Vec<u8>, fields: &[FieldInfo]) -> Result<(), AllocError>
     ensures { OnOk result (out.new.items ≡ out.old.items ++ counted_bytes field_bytes fields.now) }
 {
@@ -70,8 +70,8 @@ pub(crate) fn write_fields(out: &mut Vec<u8>, fields: &[FieldInfo]) -> Result<()
     Ok(())
 }
 
-/// Puts an attribute of a method behind the bytes. The length of its content stands before it, so the
-/// content is made apart.
+/// Appends an attribute of a method. The length of its content comes before it, so the content is written to a buffer
+/// of its own first.
 #[tactic(auto, unfolding(crate::specs::Writing::method_attribute_bytes))]
 fn write_method_attribute(
     alloc: Global,
@@ -95,7 +95,7 @@ fn write_method_attribute(
     }
 }
 
-/// Puts attributes_count and the attributes of a method behind the bytes.
+/// Appends attributes_count and the attributes of a method.
 fn write_method_attributes(
     alloc: Global,
     out: &mut Vec<u8>,
@@ -110,7 +110,7 @@ fn write_method_attributes(
     Ok(())
 }
 
-/// Puts a method behind the bytes.
+/// Appends a method.
 #[tactic(auto, unfolding(crate::specs::Writing::method_bytes))]
 fn write_method(alloc: Global, out: &mut Vec<u8>, method: &MethodInfo) -> Result<(), AllocError>
     ensures { OnOk result (out.new.items ≡ out.old.items ++ method_bytes method.now) }
@@ -119,7 +119,7 @@ fn write_method(alloc: Global, out: &mut Vec<u8>, method: &MethodInfo) -> Result
     write_method_attributes(alloc, out, method.attributes.as_slice())
 }
 
-/// Puts methods_count and the methods behind the bytes.
+/// Appends methods_count and the methods.
 pub(crate) fn write_methods(
     alloc: Global,
     out: &mut Vec<u8>,

@@ -1,4 +1,4 @@
-//! The components of arrays (JVMS 2.4), as the names of their classes tell them.
+//! The component types of arrays (JVMS 2.4), by the names of the arrays' classes.
 
 ghost use Rattle.std.specs.Prelude.{◌≡◌, drop};
 ghost use Rattle.jvms_machine.specs.Arrays.{serves as serving, is_reference_kind as is_references};
@@ -8,11 +8,11 @@ ghost use Rattle.jvms_file.specs.declared.descriptor.Element.TheVariants as elem
 ghost use Rattle.descriptor.specs.Scanning.{type_of};
 ghost use Rattle.exec_ref.specs.Asked.{of_element};
 
-use descriptor::{Innermost, Spelled, field_in};
+use descriptor::{ParsedElement, ParsedType, field_in};
 use jvms_file::descriptor::Primitive;
 use jvms_file::insn::ArrayKind;
 
-/// What stands behind the bracket of an array's class.
+/// Returns the name of an array's class without its first bracket.
 #[inline(always)]
 pub(crate) fn behind_bracket(class: &[u16]) -> &[u16]
     ensures { result.now ≡ drop 1 class.now }
@@ -23,34 +23,34 @@ pub(crate) fn behind_bracket(class: &[u16]) -> &[u16]
     }
 }
 
-/// The type of the components of an array's class.
+/// Returns the component type of an array's class.
 #[inline(always)]
-pub(crate) fn component_type(class: &[u16]) -> Spelled<'_>
+pub(crate) fn component_type(class: &[u16]) -> ParsedType<'_>
     ensures { type_of result ≡ type_of_components class.now }
 {
     match field_in(behind_bracket(class)) {
         Some(t) => t,
-        None => Spelled {
+        None => ParsedType {
             dimensions: 0,
-            innermost: Innermost::Primitive(Primitive::Int),
+            innermost: ParsedElement::Primitive(Primitive::Int),
         },
     }
 }
 
-/// The class of the components of an array of references.
+/// Returns the name of the component class of an array of references.
 pub(crate) fn component_class(class: &[u16]) -> &[u16]
     ensures { result.now ≡ class_of_components class.now }
 {
     match component_type(class) {
-        Spelled {
+        ParsedType {
             dimensions: 0,
-            innermost: Innermost::Object(name),
+            innermost: ParsedElement::Object(name),
         } => name,
         _ => behind_bracket(class),
     }
 }
 
-/// Whether an instruction of a kind serves arrays of primitive values.
+/// Decides whether an array instruction of a kind works on arrays of a primitive type.
 #[inline(always)]
 fn serves_primitive(kind: ArrayKind, primitive: Primitive) -> bool
     ensures { result ≡ serving kind (of_element (element.Primitive primitive)) }
@@ -65,18 +65,19 @@ fn serves_primitive(kind: ArrayKind, primitive: Primitive) -> bool
     }
 }
 
-/// Whether an instruction of a kind serves arrays with components of a type: that of bytes serves booleans too.
+/// Decides whether an array instruction of a kind works on arrays with components of a type. That of bytes works on
+/// booleans too.
 #[inline(always)]
-pub(crate) fn serves(kind: ArrayKind, t: Spelled<'_>) -> bool
+pub(crate) fn serves(kind: ArrayKind, t: ParsedType<'_>) -> bool
     ensures { result ≡ serving kind (type_of t.entry) }
 {
     match t.innermost {
-        Innermost::Primitive(primitive) if t.dimensions == 0 => serves_primitive(kind, primitive),
+        ParsedElement::Primitive(primitive) if t.dimensions == 0 => serves_primitive(kind, primitive),
         _ => is_reference_kind(kind),
     }
 }
 
-/// Whether an instruction of a kind loads or stores references.
+/// Decides whether an array instruction of a kind loads or stores references.
 #[inline(always)]
 pub(crate) fn is_reference_kind(kind: ArrayKind) -> bool
     ensures { result ≡ is_references kind }

@@ -1,4 +1,4 @@
-//! Loads and stores of arrays' elements (JVMS 6.5 aaload to saload, aastore to sastore).
+//! Loads and stores of array elements (JVMS 6.5 `aaload` to `saload`, `aastore` to `sastore`).
 
 ghost use Rattle.std.specs.Prelude.{◌≡◌, ◌+◌, ◌<◌, ◌≤◌, ◌^◌, drop, length};
 ghost use Rattle.std.specs.Option.{option_and_then};
@@ -21,7 +21,7 @@ use machine_parts::{
 };
 use machine_thread::Thread;
 
-/// An array's element by an int: none where it is negative or not below the length.
+/// Returns an array's element by an int index, or `None` if that is negative or not below the length.
 #[inline(always)]
 fn element_at(parts: &Parts, reference: u32, n: i32) -> Option<Value>
     ensures { result ≡ option_and_then (element_by n) (object_at parts.now.state.heap reference) }
@@ -32,7 +32,7 @@ fn element_at(parts: &Parts, reference: u32, n: i32) -> Option<Value>
     parts.heap.element(reference, n.unsigned_abs() as usize)
 }
 
-/// A load from the object of a reference. In this order: an array of this kind; the index.
+/// Decides a load from the object of a reference. It tests that this is an array of the kind, then the index.
 #[inline(always)]
 fn load_from<'p>(
     parts: &Parts<'p>,
@@ -62,7 +62,7 @@ fn load_from<'p>(
     }
 }
 
-/// A load: the index is on top, and the array below it.
+/// Decides a load. The index is the topmost operand, and the array is below it.
 #[inline(always)]
 pub(crate) fn load_decision<'p>(
     parts: &Parts<'p>,
@@ -86,7 +86,7 @@ pub(crate) fn load_decision<'p>(
     }
 }
 
-/// The store check of aastore: null fits, and an object whose class fits the component's.
+/// Decides the store check of JVMS 6.5 `aastore`: null passes, and so does an object whose class fits the component's.
 fn fits_component(parts: &Parts, class: &[u16], value: Value) -> bool
     ensures { result ≡ fits_into parts.now.program parts.now.state class.now value }
 {
@@ -99,7 +99,8 @@ fn fits_component(parts: &Parts, class: &[u16], value: Value) -> bool
     }
 }
 
-/// A store in the object of a reference. In this order: an array of this kind; the index; the store check.
+/// Decides a store to the object of a reference. It tests that this is an array of the kind, then the index, then the
+/// store check.
 #[inline(always)]
 fn store_to<'p>(
     parts: &Parts<'p>,
@@ -137,7 +138,7 @@ fn store_to<'p>(
     reaches(stored, taking(2 + u16::from(element_size(kind)), frame))
 }
 
-/// Below a value that is stored lie the index, and then the array.
+/// Decides a store of a value. Below the value are the index and then the array.
 #[inline(always)]
 fn store_below<'p>(
     parts: &Parts<'p>,
@@ -161,7 +162,7 @@ fn store_below<'p>(
     }
 }
 
-/// A store: the value is on top, the index below it, and then the array.
+/// Decides a store. The value is the topmost operand, the index is below it, and then the array.
 #[inline(always)]
 pub(crate) fn store_decision<'p>(
     parts: &Parts<'p>,

@@ -1,4 +1,4 @@
-//! Arrays of arrays (JVMS 6.5 multianewarray).
+//! Arrays of arrays (JVMS 6.5 `multianewarray`).
 
 ghost use Rattle.std.specs.Prelude.{◌≡◌, ℕ, ◌+◌, ◌*◌, ◌<◌, ◌≤◌, ◌^◌, IsTrue, length, map};
 ghost use Rattle.std.specs.List.{list_all, list_any};
@@ -10,7 +10,7 @@ ghost use Rattle.machine_parts.specs.Decided.{seen};
 use super::components::{behind_bracket, component_type};
 use crate::arrays::{has_room_for_elements, making};
 use frames::Frame;
-use held::shared::Text;
+use shared_data::shared::Text;
 use jvms_machine::action::NewObject;
 use jvms_machine::machine::BadCause;
 use jvms_machine::value::Value;
@@ -18,7 +18,7 @@ use jvms_program::thrown::Thrown;
 use machine_parts::{ActionText, Decided, Parts, bad, has_depth, never_seen};
 use machine_thread::Thread;
 
-/// More than any limit allows.
+/// The cap of the counts, which is more than any limit allows.
 const MOST: usize = 1 << 32;
 
 fn is_int(value: Value) -> bool
@@ -56,7 +56,7 @@ pub(crate) fn length_of_value(value: Value) -> usize
     }
 }
 
-/// Whether arrays of a class can lie so many deep in each other: the components of all but the innermost are arrays.
+/// Decides whether a class has this number of array dimensions.
 fn has_dimensions(class: &[u16], dimensions: u8) -> bool
     ensures { result ≡ has_dimensions class.now dimensions }
 {
@@ -70,7 +70,7 @@ fn has_dimensions(class: &[u16], dimensions: u8) -> bool
     }
 }
 
-/// So many, and so many times a part more.
+/// Returns `base + times * part`, capped at `MOST`.
 fn grown(base: usize, times: usize, part: usize) -> usize
     requires base { base ≤ 0x80000000 }
     requires times { times ≤ 0x80000000 }
@@ -81,7 +81,8 @@ fn grown(base: usize, times: usize, part: usize) -> usize
     if whole > MOST { MOST } else { whole }
 }
 
-/// How many arrays these lengths make, the outermost first, and how many elements those have together.
+/// Returns the number of arrays that these lengths make, and the number of their elements. The outermost length is
+/// first, and both counts are capped.
 #[tactic(auto, using(crate::proofs::CountLaws::arrays_grow, crate::proofs::CountLaws::elements_grow))]
 fn counted(lengths: &[Value]) -> (usize, usize)
     ensures arrays { result.0 ≡ capped (arrays_made (map length_in lengths.now)) }
@@ -109,7 +110,8 @@ fn any_is_negative(lengths: &[Value]) -> bool
     lengths.iter().any(|length| is_negative(*length))
 }
 
-/// Whether there is room for so many objects and elements more, which were counted no further than any limit goes.
+/// Decides whether the limits allow the counted objects and elements. The capped counts give the same decision as the
+/// exact ones.
 #[tactic(auto, using(crate::proofs::CountLaws::room_counted))]
 fn has_room_for_counted(parts: &Parts, objects: usize, elements: usize) -> bool
     ensures exact { (whole more : ℕ) → objects ≡ capped whole → elements ≡ capped more → result ≡ room_for_elements whole more parts.now.limits parts.now.state }
@@ -120,7 +122,7 @@ fn has_room_for_counted(parts: &Parts, objects: usize, elements: usize) -> bool
     has_room_for_elements(parts, objects, elements)
 }
 
-/// The arrays of these lengths are made, if there is room for all of them and their elements.
+/// Decides the creation of arrays of these lengths, if there is room for all of them and their elements.
 #[tactic(auto, using(crate::proofs::CountLaws::room_told, crate::proofs::CountLaws::one_at_least, crate::proofs::CountLaws::one_dimension))]
 fn new_arrays_room<'p>(
     parts: &Parts<'p>,
@@ -143,8 +145,8 @@ fn new_arrays_room<'p>(
     making(parts, dimensions, NewObject::Arrays { class, dimensions })
 }
 
-/// The arrays of these lengths, as operands tell them. In this order: the kinds; the array's class; that no length is
-/// negative; room for all objects and all elements.
+/// Decides the creation of arrays whose lengths are operands. It tests the kinds, then the array's class, then that no
+/// length is negative, then the room for all objects and elements.
 fn lengths_decision<'p>(
     parts: &Parts<'p>,
     thread: &Thread,
@@ -167,7 +169,7 @@ fn lengths_decision<'p>(
     new_arrays_room(parts, thread, class, dimensions, lengths)
 }
 
-/// JVMS 6.5 multianewarray. The depth is tested, and then the lengths.
+/// Decides JVMS 6.5 `multianewarray`. It tests the depth, then the lengths.
 #[tactic(auto, unfolding(jvms_machine::specs::Arrays::new_arrays_decision))]
 pub fn new_arrays_decision<'p>(
     parts: &Parts<'p>,

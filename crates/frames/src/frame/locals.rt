@@ -11,7 +11,7 @@ use jvms_machine::value::Value;
 impl<'p> Frame<'p> {
     ghost use Rattle.frames.specs.Frame.{with_locals};
 
-    /// The local variables.
+    /// Returns the local variables.
     #[inline(always)]
     pub fn locals(&self) -> &[Value]
         ensures { result.now ≡ self.now.activation.locals }
@@ -19,7 +19,7 @@ impl<'p> Frame<'p> {
         &self.values.as_slice()[..self.local_count]
     }
 
-    /// How many local variables there are: as many as the code asks for.
+    /// Returns the number of local variables, which is `max_locals`.
     #[inline(always)]
     pub fn local_count(&self) -> usize
         ensures { result ≡ self.now.body.max_locals }
@@ -27,7 +27,7 @@ impl<'p> Frame<'p> {
         self.local_count
     }
 
-    /// A local variable.
+    /// Returns local variable `n`.
     #[inline(always)]
     #[tactic(auto, using(crate::proofs::Halves::front_at))]
     pub fn local(&self, n: u16) -> Value
@@ -37,7 +37,7 @@ impl<'p> Frame<'p> {
         self.values.as_slice()[usize::from(n)]
     }
 
-    /// Returns the local variable after another.
+    /// Returns local variable `n + 1`.
     #[inline(always)]
     #[tactic(auto, using(crate::proofs::Halves::front_at))]
     pub fn local_after(&self, n: u16) -> Value
@@ -47,7 +47,7 @@ impl<'p> Frame<'p> {
         self.values.as_slice()[usize::from(n) + 1]
     }
 
-    /// Puts a value in the place of a local variable.
+    /// Writes local variable `n`.
     #[inline(always)]
     #[tactic(auto, using(crate::proofs::Halves::front_set, crate::proofs::Halves::back_kept))]
     fn set_local(&mut self, n: u16, value: Value)
@@ -57,20 +57,20 @@ impl<'p> Frame<'p> {
         put(&mut self.values, usize::from(n), value);
     }
 
-    /// Unsets the local variable after another, if there is one.
+    /// Unsets local variable `n + 1`, if there is one.
     #[tactic(auto, using(crate::proofs::Locals::set_beyond))]
     fn unset_after(&mut self, n: u16)
         requires { n < self.old.body.max_locals }
         ensures { self.new ≡ with_locals self.old (slice_set self.old.activation.locals (n + 1) value.Unset) }
     {
-        // There are as many as a number of sixteen bits.
+        // The count is a 16-bit number.
         let _count = self.body.max_locals;
         if usize::from(n) + 1 < self.local_count {
             self.set_local(n + 1, Value::Unset);
         }
     }
 
-    /// Where a local variable is one of a long's two, the other of them is unset.
+    /// Unsets the other half of the long if local variable `n` is one half of it.
     #[inline(always)]
     #[tactic(auto, using(crate::proofs::Locals::long_parted))]
     fn part_long(&mut self, n: u16)
@@ -88,7 +88,7 @@ impl<'p> Frame<'p> {
         }
     }
 
-    /// Stores a value of one place in a local variable.
+    /// Stores a value of one slot in a local variable, and unsets the other half of a long that it overwrites.
     #[inline(always)]
     fn store_one(&mut self, n: u16, value: Value)
         requires { n < self.old.body.max_locals }
@@ -98,13 +98,13 @@ impl<'p> Frame<'p> {
         self.set_local(n, value);
     }
 
-    /// Stores a long in a local variable and the next.
+    /// Stores a long in local variables `n` and `n + 1`.
     #[inline(always)]
     fn store_long(&mut self, n: u16, long: i64)
         requires { n + 2 ≤ self.old.body.max_locals }
         ensures { self.new ≡ with_locals self.old (with_stored self.old.activation.locals n (value.Long long)) }
     {
-        // There are as many as a number of sixteen bits.
+        // The count is a 16-bit number.
         let last = self.body.max_locals - 1;
         prove!(n < last);
         let next = n + 1;
@@ -114,7 +114,7 @@ impl<'p> Frame<'p> {
         self.set_local(next, Value::Second);
     }
 
-    /// Stores a value in a local variable; a long in that and the next.
+    /// Stores a value in local variable `n`. A long takes `n` and `n + 1`.
     #[inline(always)]
     pub fn store(&mut self, n: u16, value: Value)
         requires { n + value_size value ≤ self.old.body.max_locals }

@@ -10,19 +10,19 @@ use jvms_machine::value::Value;
 impl<'p> Frame<'p> {
     ghost use Rattle.frames.specs.Frame.{with_operands};
 
-    /// How many operands there are.
+    /// Returns the number of operands.
     #[inline(always)]
     pub fn height(&self) -> u16
         ensures exact { result ≡ length self.now.activation.operands }
-        // There is room for so many.
+        // The operands are within `max_stack`.
         ensures within { result ≤ self.now.body.max_stack }
     {
-        // No more than max_stack, which is a u16.
+        // The height is at most max_stack, which is a u16.
         let _most = self.body.max_stack;
         self.height as u16
     }
 
-    /// Puts an operand on top.
+    /// Pushes an operand.
     #[inline(always)]
     #[tactic(auto, using(crate::proofs::Halves::front_kept, crate::proofs::Halves::pushed))]
     pub fn push(&mut self, value: Value)
@@ -33,7 +33,7 @@ impl<'p> Frame<'p> {
         self.height += 1;
     }
 
-    /// Takes the operand on top away.
+    /// Removes the topmost operand.
     #[inline(always)]
     #[tactic(auto, using(crate::proofs::Halves::cut))]
     fn drop_operand(&mut self)
@@ -43,7 +43,7 @@ impl<'p> Frame<'p> {
         self.height -= 1;
     }
 
-    /// Takes any number of operands away from the top.
+    /// Removes the topmost `count` operands.
     #[tactic(auto, using(crate::proofs::Halves::cut))]
     fn cut_operands(&mut self, count: usize)
         requires { count ≤ length self.old.activation.operands }
@@ -52,7 +52,7 @@ impl<'p> Frame<'p> {
         self.height -= count;
     }
 
-    /// Takes operands away from the top. Most instructions take none, one or two.
+    /// Removes the topmost `count` operands. Most instructions take none, one or two, which are the fast path.
     #[inline(always)]
     #[tactic(auto, using(crate::proofs::Tops::two_dropped))]
     pub fn drop_operands(&mut self, count: usize)
@@ -70,7 +70,7 @@ impl<'p> Frame<'p> {
         }
     }
 
-    /// Puts another operand in place of the one on top.
+    /// Replaces the topmost operand.
     #[inline(always)]
     #[tactic(auto, using(crate::proofs::Halves::front_kept, crate::proofs::Halves::top_replaced))]
     fn set_top(&mut self, value: Value)
@@ -80,7 +80,7 @@ impl<'p> Frame<'p> {
         put(&mut self.values, self.local_count + self.height - 1, value);
     }
 
-    /// Replaces the top `takes` operands by a value of one place.
+    /// Replaces the topmost `takes` operands by a value of one slot.
     #[inline(always)]
     #[tactic(auto, using(crate::proofs::Tops::two_dropped))]
     fn replace_by_one(&mut self, takes: usize, value: Value)
@@ -102,7 +102,7 @@ impl<'p> Frame<'p> {
         }
     }
 
-    /// Replaces the top `takes` operands by a long.
+    /// Replaces the topmost `takes` operands by a long.
     #[inline(always)]
     fn replace_by_long(&mut self, takes: usize, long: i64)
         requires there { takes ≤ length self.old.activation.operands }
@@ -114,7 +114,7 @@ impl<'p> Frame<'p> {
         self.push(Value::Second);
     }
 
-    /// Replaces the top `takes` operands by a value, of which a long takes two places.
+    /// Replaces the topmost `takes` operands by a value. A long takes two slots.
     #[inline(always)]
     pub fn replace(&mut self, takes: usize, value: Value)
         requires there { takes ≤ length self.old.activation.operands }
@@ -132,7 +132,7 @@ impl<'p> Frame<'p> {
         }
     }
 
-    /// The operand at a depth, from 0 at the top.
+    /// Returns the operand at a depth, where the topmost has depth 0.
     #[inline(always)]
     #[tactic(auto, using(crate::proofs::Halves::back_at))]
     pub fn operand(&self, depth: usize) -> Value
@@ -149,13 +149,13 @@ impl<'p> Frame<'p> {
         requires { count + 2 ≤ length self.now.activation.operands }
         ensures { drop count self.now.activation.operands ≡ result.1 ∷ result.0 ∷ drop (count + 2) self.now.activation.operands }
     {
-        // The height is a number of sixteen bits.
+        // The height is a 16-bit number.
         let height = usize::from(self.height());
         prove!(count < height);
         (self.operand(count + 1), self.operand(count))
     }
 
-    /// So many operands from the top, as a call takes them: the topmost last.
+    /// Returns the topmost `count` operands in the order in which a call takes them, the topmost last.
     #[inline(always)]
     #[tactic(auto, using(crate::proofs::Halves::topmost))]
     pub fn arguments(&self, count: usize) -> &[Value]
@@ -166,7 +166,7 @@ impl<'p> Frame<'p> {
         &self.values.as_slice()[end - count..end]
     }
 
-    /// The operand on top.
+    /// Returns the topmost operand.
     #[inline(always)]
     #[tactic(auto, using(crate::proofs::Tops::one_on_top))]
     pub fn top(&self) -> Value
@@ -176,7 +176,7 @@ impl<'p> Frame<'p> {
         self.operand(0)
     }
 
-    /// The two operands on top, the topmost last.
+    /// Returns the two topmost operands, the topmost last.
     #[inline(always)]
     #[tactic(auto, using(crate::proofs::Tops::two_on_top))]
     pub fn top_two(&self) -> (Value, Value)
@@ -186,7 +186,7 @@ impl<'p> Frame<'p> {
         (self.operand(1), self.operand(0))
     }
 
-    /// The three operands on top, the topmost last.
+    /// Returns the three topmost operands, the topmost last.
     #[inline(always)]
     #[tactic(auto, using(crate::proofs::Tops::three_on_top))]
     pub fn top_three(&self) -> (Value, Value, Value)
@@ -196,7 +196,7 @@ impl<'p> Frame<'p> {
         (self.operand(2), self.operand(1), self.operand(0))
     }
 
-    /// The four operands on top, the topmost last.
+    /// Returns the four topmost operands, the topmost last.
     #[inline(always)]
     #[tactic(auto, using(crate::proofs::Tops::four_on_top))]
     pub fn top_four(&self) -> (Value, Value, Value, Value)

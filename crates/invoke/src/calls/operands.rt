@@ -1,5 +1,5 @@
-//! The operands of a call (JVMS 6.5 invokeinterface, invokespecial, invokestatic, invokevirtual): its arguments, and
-//! below them the receiver, if it has one.
+//! The operands of a call instruction (JVMS 6.5 `invokeinterface`, `invokespecial`, `invokestatic`, `invokevirtual`):
+//! its arguments, and the receiver below them, if it has one.
 
 ghost use Rattle.jvms_file.specs.Descriptors.{parameter_units as units};
 ghost use Rattle.jvms_file.specs.declared.descriptor.MethodType.{MethodType as MeantType};
@@ -17,7 +17,7 @@ use jvms_file::insn::{Invoke, Kind};
 use jvms_machine::value::Value;
 use machine_parts::{kind_of_type, type_size};
 
-/// Whether a call has no receiver.
+/// Decides whether a call instruction has no receiver.
 pub(crate) fn is_static_call(how: Invoke) -> bool
     ensures { result ≡ is_static how }
 {
@@ -27,7 +27,7 @@ pub(crate) fn is_static_call(how: Invoke) -> bool
     }
 }
 
-/// Returns how many operands a call takes whose arguments take this many.
+/// Returns the number of operands that a call instruction takes, where its arguments take `arguments`.
 fn taken(how: Invoke, arguments: usize) -> usize
     requires { arguments ≤ 65535 }
     ensures { (t : MeantType) → arguments ≡ units t → result ≡ takes_of how t }
@@ -39,7 +39,7 @@ fn taken(how: Invoke, arguments: usize) -> usize
     }
 }
 
-/// How many operands a method gives.
+/// Returns the number of operands of a method's result.
 fn given(t: &ResultType) -> usize
     ensures { result ≡ result_length t.now }
 {
@@ -49,7 +49,7 @@ fn given(t: &ResultType) -> usize
     }
 }
 
-/// How many operands a call takes of a frame, if so many are there, and there is room for the result.
+/// Returns the number of operands that a call takes, if they are present and the result fits `max_stack`.
 pub(crate) fn taken_from(frame: &Frame, how: Invoke, t: &MethodType) -> Option<u16>
     ensures { MatchOption result (has_depth frame.now.body (takes_of how t.now) (result_length t.now.result) frame.now.activation ≡ false) (λ takes. Takes frame.now how t.now takes) }
 {
@@ -67,7 +67,7 @@ pub(crate) fn taken_from(frame: &Frame, how: Invoke, t: &MethodType) -> Option<u
     }
 }
 
-/// Whether the places of values are of the kinds of types, each value of its own.
+/// Decides whether the slots hold values of the types, one value for each type. A long takes two slots.
 fn are_of_types(types: &[FieldType], places: &[Value]) -> bool
     ensures { result ≡ of_types types.now places.now }
 {
@@ -86,7 +86,7 @@ fn are_of_types(types: &[FieldType], places: &[Value]) -> bool
     rest.is_empty()
 }
 
-/// What lies below the arguments of a call that has a receiver.
+/// Returns the operand below the arguments of a call that has a receiver.
 #[inline(always)]
 pub(crate) fn receiver(t: &MethodType, frame: &Frame, takes: u16) -> Value
     requires is { takes ≡ units t.now + 1 }
@@ -96,7 +96,8 @@ pub(crate) fn receiver(t: &MethodType, frame: &Frame, takes: u16) -> Value
     frame.operand(usize::from(takes) - 1)
 }
 
-/// Whether the operands of a call are of the kinds that its descriptor names, and the receiver is a reference or null.
+/// Decides whether the operands of a call are of the kinds in its descriptor, and whether the receiver is a reference
+/// or null.
 pub(crate) fn are_of_call(how: Invoke, t: &MethodType, frame: &Frame, takes: u16) -> bool
     requires takes { Takes frame.now how t.now takes }
     ensures { result ≡ of_call how t.now frame.now.activation.operands }

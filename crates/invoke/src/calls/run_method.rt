@@ -1,8 +1,8 @@
-//! The first call of a thread that was started: `run` of its Thread object (Java SE API, `Thread.run`).
+//! The first call of a started thread: `run` of its Thread object (Java SE API, `Thread.run`).
 
 ghost use Rattle.std.specs.Prelude.{◌≡◌, Some};
-ghost use Rattle.classes.specs.Places.{IsMethodAt, Locates};
-ghost use Rattle.jvms_program.specs.Resolution.{MethodFound};
+ghost use Rattle.classes.specs.Places.{IsMethodAt, LocatesItem};
+ghost use Rattle.jvms_program.specs.Resolution.{ResolvedMethod};
 ghost use Rattle.jvms_machine.specs.Calls.{run_of_object as runs_object, run_decision as runs, selected_run as runs_selected};
 ghost use Rattle.jvms_machine.specs.State.{object_at};
 ghost use Rattle.std.specs.Prelude.{Option};
@@ -17,10 +17,10 @@ use machine_thread::Thread;
 /// `run`
 const RUN: [u16; 3] = [114, 117, 110];
 
-/// `()V`, the descriptor of a method that takes and gives nothing.
+/// `()V`, the descriptor of a method without parameters and result.
 const NOTHING: [u16; 3] = [40, 41, 86];
 
-/// The `run` that was selected is called for the Thread object.
+/// Decides the call of the selected `run` for a Thread object. Throws `AbstractMethodError` if there is none.
 fn selected_run<'p>(
     parts: &Parts<'p>,
     t: usize,
@@ -28,7 +28,7 @@ fn selected_run<'p>(
     receiver: u32,
     selected: Option<(usize, usize)>,
 ) -> Decided<'p>
-    ensures { (what : Option MethodFound) → Locates (IsMethodAt parts.now.program) what selected → seen result ≡ runs_selected parts.now.program parts.now.limits parts.now.state t thread.now receiver what }
+    ensures { (what : Option ResolvedMethod) → LocatesItem (IsMethodAt parts.now.program) what selected → seen result ≡ runs_selected parts.now.program parts.now.limits parts.now.state t thread.now receiver what }
 {
     let Some(place) = selected else {
         return parts.throws(thread, Thrown::AbstractMethodError);
@@ -44,7 +44,7 @@ fn selected_run<'p>(
     }
 }
 
-/// `run` of the object of a reference is called.
+/// Decides the call of `run` for the object of a reference.
 fn run_of_object<'p>(parts: &Parts<'p>, t: usize, thread: &Thread, reference: u32) -> Decided<'p>
     ensures { seen result ≡ runs_object parts.now.program parts.now.limits parts.now.state t thread.now reference (object_at parts.now.state.heap reference) }
 {
@@ -60,7 +60,7 @@ fn run_of_object<'p>(parts: &Parts<'p>, t: usize, thread: &Thread, reference: u3
     }
 }
 
-/// `run` of the thread's object is called.
+/// Decides the call of `run` for the thread's object.
 pub(crate) fn run_decision<'p>(parts: &Parts<'p>, t: usize, thread: &Thread) -> Decided<'p>
     ensures { seen result ≡ runs parts.now.program parts.now.limits parts.now.state t thread.now thread.now.object }
 {

@@ -1,4 +1,4 @@
-//! What calls and returns make of a machine (JVMS 2.6.1, 2.6.4).
+//! The actions of calls and returns, applied to a machine (JVMS 2.6.1, 2.6.4).
 
 ghost use Rattle.std.specs.Prelude.{◌≡◌, ◌<◌, ◌≤◌, ◌++◌, [], drop, length, IsOk, IfOk, IfSome, OnOk, OnErr, slice_get};
 ghost use Rattle.jvms_machine.specs.declared.action.Action.TheVariants as action;
@@ -21,7 +21,7 @@ use machine_parts::Parts;
 use std::alloc::AllocError;
 use trace::Recording;
 
-/// The monitor that a call holds with its frame.
+/// Returns the object whose monitor a call holds with its frame.
 #[inline(always)]
 fn locked_reference(lock: Lock) -> Option<u32>
     ensures { result ≡ reference_locked lock }
@@ -33,7 +33,7 @@ fn locked_reference(lock: Lock) -> Option<u32>
     }
 }
 
-/// A call is put on top of a thread. Without memory nothing changes.
+/// Pushes the frame of a call on a thread. If there is no memory, nothing changes.
 #[inline(always)]
 fn push_call<'p>(parts: &mut Parts<'p>, t: ThreadId, frame: Frame<'p>) -> Result<(), AllocError>
     requires { t < length parts.old.state.threads }
@@ -43,7 +43,7 @@ fn push_call<'p>(parts: &mut Parts<'p>, t: ThreadId, frame: Frame<'p>) -> Result
     parts.threads[t as usize].push_call(frame)
 }
 
-/// The frame on top of a thread is taken away.
+/// Removes the top frame of a thread.
 fn pop_call(parts: &mut Parts, t: ThreadId)
     ensures { parts.new ≡ with_state parts.old (with_changed parts.old.state t popped) }
 {
@@ -52,7 +52,7 @@ fn pop_call(parts: &mut Parts, t: ThreadId)
     }
 }
 
-/// Notes that a thread has made its first call.
+/// Records that a thread has made its first call.
 fn note_first_call(parts: &mut Parts, t: ThreadId)
     ensures { parts.new ≡ with_state parts.old (with_changed parts.old.state t noted) }
 {
@@ -61,7 +61,7 @@ fn note_first_call(parts: &mut Parts, t: ThreadId)
     }
 }
 
-/// The frame below the top of a thread gives so many operands to the call on top.
+/// Removes the topmost `takes` operands of the frame below a thread's top, which pass to the call on top.
 #[inline(always)]
 fn give_operands(parts: &mut Parts, t: ThreadId, takes: u16)
     requires { IfSome (slice_get parts.old.state.threads t) (λ x. takes ≤ length (top_operands (drop 1 x.frames))) }
@@ -72,7 +72,7 @@ fn give_operands(parts: &mut Parts, t: ThreadId, takes: u16)
     }
 }
 
-/// What a call locks is entered, and its items, at most two, are put behind the others. Without memory nothing
+/// Enters the monitor that a call locks, and appends the items of the call, at most two. If there is no memory, nothing
 /// changes.
 #[inline(always)]
 #[tactic(auto, using(trace::proofs::Recorded::cut_recorded))]
@@ -98,7 +98,7 @@ fn lock_marked(
     Ok(())
 }
 
-/// The frame of a thread's first call.
+/// Returns the frame of a thread's first call.
 fn first_frame<'p>(
     parts: &Parts<'p>,
     t: ThreadId,
@@ -130,7 +130,7 @@ fn first_frame<'p>(
     }
 }
 
-/// Makes the first call of a thread, of this method, which has this code.
+/// Applies the first call of a thread to this method and its code. If there is no memory, nothing changes.
 #[tactic(auto, using(crate::proofs::Entering::call_undone, crate::proofs::Entering::still_can_be_locked, crate::proofs::Entering::first_is_made), unfolding(jvms_machine::specs::Actions::applied_to, jvms_machine::specs::Actions::items_of))]
 pub fn enter<'p>(
     parts: &mut Parts<'p>,
@@ -156,7 +156,7 @@ pub fn enter<'p>(
     Ok(())
 }
 
-/// The frame of a call that takes so many operands of the call on top.
+/// Returns the frame of a call that takes `takes` operands of the top call.
 #[inline(always)]
 fn called_frame<'p>(
     parts: &mut Parts<'p>,
@@ -175,7 +175,8 @@ fn called_frame<'p>(
     parts.threads[t as usize].called_frame(alloc, method, code, monitor, usize::from(takes))
 }
 
-/// Calls a method, which has this code, with so many operands of the call on top.
+/// Calls a method with this code and the topmost `takes` operands of the top call. If there is no memory, nothing
+/// changes.
 #[tactic(auto, using(crate::proofs::Entering::call_undone, crate::proofs::Entering::still_can_be_locked, crate::proofs::Entering::can_give, crate::proofs::Entering::call_is_made), unfolding(jvms_machine::specs::Actions::applied_to, jvms_machine::specs::Actions::items_of))]
 #[inline(always)]
 pub fn call<'p>(
@@ -203,7 +204,7 @@ pub fn call<'p>(
     Ok(())
 }
 
-/// Returns from the call on top, which is of this method, to the frame below.
+/// Returns from the top call, which is of this method, to the frame below. If there is no memory, nothing changes.
 #[tactic(auto, unfolding(jvms_machine::specs::Actions::applied_to, jvms_machine::specs::Actions::items_of))]
 #[inline(always)]
 pub fn return_below(
@@ -228,7 +229,7 @@ pub fn return_below(
     Ok(())
 }
 
-/// Notes what the entry's method returned.
+/// Records the result of the entry's method, which is that of thread 0.
 fn set_result(parts: &mut Parts, t: ThreadId, value: Option<Value>)
     ensures { parts.new ≡ with_state parts.old (resulting parts.old.state t value) }
 {
@@ -237,7 +238,7 @@ fn set_result(parts: &mut Parts, t: ThreadId, value: Option<Value>)
     }
 }
 
-/// Ends a thread, whose first call, of this method, returns.
+/// Ends a thread whose first call, of this method, returns. If there is no memory, nothing changes.
 #[tactic(auto, unfolding(jvms_machine::specs::Actions::applied_to, jvms_machine::specs::Actions::items_of))]
 pub fn end(
     parts: &mut Parts,

@@ -1,4 +1,4 @@
-//! What the initialisation of a class makes of a machine (JVMS 5.5).
+//! The actions of class initialisation, applied to a machine (JVMS 5.5).
 
 ghost use Rattle.std.specs.Prelude.{◌≡◌, ◌+◌, ◌<◌, ◌^◌, OnOk, OnErr, length, map};
 ghost use Rattle.jvms_machine.specs.declared.action.Action.TheVariants as action;
@@ -13,7 +13,7 @@ ghost use Rattle.trace.specs.Recording.{recorded};
 
 use frames::Frame;
 use heap::Heap;
-use held::shared::Text;
+use shared_data::shared::Text;
 use jvms_machine::machine::ThreadId;
 use jvms_machine::state::Initialisation;
 use jvms_machine::trace::Item;
@@ -24,7 +24,7 @@ use machine_thread::Thread;
 use std::alloc::AllocError;
 use trace::Recording;
 
-/// Puts the frame of an initialisation on a thread, and makes strings. Without memory for all of it nothing changes.
+/// Pushes the frame of an initialisation on a thread, and creates strings. If there is no memory, nothing changes.
 fn begin_with_texts(
     thread: &mut Thread<'_>,
     class: usize,
@@ -45,7 +45,7 @@ fn begin_with_texts(
     Ok(())
 }
 
-/// Marks how far the initialisation of a class has come.
+/// Sets the state of the initialisation of a class.
 pub fn mark(parts: &mut Parts, class: usize, how: Initialisation)
     ensures { parts.new ≡ with_state parts.old (marked parts.old.state class how) }
 {
@@ -54,7 +54,8 @@ pub fn mark(parts: &mut Parts, class: usize, how: Initialisation)
     }
 }
 
-/// Makes the strings of the constants of a class that begins its initialisation, and puts its frame on the thread.
+/// Creates the strings of the constants of a class that begins its initialisation, and pushes its frame. If there is no
+/// memory, nothing changes.
 fn begin_frame(
     parts: &mut Parts,
     t: ThreadId,
@@ -71,7 +72,7 @@ fn begin_frame(
     }
 }
 
-/// Begins the initialisation of a class: its constants are stored.
+/// Begins the initialisation of a class, and stores its constants. If there is no memory, nothing changes.
 #[tactic(auto, unfolding(jvms_machine::specs::Actions::applied_to))]
 pub fn begin(parts: &mut Parts, t: ThreadId, class: usize) -> Result<(), AllocError>
     requires { HasTextsToMake parts.old class }
@@ -87,7 +88,7 @@ pub fn begin(parts: &mut Parts, t: ThreadId, class: usize) -> Result<(), AllocEr
     Ok(())
 }
 
-/// Ends the initialisation of a class.
+/// Finishes the initialisation of a class, and removes its frame.
 #[tactic(auto, unfolding(jvms_machine::specs::Actions::applied_to))]
 pub fn finish(parts: &mut Parts, t: ThreadId, class: usize)
     ensures { parts.new ≡ after parts.old t (action.Finishes class) }
@@ -98,7 +99,7 @@ pub fn finish(parts: &mut Parts, t: ThreadId, class: usize)
     mark(parts, class, Initialisation::Done);
 }
 
-/// Makes the call of a `<clinit>`, with its mark.
+/// Pushes the call of a `<clinit>`, and records its mark. If there is no memory, nothing changes.
 fn call_initializer<'p>(
     thread: &mut Thread<'p>,
     frame: Frame<'p>,
@@ -119,7 +120,7 @@ fn call_initializer<'p>(
     Ok(())
 }
 
-/// Calls the `<clinit>` of the class whose initialisation is on top.
+/// Calls the `<clinit>` of the class whose initialisation is on top. If there is no memory, nothing changes.
 #[tactic(auto, unfolding(jvms_machine::specs::Actions::applied_to, jvms_machine::specs::Actions::items_of))]
 pub fn initialise<'p>(
     parts: &mut Parts<'p>,

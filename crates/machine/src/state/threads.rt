@@ -1,4 +1,4 @@
-//! What the threads of a machine are at (JVMS 2.5).
+//! The threads of a machine and their frames (JVMS 2.5).
 
 ghost use Rattle.std.specs.Prelude.{◌≡◌, length, option_copied};
 ghost use Rattle.std.specs.Option.{option_and_then, option_map};
@@ -10,17 +10,17 @@ use jvms_machine::machine::ThreadId;
 use jvms_machine::state::StackFrame;
 use machine_thread::Thread;
 
-/// What stands on a thread's stack.
+/// A frame on a thread's stack.
 #[derive(Clone, Copy)]
 pub enum FrameView<'m, 'p> {
-    /// A call: its method, the place of the next instruction, the local variables, the operands, and the
-    /// object whose monitor it entered. `Frame::operand` counts from 0 at the top.
+    /// A call: its method, the pc, the local variables, the operands, and the object whose monitor it has entered.
+    /// `Frame::operand` counts from 0 at the top.
     Call(&'m Frame<'p>),
-    /// The initialisation of the class of a number, and whether its `<clinit>` was called.
+    /// The initialisation of a class, and whether its `<clinit>` was called.
     Initialisation { class: usize, called: bool },
 }
 
-/// What a frame shows.
+/// Returns the view of a frame.
 fn view<'m, 'p>(frame: &'m StackFrame<Frame<'p>>) -> FrameView<'m, 'p>
     ensures { shown result ≡ frame.now }
 {
@@ -34,14 +34,14 @@ fn view<'m, 'p>(frame: &'m StackFrame<Frame<'p>>) -> FrameView<'m, 'p>
 }
 
 impl<'p> Machine<'p> {
-    /// The thread of a number, if it was started.
+    /// Returns the thread of a number, if it was started.
     fn thread(&self, t: ThreadId) -> Option<&Thread<'p>>
         ensures { option_copied result ≡ thread_at self.now t }
     {
         self.parts.threads.as_slice().get(t as usize)
     }
 
-    /// The reference of a thread's Thread object. Thread 0 has none.
+    /// Returns the reference of a thread's Thread object. Thread 0 has none.
     pub fn thread_object(&self, t: ThreadId) -> Option<u32>
         ensures { result ≡ option_and_then (λ x. x.object) (thread_at self.now t) }
     {
@@ -49,8 +49,8 @@ impl<'p> Machine<'p> {
         thread.object()
     }
 
-    /// Whether a thread has made its first call: of the entry's method, or of its Thread object's `run`.
-    /// There is no answer of a thread that was never started.
+    /// Decides whether a thread has made its first call: of the entry's method, or of its Thread object's `run`.
+    /// Returns `None` for a thread that was never started.
     pub fn first_call_made(&self, t: ThreadId) -> Option<bool>
         ensures { result ≡ option_map (λ x. x.first_call_made) (thread_at self.now t) }
     {
@@ -58,7 +58,7 @@ impl<'p> Machine<'p> {
         Some(thread.first_call_made())
     }
 
-    /// Whether a thread has ended. There is no answer of a thread that was never started.
+    /// Decides whether a thread has ended. Returns `None` for a thread that was never started.
     pub fn has_ended(&self, t: ThreadId) -> Option<bool>
         ensures { result ≡ option_map (λ x. x.ended) (thread_at self.now t) }
     {
@@ -66,7 +66,7 @@ impl<'p> Machine<'p> {
         Some(thread.has_ended())
     }
 
-    /// The reference of the exception that is pending in a thread; with it an ended thread ended.
+    /// Returns the reference of a thread's pending exception. In a thread that has ended, it is the one that ended it.
     pub fn pending(&self, t: ThreadId) -> Option<u32>
         ensures { result ≡ option_and_then (λ x. x.pending) (thread_at self.now t) }
     {
@@ -74,8 +74,8 @@ impl<'p> Machine<'p> {
         thread.pending()
     }
 
-    /// How many frames a thread has, those of initialisations included (JVMS 2.5.2). There is no answer of
-    /// a thread that was never started.
+    /// Returns the number of a thread's frames, those of initialisations included (JVMS 2.5.2). Returns `None` for a
+    /// thread that was never started.
     pub fn frame_count(&self, t: ThreadId) -> Option<usize>
         ensures { result ≡ option_map (λ x. length x.frames) (thread_at self.now t) }
     {
@@ -83,7 +83,7 @@ impl<'p> Machine<'p> {
         Some(thread.height())
     }
 
-    /// The frame of a thread at a depth, from 0 at the top (JVMS 2.6).
+    /// Returns the frame of a thread at a depth, where the top has depth 0 (JVMS 2.6).
     pub fn frame(&self, t: ThreadId, depth: usize) -> Option<FrameView<'_, 'p>>
         ensures { option_map shown result ≡ frame_at self.now t depth }
     {
@@ -92,7 +92,7 @@ impl<'p> Machine<'p> {
         Some(view(frame))
     }
 
-    /// The class of the exception with which a thread ended, if no handler caught it (JVMS 2.10).
+    /// Returns the class of the exception with which a thread ended, if no handler caught it (JVMS 2.10).
     pub fn uncaught(&self, t: ThreadId) -> Option<&[u16]>
         ensures { option_map (λ c. c.now) result ≡ uncaught self.now t }
     {

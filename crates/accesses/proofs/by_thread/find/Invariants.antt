@@ -3,7 +3,7 @@ use Rattle.accesses.specs.ByThread.{IsWay}
 use Rattle.accesses.proofs.Ways.{AreAhead}
 use Rattle.accesses.proofs.by_thread.find.Given as goal
 
--- The thread's node is found from here, if there is one.
+-- The thread's node is reached from here, if it has one.
 abbrev pub invariant-loop-at : goal.invariant-loop-at
 invariant-loop-at l = record {
   inside : (l.at < length l.nodes) ⊎ (length l.nodes ≡ 0);

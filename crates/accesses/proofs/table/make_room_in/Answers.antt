@@ -3,7 +3,7 @@ use Rattle.std.proofs.lemmas.Grind.{common_steps}
 use Rattle.accesses.specs.Kept.{HasSpare, kept_in}
 use Rattle.accesses.specs.Rooms.{HasRoomAt, IsEntryOf}
 use Rattle.accesses.specs.Tables.{IsIndexed}
-use Rattle.accesses.specs.declared.lasts.Lasts.{Lasts}
+use Rattle.accesses.specs.declared.lasts.PlaceAccesses.{PlaceAccesses}
 use Rattle.accesses.specs.declared.place.Place.{Place as Key}
 use Rattle.accesses.proofs.Entries.{is_changed, keeps_place, kept_with_room, on_ok, values_at}
 use Rattle.accesses.proofs.Tabled.{indexed_with, read_entry, set_entry}
@@ -17,7 +17,7 @@ returns-clause-indexed c m is =
     let l = c.reserve.new.self in
     let less : i < length es = grind (arith, common_steps) in
     let whole = set_entry es i e l (read_entry es i e less c.index_mut-entry.ensures.value) in
-    subst (λ (fs : List (Key × Lasts)). IsIndexed m fs) (sym whole) (indexed_with m es i l is)
+    subst (λ (fs : List (Key × PlaceAccesses)). IsIndexed m fs) (sym whole) (indexed_with m es i l is)
 
 pub returns-clause-same : goal.returns-clause-same
 returns-clause-same c =
@@ -37,7 +37,7 @@ returns-clause-room c =
     let l = c.reserve.new.self in
     let less : i < length es = grind (arith, common_steps) in
     let whole = set_entry es i e l (read_entry es i e less c.index_mut-entry.ensures.value) in
-    on_ok c.reserve.result (λ spare. subst (λ (fs : List (Key × Lasts)). HasRoomAt fs i) (sym whole) (is_changed HasSpare es i l spare)) c.reserve.ensures.room
+    on_ok c.reserve.result (λ spare. subst (λ (fs : List (Key × PlaceAccesses)). HasRoomAt fs i) (sym whole) (is_changed HasSpare es i l spare)) c.reserve.ensures.room
 
 pub returns-clause-places : goal.returns-clause-places
 returns-clause-places c n p is =
@@ -47,4 +47,4 @@ returns-clause-places c n p is =
     let l = c.reserve.new.self in
     let less : i < length es = grind (arith, common_steps) in
     let whole = set_entry es i e l (read_entry es i e less c.index_mut-entry.ensures.value) in
-    subst (λ (fs : List (Key × Lasts)). IsEntryOf fs n p) (sym whole) (keeps_place es i l n p is)
+    subst (λ (fs : List (Key × PlaceAccesses)). IsEntryOf fs n p) (sym whole) (keeps_place es i l n p is)

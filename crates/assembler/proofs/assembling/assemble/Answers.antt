@@ -3,7 +3,7 @@ use Rattle.assembly.specs.Assembled.{assembled}
 use Rattle.assembler.proofs.Spelled.{has_spelling}
 use Rattle.assembler.proofs.assembling.assemble.Goals as goal
 
--- The tree is a text's, so the class has a spelling.
+-- The tree is that of a text, so the class has a spelling.
 pub new-requires : goal.new-requires
 new-requires c =
     let made = ap assembled (sym c.tree.ensures.same) ∙ c.in_ok-class.ensures.exact in

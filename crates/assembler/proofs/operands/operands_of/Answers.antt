@@ -1,4 +1,4 @@
--- Each turn passes a label, or puts the number of what stands there behind those before it.
+-- Each iteration skips a label, or appends the index of an instruction to those before it.
 use Rattle.std.proofs.Common.{◌≡◌, ◌+◌, [], ◌∷◌, drop, ◌∙◌, ap, arith}
 use Rattle.std.proofs.lemmas.Result.{err_from_is_err_and}
 use Rattle.const_pool.specs.Interning.{pool_of}

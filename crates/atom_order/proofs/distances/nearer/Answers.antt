@@ -1,4 +1,4 @@
--- One link more.
+-- One more link.
 use Rattle.std.proofs.Common.{Option, sym, subst, ◌∙◌, arith}
 use Rattle.atom_order.specs.declared.distances.Near.{Near}
 use Rattle.atom_order.specs.Distances.{IsBest}

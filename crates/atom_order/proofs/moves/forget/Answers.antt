@@ -1,4 +1,4 @@
--- One more is forgotten.
+-- The links into one more transaction are removed.
 use Rattle.std.proofs.Common.{◌<◌, length, ◌∙◌, arith}
 use Rattle.atom_order.proofs.Taken.{none_more}
 use Rattle.atom_order.proofs.moves.forget.Goals as goal

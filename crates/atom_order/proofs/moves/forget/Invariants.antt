@@ -2,7 +2,7 @@ use Rattle.std.proofs.Common.{◌≡◌, ℕ, [], false, length, take, get_or}
 use Rattle.atom_order.specs.Reaching.{is_among}
 use Rattle.atom_order.proofs.moves.forget.Given as goal
 
--- The others are as they were.
+-- The links into others are unchanged.
 abbrev pub invariant-loop-y : goal.invariant-loop-y
 invariant-loop-y l = record {
   long : length l.into.items ≡ length l.initial.into.items;

@@ -1,7 +1,7 @@
 use Rattle.std.proofs.Common.{◌≡◌, ℕ, ◌<◌, length, get_or}
 use Rattle.atom_order.proofs.moves.note_places.Given as goal
 
--- The first ones are noted.
+-- The places of the first ones are recorded.
 abbrev pub invariant-loop-i : goal.invariant-loop-i
 invariant-loop-i l = record {
   long : length l.places.items ≡ length l.initial.places.items;

@@ -1,4 +1,3 @@
--- The law.
 use Rattle.atom_spec.proofs.OneReading.{one_specification}
 use Rattle.atom_spec.proofs.laws.a_text_is_of_one_specification.Goals as goal
 

@@ -1,4 +1,4 @@
--- The parts are those of the only line that the text could write.
+-- The parts are those of the only line that the text could be.
 use Rattle.atom_spec.proofs.SpecLines.{no_word, no_pattern}
 use Rattle.atom_spec.proofs.line.line_of.Goals as goal
 

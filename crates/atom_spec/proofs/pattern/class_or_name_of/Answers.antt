@@ -1,4 +1,4 @@
--- The parts are those of the only pattern that the text could write.
+-- The parts are those of the only pattern that the text could be.
 use Rattle.std.proofs.Common.{sym, ◌∙◌}
 use Rattle.atom_spec.proofs.Patterns.{no_class, no_name}
 use Rattle.atom_spec.proofs.pattern.class_or_name_of.Goals as goal

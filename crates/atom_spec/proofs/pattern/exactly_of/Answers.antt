@@ -1,4 +1,4 @@
--- No method is written.
+-- The text is no method.
 use Rattle.atom_spec.proofs.Patterns.{no_method}
 use Rattle.atom_spec.proofs.pattern.exactly_of.Goals as goal
 

@@ -1,4 +1,4 @@
--- Line by line.
+-- Each line is read in turn.
 use Rattle.std.proofs.Common.{arith}
 use Rattle.atom_spec.proofs.TextLines.{one_further, faulty_line, faulty_last, whole_text}
 use Rattle.atom_spec.proofs.reading.lines_of.Goals as goal

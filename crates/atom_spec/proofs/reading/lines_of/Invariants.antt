@@ -1,4 +1,4 @@
--- The lines so far were read.
+-- The lines so far have been read.
 use Rattle.std.proofs.Common.{length}
 use Rattle.atom_spec.specs.Parts.{IsReadUpTo}
 use Rattle.atom_spec.proofs.reading.lines_of.Given as goal

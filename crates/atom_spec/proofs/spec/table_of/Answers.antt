@@ -1,4 +1,4 @@
--- One line more.
+-- One more line is added to the table.
 use Rattle.atom_spec.proofs.SaidLaws.{says_more}
 use Rattle.atom_spec.proofs.spec.table_of.Goals as goal
 

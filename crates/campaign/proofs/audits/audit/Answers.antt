@@ -1,4 +1,4 @@
--- Each number is that of a result, and those that are kept are of the results that differ.
+-- Each number is that of a result, and the numbers that are returned are of the results that differ.
 use Rattle.std.proofs.Common.{◌≡◌, ◌<◌, ◌-◌, length, map, sym, ap, ◌∙◌, subst, arith}
 use Rattle.std.specs.Prelude.{Ok}
 use Rattle.std.specs.List.{AllZip, range_with_len}

@@ -1,4 +1,4 @@
--- A number that the table needs isn't skipped, and what the book has of it is right.
+-- A number that the table needs isn't skipped, and the book's result for it is right.
 use Rattle.std.proofs.Common.{Some, sym, ap, ◌∙◌}
 use Rattle.campaign_book.proofs.Found.{done_right}
 use Rattle.campaign.proofs.TableLaws.{not_skipped}

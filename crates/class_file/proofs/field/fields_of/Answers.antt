@@ -1,4 +1,4 @@
--- What is left to read stands behind what was read.
+-- The bytes that are left to read follow those that were read.
 use Rattle.jvms_file.specs.Members.{field_at}
 use Rattle.jvms_file.proofs.CountedLaws.{counted_more, counted_all, counted_fails}
 use Rattle.class_file.proofs.field.fields_of.Goals as goal

@@ -1,5 +1,5 @@
 use Rattle.std.proofs.Common.{◌≡◌, []}
-use Rattle.jvms_file.specs.Results.{counted_onto}
+use Rattle.jvms_file.specs.Results.{part_list_onto}
 use Rattle.jvms_file.specs.Members.{field_at}
 use Rattle.class_file.specs.Seen.{AreFields}
 use Rattle.class_file.proofs.field.fields_of.Given as goal
@@ -7,7 +7,7 @@ use Rattle.class_file.proofs.field.fields_of.Given as goal
 abbrev pub invariant-loop-left : goal.invariant-loop-left
 invariant-loop-left l =
     record {
-      read : counted_onto (field_at l.pool l.cut) l.fields.items l.left l.rest ≡ counted_onto (field_at l.pool l.cut) [] l.fn.count l.fn.bytes;
+      read : part_list_onto (field_at l.pool l.cut) l.fields.items l.left l.rest ≡ part_list_onto (field_at l.pool l.cut) [] l.fn.count l.fn.bytes;
       seen : AreFields l.pool l.fields.seen l.fields.items;
     }
 

@@ -1,4 +1,4 @@
--- What is left to read stands behind what was read.
+-- The bytes that are left to read follow those that were read.
 use Rattle.jvms_file.specs.Members.{method_at}
 use Rattle.jvms_file.proofs.CountedLaws.{counted_more, counted_all, counted_fails}
 use Rattle.class_file.proofs.method.methods_of.Goals as goal

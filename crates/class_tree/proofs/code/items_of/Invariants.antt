@@ -1,5 +1,5 @@
 use Rattle.std.proofs.Common.{◌≡◌, [], drop}
-use Rattle.listings.specs.TreeOf.{items_onto}
+use Rattle.listing_spec.specs.TreeOf.{items_onto}
 use Rattle.class_tree.proofs.code.items_of.Given as goal
 
 abbrev pub invariant-loop-place : goal.invariant-loop-place

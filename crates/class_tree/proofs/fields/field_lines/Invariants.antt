@@ -1,6 +1,6 @@
 use Rattle.std.proofs.Common.{◌≡◌, length}
 use Rattle.jvms_file.specs.Results.{collected}
-use Rattle.listings.specs.TreeOf.{field_line}
+use Rattle.listing_spec.specs.TreeOf.{field_line}
 use Rattle.class_tree.proofs.Collected.{with_items}
 use Rattle.class_tree.proofs.fields.field_lines.Given as goal
 

@@ -1,5 +1,5 @@
 use Rattle.std.proofs.Common.{◌≡◌, length}
-use Rattle.listings.specs.TreeOf.{field_value}
+use Rattle.listing_spec.specs.TreeOf.{field_value}
 use Rattle.class_tree.proofs.fields.field_value.Given as goal
 
 abbrev pub invariant-loop-rest : goal.invariant-loop-rest

@@ -1,5 +1,5 @@
 use Rattle.std.proofs.Common.{◌≡◌, take, map}
-use Rattle.listings.specs.TreeOf.{catch_of}
+use Rattle.listing_spec.specs.TreeOf.{catch_of}
 use Rattle.class_tree.proofs.handlers.catches_of.Given as goal
 
 abbrev pub invariant-loop-handler : goal.invariant-loop-handler

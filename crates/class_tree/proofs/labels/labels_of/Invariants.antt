@@ -1,5 +1,5 @@
 use Rattle.std.proofs.Common.{◌≡◌, take, map}
-use Rattle.listings.specs.TreeOf.{label_of}
+use Rattle.listing_spec.specs.TreeOf.{label_of}
 use Rattle.class_tree.proofs.labels.labels_of.Given as goal
 
 abbrev pub invariant-loop-target : goal.invariant-loop-target

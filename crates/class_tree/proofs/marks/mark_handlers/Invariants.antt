@@ -1,9 +1,9 @@
 use Rattle.std.proofs.Common.{◌≡◌, length}
-use Rattle.class_tree.specs.Marks.{marked_handlers}
+use Rattle.class_tree.specs.Marks.{with_handler_marks}
 use Rattle.class_tree.proofs.marks.mark_handlers.Given as goal
 
 abbrev pub invariant-loop-rest : goal.invariant-loop-rest
-invariant-loop-rest l = marked_handlers l.rest l.marks ≡ marked_handlers l.fn.handlers l.fn.marks
+invariant-loop-rest l = with_handler_marks l.rest l.marks ≡ with_handler_marks l.fn.handlers l.fn.marks
 
 abbrev pub decreases-loop-rest : goal.decreases-loop-rest
 decreases-loop-rest l = length l.rest

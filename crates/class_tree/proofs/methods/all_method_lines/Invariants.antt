@@ -1,6 +1,6 @@
 use Rattle.std.proofs.Common.{◌≡◌, length}
 use Rattle.jvms_file.specs.Results.{collected}
-use Rattle.listings.specs.TreeOf.{method_lines}
+use Rattle.listing_spec.specs.TreeOf.{method_lines}
 use Rattle.class_tree.proofs.Collected.{with_items}
 use Rattle.class_tree.proofs.methods.all_method_lines.Given as goal
 

@@ -1,5 +1,5 @@
 use Rattle.std.proofs.Common.{◌≡◌, take, map}
-use Rattle.listings.specs.TreeOf.{match_of}
+use Rattle.listing_spec.specs.TreeOf.{match_of}
 use Rattle.class_tree.proofs.switches.matches_of.Given as goal
 
 abbrev pub invariant-loop-case : goal.invariant-loop-case

@@ -5,7 +5,7 @@ use Rattle.classes.specs.Places.{placed}
 use Rattle.classes.proofs.WayLaws.{IsOnTheWay}
 use Rattle.classes.proofs.ancestors.first_above.Given as goal
 
--- what is left to search: above this class
+-- the search continues above this class
 abbrev pub invariant-loop-found : goal.invariant-loop-found
 invariant-loop-found g l = record {
   within : l.at < length l.ranked.classes.now;

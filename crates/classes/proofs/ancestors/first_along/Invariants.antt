@@ -7,7 +7,7 @@ use Rattle.classes.specs.Marks.{is_marked}
 use Rattle.classes.specs.Places.{placed}
 use Rattle.classes.proofs.ancestors.first_along.Given as goal
 
--- what is left to search: up from the class of this name
+-- the search continues up from the class of this name
 abbrev pub invariant-loop-left : goal.invariant-loop-left
 invariant-loop-left g l = record {
   nothing :

@@ -3,7 +3,7 @@ use Rattle.classes.specs.Hierarchy.{rank}
 use Rattle.classes.proofs.MarkingLaws.{AreMarkedFrom}
 use Rattle.classes.proofs.ancestors.mark_above.Given as goal
 
--- the classes of at least this rank have been gone through
+-- the classes of at least this rank are done
 abbrev pub invariant-loop-left : goal.invariant-loop-left
 invariant-loop-left l = record {
   within : l.left ≤ rank l.ranked.ranks.now l.class + 1;

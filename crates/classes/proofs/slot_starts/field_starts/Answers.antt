@@ -10,7 +10,7 @@ use Rattle.classes.proofs.slot_starts.field_starts.Goals as goal
 
 pub loop-number-init : goal.loop-number-init
 loop-number-init c =
-    let fits = program_fits c.args.program.now c.is_countable.ensures in
+    let fits = program_fits c.args.program.now c.countable_invariant.ensures in
     record {
       are = subst (AreStartsOf c.args.program.now) (sym c.in_ok-starts.ensures.items) (no_starts c.args.program.now);
       count_is = ap length c.in_ok-starts.ensures.items;

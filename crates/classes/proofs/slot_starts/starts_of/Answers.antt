@@ -24,6 +24,6 @@ returns-then-own-number c =
     let is : IsTotal program class c.in_ok-total.total =
     c.requires.totals.each c.args.number class c.in_ok-total.total c.requires.there number (sym c.in_ok-total.ensures) in
     record {
-      statics = statics_from program c.args.number class c.requires.there c.is_countable.ensures c.args.statics number c.requires.statics;
+      statics = statics_from program c.args.number class c.requires.there c.countable_invariant.ensures c.args.statics number c.requires.statics;
       instances = subst (λ (k : ℕ). AreSlotsFrom false class (slot_of program class.name) (c.in_ok-total.total - k)) (sym c.count_of.ensures.exact) is.slots;
     }

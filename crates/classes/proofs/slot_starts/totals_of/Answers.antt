@@ -21,7 +21,7 @@ loop-place-preserved c =
     ∙ ap (λ (d : Class). total_above c.args.program.now c.as_slice.result.now d.superclass) (sym c.index-ranked-at.is)
     ∙ ap (λ (p : List Class). total_above p c.as_slice.result.now class.superclass) (sym c.ranked-ranked.ensures)
     ∙ ap (λ (ts : List ℕ). total_above program ts class.superclass) c.as_slice.ensures.value in
-    one_total program ranked.supers.now ranked.ranks.now ranked.order.now ranked.is_hierarchy (subst AreCountable (sym c.ranked-ranked.ensures) c.is_countable.ensures)
+    one_total program ranked.supers.now ranked.ranks.now ranked.order.now ranked.is_hierarchy (subst AreCountable (sym c.ranked-ranked.ensures) c.countable_invariant.ensures)
     place at c.saturating_add.result class old _ refl found.1
     (stands_there program ranked.supers.now ranked.ranks.now ranked.order.now ranked.is_hierarchy at class within c.index-ranked-at.is)
     (c.saturating_add.ensures
@@ -33,5 +33,5 @@ pub returns : goal.returns
 returns c =
     let ranked = c.ranked-ranked.result in
     subst (λ (p : List Class). AreTotals p c.loop-place.totals.items) c.ranked-ranked.ensures
-    (all_totals ranked.classes.now ranked.supers.now ranked.ranks.now ranked.order.now ranked.is_hierarchy (subst AreCountable (sym c.ranked-ranked.ensures) c.is_countable.ensures)
+    (all_totals ranked.classes.now ranked.supers.now ranked.ranks.now ranked.order.now ranked.is_hierarchy (subst AreCountable (sym c.ranked-ranked.ensures) c.countable_invariant.ensures)
     c.loop-place.place c.loop-place.totals.items (omega arith) c.loop-place.invariant)

@@ -1,4 +1,4 @@
--- The bytes so far and those to come are all.
+-- The bytes so far, followed by the remaining ones, are all.
 use Rattle.std.proofs.Common.{◌≡◌, [], length}
 use Rattle.jasmin.specs.Denote.{operations}
 use Rattle.code_bytes.specs.Few.{AreFew}

@@ -1,4 +1,4 @@
--- The handlers so far and those to come are all.
+-- The handlers so far, followed by the remaining ones, are all.
 use Rattle.std.proofs.Common.{◌≡◌, ◌++◌, length}
 use Rattle.assembly.specs.CodeOf.{handlers_from}
 use Rattle.code_bytes.proofs.handlers.handlers_of.Given as goal

@@ -1,4 +1,4 @@
--- The cases so far and those to come are all.
+-- The cases so far, followed by the remaining ones, are all.
 use Rattle.std.proofs.Common.{◌≡◌, ◌++◌, drop, map}
 use Rattle.jasmin.specs.Denote.{switch_case}
 use Rattle.code_bytes.proofs.insns.cases_of.Given as goal

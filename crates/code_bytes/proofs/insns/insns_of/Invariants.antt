@@ -1,4 +1,4 @@
--- The instructions so far and those to come are all.
+-- The instructions so far, followed by the remaining ones, are all.
 use Rattle.std.proofs.Common.{◌≡◌, ◌++◌, length}
 use Rattle.jasmin.specs.Denote.{operations}
 use Rattle.assembly.specs.CodeOf.{insns_from}

@@ -1,4 +1,4 @@
--- The targets so far and those to come are all.
+-- The targets so far, followed by the remaining ones, are all.
 use Rattle.std.proofs.Common.{◌≡◌, ◌++◌, drop, map}
 use Rattle.jasmin.specs.Denote.{target}
 use Rattle.code_bytes.proofs.insns.targets_of.Given as goal

@@ -1,4 +1,4 @@
--- The starts so far and those to come are all.
+-- The starts so far, followed by the remaining ones, are all.
 use Rattle.std.proofs.Common.{◌≡◌, ◌++◌, drop}
 use Rattle.code_bytes.proofs.starts.widened.Given as goal
 

@@ -1,4 +1,4 @@
--- Only labels were passed.
+-- All items so far are labels.
 use Rattle.std.proofs.Common.{◌≡◌, length}
 use Rattle.jasmin.specs.Denote.{operations}
 use Rattle.code_bytes.proofs.steps.next_operation.Given as goal

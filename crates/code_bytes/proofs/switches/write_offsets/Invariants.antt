@@ -1,4 +1,4 @@
--- The labels so far have their offsets.
+-- The offsets of the labels so far are written.
 use Rattle.std.proofs.Common.{◌≡◌, ◌++◌, take, flat_map}
 use Rattle.assembly.specs.Sizes.{offset}
 use Rattle.assembly.specs.Bytes.{s4}

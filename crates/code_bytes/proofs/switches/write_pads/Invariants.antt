@@ -1,4 +1,4 @@
--- So many zeros so far.
+-- One zero is written in each iteration.
 use Rattle.std.proofs.Common.{◌≡◌, ◌++◌, replicate}
 use Rattle.code_bytes.proofs.switches.write_pads.Given as goal
 

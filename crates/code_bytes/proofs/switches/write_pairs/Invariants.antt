@@ -1,4 +1,4 @@
--- The pairs so far have their bytes.
+-- The bytes of the pairs so far are written.
 use Rattle.std.proofs.Common.{◌≡◌, ◌++◌, take, flat_map}
 use Rattle.code_bytes.specs.Writing.{pair_bytes}
 use Rattle.code_bytes.proofs.switches.write_pairs.Given as goal

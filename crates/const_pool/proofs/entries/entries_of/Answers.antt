@@ -1,4 +1,4 @@
--- What is left to read stands behind what was read.
+-- The bytes that are left to read follow those that were read.
 use Rattle.std.proofs.Common.{◌∙◌}
 use Rattle.const_pool.proofs.EntryLists.{more_entries, failed_reading, no_more_entries}
 use Rattle.const_pool.proofs.entries.entries_of.Goals as goal

@@ -3,7 +3,7 @@ use Rattle.const_pool.specs.Firsts.{number_at}
 use Rattle.const_pool.specs.Texts.{text_of, first_number}
 use Rattle.const_pool.proofs.scanned.texts_of.Given as goal
 
--- each entry before is done, and each text among them has the least of their numbers
+-- each entry so far has its text's data, and each text among them has the least of their numbers
 abbrev pub invariant-loop-entry : goal.invariant-loop-entry
 invariant-loop-entry l =
     record {

@@ -6,7 +6,7 @@ use Rattle.std.proofs.lemmas.List.{get_or_default}
 use Rattle.debugger.proofs.BreakpointLaws.{not_found, ordered}
 use Rattle.debugger.proofs.breakpoints.find.Goals as goal
 
--- What is read past the end.
+-- A slot to read past the end.
 abbrev no_slot : Slot
 no_slot = record { breakpoint = record { number = 0; method = record { class = 0; method = 0 }; instruction = 0 }; is_deleted = false }
 

@@ -1,4 +1,4 @@
--- The bytes so far are read and taken.
+-- The bytes so far have been read and processed.
 use Rattle.std.proofs.Common.{◌≡◌}
 use Rattle.debugger_script.specs.Taken.{IsUnderWay}
 use Rattle.debugger_script.proofs.script.answer_lines.Given as goal

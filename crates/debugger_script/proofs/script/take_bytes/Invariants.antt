@@ -1,4 +1,4 @@
--- The bytes so far are taken.
+-- The bytes so far have been processed.
 use Rattle.std.proofs.Common.{◌≡◌, take}
 use Rattle.debugger_script.specs.Taken.{HasTaken}
 use Rattle.debugger_script.proofs.script.take_bytes.Given as goal

@@ -1,4 +1,4 @@
--- Behind the first such byte there is no other.
+-- After the first such byte there is no other.
 use Rattle.escapes.proofs.Cutting.{none_behind}
 use Rattle.escapes.proofs.cuts.cut_twice.Goals as goal
 

@@ -1,4 +1,4 @@
--- No member is written, so no field is.
+-- The text is no member's, so it is no field's.
 use Rattle.escapes.proofs.key.field_of.Goals as goal
 
 pub returns-in-None : goal.returns-in-None

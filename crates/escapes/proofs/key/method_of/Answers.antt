@@ -1,4 +1,4 @@
--- No member is written, so no method is.
+-- The text is no member's, so it is no method's.
 use Rattle.escapes.proofs.key.method_of.Goals as goal
 
 pub returns-in-None : goal.returns-in-None

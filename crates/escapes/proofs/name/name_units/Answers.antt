@@ -1,4 +1,4 @@
--- The text writes these units alone, and they are no name of the sort.
+-- The text is that of these units alone, and they are no name of the sort.
 use Rattle.std.proofs.Common.{◌≡◌, sym, ap, ◌∙◌, false}
 use Rattle.std.proofs.lemmas.Bool.{both_ways}
 use Rattle.escapes.specs.Keys.{is_of}

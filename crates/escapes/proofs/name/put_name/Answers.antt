@@ -1,4 +1,4 @@
--- The units so far stand behind the text.
+-- The units so far follow the text.
 use Rattle.std.proofs.Common.{rules, take, ◌∙◌, refl}
 use Rattle.std.specs.String.{string_bytes}
 use Rattle.escapes.specs.Escapes.{spelled}

@@ -1,4 +1,4 @@
--- The units so far are behind the text.
+-- The units so far follow the text.
 use Rattle.std.proofs.Common.{◌≡◌, ◌++◌, take}
 use Rattle.std.specs.String.{string_bytes}
 use Rattle.escapes.specs.Escapes.{spelled}

@@ -1,4 +1,4 @@
--- What is left isn't empty, and no unit stands there.
+-- The rest isn't empty, and begins with no unit.
 use Rattle.escapes.proofs.Spelling.{no_name, not_empty}
 use Rattle.escapes.proofs.name.units_of.Goals as goal
 

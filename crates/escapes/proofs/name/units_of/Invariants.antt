@@ -1,4 +1,4 @@
--- The units so far, as they are written, with what is left are the whole text.
+-- The written units so far, followed by the rest, are the whole text.
 use Rattle.std.proofs.Common.{◌≡◌, ◌++◌, length}
 use Rattle.jvms_file.specs.Texts.{IsText}
 use Rattle.escapes.specs.Escapes.{spelled}

@@ -1,4 +1,4 @@
--- The characters so far are behind the text.
+-- The characters so far follow the text.
 use Rattle.std.proofs.Common.{◌≡◌, ◌++◌, take}
 use Rattle.std.specs.String.{string_bytes}
 use Rattle.escapes.proofs.unit.put_all.Given as goal

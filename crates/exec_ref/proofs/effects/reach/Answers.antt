@@ -3,9 +3,9 @@ use Rattle.std.proofs.Common.{◌≡◌, ℕ, zero, suc, List, [], ◌∷◌, Op
 use Rattle.std.proofs.lemmas.Option.{none-some, same_Some}
 use Rattle.std.specs.Prelude.{IfSome}
 use Rattle.jvms_machine.specs.State.{State, Thread}
-use Rattle.jvms_machine.specs.Actions.{affected, applied_to, changed_to, gone_on, operands_of}
+use Rattle.jvms_machine.specs.Actions.{affected, applied_to, changed_to, thread_after_action, operands_of}
 use Rattle.jvms_machine.proofs.EffectSoundness.{affected_thread}
-use Rattle.machine_parts.specs.Decided.{seen_effect}
+use Rattle.machine_parts.specs.Decided.{effect_value}
 use Rattle.machine_parts.specs.Machine.{Machine, with_state}
 use Rattle.machine_thread.specs.Tops.{Stands}
 use Rattle.exec_ref.proofs.effects.reach.Goals as goal
@@ -15,14 +15,14 @@ index_is [] t thread other is = absurd (none-some thread is)
 index_is (x ∷ threads) zero thread other is = same_Some x thread is
 index_is (x ∷ threads) (suc t) thread other is = index_is threads t thread other is
 
--- The thread that was found is the one that was there before the effect.
+-- The thread that the code finds is the one from before the effect.
 found : (c : goal.After-index_mut) → c.index_mut.result.now ≡ c.requires.ready.0
 found c =
     let m = c.args.parts.now in
     let operands = operands_of (slice_get m.state.threads c.args.t) in
     let threads = ap (λ (x : Machine). x.state.threads) (c.parts.view_is ∙ c.in_ok-affect.ensures.state) in
     let there : slice_get c.parts.inside.threads.items c.args.t ≡ Some c.requires.ready.0 =
-    ap (λ ts. slice_get ts c.args.t) threads ∙ affected_thread m.program m.state c.args.t operands (seen_effect c.args.effect) c.args.t c.requires.ready.0 c.requires.ready.1 in
+    ap (λ ts. slice_get ts c.args.t) threads ∙ affected_thread m.program m.state c.args.t operands (effect_value c.args.effect) c.args.t c.requires.ready.0 c.requires.ready.1 in
     c.index_mut.ensures.value ∙ index_is c.parts.inside.threads.items c.args.t c.requires.ready.0 c.index_mut.result.now there
 
 of_thread : (P : Thread → Type 0) (o : Option Thread) (thread : Thread) → o ≡ Some thread → IfSome o P → P thread
@@ -41,13 +41,13 @@ returns-clause-state c =
     let m = c.args.parts.now in
     let t = c.args.t in
     let operands = operands_of (slice_get m.state.threads t) in
-    let s : State = affected m.program m.state t operands (seen_effect c.args.effect) in
+    let s : State = affected m.program m.state t operands (effect_value c.args.effect) in
     let view = c.parts.view_is ∙ c.in_ok-affect.ensures.state in
     let at : slice_get s.threads t ≡ Some c.requires.ready.0 =
-    affected_thread m.program m.state t operands (seen_effect c.args.effect) t c.requires.ready.0 c.requires.ready.1 in
+    affected_thread m.program m.state t operands (effect_value c.args.effect) t c.requires.ready.0 c.requires.ready.1 in
     let there : slice_get c.parts.inside.threads.items t ≡ Some c.requires.ready.0 = ap (λ (x : Machine). slice_get x.state.threads t) view ∙ at in
     let same : c.index_mut.result.now ≡ c.requires.ready.0 =
     c.index_mut.ensures.value ∙ index_is c.parts.inside.threads.items t c.requires.ready.0 c.index_mut.result.now there in
     ap (λ (x : Machine). with_state x (record x.state { threads = slice_set x.state.threads t c.go_on.new.self })) view
-    ∙ ap (λ (x : Thread). with_state m (record s { threads = slice_set s.threads t x })) (c.go_on.ensures ∙ ap (gone_on c.args.act) same)
-    ∙ sym (ap (λ (o : Option Thread). with_state m (record s { threads = changed_to s.threads t (gone_on c.args.act) o })) at)
+    ∙ ap (λ (x : Thread). with_state m (record s { threads = slice_set s.threads t x })) (c.go_on.ensures ∙ ap (thread_after_action c.args.act) same)
+    ∙ sym (ap (λ (o : Option Thread). with_state m (record s { threads = changed_to s.threads t (thread_after_action c.args.act) o })) at)

@@ -1,4 +1,4 @@
--- The events so far, and those of the choices that are left; and the machine that these lead to.
+-- The events so far, those of the choices that are left, and the machine after these.
 use Rattle.std.proofs.Common.{◌≡◌, ◌+◌, [], ◌++◌, drop}
 use Rattle.machine.specs.Machine.{with_state}
 use Rattle.machine.specs.Runs.{run_of}

@@ -1,8 +1,8 @@
--- The items of the run may be fed, and what explains it is that of the run.
+-- The items of the run may be fed, and the explanation is that of the run.
 use Rattle.std.proofs.Common.{◌≡◌, ◌++◌, Ok, ap, subst, ◌∙◌}
 use Rattle.std.specs.String.{string_bytes}
 use Rattle.machine.specs.Started.{opened}
-use Rattle.program_runs.specs.Shown.{shown_in}
+use Rattle.program_runs.specs.Shown.{view_of_traced}
 use Rattle.program_runs.proofs.ShownRuns.{shown_may_be_fed}
 use Rattle.explaining.specs.EventTurns.{event_turns}
 use Rattle.explaining.specs.Explanations.{program_explanation, stuck_lines, verdict_part}
@@ -12,7 +12,7 @@ use Rattle.explaining.proofs.running.explain_program.Goals as goal
 pub explain_items-requires : goal.explain_items-requires
 explain_items-requires c =
     rw c.items.ensures
-    (λ lines. shown_may_be_fed lines _ _ _ _ _ (shown_in c.in_ok-traced.traced) c.is_program.ensures c.turns.ensures.within c.in_ok-traced.ensures.shown)
+    (λ lines. shown_may_be_fed lines _ _ _ _ _ (view_of_traced c.in_ok-traced.traced) c.program_invariant.ensures c.turns.ensures.within c.in_ok-traced.ensures.shown)
 
 pub returns-clause-explained : goal.returns-clause-explained
 returns-clause-explained c =
@@ -31,5 +31,5 @@ returns-clause-explained c =
     let stuck = c.as_str.ensures.value ∙ replayed.3 ∙ ap (λ cs. stuck_lines first files m cs run.ending.uncaught run.ending.status) c.as_slice-choices.ensures in
     let text = c.in_ok-push_str.ensures.bytes ∙ ap (λ part. part ++ c.as_str.result.now) verdict
     ∙ ap (λ part. verdict_part program first files lines j run.trace (event_turns 1 m run.choices) ++ part) stuck in
-    let told = is_explanation first files lines j c.turns.result c.args.chooser.now c.args.limits program c.args.entry.now replayed.0 (shown_in run) _ replayed.1 c.in_ok-traced.ensures.shown text in
+    let told = is_explanation first files lines j c.turns.result c.args.chooser.now c.args.limits program c.args.entry.now replayed.0 (view_of_traced run) _ replayed.1 c.in_ok-traced.ensures.shown text in
     subst (λ n. program_explanation first files lines j n c.args.chooser.now c.args.limits program c.args.entry.now ≡ Ok (string_bytes c.push_str.new.self)) c.turns.ensures.turns told

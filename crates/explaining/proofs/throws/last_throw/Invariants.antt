@@ -1,4 +1,4 @@
--- The last throw so far, or of the choices that are left.
+-- The last throw so far, or that of the choices that are left.
 use Rattle.std.proofs.Common.{◌≡◌, ◌+◌, drop}
 use Rattle.std.specs.String.{string_bytes}
 use Rattle.explaining.specs.Throws.{last_throw, no_throw}

@@ -1,6 +1,6 @@
 use Rattle.std.proofs.Common.{◌≡◌, ◌+◌, ◌∷◌, drop, refl, sym, subst, rules, arith}
 use Rattle.jvms_machine.specs.Heap.{new_arrays}
-use Rattle.heap.specs.Arrays.{MadeFrom}
+use Rattle.heap.specs.Arrays.{AppendsArrays}
 use Rattle.heap.proofs.ArrayLaws.{leaf, no_parts, parts_begun, part_made, whole}
 use Rattle.heap.proofs.arrays.+make_arrays.Goals as goal
 
@@ -22,8 +22,8 @@ loop-part-preserved t c =
     let some : c.args.rest.now ≡ c.in-Some.next_count.now ∷ c.in-Some.more.now = search rules in
     part_made c.push-2.new.self.items c.loop-part.made.items c.make_arrays.new.made.items (drop 1 c.args.class.now) c.args.rest.now (c.args.reference + 1) c.arrays_made-size.result c.loop-part.part c.loop-part.next _
     c.loop-part.invariant
-    (subst (λ l. MadeFrom c.loop-part.made.items c.make_arrays.new.made.items (new_arrays c.loop-part.next (drop 1 c.args.class.now) l)) (sym some)
-    (subst (λ k. MadeFrom c.loop-part.made.items c.make_arrays.new.made.items (new_arrays c.loop-part.next k (c.in-Some.next_count.now ∷ c.in-Some.more.now))) c.in_ok-component.ensures c.in_ok-make_arrays.ensures))
+    (subst (λ l. AppendsArrays c.loop-part.made.items c.make_arrays.new.made.items (new_arrays c.loop-part.next (drop 1 c.args.class.now) l)) (sym some)
+    (subst (λ k. AppendsArrays c.loop-part.made.items c.make_arrays.new.made.items (new_arrays c.loop-part.next k (c.in-Some.next_count.now ∷ c.in-Some.more.now))) c.in_ok-component.ensures c.in_ok-make_arrays.ensures))
     refl
 
 pub returns : goal.returns

@@ -1,7 +1,7 @@
 use Rattle.heap.proofs.ChainLaws.{HasPut}
 use Rattle.heap.proofs.first_values.push_values.Given as goal
 
--- those of the fields from here on
+-- the values of the fields from here on
 abbrev pub invariant-loop-left : goal.invariant-loop-left
 invariant-loop-left l = HasPut l.fields l.initial.values.items l.values.items l.left
 

@@ -5,7 +5,7 @@ use Rattle.heap.specs.FirstValues.{values_down}
 use Rattle.heap.proofs.ChainLaws.{Leaves}
 use Rattle.heap.proofs.first_values.put_by_name.Given as goal
 
--- what is left to put
+-- the values that are left to append
 abbrev pub invariant-loop-most : goal.invariant-loop-most
 invariant-loop-most l = Leaves l.program (l.initial.values.items ++ flat_map values_down (chain l.program l.fn.name)) l.values.items l.most l.name
 

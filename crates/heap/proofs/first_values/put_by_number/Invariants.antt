@@ -6,6 +6,6 @@ use Rattle.heap.specs.Held.{name_at}
 use Rattle.heap.proofs.ChainLaws.{LeavesAt}
 use Rattle.heap.proofs.first_values.put_by_number.Given as goal
 
--- what is left to put
+-- the values that are left to append
 abbrev pub invariant-loop : goal.invariant-loop
 invariant-loop l = LeavesAt l.program (l.initial.values.items ++ flat_map values_down (chain l.program (name_at l.program l.class))) l.values.items l.at

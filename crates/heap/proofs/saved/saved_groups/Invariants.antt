@@ -3,7 +3,7 @@ use Rattle.std.specs.List.{AllByRecursion}
 use Rattle.heap.specs.Held.{shown, IsKept}
 use Rattle.heap.proofs.saved.saved_groups.Given as goal
 
--- the groups so far and the objects to come are all
+-- the groups so far, followed by the objects that are left, are all
 abbrev pub invariant-loop-rest : goal.invariant-loop-rest
 invariant-loop-rest l = record {
   shown : map (shown l.program) (flat_map (λ g. g) l.groups.items) ++ map (shown l.program) l.rest ≡ map (shown l.program) l.objects;

@@ -1,4 +1,4 @@
--- Each turn reads the unit that reading reads there.
+-- Each iteration reads the next unit of the definition.
 use Rattle.std.proofs.Common.{◌≡◌, ◌+◌, ◌<◌, [], ◌∷◌, ◌++◌, length, sym, arith}
 use Rattle.std.proofs.lemmas.List.{length-append}
 use Rattle.jasmin.specs.Lexing.{units_from}

@@ -1,4 +1,4 @@
--- What the exact clause says, in the words of the grammar.
+-- Derives the clauses about the grammar from the exact clause.
 use Rattle.std.proofs.Common.{subst}
 use Rattle.jasmin.specs.Sources.{units_of}
 use Rattle.jasmin.proofs.Tokens.{spelled_is_lexed}

@@ -1,4 +1,4 @@
--- Each turn reads the token that reading reads there.
+-- Each iteration reads the next token of the definition.
 use Rattle.std.proofs.Common.{Vec, Global, Bor, true, ℕ, List, ◌≡◌, ◌+◌, ◌<◌, ◌≤◌, false, [], ◌∷◌, ◌++◌, length, sym, ap, arith}
 use Rattle.std.proofs.lemmas.Bool.{eqb-true, eqb-false}
 use Rattle.std.proofs.lemmas.List.{length-append, nil_from_length}

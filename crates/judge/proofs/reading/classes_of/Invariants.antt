@@ -1,4 +1,4 @@
--- What was read, and what is still to be read, are what all files come to.
+-- The classes that were read and the remaining ones are the result for all files.
 use Rattle.std.proofs.Common.{◌≡◌, drop}
 use Rattle.judge.specs.Programs.{classes_from}
 use Rattle.judge.proofs.Classes.{still}

@@ -1,4 +1,4 @@
--- An entry's arguments are ints, or the empty array of the opening.
+-- An entry's arguments are ints, longs, or the empty array of the opening.
 use Rattle.jvms_machine.proofs.StartLaws.{entry_is_start}
 use Rattle.jvms_machine.proofs.soundness.an_entry_gives_a_start.Goals as goal
 

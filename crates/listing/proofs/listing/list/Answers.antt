@@ -1,5 +1,5 @@
 use Rattle.std.proofs.Common.{ap, sym, ◌∙◌}
-use Rattle.listings.specs.TreeOf.{tree_of}
+use Rattle.listing_spec.specs.TreeOf.{tree_of}
 use Rattle.listing.proofs.Meaning.{is_listable}
 use Rattle.listing.proofs.listing.list.Goals as goal
 

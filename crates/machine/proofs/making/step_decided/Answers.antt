@@ -7,7 +7,7 @@ use Rattle.machine_parts.specs.Machine.{decision_of}
 use Rattle.machine.proofs.Made.{needs_none}
 use Rattle.machine.proofs.making.step_decided.Goals as goal
 
--- What pushes no frame, makes no object and gives no item is always made.
+-- A turn that pushes no frame, creates no object, gives no item and prints nothing is never refused.
 never_refused : {A E : Type 0} (r : Result A E) (e : E) → IsOk r → r ≡ Err e → {P : Type 0} → P
 never_refused {A} {E} r e ok is = let refused : false ≡ true = sym (ap (λ (x : Result A E). is_ok x) is) ∙ ok in cc
 

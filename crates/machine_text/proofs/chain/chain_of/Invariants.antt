@@ -1,4 +1,4 @@
--- The classes that are left follow those so far.
+-- The chain is that of the classes before the level, followed by the rest.
 use Rattle.std.proofs.Common.{◌≡◌, ◌-◌, ◌++◌, length, map}
 use Rattle.std.specs.Option.{option_copied}
 use Rattle.jvms_program.specs.Resolution.{chain}

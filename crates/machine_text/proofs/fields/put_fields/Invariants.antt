@@ -1,4 +1,4 @@
--- The fields so far.
+-- The lines are those of the fields before the index.
 use Rattle.std.proofs.Common.{◌≡◌, ◌++◌, take, flat_map}
 use Rattle.std.specs.List.{filter}
 use Rattle.std.specs.String.{string_bytes}

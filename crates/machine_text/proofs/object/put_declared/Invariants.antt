@@ -1,4 +1,4 @@
--- The classes so far.
+-- The lines are those of the classes before the index.
 use Rattle.std.proofs.Common.{◌≡◌, ◌++◌, take, flat_map, map}
 use Rattle.std.specs.String.{string_bytes}
 use Rattle.machine_text.specs.declared.fields.Keeper.TheVariants as keeper

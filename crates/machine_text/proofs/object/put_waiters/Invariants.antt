@@ -1,4 +1,4 @@
--- The threads so far.
+-- The text is that of the threads before the index.
 use Rattle.std.proofs.Common.{◌≡◌, ◌++◌, take, flat_map}
 use Rattle.std.specs.String.{string_bytes}
 use Rattle.machine_text.specs.Objects.{waiter_text}

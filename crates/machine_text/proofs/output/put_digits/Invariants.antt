@@ -1,4 +1,4 @@
--- The bytes so far.
+-- The text is that of the bytes before the index.
 use Rattle.std.proofs.Common.{◌≡◌, ◌++◌, take, flat_map}
 use Rattle.std.specs.String.{string_bytes}
 use Rattle.machine_text.specs.Objects.{byte_text}

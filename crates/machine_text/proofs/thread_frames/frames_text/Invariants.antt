@@ -1,4 +1,4 @@
--- The frames that are left follow those so far.
+-- The lines of the frames before the depth are followed by the rest.
 use Rattle.std.proofs.Common.{◌≡◌, ◌++◌, drop, flat_map}
 use Rattle.std.specs.String.{string_bytes}
 use Rattle.machine.specs.Views.{thread_at}

@@ -1,4 +1,4 @@
--- The threads that are left follow those so far.
+-- The lines of the threads before the number are followed by the rest.
 use Rattle.std.proofs.Common.{◌≡◌, ◌++◌, drop, flat_map}
 use Rattle.std.specs.List.{enumerate_from}
 use Rattle.std.specs.String.{string_bytes}

@@ -1,4 +1,4 @@
--- The values so far.
+-- The text is that of the values before the index.
 use Rattle.std.proofs.Common.{◌≡◌, ◌++◌, take}
 use Rattle.std.specs.String.{string_bytes}
 use Rattle.machine_text.specs.Values.{values_text}

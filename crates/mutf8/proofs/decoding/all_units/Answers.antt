@@ -1,4 +1,4 @@
--- Each turn reads the unit that decoding reads there.
+-- Each iteration decodes the unit that the definition decodes there.
 use Rattle.std.proofs.Common.{◌+◌, ◌<◌, ◌≡◌, [], ◌++◌, ◌∷◌, length, sym, arith}
 use Rattle.std.proofs.lemmas.Bool.{eqb-true, eqb-false}
 use Rattle.std.proofs.lemmas.List.{length-append, nil_from_length}

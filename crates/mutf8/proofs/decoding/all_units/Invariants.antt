@@ -1,4 +1,4 @@
--- What is still to be decoded completes what was read, and no byte gives two units.
+-- The units that are still to be decoded complete those so far, and no byte gives two units.
 use Rattle.std.proofs.Common.{◌≡◌, ◌+◌, ◌≤◌, length}
 use Rattle.jvms_file.specs.Texts.{decoded}
 use Rattle.mutf8.proofs.Loop.{still}

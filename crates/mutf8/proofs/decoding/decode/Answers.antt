@@ -1,4 +1,4 @@
--- What the exact clause says, in the words of the spelling.
+-- The exact clause, stated by the spelling.
 use Rattle.std.proofs.Common.{ap, subst, ◌∙◌}
 use Rattle.jvms_file.specs.Texts.{decoded}
 use Rattle.jvms_file.proofs.TextLaws.{encoded_is_decoded}

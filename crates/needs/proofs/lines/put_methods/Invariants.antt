@@ -1,4 +1,4 @@
--- The lines of the methods that are left follow those so far.
+-- The lines of the remaining methods follow those so far.
 use Rattle.std.proofs.Common.{◌≡◌, ◌++◌, drop, flat_map}
 use Rattle.std.specs.List.{enumerate_from}
 use Rattle.std.specs.String.{string_bytes}

@@ -1,4 +1,4 @@
--- So many kinds so far, and room for those to come.
+-- The kinds so far are appended, and there is capacity for the others.
 use Rattle.std.proofs.Common.{◌≡◌, ◌≤◌, ◌+◌, ◌-◌, ◌++◌, replicate}
 use Rattle.std.specs.Prelude.{vec_capacity, vec_len}
 use Rattle.outcome_list.specs.declared.kind.Kind.TheVariants as kind

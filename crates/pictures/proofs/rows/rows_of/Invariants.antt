@@ -1,4 +1,4 @@
--- The rows so far, and those that are left.
+-- The rows so far, and those that remain.
 use Rattle.pictures.proofs.RowLaws.{AreRows}
 use Rattle.pictures.proofs.rows.rows_of.Given as goal
 

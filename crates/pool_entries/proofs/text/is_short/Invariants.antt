@@ -1,4 +1,4 @@
--- The bytes of the units so far, and those that are left.
+-- The bytes of the units so far, and of those that are left.
 use Rattle.std.proofs.Common.{◌≡◌, ◌+◌, length, take}
 use Rattle.jvms_file.specs.Texts.{encoded}
 use Rattle.pool_entries.proofs.text.is_short.Given as goal

@@ -1,4 +1,5 @@
--- The bytes so far with those of the units that are left are all the bytes, and what was there before is still in front.
+-- The bytes so far, followed by those of the units that are left, are all the bytes. The bytes before the call are
+-- still in front.
 use Rattle.std.proofs.Common.{◌≡◌, ◌++◌, length, take}
 use Rattle.jvms_machine.specs.Output.{text_bytes}
 use Rattle.printing.proofs.characters.put_characters.Given as goal

@@ -1,4 +1,4 @@
--- The turns so far were taken and checked.
+-- The turns before this round were taken and checked.
 use Rattle.std.proofs.Common.{◌≡◌, ◌-◌, []}
 use Rattle.program_runs.proofs.Checked.{AreTaken}
 use Rattle.program_runs.proofs.checking.check_turns.Given as goal

@@ -1,4 +1,4 @@
--- The checker was fed the items so far.
+-- The checker was fed the items before the index.
 use Rattle.std.proofs.Common.{◌≡◌, take}
 use Rattle.program_runs.specs.Judgements.{with_items}
 use Rattle.program_runs.proofs.feeding.feed_items.Given as goal

@@ -1,4 +1,4 @@
--- What an item says of a thread's methods, by cases on the item.
+-- How an item changes a thread's methods, by cases on the item.
 use Rattle.std.proofs.Common.{◌≡◌, sym, ap, ◌∙◌}
 use Rattle.velodrome.specs.Transactions.{is_event}
 use Rattle.report.proofs.MarkLaws.{entered, exited, happened, left_alone}

@@ -1,11 +1,11 @@
--- The methods are those of the walk of the items so far, from which the items that are left lead on.
+-- The methods are those of the trace state of the items so far, from which the remaining items continue.
 use Rattle.std.proofs.Common.{◌≡◌, drop, map, reverse}
 use Rattle.std.specs.List.{fold}
 use Rattle.velodrome.specs.Specification.{Specification}
-use Rattle.velodrome.specs.Transactions.{Walk, walk, walked_on}
+use Rattle.velodrome.specs.Transactions.{TraceState, walk, state_after_item}
 use Rattle.report.proofs.actor.open_methods.Given as goal
 
 abbrev pub invariant-loop-item : goal.invariant-loop-item
 invariant-loop-item l =
-    (lines : Specification) → (w : Walk) × (reverse (map (λ m. m.now) l.methods.items) ≡ (w.courses l.thread).methods)
-    × (fold (walked_on lines) w (drop l.item-index l.items) ≡ walk lines l.items)
+    (lines : Specification) → (w : TraceState) × (reverse (map (λ m. m.now) l.methods.items) ≡ (w.courses l.thread).methods)
+    × (fold (state_after_item lines) w (drop l.item-index l.items) ≡ walk lines l.items)

@@ -5,7 +5,7 @@ use Rattle.std.proofs.lemmas.List.{append_assoc}
 use Rattle.report.specs.CycleTexts.{rest_line}
 use Rattle.report.proofs.cycle.put_rest.Goals as goal
 
--- The line of some that are left.
+-- The line of some transactions that are left.
 some_rest : (n : ℕ) → 0 < n → rest_line n ≡ codes "and " ++ decimal n ++ codes " more transactions\n"
 some_rest zero below = absurd (omega arith)
 some_rest (suc n) below = refl

@@ -5,7 +5,7 @@ use Rattle.std.specs.String.{string_bytes}
 use Rattle.report.specs.CycleTexts.{transaction_line}
 use Rattle.report.proofs.cycle.put_transactions.Goals as goal
 
--- The lines of one transaction more.
+-- The lines of one more transaction.
 one_more : (f : ℕ → List ℕ) (xs : List ℕ) (k : ℕ) → k < length xs → flat_map f (take (k + 1) xs) ≡ flat_map f (take k xs) ++ f (get_or xs k 0)
 one_more f xs k below =
     ap (flat_map f) (take_more xs k 0 below) ∙ flat_map-append f (take k xs) (get_or xs k 0 ∷ [])

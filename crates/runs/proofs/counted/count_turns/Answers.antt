@@ -16,66 +16,66 @@ loop-made-init c =
 
 pub loop-made-preserved : goal.loop-made-preserved
 loop-made-preserved c =
-    let now = counted_on _ _ _ _ _ _ _ _ _ _ _ _ _ c.loop-made.invariant.counted c.take_turns_on-on.ensures.most c.take_turns_on-on.ensures.taken in
-    let below : c.loop-made.made + c.take_turns_on-on.result.times < c.args.most = fewer _ _ _ c.loop-made-test.true c.take_turns_on-on.ensures.most c.if-made-most.false in
-    let is : IsTurnOf c.take_turns_on-on.new.machine c.take_turns_on-on.new.chooser c.take_turns_on-on.new.recording c.in-Some._taken c.take_turn.new.machine c.take_turn.new.chooser c.take_turn.new.recording = search rules in
+    let now = counted_on _ _ _ _ _ _ _ _ _ _ _ _ _ c.loop-made.invariant.counted c.take_consecutive_turns-on.ensures.most c.take_consecutive_turns-on.ensures.taken in
+    let below : c.loop-made.made + c.take_consecutive_turns-on.result.times < c.args.most = fewer _ _ _ c.loop-made-test.true c.take_consecutive_turns-on.ensures.most c.if-made-most.false in
+    let is : IsTurnOf c.take_consecutive_turns-on.new.machine c.take_consecutive_turns-on.new.chooser c.take_consecutive_turns-on.new.recording c.in-Some._taken c.take_turn.new.machine c.take_turn.new.chooser c.take_turn.new.recording = search rules in
     record { counted = counted_next _ _ _ _ _ _ _ _ _ _ _ _ now below is; enabled = search rules }
 
 pub returns-then-made-most-clause-count : goal.returns-then-made-most-clause-count
 returns-then-made-most-clause-count c =
-    let now = counted_on _ _ _ _ _ _ _ _ _ _ _ _ _ c.loop-made.invariant.counted c.take_turns_on-on.ensures.most c.take_turns_on-on.ensures.taken in
-    let reached : c.args.most ≤ c.loop-made.made + c.take_turns_on-on.result.times = as_many _ _ c.if-made-most.true in
+    let now = counted_on _ _ _ _ _ _ _ _ _ _ _ _ _ c.loop-made.invariant.counted c.take_consecutive_turns-on.ensures.most c.take_consecutive_turns-on.ensures.taken in
+    let reached : c.args.most ≤ c.loop-made.made + c.take_consecutive_turns-on.result.times = as_many _ _ c.if-made-most.true in
     (counted_all_made _ _ _ _ _ _ _ _ now reached).many
 
 pub returns-then-made-most-clause-state : goal.returns-then-made-most-clause-state
 returns-then-made-most-clause-state c =
-    let now = counted_on _ _ _ _ _ _ _ _ _ _ _ _ _ c.loop-made.invariant.counted c.take_turns_on-on.ensures.most c.take_turns_on-on.ensures.taken in
-    let reached : c.args.most ≤ c.loop-made.made + c.take_turns_on-on.result.times = as_many _ _ c.if-made-most.true in
+    let now = counted_on _ _ _ _ _ _ _ _ _ _ _ _ _ c.loop-made.invariant.counted c.take_consecutive_turns-on.ensures.most c.take_consecutive_turns-on.ensures.taken in
+    let reached : c.args.most ≤ c.loop-made.made + c.take_consecutive_turns-on.result.times = as_many _ _ c.if-made-most.true in
     (counted_all_made _ _ _ _ _ _ _ _ now reached).state
 
 pub returns-then-made-most-clause-items : goal.returns-then-made-most-clause-items
 returns-then-made-most-clause-items c =
-    let now = counted_on _ _ _ _ _ _ _ _ _ _ _ _ _ c.loop-made.invariant.counted c.take_turns_on-on.ensures.most c.take_turns_on-on.ensures.taken in
-    let reached : c.args.most ≤ c.loop-made.made + c.take_turns_on-on.result.times = as_many _ _ c.if-made-most.true in
+    let now = counted_on _ _ _ _ _ _ _ _ _ _ _ _ _ c.loop-made.invariant.counted c.take_consecutive_turns-on.ensures.most c.take_consecutive_turns-on.ensures.taken in
+    let reached : c.args.most ≤ c.loop-made.made + c.take_consecutive_turns-on.result.times = as_many _ _ c.if-made-most.true in
     (counted_all_made _ _ _ _ _ _ _ _ now reached).kept
 
 pub returns-then-made-most-clause-chooser : goal.returns-then-made-most-clause-chooser
 returns-then-made-most-clause-chooser c =
-    let now = counted_on _ _ _ _ _ _ _ _ _ _ _ _ _ c.loop-made.invariant.counted c.take_turns_on-on.ensures.most c.take_turns_on-on.ensures.taken in
-    let reached : c.args.most ≤ c.loop-made.made + c.take_turns_on-on.result.times = as_many _ _ c.if-made-most.true in
+    let now = counted_on _ _ _ _ _ _ _ _ _ _ _ _ _ c.loop-made.invariant.counted c.take_consecutive_turns-on.ensures.most c.take_consecutive_turns-on.ensures.taken in
+    let reached : c.args.most ≤ c.loop-made.made + c.take_consecutive_turns-on.result.times = as_many _ _ c.if-made-most.true in
     chooser_all_made _ _ _ _ _ _ _ _ now reached
 
 pub returns-in_default-clause-count : goal.returns-in_default-clause-count
 returns-in_default-clause-count c =
-    let now = counted_on _ _ _ _ _ _ _ _ _ _ _ _ _ c.loop-made.invariant.counted c.take_turns_on-on.ensures.most c.take_turns_on-on.ensures.taken in
-    let none : choice_of c.take_turns_on-on.new.chooser c.take_turns_on-on.new.machine ≡ None = search rules in
+    let now = counted_on _ _ _ _ _ _ _ _ _ _ _ _ _ c.loop-made.invariant.counted c.take_consecutive_turns-on.ensures.most c.take_consecutive_turns-on.ensures.taken in
+    let none : choice_of c.take_consecutive_turns-on.new.chooser c.take_consecutive_turns-on.new.machine ≡ None = search rules in
     (counted_all_given _ _ _ _ _ _ _ _ now none).many
 
 pub returns-in_default-clause-state : goal.returns-in_default-clause-state
 returns-in_default-clause-state c =
-    let now = counted_on _ _ _ _ _ _ _ _ _ _ _ _ _ c.loop-made.invariant.counted c.take_turns_on-on.ensures.most c.take_turns_on-on.ensures.taken in
-    let none : choice_of c.take_turns_on-on.new.chooser c.take_turns_on-on.new.machine ≡ None = search rules in
-    let same : c.take_turn.new.machine ≡ c.take_turns_on-on.new.machine = search rules in
+    let now = counted_on _ _ _ _ _ _ _ _ _ _ _ _ _ c.loop-made.invariant.counted c.take_consecutive_turns-on.ensures.most c.take_consecutive_turns-on.ensures.taken in
+    let none : choice_of c.take_consecutive_turns-on.new.chooser c.take_consecutive_turns-on.new.machine ≡ None = search rules in
+    let same : c.take_turn.new.machine ≡ c.take_consecutive_turns-on.new.machine = search rules in
     same ∙ (counted_all_given _ _ _ _ _ _ _ _ now none).state
 
 pub returns-in_default-clause-items : goal.returns-in_default-clause-items
 returns-in_default-clause-items c =
-    let now = counted_on _ _ _ _ _ _ _ _ _ _ _ _ _ c.loop-made.invariant.counted c.take_turns_on-on.ensures.most c.take_turns_on-on.ensures.taken in
-    let none : choice_of c.take_turns_on-on.new.chooser c.take_turns_on-on.new.machine ≡ None = search rules in
-    let same : c.take_turn.new.recording ≡ c.take_turns_on-on.new.recording = search rules in
+    let now = counted_on _ _ _ _ _ _ _ _ _ _ _ _ _ c.loop-made.invariant.counted c.take_consecutive_turns-on.ensures.most c.take_consecutive_turns-on.ensures.taken in
+    let none : choice_of c.take_consecutive_turns-on.new.chooser c.take_consecutive_turns-on.new.machine ≡ None = search rules in
+    let same : c.take_turn.new.recording ≡ c.take_consecutive_turns-on.new.recording = search rules in
     same ∙ (counted_all_given _ _ _ _ _ _ _ _ now none).kept
 
 pub returns-in_default-clause-chooser : goal.returns-in_default-clause-chooser
 returns-in_default-clause-chooser c =
-    let now = counted_on _ _ _ _ _ _ _ _ _ _ _ _ _ c.loop-made.invariant.counted c.take_turns_on-on.ensures.most c.take_turns_on-on.ensures.taken in
-    let below : c.loop-made.made + c.take_turns_on-on.result.times < c.args.most = fewer _ _ _ c.loop-made-test.true c.take_turns_on-on.ensures.most c.if-made-most.false in
-    let none : choice_of c.take_turns_on-on.new.chooser c.take_turns_on-on.new.machine ≡ None = search rules in
-    let later : c.take_turn.new.chooser ≡ chooser_after c.take_turns_on-on.new.chooser c.take_turns_on-on.new.machine = search rules in
+    let now = counted_on _ _ _ _ _ _ _ _ _ _ _ _ _ c.loop-made.invariant.counted c.take_consecutive_turns-on.ensures.most c.take_consecutive_turns-on.ensures.taken in
+    let below : c.loop-made.made + c.take_consecutive_turns-on.result.times < c.args.most = fewer _ _ _ c.loop-made-test.true c.take_consecutive_turns-on.ensures.most c.if-made-most.false in
+    let none : choice_of c.take_consecutive_turns-on.new.chooser c.take_consecutive_turns-on.new.machine ≡ None = search rules in
+    let later : c.take_turn.new.chooser ≡ chooser_after c.take_consecutive_turns-on.new.chooser c.take_consecutive_turns-on.new.machine = search rules in
     chooser_all_given _ _ _ _ _ _ _ _ _ now below none later
 
 pub returns-in_err-_taken-clause-broken : goal.returns-in_err-_taken-clause-broken
 returns-in_err-_taken-clause-broken c =
-    let now = counted_on _ _ _ _ _ _ _ _ _ _ _ _ _ c.loop-made.invariant.counted c.take_turns_on-on.ensures.most c.take_turns_on-on.ensures.taken in
+    let now = counted_on _ _ _ _ _ _ _ _ _ _ _ _ _ c.loop-made.invariant.counted c.take_consecutive_turns-on.ensures.most c.take_consecutive_turns-on.ensures.taken in
     let failed = err_from_is_err_and c.from_residual.result c.from_residual.ensures.1 in
     rw (failed.1, c.in_err-_taken.ensures.kept, c.in_err-_taken.ensures.no_items)
     (counted_broken _ _ _ _ _ _ _ _ now)

@@ -1,4 +1,4 @@
--- A chain's first event is put behind the numbers, and the chain goes on.
+-- The chain's first event is appended to the numbers, and the chain continues.
 use Rattle.std.proofs.Common.{◌≡◌, ◌+◌, ◌++◌, ◌∷◌, [], ℕ, List, suc, append_assoc, append-nil, add-one, sym, ap, ◌∙◌}
 use Rattle.serial_order.proofs.Following.{chain_ends, chain_goes_on}
 use Rattle.serial_order.proofs.numbers.push_chain.Goals as goal

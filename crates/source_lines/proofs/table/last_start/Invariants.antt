@@ -1,4 +1,4 @@
--- The last start so far.
+-- The latest start so far.
 use Rattle.std.proofs.Common.{◌≡◌, None, take, flat_map}
 use Rattle.std.specs.List.{fold}
 use Rattle.source_lines.specs.SourceLines.{later_start, starts_in}

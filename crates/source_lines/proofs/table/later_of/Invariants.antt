@@ -1,4 +1,4 @@
--- What is left is read from the later start of what was read.
+-- The remaining entries are read from the latest start so far.
 use Rattle.std.proofs.Common.{◌≡◌, ◌*◌, ◌-◌, length}
 use Rattle.std.specs.List.{fold}
 use Rattle.source_lines.specs.SourceLines.{later_start, line_starts}

@@ -1,6 +1,6 @@
--- The words so far, with those that are left of the table.
+-- The words so far, followed by those of the rest of the table, are all.
 use Rattle.std.proofs.Common.{◌≡◌, ◌++◌, length, map}
-use Rattle.listings.specs.Printed.{access_names}
+use Rattle.listing_spec.specs.Printed.{access_names}
 use Rattle.source_text.specs.Words.{units_in}
 use Rattle.source_text.proofs.access.push_words.Given as goal
 

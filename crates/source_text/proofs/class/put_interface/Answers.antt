@@ -1,4 +1,4 @@
--- The name is what its slice has.
+-- The name is the content of its slice.
 use Rattle.source_text.proofs.class.put_interface.Goals as goal
 
 pub returns : goal.returns

@@ -1,7 +1,7 @@
--- The lines so far.
+-- The lines so far are written.
 use Rattle.std.proofs.Common.{◌≡◌, ◌++◌, [], ◌∷◌, take, flat_map}
 use Rattle.std.specs.Prelude.{codes}
-use Rattle.listings.specs.Printed.{joined}
+use Rattle.listing_spec.specs.Printed.{joined}
 use Rattle.source_text.specs.Lines.{ended}
 use Rattle.source_text.proofs.class.put_interfaces.Given as goal
 

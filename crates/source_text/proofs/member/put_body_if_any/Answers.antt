@@ -1,4 +1,4 @@
--- A method without code has no lines there.
+-- A method without code has no such lines.
 use Rattle.std.proofs.Common.{sym, ◌∙◌}
 use Rattle.std.proofs.lemmas.List.{append-nil}
 use Rattle.source_text.proofs.Methods.{no_body}

@@ -1,4 +1,4 @@
--- The names are what their slices have.
+-- The names are the contents of their slices.
 use Rattle.source_text.proofs.member.put_catch.Goals as goal
 
 pub returns : goal.returns

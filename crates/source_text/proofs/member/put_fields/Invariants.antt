@@ -1,6 +1,6 @@
--- The lines so far.
+-- The lines so far are written.
 use Rattle.std.proofs.Common.{◌≡◌, ◌++◌, take, flat_map}
-use Rattle.listings.specs.Printed.{field_line}
+use Rattle.listing_spec.specs.Printed.{field_line}
 use Rattle.source_text.specs.Lines.{ended}
 use Rattle.source_text.proofs.member.put_fields.Given as goal
 

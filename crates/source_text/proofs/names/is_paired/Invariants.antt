@@ -1,6 +1,6 @@
--- What is left is paired where all is.
+-- The rest is paired exactly if all units are.
 use Rattle.std.proofs.Common.{◌≡◌, length}
-use Rattle.listings.specs.Printable.{is_paired}
+use Rattle.listing_spec.specs.Printable.{is_paired}
 use Rattle.source_text.proofs.names.is_paired.Given as goal
 
 abbrev pub invariant-loop-rest : goal.invariant-loop-rest

@@ -1,4 +1,4 @@
--- What is paired is decoded, and the text has these units.
+-- Paired units are decoded, and the text has these units.
 use Rattle.std.specs.String.{string_bytes}
 use Rattle.std.specs.Char.Utf16.{has_unpaired_surrogate}
 use Rattle.std.proofs.lemmas.Str.{IsUtf8-string_bytes}

@@ -1,9 +1,9 @@
--- The lines of the tree are plain, so that their units are a text's and give its lines again.
+-- The lines of the tree are plain, so their units are those of a text, and the text has these lines.
 use Rattle.std.proofs.Common.{◌≡◌, ℕ, List, ◌∙◌, subst}
 use Rattle.std.specs.Result.{IfOk}
 use Rattle.std.specs.String.{string_bytes}
 use Rattle.jasmin.specs.Sources.{units_of}
-use Rattle.listings.specs.Printed.{printed}
+use Rattle.listing_spec.specs.Printed.{printed}
 use Rattle.source_text.proofs.Halves.{lines_paired}
 use Rattle.source_text.proofs.PlainTree.{printed_plain}
 use Rattle.source_text.proofs.TextLines.{lines_of_text}

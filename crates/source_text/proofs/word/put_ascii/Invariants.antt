@@ -1,4 +1,4 @@
--- The bytes so far.
+-- The bytes so far are written.
 use Rattle.std.proofs.Common.{◌≡◌, ◌++◌, take}
 use Rattle.source_text.proofs.word.put_ascii.Given as goal
 

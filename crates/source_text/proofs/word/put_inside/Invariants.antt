@@ -1,6 +1,6 @@
 -- The units so far are escaped.
 use Rattle.std.proofs.Common.{◌≡◌, ◌++◌, take, flat_map}
-use Rattle.listings.specs.Printed.{escaped}
+use Rattle.listing_spec.specs.Printed.{escaped}
 use Rattle.source_text.proofs.word.put_inside.Given as goal
 
 abbrev pub invariant-loop-unit : goal.invariant-loop-unit

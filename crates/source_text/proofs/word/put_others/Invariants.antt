@@ -1,4 +1,4 @@
--- The words so far stand behind spaces.
+-- The words so far are written, each after a space.
 use Rattle.std.proofs.Common.{◌≡◌, ◌++◌, ◌∷◌, take, flat_map}
 use Rattle.source_text.specs.Words.{units_in}
 use Rattle.source_text.proofs.word.put_others.Given as goal

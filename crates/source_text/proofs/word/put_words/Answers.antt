@@ -1,4 +1,4 @@
--- No word, or the first and those behind it.
+-- There is no word, or the first is followed by the others.
 use Rattle.std.proofs.Common.{sym}
 use Rattle.std.proofs.lemmas.List.{append-nil}
 use Rattle.source_text.proofs.Joined.{no_words, some_words}

@@ -1,4 +1,4 @@
--- A write goes on behind what was written before.
+-- The next write begins after the bytes that were written.
 use Rattle.trace.proofs.Writing.{appended_more, appended_no_more, within}
 use Rattle.trace.proofs.bytes.write_whole.Goals as goal
 use Rattle.trace.proofs.bytes.write_whole.Goals.{in-Ok, in-Err+else-ne}

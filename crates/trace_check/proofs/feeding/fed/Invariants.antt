@@ -1,4 +1,4 @@
--- The items so far were taken; of what is left the first that isn't is the first of all.
+-- The items so far were accepted, and the first refused item of the rest is the first of all.
 use Rattle.std.proofs.Common.{◌≡◌, ◌+◌, drop, take}
 use Rattle.atom_graph.specs.Checking.{Fed}
 use Rattle.trace_check.specs.Checks.{fed_nothing, first_refused}

@@ -1,4 +1,4 @@
--- The parts are those of the only item that the line could write.
+-- The parts are those of the only item that the line could be.
 use Rattle.std.proofs.lemmas.Result.{IfOk-weaker}
 use Rattle.escapes.specs.Readings.{IsReadAs}
 use Rattle.trace_text.specs.Items.{IsItem, item_text, touched_text}

@@ -1,4 +1,3 @@
--- The law.
 use Rattle.trace_text.proofs.OneReading.{one_fault}
 use Rattle.trace_text.proofs.laws.a_text_has_one_first_fault.Goals as goal
 

@@ -1,4 +1,3 @@
--- The law.
 use Rattle.trace_text.proofs.OneReading.{one_trace}
 use Rattle.trace_text.proofs.laws.a_text_is_of_one_trace.Goals as goal
 

@@ -1,4 +1,3 @@
--- The law.
 use Rattle.trace_text.proofs.OneReading.{read_again}
 use Rattle.trace_text.proofs.laws.what_is_written_is_read_again.Goals as goal
 

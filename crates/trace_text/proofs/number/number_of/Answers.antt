@@ -1,4 +1,4 @@
--- Digit by digit.
+-- Each digit is added to the number.
 use Rattle.std.proofs.Common.{suc, length, ap, ◌∙◌, sym, arith}
 use Rattle.std.specs.Fmt.{decimal}
 use Rattle.trace_text.proofs.Numbers.{not_of_nothing, not_of_byte, not_of_leading_zero, not_of_large, first_digit, next_digit, whole_number}

@@ -1,4 +1,4 @@
--- The digits so far are those of the number so far.
+-- The digits so far spell the number so far.
 use Rattle.std.proofs.Common.{◌≡◌, suc, ◌<◌, ◌^◌, take}
 use Rattle.std.specs.Fmt.{decimal}
 use Rattle.trace_text.proofs.number.number_of.Given as goal

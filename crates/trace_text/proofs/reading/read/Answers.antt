@@ -1,4 +1,4 @@
--- The lines before are those of items, and this one is no item's.
+-- The lines before are items, and this one is none.
 use Rattle.std.proofs.Common.{suc, arith}
 use Rattle.escapes.proofs.Spelling.{not_empty}
 use Rattle.trace_text.proofs.Lines.{faulty_line}

@@ -1,4 +1,4 @@
--- The items so far are the lines so far, and no line is counted twice.
+-- The items so far are the lines so far, and each line is counted once.
 use Rattle.std.proofs.Common.{◌≡◌, ◌+◌, ◌≤◌, ◌++◌, length}
 use Rattle.std.specs.List.{AllByRecursion}
 use Rattle.trace_text.specs.Items.{IsItem}

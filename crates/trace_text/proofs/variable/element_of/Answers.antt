@@ -1,4 +1,4 @@
--- The parts are those of the only element that the text could write.
+-- The parts are those of the only element that the text could be.
 use Rattle.escapes.proofs.Spelling.{not_empty}
 use Rattle.trace_text.proofs.Variables.{no_close, more_behind, no_reference, no_index}
 use Rattle.trace_text.proofs.variable.element_of.Goals as goal

@@ -1,4 +1,4 @@
--- The parts are those of the only field that the text could write.
+-- The parts are those of the only field that the text could be.
 use Rattle.trace_text.proofs.Variables.{no_object, no_field}
 use Rattle.trace_text.proofs.variable.instance_of.Goals as goal
 

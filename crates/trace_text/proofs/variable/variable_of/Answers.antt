@@ -1,4 +1,4 @@
--- By the dots.
+-- The number of dots decides the kind.
 use Rattle.std.proofs.Common.{sym, ◌∙◌, arith}
 use Rattle.std.proofs.lemmas.Result.{IfOk-weaker}
 use Rattle.escapes.specs.Readings.{IsReadAs}

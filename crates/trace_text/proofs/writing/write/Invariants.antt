@@ -1,4 +1,4 @@
--- The lines so far.
+-- The text has the lines so far.
 use Rattle.std.proofs.Common.{◌≡◌, take}
 use Rattle.std.specs.String.{string_bytes}
 use Rattle.trace_text.specs.Traces.{trace_text}

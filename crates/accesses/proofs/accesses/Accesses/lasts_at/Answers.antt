@@ -3,7 +3,7 @@ use Rattle.accesses.specs.Accesses.{Place}
 use Rattle.accesses.specs.Kept.{kept_at, kept_in}
 use Rattle.accesses.specs.Links.{AreAt}
 use Rattle.accesses.specs.Places.{place_of}
-use Rattle.accesses.specs.declared.lasts.Lasts.{Lasts}
+use Rattle.accesses.specs.declared.lasts.PlaceAccesses.{PlaceAccesses}
 use Rattle.accesses.specs.declared.place.Place.{Place as Key}
 use Rattle.accesses.proofs.Entries.{found_out}
 use Rattle.accesses.proofs.Found.{not_found}
@@ -15,7 +15,7 @@ returns-in_err-index c = rw c.from_residual.ensures (rw (← c.self.view_is) (no
 pub returns-in_err-lasts : goal.returns-in_err-lasts
 returns-in_err-lasts c =
     let place = place_of c.args.place.now in
-    let none : ⊥ = subst (λ (o : Option (Key × Lasts)). MatchOption o ⊥ (λ e. place_of e.0 ≡ place)) c.in_err-lasts.ensures.entry c.in_ok-index.ensures in
+    let none : ⊥ = subst (λ (o : Option (Key × PlaceAccesses)). MatchOption o ⊥ (λ e. place_of e.0 ≡ place)) c.in_err-lasts.ensures.entry c.in_ok-index.ensures in
     absurd none
 
 pub returns : goal.returns

@@ -9,11 +9,11 @@ pub returns-in-Some : goal.returns-in-Some
 returns-in-Some c =
     let at = c.in-Some.ensures.1 in
     let here = c.in-Some.lasts.now in
-    let main = c.touches_mainly.result in
+    let main = c.has_main_touch.result in
     on_ok c.push_links.result
     (λ are. (
       links_of main c.args.number here,
       are,
-      touched_links (kept_of c.args.self.now) c.args.item.now at.place main c.args.number here (accesses_beside c.args.item.now) c.touches_mainly.ensures at.touched at.kept,
+      touched_links (kept_of c.args.self.now) c.args.item.now at.place main c.args.number here (accesses_beside c.args.item.now) c.has_main_touch.ensures at.touched at.kept,
     ))
     c.push_links.ensures

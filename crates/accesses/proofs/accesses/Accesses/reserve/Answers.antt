@@ -9,8 +9,8 @@ pub returns-clause-room : goal.returns-clause-room
 returns-clause-room c =
     let place = OfThread (thread_of c.args.item.now) in
     let index = c.in_ok-entry.entry in
-    let new = c.ready_touched.new.self in
+    let new = c.reserve_touched.new.self in
     let there = subst (λ (r : Remembered). IsEntryOf r.entries index place) (sym c.self.view_is) c.in_ok-entry.ensures.ready in
-    let moved = c.ready_touched.ensures.places index place there in
-    let own = subst (λ (n : ℕ). IsReady new.entries n (main_at place)) (sym c.ready_touched.ensures.own) (ready_main new.entries index place moved) in
-    on_ok c.ready_touched.result (λ touched. record { own = own; touched = touched }) c.ready_touched.ensures.ready
+    let moved = c.reserve_touched.ensures.places index place there in
+    let own = subst (λ (n : ℕ). IsReady new.entries n (main_at place)) (sym c.reserve_touched.ensures.own) (ready_main new.entries index place moved) in
+    on_ok c.reserve_touched.result (λ touched. record { own = own; touched = touched }) c.reserve_touched.ensures.ready

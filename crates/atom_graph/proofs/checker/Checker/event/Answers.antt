@@ -1,7 +1,7 @@
 use Rattle.std.proofs.Common.{◌≡◌, ℕ, ◌+◌, ◌<◌, length, Option, ap, ◌∙◌, arith}
 use Rattle.velodrome.specs.Transactions.{has_atomic, next_transaction}
-use Rattle.courses.specs.Courses.{course_in}
-use Rattle.atom_graph.specs.Walked.{stay_of}
+use Rattle.thread_states.specs.ThreadStates.{thread_state_in}
+use Rattle.atom_graph.specs.StoredTrace.{stay_of}
 use Rattle.atom_graph.proofs.Checked.{checker_same}
 use Rattle.atom_graph.proofs.Feeding.{begun_fits, event_may_be, happened_right}
 use Rattle.atom_graph.proofs.checker.Checker.event.Goals as goal
@@ -15,7 +15,7 @@ pub event-requires : goal.event-requires
 event-requires c =
     let a = c.prepare.new.self in
     let n_is = c.next-transaction.ensures ∙ ap (λ (o : Option ℕ). next_transaction o a.begun) c.transaction-current.ensures in
-    let s_is = c.stay-stay.ensures ∙ ap (λ (o : Option ℕ). stay_of o (has_atomic a.courses.lines (course_in a.courses.table c.args.thread).methods)) c.transaction-current.ensures in
+    let s_is = c.stay-stay.ensures ∙ ap (λ (o : Option ℕ). stay_of o (has_atomic a.courses.lines (thread_state_in a.courses.table c.args.thread).methods)) c.transaction-current.ensures in
     let few : length c.self.inside.walked.transactions.items < 100000000 = omega arith in
     event_may_be c.self.inside.walked c.prepare.new.self c.self.inside.watch c.self.invariant c.prepare.ensures.same c.args.item.now c.args.thread
     c.next-transaction.result c.stay-stay.result c.requires.thread c.requires.event n_is s_is few
@@ -32,7 +32,7 @@ pub invariant_of-self-2 : goal.invariant_of-self-2
 invariant_of-self-2 c =
     let a = c.prepare.new.self in
     let n_is = c.next-transaction.ensures ∙ ap (λ (o : Option ℕ). next_transaction o a.begun) c.transaction-current.ensures in
-    let s_is = c.stay-stay.ensures ∙ ap (λ (o : Option ℕ). stay_of o (has_atomic a.courses.lines (course_in a.courses.table c.args.thread).methods)) c.transaction-current.ensures in
+    let s_is = c.stay-stay.ensures ∙ ap (λ (o : Option ℕ). stay_of o (has_atomic a.courses.lines (thread_state_in a.courses.table c.args.thread).methods)) c.transaction-current.ensures in
     let count : c.len-events.result + 1 ≡ length c.self.inside.walked.transactions.items + 1 = omega arith in
     happened_right c.self.inside.walked c.prepare.new.self c.self.inside.watch c.self.invariant c.prepare.ensures.same c.happened.new.self c.event.new.self c.args.item.now c.in_ok-copy.copy
     c.args.thread c.next-transaction.result (c.len-events.result + 1) c.stay-stay.result c.requires.thread c.requires.event c.in_ok-copy.ensures.room.0

@@ -2,7 +2,7 @@ use Rattle.std.proofs.Common.{ℕ, List, length, sym, subst}
 use Rattle.velodrome.specs.Cycles.{AreAtomic}
 use Rattle.velodrome.specs.Reach.{AreReached}
 use Rattle.atom_graph.specs.Checking.{Fed, walk_of}
-use Rattle.atom_graph.specs.Walked.{fed_of}
+use Rattle.atom_graph.specs.StoredTrace.{fed_of}
 use Rattle.atom_graph.proofs.Judged.{live_counted}
 use Rattle.atom_graph.proofs.checker.Checker.live.Goals as goal
 

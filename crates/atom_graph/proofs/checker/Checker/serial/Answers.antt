@@ -3,7 +3,7 @@ use Rattle.velodrome.specs.Cycles.{AreAtomic, IsCycle}
 use Rattle.velodrome.specs.Rearrangements.{IsRearrangement, IsSerial}
 use Rattle.serial_order.specs.Serial.{AreSerialOf}
 use Rattle.atom_graph.specs.Checking.{Fed, walk_of}
-use Rattle.atom_graph.specs.Walked.{fed_of}
+use Rattle.atom_graph.specs.StoredTrace.{fed_of}
 use Rattle.atom_graph.proofs.Judged.{none_found, serial_none, serial_some, some_found}
 use Rattle.atom_graph.proofs.checker.Checker.serial.Goals as goal
 

@@ -3,7 +3,7 @@ use Rattle.velodrome.specs.Verdicts.{IsVerdict}
 use Rattle.velodrome.specs.declared.verdict.Verdict.TheVariants as verdict
 use Rattle.accesses.specs.Rooms.{kept_of}
 use Rattle.atom_graph.specs.Checking.{Fed, walk_of}
-use Rattle.atom_graph.specs.Walked.{fed_of}
+use Rattle.atom_graph.specs.StoredTrace.{fed_of}
 use Rattle.atom_graph.proofs.Judged.{graph_verdict, watched_none}
 use Rattle.atom_graph.proofs.checker.Checker.verdict.Goals as goal
 

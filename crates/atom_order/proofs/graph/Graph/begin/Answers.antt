@@ -1,4 +1,4 @@
--- One slot more.
+-- One more slot.
 use Rattle.std.proofs.Common.{◌≡◌, ◌++◌, ◌∷◌, [], false, length, List, ℕ, Bool, ap, ◌∙◌, arith}
 use Rattle.std.proofs.lemmas.Grind.{common_steps}
 use Rattle.atom_order.specs.declared.link.Link.{Link}

@@ -1,4 +1,4 @@
--- A transaction is closed, and what isn't held is dropped.
+-- A transaction is closed, and what doesn't stay live is dropped.
 use Rattle.std.proofs.Common.{ℕ, ◌==◌, cond, ◌≡◌, ◌<◌, ◌+◌, ◌++◌, [], false, length, take, get_or, set, ◌≤◌, List, refl, sym, ap, subst, ◌∙◌}
 use Rattle.velodrome.specs.Cycles.{IsIn}
 use Rattle.atom_order.specs.declared.link.Link.{Link}

@@ -1,4 +1,4 @@
--- The nearest link, and the way back from it.
+-- The nearest link, and the trail back from it.
 use Rattle.std.proofs.Common.{◌≤◌, length, sym, subst}
 use Rattle.atom_order.specs.Shapes.{into_in}
 use Rattle.atom_order.proofs.Ways.{no_shorter, closes_none}

@@ -1,4 +1,4 @@
--- One transaction more is looked at.
+-- One more transaction is visited.
 use Rattle.std.proofs.Common.{ℕ, ◌<◌, ◌≤◌, List, length, drop, get_or, sym, ap, subst, arith}
 use Rattle.atom_order.specs.Shapes.{into_in}
 use Rattle.atom_order.proofs.Ways.{one_more, none_more, all_so_far}

@@ -3,6 +3,6 @@ use Rattle.atom_order.specs.Shapes.{into_in}
 use Rattle.atom_order.proofs.Ways.{AreSoFar}
 use Rattle.atom_order.proofs.graph.Graph.distances.Given as goal
 
--- The distances of those that the pass has seen are kept.
+-- The distances of the visited transactions are stored.
 abbrev pub invariant-loop-y : goal.invariant-loop-y
 invariant-loop-y l = AreSoFar l.self.live (into_in l.self) l.transaction (take l.y-index (drop l.place l.self.live)) l.y-index l.distances.entries

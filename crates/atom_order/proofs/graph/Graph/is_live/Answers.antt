@@ -1,4 +1,4 @@
--- What stands at a place is live.
+-- What is at its place is live.
 use Rattle.std.proofs.Common.{sym}
 use Rattle.atom_order.proofs.Places.{among_at}
 use Rattle.atom_order.proofs.graph.Graph.is_live.Goals as goal

@@ -1,4 +1,4 @@
--- Links lead forward, or one closes a cycle, or what the transaction reaches is put behind the others.
+-- All links lead forward, or one closes a cycle, or what the transaction reaches is moved after the others.
 use Rattle.std.proofs.Common.{◌≡◌, ℕ, ◌<◌, ◌==◌, List, [], length, drop, get_or, set, refl, sym, ap, subst, ◌∙◌}
 use Rattle.std.proofs.lemmas.Bool.{both_ways}
 use Rattle.std.proofs.lemmas.List.{length-set}

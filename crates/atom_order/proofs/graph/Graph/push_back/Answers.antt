@@ -1,4 +1,4 @@
--- Links are added, and what is marked is put behind the others.
+-- Links are added, and the marked transactions are moved after the others.
 use Rattle.std.proofs.Common.{ℕ, ◌≡◌, ◌<◌, ◌≤◌, ◌+◌, ◌++◌, ◌==◌, List, [], length, take, drop, get_or, set, refl, sym, ap, subst, ◌∙◌}
 use Rattle.std.proofs.lemmas.List.{length-set}
 use Rattle.atom_order.specs.Keeping.{sides}

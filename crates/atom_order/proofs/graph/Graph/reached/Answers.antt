@@ -1,4 +1,4 @@
--- One transaction more is looked at.
+-- One more transaction is visited.
 use Rattle.std.proofs.Common.{◌==◌, ◌<◌, length, refl, sym, ◌∙◌, arith}
 use Rattle.atom_order.specs.Shapes.{into_in}
 use Rattle.atom_order.proofs.Loops.{marks_more, marks_same}

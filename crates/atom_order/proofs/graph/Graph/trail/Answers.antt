@@ -1,4 +1,4 @@
--- The way back, one transaction after another.
+-- The trail back, one link at a time.
 use Rattle.std.proofs.Common.{◌-◌, ◌++◌, [], ◌∷◌, List, Some, length, sym, ap, subst, ◌∙◌, arith}
 use Rattle.std.proofs.lemmas.List.{append_assoc, append-nil, length_push}
 use Rattle.atom_order.specs.declared.link.Link.{Link}

@@ -1,4 +1,4 @@
--- Among the map's entries.
+-- Insertion into the map's entries.
 use Rattle.atom_spec.proofs.FoundLaws.{found_put}
 use Rattle.atom_spec.proofs.texts.Texts.put.Goals as goal
 

@@ -1,4 +1,4 @@
--- Among the map's entries.
+-- Removal from the map's entries.
 use Rattle.std.proofs.Common.{ap, ◌∙◌}
 use Rattle.atom_spec.specs.Found.{found}
 use Rattle.atom_spec.proofs.FoundLaws.{found_among, found_others}

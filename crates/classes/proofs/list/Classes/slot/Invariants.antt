@@ -9,7 +9,7 @@ use Rattle.classes.proofs.list.Classes.slot.Given as goal
 abbrev pub decreases-loop-top : goal.decreases-loop-top
 decreases-loop-top l = length (classes_left l.up)
 
--- what is left to count
+-- the slots that are left to count
 abbrev pub invariant-loop-top : goal.invariant-loop-top
 invariant-loop-top l = record {
   left : slot_of l.self l.class l.field ≡ fold (slot_under l.field) l.slot (classes_left l.up);

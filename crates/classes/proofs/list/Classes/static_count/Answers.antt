@@ -8,7 +8,7 @@ pub loop-class-init : goal.loop-class-init
 loop-class-init c =
     let keys = ap (λ (p : List Class). length (static_keys p)) c.classes-class-items.ensures in
     let fields = ap fields_of c.classes-class-items.ensures in
-    let fits = program_fits c.args.self.now c.is_countable.ensures in
+    let fits = program_fits c.args.self.now c.countable_invariant.ensures in
     record { left = omega arith; fits = omega arith }
 
 pub loop-class-preserved : goal.loop-class-preserved

@@ -1,4 +1,4 @@
--- The numbers of the entries so far, and of those still to come.
+-- The constants of the entries so far, and of those that are left.
 use Rattle.std.proofs.Common.{◌≡◌, ◌++◌}
 use Rattle.const_pool.specs.Interning.{pool_of}
 use Rattle.const_pool.proofs.builder.PoolBuilder.into_constants.Given as goal

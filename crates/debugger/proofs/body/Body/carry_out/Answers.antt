@@ -6,7 +6,7 @@ use Rattle.debugger.specs.Sessions.{Debugger, seen}
 use Rattle.debugger.proofs.body.Body.carry_out.Goals as goal
 use Rattle.debugger.proofs.body.Body.carry_out.Goals.{in-Step, in-Back, in-Goto, in-Continue, in-ReverseContinue, in-Pick}
 
--- There was no memory for a command that is not at fault.
+-- Memory ran out for a command that has no other fault.
 abbrev WantsMemory : Debugger → Command → Type 0
 WantsMemory d k = TakesMemory k × (x : Session) × (after_command d k ≡ Ok x)
 

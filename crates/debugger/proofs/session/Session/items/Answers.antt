@@ -10,7 +10,7 @@ use Rattle.debugger.proofs.session.Session.items.Goals as goal
 count_is : (b : Body) → IsBody b → b.timeline.here.items ≡ length (items_at (setting b.timeline) b.timeline.choices.items b.timeline.position)
 count_is b is = ap (λ (m : Mark). m.items) is.timeline.here
 
--- As many of the items as come before the position are those of the choices before it.
+-- The first items, up to the number before the position, are those of the choices before it.
 front_is : (b : Body) → IsBody b → take b.timeline.here.items b.trace ≡ items_at (setting b.timeline) b.timeline.choices.items b.timeline.position
 front_is b is =
     let g = setting b.timeline in

@@ -1,7 +1,7 @@
 use Rattle.std.proofs.Common.{◌≡◌, ◌+◌, ◌++◌, length, map, sym, ap, ◌∙◌, subst}
 use Rattle.std.proofs.lemmas.List.{map-append}
 use Rattle.jvms_machine.specs.Heap.{new_arrays}
-use Rattle.heap.specs.Held.{shown, AreHeld}
+use Rattle.heap.specs.Held.{shown, AreStored}
 use Rattle.heap.proofs.ArrayLaws.{all_added}
 use Rattle.heap.proofs.HeldLaws.{as_many_shown}
 use Rattle.heap.proofs.heap.Heap.new_arrays.Goals as goal
@@ -11,7 +11,7 @@ invariant_of-self-2 c =
     let p = c.self.inside.program.now in
     let objects = c.self.inside.objects.items in
     let made = c.in_ok-made.ensures in
-    subst (λ l. AreHeld p l c.self.inside.texts c.self.inside.class_objects) (sym (c.in_ok-append.ensures.items ∙ ap (λ l. objects ++ l) made.put))
+    subst (λ l. AreStored p l c.self.inside.texts c.self.inside.class_objects) (sym (c.in_ok-append.ensures.items ∙ ap (λ l. objects ++ l) made.put))
     (all_added p objects made.new c.self.inside.texts c.self.inside.class_objects c.self.invariant (made.kept p) made.plain)
 
 pub returns-clause-ok : goal.returns-clause-ok

@@ -1,6 +1,6 @@
 use Rattle.std.proofs.Common.{◌≡◌, ◌∷◌, [], ◌++◌, Some, option_map, sym, ap, ◌∙◌}
 use Rattle.jvms_machine.specs.State.{text}
-use Rattle.heap.specs.declared.held_object.HeldObject.TheVariants as held
+use Rattle.heap.specs.declared.held_object.StoredObject.TheVariants as held
 use Rattle.heap.proofs.TakenBack.{last_units, ends, is_there, held_without, seen_without}
 use Rattle.heap.proofs.heap.Heap.remove_last_text.Goals as goal
 
@@ -9,7 +9,7 @@ returns-in_default c = λ before units is.
     absurd (is_there c.self.inside.program.now c.self.inside.objects.items before.objects units (ap (λ h. h.objects) (c.self.view_is ∙ is))
     (ap (option_map (λ u. u.now)) (sym c.in_default.is) ∙ c.last_units.ensures c.self.inside.program.now ∙ ap (last_units c.self.inside.program.now) c.as_slice.ensures.value))
 
--- The others stand before the string.
+-- The other objects come before the string.
 stand_before : (c : goal.Joined-pop) → c.self.inside.objects.items ≡ c.pop.new.self.items ++ held.Text c.as_slice-2.result.now ∷ []
 stand_before c =
     ends c.self.inside.program.now c.self.inside.objects.items c.pop.new.self.items c.as_slice-2.result.now c.self.inside.objects.len c.self.inside.objects.ok.0 c.pop.ensures.rest
@@ -17,8 +17,8 @@ stand_before c =
 
 pub invariant_of-self : goal.invariant_of-self
 invariant_of-self c =
-    held_without c.self.inside.program.now c.self.inside.objects.items c.pop.new.self.items c.self.inside.texts c.take_back.new.self c.self.inside.class_objects c.as_slice-2.result.now c.len.result
-    (stand_before c) (c.len.ensures ∙ c.self.inside.objects.ok.0) c.self.invariant c.take_back.ensures.taken c.take_back.ensures.other
+    held_without c.self.inside.program.now c.self.inside.objects.items c.pop.new.self.items c.self.inside.texts c.remove_matching.new.self c.self.inside.class_objects c.as_slice-2.result.now c.len.result
+    (stand_before c) (c.len.ensures ∙ c.self.inside.objects.ok.0) c.self.invariant c.remove_matching.ensures.taken c.remove_matching.ensures.other
 
 pub returns : goal.returns
 returns c = λ before units is.

@@ -1,7 +1,7 @@
 use Rattle.heap.proofs.TextLaws.{AreLeft}
 use Rattle.heap.proofs.heap.Heap.remove_last_texts.Given as goal
 
--- so many are left
+-- the strings that are left
 abbrev pub invariant-loop-left : goal.invariant-loop-left
 invariant-loop-left l = AreLeft l.fn.self l.self l.left l.count
 

@@ -14,13 +14,13 @@ returns-in_default c =
     ap (class_number program) (sym c.as_slice.ensures) ∙ ap (λ (p : List Class). class_number p c.as_slice.result.now) (sym c.program-program.ensures) ∙ sym c.in_default.ensures in
     sym (none_is_above program (length program) c.args.class.now.name (supers_of c.args.class.now) absent)
 
-pub returns-then-stands_apart : goal.returns-then-stands_apart
-returns-then-stands_apart c =
+pub returns-then-is_not_above : goal.returns-then-is_not_above
+returns-then-is_not_above c =
     let program = c.args.self.now in
     let there : class_number program c.args.class.now.name ≡ Some c.in-Some.number =
     ap (class_number program) (sym c.as_slice.ensures) ∙ ap (λ (p : List Class). class_number p c.as_slice.result.now) (sym c.program-program.ensures) ∙ sym c.in-Some.ensures in
     let are : c.in_ok-supers.supers ≡ super_numbers program c.args.class.now = c.in_ok-supers.ensures ∙ ap (λ (p : List Class). super_numbers p c.args.class.now) c.program-program.ensures in
-    sym (c.stands_apart.ensures c.if-stands_apart.true c.args.class.now.name (supers_of c.args.class.now) there (c.as_slice-2.ensures ∙ are))
+    sym (c.is_not_above.ensures c.if-is_not_above.true c.args.class.now.name (supers_of c.args.class.now) there (c.as_slice-2.ensures ∙ are))
 
 pub all_above-requires : goal.all_above-requires
 all_above-requires c =

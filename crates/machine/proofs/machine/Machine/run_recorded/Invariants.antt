@@ -2,7 +2,7 @@ use Rattle.std.proofs.Common.{◌≡◌, take, length}
 use Rattle.machine.specs.Runs.{IsRun}
 use Rattle.machine.proofs.machine.Machine.run_recorded.Given as goal
 
--- The choices so far were made, and each has its outcome.
+-- The choices before the index were taken, and each has its outcome.
 abbrev pub invariant-loop-choice : goal.invariant-loop-choice
 invariant-loop-choice l =
     record {

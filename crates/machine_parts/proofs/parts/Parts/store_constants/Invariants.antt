@@ -3,7 +3,7 @@ use Rattle.jvms_machine.specs.Actions.{with_constants}
 use Rattle.machine_parts.specs.Machine.{with_statics}
 use Rattle.machine_parts.proofs.parts.Parts.store_constants.Given as goal
 
--- The constants of the fields so far are stored.
+-- The constants of the fields before the index are stored.
 abbrev pub invariant-loop-field : goal.invariant-loop-field
 invariant-loop-field l = record {
   fields : l.field-items ≡ l.class.fields;

@@ -2,6 +2,6 @@ use Rattle.std.proofs.Common.{◌≡◌, take}
 use Rattle.jvms_machine.specs.Initialisation.{constants_of, new_texts}
 use Rattle.machine_parts.proofs.parts.Parts.texts_of.Given as goal
 
--- Those of the fields so far are listed.
+-- The texts are those of the fields before the index.
 abbrev pub invariant-loop-i : goal.invariant-loop-i
 invariant-loop-i l = record { listed : l.texts.items ≡ new_texts l.self.state.heap (constants_of (take l.i l.fields)) }

@@ -1,4 +1,4 @@
--- Those that are told, and those that are left.
+-- The list is the outcomes before the index, followed by those that are still to be read.
 use Rattle.std.proofs.Common.{◌≡◌, ◌++◌, drop}
 use Rattle.outcome_list.specs.Held.{outcomes_by}
 use Rattle.outcome_list.proofs.list.OutcomeList.outcomes.Given as goal

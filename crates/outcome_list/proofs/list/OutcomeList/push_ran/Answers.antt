@@ -1,4 +1,4 @@
--- They name nothing.
+-- The outcome `Ran` has no names.
 use Rattle.outcome_list.proofs.Lists.{ran_fit, ran_more}
 use Rattle.outcome_list.proofs.list.OutcomeList.push_ran.Goals as goal
 

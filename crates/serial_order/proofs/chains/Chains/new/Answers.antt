@@ -1,4 +1,4 @@
--- One event more is put before the others of its transaction.
+-- The event is prepended to the others of its transaction.
 use Rattle.std.proofs.Common.{◌≡◌, ℕ, length, get_or, set, drop, suc, ◌-◌, ◌<◌, ◌≤◌, length-set, refl, sym, ◌∙◌, subst, arith}
 use Rattle.std.proofs.lemmas.Grind.{get_or_default_zero}
 use Rattle.serial_order.specs.Chains.{AreRising, IsChain, events_of}

@@ -2,7 +2,7 @@ use Rattle.std.proofs.Common.{◌≡◌, ◌≤◌, ℕ, suc, length, slice_inde
 use Rattle.serial_order.specs.Chains.{AreRising, IsChain, events_of}
 use Rattle.serial_order.proofs.chains.Chains.new.Given as goal
 
--- The chains of the events from this one on.
+-- The chains are those of the events from this one on.
 abbrev pub invariant-loop-event : goal.invariant-loop-event
 invariant-loop-event l = record {
   firsts : length l.first.items ≡ suc l.fn.most;

@@ -1,4 +1,4 @@
--- Each turn puts the item that stands there behind those before it.
+-- Each iteration appends an item to those before it.
 use Rattle.std.proofs.Common.{◌≡◌, ◌+◌, ◌∷◌, [], ◌++◌, take, sym, ap, ◌∙◌, is_some, arith}
 use Rattle.jasmin.specs.declared.source.CodeItem.TheVariants as item
 use Rattle.source_labels.proofs.Steps.{at_place, with_operation, with_label, once_more, once_with_operation, repeated_at, no_value}

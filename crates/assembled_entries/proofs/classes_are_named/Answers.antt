@@ -1,5 +1,0 @@
-use Rattle.assembled_entries.proofs.Operands.{classes_are_named}
-use Rattle.assembled_entries.proofs.classes_are_named.Goals as goal
-
-pub returns : goal.returns
-returns c = classes_are_named

@@ -1,5 +1,0 @@
-use Rattle.assembled_entries.proofs.Operands.{operands_are_named}
-use Rattle.assembled_entries.proofs.operands_are_named.Goals as goal
-
-pub returns : goal.returns
-returns c = operands_are_named

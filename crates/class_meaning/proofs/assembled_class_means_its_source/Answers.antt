@@ -1,5 +1,0 @@
-use Rattle.class_meaning.proofs.Classes.{assembled_means}
-use Rattle.class_meaning.proofs.assembled_class_means_its_source.Goals as goal
-
-pub returns : goal.returns
-returns c = assembled_means

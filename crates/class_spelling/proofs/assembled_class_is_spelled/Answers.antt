@@ -1,5 +1,0 @@
-use Rattle.class_spelling.proofs.Class.{class_is_spelled}
-use Rattle.class_spelling.proofs.assembled_class_is_spelled.Goals as goal
-
-pub returns : goal.returns
-returns c = class_is_spelled

@@ -1,5 +1,0 @@
-use Rattle.listing_is_read.proofs.Listed.{listed_is_read}
-use Rattle.listing_is_read.proofs.what_is_listed_is_read.Goals as goal
-
-pub returns : goal.returns
-returns c = listed_is_read

@@ -1,0 +1,4 @@
+//! Proves that the text of a run's trace is read as the same items.
+#![tactic(auto)]
+
+pub mod laws;

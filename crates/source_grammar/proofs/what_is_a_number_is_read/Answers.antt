@@ -1,5 +1,0 @@
-use Rattle.source_grammar.proofs.Numbers.{number_says}
-use Rattle.source_grammar.proofs.what_is_a_number_is_read.Goals as goal
-
-pub returns : goal.returns
-returns c = number_says

@@ -1,5 +1,0 @@
-use Rattle.source_grammar.proofs.Numbers.{number_said}
-use Rattle.source_grammar.proofs.what_is_read_is_a_number.Goals as goal
-
-pub returns : goal.returns
-returns c = number_said

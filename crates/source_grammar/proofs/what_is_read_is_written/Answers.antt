@@ -1,5 +1,0 @@
-use Rattle.source_grammar.proofs.Outside.{source_said}
-use Rattle.source_grammar.proofs.what_is_read_is_written.Goals as goal
-
-pub returns : goal.returns
-returns c = source_said

@@ -1,5 +1,0 @@
-use Rattle.source_grammar.proofs.LinesRead.{statement_is_read}
-use Rattle.source_grammar.proofs.what_is_spelled_is_said.Goals as goal
-
-pub returns : goal.returns
-returns c = statement_is_read

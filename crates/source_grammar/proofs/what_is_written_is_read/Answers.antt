@@ -1,5 +1,0 @@
-use Rattle.source_grammar.proofs.Runs.{source_read}
-use Rattle.source_grammar.proofs.what_is_written_is_read.Goals as goal
-
-pub returns : goal.returns
-returns c = source_read

@@ -1,5 +1,0 @@
-use Rattle.spelling.proofs.CutClasses.{front_is_truncated}
-use Rattle.spelling.proofs.a_cut_spelling_is_truncated.Goals as goal
-
-pub returns : goal.returns
-returns c = front_is_truncated

@@ -1,5 +1,0 @@
-use Rattle.spelling.proofs.Classes.{one_class}
-use Rattle.spelling.proofs.bytes_spell_at_most_one_class.Goals as goal
-
-pub returns : goal.returns
-returns c = one_class

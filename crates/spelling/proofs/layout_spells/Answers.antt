@@ -1,5 +1,0 @@
-use Rattle.spelling.proofs.InsnPads.{zero_pads_spell}
-use Rattle.spelling.proofs.layout_spells.Goals as goal
-
-pub returns : goal.returns
-returns c pool major code is pcs = zero_pads_spell pool major pcs code is

@@ -1,5 +1,0 @@
-use Rattle.spelling.proofs.Classes.{spelled_is_read}
-use Rattle.spelling.proofs.what_is_spelled_is_read.Goals as goal
-
-pub returns : goal.returns
-returns c = spelled_is_read

@@ -1,0 +1,21 @@
+use Rattle.std.proofs.Common.{◌∙◌}
+use Rattle.std.specs.Prelude.{Some, None}
+use Rattle.std.specs.BTreeMap.{is_at}
+use Rattle.std.specs.Ordering.{nat_cmp}
+use Rattle.velodrome.specs.Transactions.{ThreadState, has_atomic}
+use Rattle.thread_states.proofs.Changes.{told}
+use Rattle.thread_states.proofs.Marks.{any_is, found_marked}
+use Rattle.thread_states.proofs.courses.ThreadStates.is_in_atomic.Goals as goal
+
+pub returns-in-None : goal.returns-in-None
+returns-in-None c =
+    told (λ l (k : ThreadState). has_atomic l k.methods) c.args.thread None c.self.inside.spec c.self.inside.threads.entries c.args.self.now c.self.view_is c.in-None.ensures.value
+
+pub returns-in-Some : goal.returns-in-Some
+returns-in-Some c =
+    let lines = c.self.inside.spec in
+    let threads = c.self.inside.threads.entries in
+    let o = c.in-Some.open.now in
+    c.is_in_atomic.ensures
+    ∙ any_is lines o.methods (found_marked lines (is_at (nat_cmp c.args.thread)) threads o c.self.invariant c.in-Some.ensures.value)
+    ∙ told (λ l (k : ThreadState). has_atomic l k.methods) c.args.thread (Some o) lines threads c.args.self.now c.self.view_is c.in-Some.ensures.value

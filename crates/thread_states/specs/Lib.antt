@@ -1,0 +1,3 @@
+pub mod ThreadStates
+pub mod Open
+pub mod Seen

@@ -1,5 +1,0 @@
-use Rattle.tree_meaning.proofs.Classes.{tree_means}
-use Rattle.tree_meaning.proofs.listed_tree_means_its_class.Goals as goal
-
-pub returns : goal.returns
-returns c = tree_means

@@ -1,5 +1,0 @@
-use Rattle.turn_items.proofs.TurnItems.{turn_accesses}
-use Rattle.turn_items.proofs.laws.accesses_are_those_of_loads_and_stores.Goals as goal
-
-pub returns : goal.returns
-returns c = turn_accesses
