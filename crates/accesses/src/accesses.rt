@@ -12,12 +12,12 @@ ghost use Rattle.accesses.specs.Touches.{access_of};
 
 use crate::guesses::Guesses;
 use crate::indexed::{of_thread, of_touched};
-use crate::lasts::{PlaceAccesses, Noted};
+use crate::lasts::{Noted, PlaceAccesses};
 use crate::place::Place;
 use crate::slot::Slot;
 use crate::sums::hash_of_touched;
 use crate::table::Table;
-use crate::touch::{Touch, own, thread_of, touched, has_main_touch};
+use crate::touch::{Touch, has_main_touch, own, thread_of, touched};
 use atom_order::Link;
 use jvms_machine::trace::Item;
 use std::alloc::{AllocError, Global};

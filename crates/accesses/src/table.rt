@@ -14,7 +14,7 @@ ghost use Rattle.accesses.specs.Rooms.{HasRoomAt, IsEntryOf, IsNotedAt};
 ghost use Rattle.accesses.specs.Tables.{IsIndexed, Tells};
 ghost use Rattle.accesses.specs.declared.place.Place.{Place as Key};
 
-use crate::lasts::{PlaceAccesses, Noted};
+use crate::lasts::{Noted, PlaceAccesses};
 use crate::place::{Place, share_place};
 use crate::slot::Slot;
 use std::alloc::{AllocError, Global};

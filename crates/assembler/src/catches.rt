@@ -6,9 +6,9 @@ ghost use Rattle.pool_entries.specs.Entries.{Gives};
 ghost use Rattle.assembly.specs.Operands.{catch_entry, catches_onto};
 ghost use Rattle.assembler.specs.Steps.{Enters};
 
-use shared_data::items::Items;
 use jasmin::source::{CatchLine, Caught};
 use pool_entries::{Entries, EntryFault};
+use shared_data::items::Items;
 use std::alloc::Global;
 
 /// Returns the index of the class that a catch names, or 0 for all.

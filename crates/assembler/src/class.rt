@@ -11,10 +11,10 @@ use crate::fields::fields_of;
 use crate::methods::methods_of;
 use crate::throws::classes_of;
 use assembly::fault::AsmFault;
-use shared_data::items::Items;
 use jasmin::source::{MethodLines, Source};
 use jvms_file::class_file::ClassFile;
 use pool_entries::Entries;
+use shared_data::items::Items;
 use std::alloc::Global;
 
 /// The greatest count of two bytes.

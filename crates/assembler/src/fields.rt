@@ -7,10 +7,10 @@ ghost use Rattle.assembly.specs.Assembled.{value_entry, field_attributes, field_
 ghost use Rattle.assembler.specs.Steps.{Enters};
 
 use crate::names::CONSTANT_VALUE;
-use shared_data::items::Items;
 use jasmin::source::{FieldConstant, FieldLine};
 use jvms_file::class_file::{FieldAttribute, FieldInfo};
 use pool_entries::{Entries, EntryFault};
+use shared_data::items::Items;
 use std::alloc::Global;
 
 /// Returns the index of a field's constant.

@@ -3,8 +3,8 @@
 ghost use Rattle.std.specs.Prelude.{◌≡◌, ◌++◌, IfOk, OnOk};
 ghost use Rattle.assembler.specs.Steps.{listed};
 
-use shared_data::items::Items;
 use jvms_file::class_file::MethodAttribute;
+use shared_data::items::Items;
 use std::alloc::{AllocError, Global};
 
 /// Appends an attribute, if there is one.

@@ -18,10 +18,10 @@ use crate::throws::throws_attribute;
 use assembly::fault::AsmFault;
 use code_bytes::code_within;
 use descriptor::{Flags, is_initializer_name};
-use shared_data::items::Items;
 use jasmin::source::{CodeItem, MethodLines};
 use jvms_file::class_file::{MethodAttribute, MethodInfo};
 use pool_entries::Entries;
+use shared_data::items::Items;
 use source_labels::{Labels, LabelsFault, has_bad_range, has_undefined_label};
 use std::alloc::Global;
 

@@ -7,10 +7,10 @@ ghost use Rattle.pool_entries.specs.Entries.{Gives, field_entry, method_entry};
 ghost use Rattle.assembly.specs.Operands.{loaded_entry, kind_of, operand_entry, operands_onto};
 ghost use Rattle.assembler.specs.Steps.{Enters};
 
-use shared_data::items::Items;
 use jasmin::source::{CodeItem, FieldName, LoadedConstant, MethodName, Operation};
 use jvms_file::insn::Invoke;
 use pool_entries::{Entries, EntryFault, MethodKind};
+use shared_data::items::Items;
 use std::alloc::Global;
 
 /// Returns the index of the constant that `ldc` or `ldc_w` loads.

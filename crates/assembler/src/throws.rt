@@ -7,10 +7,10 @@ ghost use Rattle.assembly.specs.Assembled.{throws_attributes};
 ghost use Rattle.assembler.specs.Steps.{Enters, listed};
 
 use crate::names::EXCEPTIONS;
-use shared_data::items::Items;
-use shared_data::shared::Text;
 use jvms_file::class_file::MethodAttribute;
 use pool_entries::{Entries, EntryFault};
+use shared_data::items::Items;
+use shared_data::shared::Text;
 use std::alloc::Global;
 
 /// Returns the indices of classes, by their names.

@@ -4,8 +4,8 @@ ghost use Rattle.std.specs.Prelude.{◌≡◌, IfOk, IfSome, IsTrue};
 
 use crate::copies::copied_item;
 use accesses::hash_of_item;
-use shared_data::shared::Shared;
 use jvms_machine::trace::Item;
+use shared_data::shared::Shared;
 use std::alloc::{AllocError, Global};
 
 /// The initial number of slots.

@@ -8,12 +8,12 @@ ghost use Rattle.atom_graph.specs.StoredTrace.{HasRoomFor, IsEntered, IsExited, 
 use crate::repeats::ItemCache;
 use crate::stay::Stay;
 use atom_spec::Spec;
-use thread_states::ThreadStates;
-use shared_data::shared::Shared;
 use jvms_machine::machine::ThreadId;
 use jvms_machine::trace::Item;
 use jvms_program::key::MethodKey;
+use shared_data::shared::Shared;
 use std::alloc::{AllocError, Global};
+use thread_states::ThreadStates;
 
 /// The state of each thread, the items, the transaction of each event, and the number of transactions that have begun.
 #[derive(Drop)]

@@ -13,7 +13,7 @@ mod shortest;
 
 use crate::link::{Closing, Link};
 use crate::links::Links;
-use crate::moves::{forget, inside, outside, rearrange, moved_to_end};
+use crate::moves::{forget, inside, moved_to_end, outside, rearrange};
 use std::alloc::{AllocError, Global};
 use std::collections::BTreeSet;
 use std::marker::Model;

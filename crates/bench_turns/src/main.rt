@@ -3,12 +3,12 @@
 #![tactic(auto)]
 
 use class_file::read;
-use shared_data::items::Items;
 use jvms_machine::machine::{Argument, Entry, Limits, Status};
 use jvms_machine::value::Value;
 use linker::link;
 use machine::{Machine, is_enabled};
 use program::Program;
+use shared_data::items::Items;
 use std::alloc::Global;
 use std::process::ExitCode;
 use std::{env, io};

@@ -6,10 +6,10 @@ ghost use Rattle.jvms_program.specs.BuiltIn.{object, class_with, interface_with,
 use crate::code::{call_run, load, return_void, target_field};
 use crate::members::{abstracted, coded, field, native};
 use crate::text::text;
-use shared_data::items::Items;
-use shared_data::shared::Text;
 use jvms_file::insn::{Branch, FieldUse};
 use jvms_program::program::{Class, ClassKind, Field, Instruction, Method};
+use shared_data::items::Items;
+use shared_data::shared::Text;
 use std::alloc::{AllocError, Global};
 
 /// The name of the class that all others extend.

@@ -5,10 +5,10 @@ ghost use Rattle.jvms_program.specs.BuiltIn.{load, return_void, return_reference
 
 use crate::text::text;
 use descriptor::{field_type, method_type};
-use shared_data::boxed::Boxed;
-use shared_data::shared::Shared;
 use jvms_file::insn::{FieldUse, Invoke, Kind, LocalUse, ReturnInsn, Simple};
 use jvms_program::program::{FieldReference, Instruction, MethodReference};
+use shared_data::boxed::Boxed;
+use shared_data::shared::Shared;
 use std::alloc::{AllocError, Global};
 
 /// Creates the instruction that pushes the reference in a local.

@@ -5,10 +5,10 @@ ghost use Rattle.jvms_program.specs.BuiltIn.{method, coded, native, abstracted, 
 
 use crate::text::text;
 use descriptor::{field_type, method_type};
-use shared_data::items::Items;
-use shared_data::shared::Shared;
 use jvms_program::instructions::Instructions;
 use jvms_program::program::{Body, Field, Instruction, Method, MethodFlags};
+use shared_data::items::Items;
+use shared_data::shared::Shared;
 use std::alloc::{AllocError, Global};
 
 /// Returns the flags of a method that has none.

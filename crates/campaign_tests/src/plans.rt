@@ -2,11 +2,11 @@
 
 use atom_spec::Spec;
 use campaign::Plan;
-use shared_data::items::Items;
 use inputs::Input;
 use judge::program_of;
 use machine::{Entry, Limits};
 use program::Program;
+use shared_data::items::Items;
 use std::alloc::Global;
 use std::test::Fail;
 use turn_limit::TurnLimit;

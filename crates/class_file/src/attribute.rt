@@ -6,9 +6,9 @@ ghost use Rattle.jvms_file.specs.Members.{kept_content_at, kept_at as kept_read,
 
 use const_pool::Pool;
 use file_bytes::{Part, bytes_at, parts_of, u2_at, u4_at, want};
-use shared_data::items::Items;
 use jvms_file::class_file::KeptAttribute;
 use jvms_file::fault::{ClassFault, ReadError};
+use shared_data::items::Items;
 use std::alloc::Global;
 
 /// Decides whether an entry is this text.

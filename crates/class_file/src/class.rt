@@ -11,9 +11,9 @@ use crate::method::methods_at;
 use const_pool::{Pool, ScannedPool};
 use descriptor::is_array_name;
 use file_bytes::{Part, parts_of, u2_at, u4_at, want};
-use shared_data::items::Items;
 use jvms_file::class_file::ClassFile;
 use jvms_file::fault::{ClassFault, ReadError};
+use shared_data::items::Items;
 use std::alloc::Global;
 
 /// The first four bytes of a class file.

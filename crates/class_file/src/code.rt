@@ -12,10 +12,10 @@ use crate::attribute::kept_attributes_at;
 use crate::content::{Content, want_all};
 use const_pool::{Pool, ScannedPool};
 use file_bytes::{Part, bytes_at, parts_of, u2_at, u4_at, want};
-use shared_data::items::Items;
 use insn::{Starts, decode, handler, layout};
 use jvms_file::class_file::{Code, Handler};
 use jvms_file::fault::{ClassFault, ReadError};
+use shared_data::items::Items;
 use std::alloc::Global;
 
 /// The greatest number of bytes of code (JVMS 4.7.3).

@@ -20,9 +20,9 @@ use crate::names::{BOOLEAN, BYTE, CHAR, CONSTANT_VALUE, DOUBLE, FLOAT, INT, LONG
 use crate::seen::Seen;
 use const_pool::{Pool, ScannedPool};
 use file_bytes::{Part, parts_of, u2_at, want};
-use shared_data::items::Items;
 use jvms_file::class_file::{Constant, FieldAttribute, FieldInfo};
 use jvms_file::fault::{ClassFault, ReadError};
+use shared_data::items::Items;
 use std::alloc::{AllocError, Global};
 
 /// Decides whether a field of this descriptor may have this constant (JVMS table 4.7.2-A).

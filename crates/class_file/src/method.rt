@@ -18,9 +18,9 @@ use crate::seen::Seen;
 use const_pool::{Forms, Pool, ScannedPool};
 use descriptor::{Flags, is_initializer_name};
 use file_bytes::{Part, parts_of, u2_at, want};
-use shared_data::items::Items;
 use jvms_file::class_file::{MethodAttribute, MethodInfo};
 use jvms_file::fault::{ClassFault, ReadError};
+use shared_data::items::Items;
 use std::alloc::{AllocError, Global};
 
 /// The parts of a method before its attributes.

@@ -8,10 +8,10 @@ use crate::labels::label_of;
 use crate::marks::Marks;
 use crate::operations::operation_of;
 use crate::texts::Texts;
-use shared_data::items::Items;
 use jasmin::source::CodeItem;
 use jvms_file::class_file::Code;
 use listing_spec::fault::ListFault;
+use shared_data::items::Items;
 use std::alloc::{AllocError, Global};
 
 /// Appends the label of a place, if something refers to the place.

@@ -6,10 +6,10 @@ ghost use Rattle.listing_spec.specs.Faults.{Lists};
 ghost use Rattle.listing_spec.specs.TreeOf.{loaded_of, long_of, constant_operation, value_of};
 
 use crate::texts::Texts;
-use shared_data::boxed::Boxed;
 use jasmin::source::{ConstantWidth, FieldConstant, LoadedConstant, Operation};
 use jvms_file::class_file::Constant;
 use listing_spec::fault::ListFault;
+use shared_data::boxed::Boxed;
 use std::alloc::Global;
 
 /// Returns the constant that an `ldc` loads, or the fault `Float` for a float.

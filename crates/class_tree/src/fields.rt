@@ -7,10 +7,10 @@ ghost use Rattle.listing_spec.specs.TreeOf.{field_flags, field_value, field_line
 
 use crate::constants::value_of;
 use crate::texts::Texts;
-use shared_data::items::Items;
 use jasmin::source::{FieldConstant, FieldLine};
 use jvms_file::class_file::{FieldAttribute, FieldInfo};
 use listing_spec::fault::ListFault;
+use shared_data::items::Items;
 use std::alloc::Global;
 
 /// The flags that have access words of fields (JVMS table 4.5-A).

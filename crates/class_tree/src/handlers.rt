@@ -5,9 +5,9 @@ ghost use Rattle.listing_spec.specs.TreeOf.{caught_of, catch_of};
 
 use crate::labels::label_of;
 use crate::texts::Texts;
-use shared_data::items::Items;
 use jasmin::source::{CatchLine, Caught};
 use jvms_file::class_file::Handler;
+use shared_data::items::Items;
 use std::alloc::{AllocError, Global};
 
 /// Returns what a handler of this `catch_type` catches: all exceptions for 0.

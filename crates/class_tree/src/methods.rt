@@ -10,11 +10,11 @@ ghost use Rattle.listing_spec.specs.TreeOf.{method_flags, method_with, method_li
 use crate::code::items_of;
 use crate::handlers::catches_of;
 use crate::texts::Texts;
-use shared_data::items::Items;
-use shared_data::shared::Text;
 use jasmin::source::{CatchLine, CodeItem, MethodLines};
 use jvms_file::class_file::{Code, MethodAttribute, MethodInfo};
 use listing_spec::fault::ListFault;
+use shared_data::items::Items;
+use shared_data::shared::Text;
 use std::alloc::{AllocError, Global};
 
 /// The flags that have access words of methods (JVMS table 4.6-A).

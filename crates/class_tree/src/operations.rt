@@ -11,12 +11,12 @@ use crate::opcodes::{form_of, opcode_at};
 use crate::references::{field_name, method_name};
 use crate::switches::{lookup_lines, table_lines};
 use crate::texts::Texts;
-use shared_data::boxed::Boxed;
 use jasmin::source::{BranchWidth, ConstantWidth, Operation};
 use jvms_file::insn::{
     ArrayInsn, Branch, FieldUse, Insn, Invoke, LookupSwitch, Opcode, Push, Simple, TableSwitch,
 };
 use listing_spec::fault::ListFault;
+use shared_data::boxed::Boxed;
 use std::alloc::{AllocError, Global};
 
 /// Returns a `bipush`, or the opcode by itself if the number doesn't fit a byte.

@@ -4,9 +4,9 @@ ghost use Rattle.std.specs.Prelude.{◌≡◌, map, IfOk};
 ghost use Rattle.listing_spec.specs.TreeOf.{label_of, match_of};
 
 use crate::labels::{label_of, labels_of};
-use shared_data::items::Items;
 use jasmin::source::{LookupLines, MatchLine, TableLines};
 use jvms_file::insn::{LookupSwitch, SwitchCase, TableSwitch};
+use shared_data::items::Items;
 use std::alloc::{AllocError, Global};
 
 /// Returns the lines of a tableswitch.

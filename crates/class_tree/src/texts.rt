@@ -5,9 +5,9 @@ ghost use Rattle.std.specs.Option.{option_and_then, option_copied, unwrap_or};
 ghost use Rattle.jvms_file.specs.ConstantPool.{entry, utf8_of, utf8_at, both};
 ghost use Rattle.jvms_program.specs.Meaning.{text_of, class_text, name_and_type};
 
+use jvms_file::class_file::Constant;
 use shared_data::items::Items;
 use shared_data::shared::{Shared, Text};
-use jvms_file::class_file::Constant;
 use std::alloc::{AllocError, Global};
 use std::marker::Model;
 

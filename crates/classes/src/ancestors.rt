@@ -22,8 +22,8 @@ use crate::lookup::numbered;
 use crate::marks::{first_marked, is_any_marked, is_marked, mark, mark_all, mark_if};
 use crate::ranked::Ranked;
 use crate::walk::Look;
-use shared_data::shared::Text;
 use jvms_program::program::Class;
+use shared_data::shared::Text;
 
 /// The number of words that mark the classes of most programs, 4,096 at most.
 const FEW_WORDS: usize = 64;

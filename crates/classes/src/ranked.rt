@@ -2,8 +2,8 @@
 
 ghost use Rattle.classes.specs.Hierarchy.{IsHierarchyOf};
 
-use shared_data::items::Items;
 use jvms_program::program::Class;
+use shared_data::items::Items;
 
 /// Classes with the numbers of each one's superinterfaces and superclass, and an order in which each class comes after
 /// its own.

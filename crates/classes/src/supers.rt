@@ -5,9 +5,9 @@ ghost use Rattle.classes.specs.Hierarchy.{numbers_of, super_numbers, super_rows,
 ghost use Rattle.jvms_program.specs.Program.{class_number};
 
 use crate::class_list::ClassList;
+use jvms_program::program::Class;
 use shared_data::items::Items;
 use shared_data::shared::Text;
-use jvms_program::program::Class;
 use std::alloc::{AllocError, Global};
 
 /// Appends the number of the class of a name, if the class is there.

@@ -9,8 +9,8 @@ ghost use Rattle.code_bytes.specs.Writing.{bytes_onto, bytes_within};
 use crate::operation::write_operation;
 use crate::steps::next_operation;
 use assembly::fault::AsmFault;
-use shared_data::items::Items;
 use jasmin::source::CodeItem;
+use shared_data::items::Items;
 use source_labels::Labels;
 use std::alloc::Global;
 

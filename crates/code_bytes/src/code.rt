@@ -10,9 +10,9 @@ use crate::handlers::handlers_of;
 use crate::insns::insns_of;
 use crate::starts::{starts_of, widened};
 use assembly::fault::AsmFault;
-use shared_data::items::Items;
 use jasmin::source::MethodLines;
 use jvms_file::class_file::{Code, Layout};
+use shared_data::items::Items;
 use source_labels::Labels;
 use std::alloc::Global;
 

@@ -6,9 +6,9 @@ ghost use Rattle.assembly.specs.CodeOf.{handler_of as handler_at, handlers_from}
 
 use crate::room::list_with_capacity;
 use crate::targets::target_of;
-use shared_data::items::Items;
 use jasmin::source::CatchLine;
 use jvms_file::class_file::Handler;
+use shared_data::items::Items;
 use source_labels::Labels;
 use std::alloc::{AllocError, Global};
 

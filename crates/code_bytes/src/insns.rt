@@ -10,14 +10,14 @@ ghost use Rattle.assembly.specs.CodeOf.{insn_of as insn_at, insns_from};
 use crate::room::list_with_capacity;
 use crate::steps::next_operation;
 use crate::targets::target_of;
-use shared_data::boxed::Boxed;
-use shared_data::items::Items;
-use shared_data::shared::Text;
 use insn::form_of;
 use jasmin::source::{CodeItem, LookupLines, MatchLine, Operation, TableLines};
 use jvms_file::insn::{
     ArrayInsn, Insn, LookupSwitch, Opcode, Push, Simple, SwitchCase, TableSwitch,
 };
+use shared_data::boxed::Boxed;
+use shared_data::items::Items;
+use shared_data::shared::Text;
 use source_labels::Labels;
 use std::alloc::{AllocError, Global};
 

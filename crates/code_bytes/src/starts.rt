@@ -11,8 +11,8 @@ use crate::room::list_with_capacity;
 use crate::sizes::capped_size;
 use crate::steps::next_operation;
 use assembly::fault::AsmFault;
-use shared_data::items::Items;
 use jasmin::source::{CodeItem, Operation};
+use shared_data::items::Items;
 use std::alloc::{AllocError, Global};
 
 /// The most bytes of code.

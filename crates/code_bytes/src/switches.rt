@@ -10,8 +10,8 @@ use crate::numbers::{word_of, write_s4, write_u1};
 use crate::sizes::pad_length;
 use crate::targets::offset_of;
 use file_bytes::{write_length, write_u4};
-use shared_data::shared::Text;
 use jasmin::source::{LookupLines, MatchLine, TableLines};
+use shared_data::shared::Text;
 use source_labels::Labels;
 use std::alloc::AllocError;
 

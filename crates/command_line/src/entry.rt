@@ -3,9 +3,9 @@
 use crate::fault::WordsFault;
 use descriptor::method_type;
 use escapes::{NameSort, cut_twice, name_units};
-use shared_data::items::Items;
 use jvms_file::descriptor::{Element, FieldType, Primitive};
 use jvms_machine::machine::{Argument, Entry};
+use shared_data::items::Items;
 use std::alloc::Global;
 
 /// Reads a name of this sort.

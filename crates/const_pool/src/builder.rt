@@ -9,9 +9,9 @@ ghost use Rattle.const_pool.specs.Interning.{constant_of, width as width_of, con
 
 use crate::entry::Entry;
 use crate::pool::Pool;
-use shared_data::items::Items;
 use indexmap::IndexMap;
 use jvms_file::class_file::Constant;
+use shared_data::items::Items;
 use std::alloc::{AllocError, AllocFailed, Global};
 use std::marker::Model;
 use thiserror::Error;

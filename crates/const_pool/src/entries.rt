@@ -7,9 +7,9 @@ ghost use Rattle.const_pool.specs.Numbered.{numbered};
 
 use crate::constant::constant_at;
 use file_bytes::u2_at;
-use shared_data::items::Items;
 use jvms_file::class_file::Constant;
 use jvms_file::fault::{ClassFault, ReadError};
+use shared_data::items::Items;
 use std::alloc::{AllocError, Global};
 
 /// Decides whether an entry takes two numbers (JVMS 4.4.5).

@@ -4,8 +4,8 @@ ghost use Rattle.std.specs.Prelude.{◌≡◌};
 ghost use Rattle.jvms_file.specs.ConstantPool.{takes_two};
 ghost use Rattle.const_pool.specs.Interning.{constant_of};
 
-use shared_data::items::Items;
 use jvms_file::class_file::Constant;
+use shared_data::items::Items;
 
 /// An entry of a pool (JVMS 4.4). It is a `Constant`, except the unusable one, which only follows a long or a double.
 #[derive(Debug, PartialEq, Eq, Hash, Drop)]

@@ -6,8 +6,8 @@ ghost use Rattle.jvms_file.specs.ConstantPool.{entry, utf8_at, class_name_at, na
 ghost use Rattle.const_pool.specs.Writing.{pool_bytes};
 
 use crate::writing::write_pool;
-use shared_data::items::Items;
 use jvms_file::class_file::Constant;
+use shared_data::items::Items;
 use std::alloc::{AllocError, Global};
 use std::marker::Model;
 

@@ -10,8 +10,8 @@ ghost use Rattle.const_pool.specs.Texts.{forms_of as forms_of_text, text_of as t
 use crate::firsts::Firsts;
 use crate::forms::{Forms, forms_of};
 use crate::pool::Pool;
-use shared_data::items::Items;
 use jvms_file::class_file::Constant;
+use shared_data::items::Items;
 use std::alloc::{AllocError, Global};
 use std::marker::Model;
 

@@ -9,8 +9,8 @@ use crate::body::Body;
 use crate::places::method_of_place;
 use crate::view::View;
 use debugger_commands::{Command, DebugFault, Place};
-use shared_data::shared::Text;
 use jvms_machine::machine::ThreadId;
+use shared_data::shared::Text;
 
 impl Body<'_> {
     /// Adds a breakpoint at a place.

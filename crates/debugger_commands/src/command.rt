@@ -4,9 +4,9 @@ ghost use Rattle.debugger_commands.specs.Readings.{Reads};
 
 use crate::fault::DebugFault;
 use crate::line::{alone, with_one_word, with_two_words};
-use shared_data::shared::Text;
 use jvms_machine::machine::ThreadId;
 use jvms_program::key::MethodKey;
+use shared_data::shared::Text;
 use std::alloc::Global;
 
 const SPACE: char = ' ';

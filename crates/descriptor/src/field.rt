@@ -8,8 +8,8 @@ ghost use Rattle.descriptor.specs.Scanning.{element_of, type_of};
 
 use crate::fault::DescriptorFault;
 use crate::scan::{ParsedElement, ParsedType, field_in};
-use shared_data::items::Items;
 use jvms_file::descriptor::{Element, FieldType};
+use shared_data::items::Items;
 use std::alloc::{AllocError, Global};
 
 /// Returns the type with its own copy of the class's name.
@@ -18,7 +18,9 @@ pub(crate) fn owned(alloc: Global, spelled: ParsedType<'_>) -> Result<FieldType,
 {
     let element = match spelled.innermost {
         ParsedElement::Primitive(primitive) => Element::Primitive(primitive),
-        ParsedElement::Object(name) => Element::Object(Items::from_vec(Vec::from_slice(alloc, name)?)),
+        ParsedElement::Object(name) => Element::Object(Items::from_vec(Vec::from_slice(
+            alloc, name,
+        )?)),
     };
     Ok(FieldType {
         dimensions: spelled.dimensions,

@@ -14,8 +14,8 @@ use crate::letters::{CLOSE, OPEN, VOID};
 use crate::names::same_text;
 use crate::scan::field_at;
 use crate::units::{parameter_units, spelled_units};
-use shared_data::items::Items;
 use jvms_file::descriptor::{FieldType, MethodType, ResultType};
+use shared_data::items::Items;
 use std::alloc::Global;
 
 /// The greatest number of units of a method's parameters.

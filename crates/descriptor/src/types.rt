@@ -6,8 +6,8 @@ ghost use Rattle.jvms_file.specs.Descriptors.{field_type, method_type};
 use crate::fault::DescriptorFault;
 use crate::field::read_field;
 use crate::method::read_method;
-use shared_data::items::Items;
 use jvms_file::descriptor::{Element, FieldType, MethodType, Primitive, ResultType};
+use shared_data::items::Items;
 use std::alloc::{AllocError, Global};
 
 /// Returns the type that a field's descriptor spells, or int if the text spells none.

@@ -22,7 +22,8 @@ pub(crate) fn spelled_units(spelled: ParsedType<'_>) -> usize
     ensures { result ≡ units_of (type_of spelled.entry) }
 {
     match spelled.innermost {
-        ParsedElement::Primitive(Primitive::Long | Primitive::Double) if spelled.dimensions == 0 => 2,
+        ParsedElement::Primitive(Primitive::Long | Primitive::Double) if spelled.dimensions == 0 =>
+            2,
         _ => 1,
     }
 }

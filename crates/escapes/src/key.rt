@@ -9,8 +9,8 @@ ghost use Rattle.escapes.specs.Readings.{IsReadAs};
 use crate::cuts::cut_twice;
 use crate::name::{name_of, put_name};
 use crate::sort::NameSort;
-use shared_data::shared::Text;
 use jvms_program::key::{FieldKey, MethodKey};
+use shared_data::shared::Text;
 use std::alloc::{AllocError, Global};
 
 const DOT: u8 = b'.';

@@ -12,7 +12,6 @@ pub(crate) mod many;
 
 use crate::arrays::elements::{load_decision, store_decision};
 use frames::Frame;
-use shared_data::shared::Text;
 use jvms_file::insn::{ArrayInsn, ArrayType};
 use jvms_machine::action::{Effect, FrameAction, NewObject};
 use jvms_machine::machine::BadCause;
@@ -20,6 +19,7 @@ use jvms_machine::value::Value;
 use jvms_program::thrown::Thrown;
 use machine_parts::{ActionText, Decided, Parts, bad, has_depth, never_seen, reaches};
 use machine_thread::Thread;
+use shared_data::shared::Text;
 
 /// Decides whether the limits allow `objects` more objects and `elements` more array elements.
 pub(crate) fn has_room_for_elements(parts: &Parts, objects: usize, elements: usize) -> bool

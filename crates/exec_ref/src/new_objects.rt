@@ -13,12 +13,12 @@ ghost use Rattle.machine_parts.specs.Machine.{with_state};
 use crate::arrays::many::length_of_value;
 use descriptor::is_array_name;
 use heap::Heap;
-use shared_data::items::Items;
-use shared_data::shared::{Shared, Text};
 use jvms_machine::action::NewObject;
 use jvms_machine::machine::ThreadId;
 use jvms_machine::value::Value;
 use machine_parts::{ActionText, Parts};
+use shared_data::items::Items;
+use shared_data::shared::{Shared, Text};
 use std::alloc::{AllocError, Global};
 
 /// `[`

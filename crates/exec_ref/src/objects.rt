@@ -20,7 +20,6 @@ ghost use Rattle.exec_ref.specs.Telling.{by_instance_test};
 
 use crate::arrays::{making, new_class_array_decision};
 use frames::Frame;
-use shared_data::shared::Text;
 use jvms_file::insn::ClassUse;
 use jvms_machine::action::{Effect, FrameAction, NewObject};
 use jvms_machine::machine::BadCause;
@@ -29,6 +28,7 @@ use jvms_program::program::{Class, ClassKind, Loadable};
 use jvms_program::thrown::Thrown;
 use machine_parts::{ActionText, Decided, Parts, bad, has_depth, never_seen, reaches, taking};
 use machine_thread::Thread;
+use shared_data::shared::Text;
 
 /// The result of testing the topmost operand against a class.
 #[derive(Clone, Copy)]

@@ -5,8 +5,8 @@ ghost use Rattle.jvms_file.specs.declared.fault.ClassFault.{ClassFault as Fault}
 ghost use Rattle.jvms_file.specs.Reading.{Gives};
 ghost use Rattle.jvms_file.specs.Results.{part_list_onto};
 
-use shared_data::items::Items;
 use jvms_file::fault::ReadError;
+use shared_data::items::Items;
 use std::alloc::Global;
 
 /// A reader of one part, which may depend on the parts before it.

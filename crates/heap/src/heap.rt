@@ -11,10 +11,10 @@ ghost use Rattle.heap.specs.Held.{name_at, shown, IsKept};
 
 use crate::held_object::StoredObject;
 use crate::primitive_arrays::PrimitiveArrays;
-use shared_data::shared::Text;
 use jvms_file::insn::{ArrayKind, ArrayType};
 use jvms_machine::value::Value;
 use program::Program;
+use shared_data::shared::Text;
 use std::alloc::Global;
 use std::marker::Model;
 use text_index::Index;

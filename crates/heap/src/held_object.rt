@@ -9,10 +9,10 @@ ghost use Rattle.heap.specs.Objects.{Loads, Stores, array_class, instance_class,
 ghost use Rattle.heap.specs.Held.{name_at, shown, AreAlike, IsKept, AcceptsStored, Becomes};
 
 use array_elements::Elements;
-use shared_data::shared::Text;
 use jvms_file::insn::ArrayKind;
 use jvms_machine::value::Value;
 use program::Program;
+use shared_data::shared::Text;
 use std::alloc::{AllocError, Global};
 
 /// `java/lang/String`, the class of a string.

@@ -10,8 +10,8 @@ use crate::first_values::first_values;
 use crate::heap::Heap;
 use crate::held_object::StoredObject;
 use array_elements::{Elements, kind_of_array};
-use shared_data::shared::Text;
 use program::Program;
+use shared_data::shared::Text;
 use std::alloc::AllocError;
 
 /// Returns the name of the class of a number.

@@ -5,9 +5,9 @@ ghost use Rattle.jvms_machine.specs.Opening.{opening_heap};
 
 use crate::heap::Heap;
 use crate::primitive_arrays::PrimitiveArrays;
+use program::Program;
 use shared_data::items::Items;
 use shared_data::shared::{Shared, Text};
-use program::Program;
 use std::alloc::{AllocError, Global};
 use text_index::Index;
 

@@ -3,9 +3,9 @@
 ghost use Rattle.std.specs.Prelude.{◌≡◌, ◌∷◌, [], IfOk};
 ghost use Rattle.jvms_machine.specs.Heap.{array_of_type};
 
+use jvms_file::insn::ArrayType;
 use shared_data::items::Items;
 use shared_data::shared::{Shared, Text};
-use jvms_file::insn::ArrayType;
 use std::alloc::{AllocError, Global};
 use std::marker::Model;
 

@@ -27,7 +27,8 @@ impl Heap<'_> {
         let Some(units) = last_units(self.objects.as_slice()) else {
             return;
         };
-        self.texts.remove_matching(units.as_slice(), self.objects.len());
+        self.texts
+            .remove_matching(units.as_slice(), self.objects.len());
         self.objects.pop();
     }
 

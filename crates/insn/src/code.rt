@@ -15,9 +15,9 @@ use crate::places::with_places;
 use crate::room::list_with_capacity;
 use crate::starts::Starts;
 use const_pool::ScannedPool;
-use shared_data::items::Items;
 use jvms_file::fault::{ClassFault, ReadError};
 use jvms_file::insn::Insn;
+use shared_data::items::Items;
 use std::alloc::{AllocError, Global};
 
 /// The code of a method.

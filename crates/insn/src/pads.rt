@@ -7,9 +7,9 @@ ghost use Rattle.jvms_file.specs.Instructions.{pad_length as pads_at};
 
 use crate::starts::Starts;
 use crate::switches::pad_length;
-use shared_data::items::Items;
 use jvms_file::class_file::Layout;
 use jvms_file::insn::Insn;
+use shared_data::items::Items;
 use std::alloc::{AllocError, Global};
 
 /// Sets the byte at a place to 0. Outside the bytes nothing changes.

@@ -7,10 +7,10 @@ ghost use Rattle.insn.specs.Places.{place_or_fault, case_or_fault, table_or_faul
 
 use crate::room::list_with_capacity;
 use crate::starts::Starts;
-use shared_data::boxed::Boxed;
-use shared_data::items::Items;
 use jvms_file::fault::{ClassFault, ReadError};
 use jvms_file::insn::{Insn, LookupSwitch, SwitchCase, TableSwitch};
+use shared_data::boxed::Boxed;
+use shared_data::items::Items;
 use std::alloc::Global;
 
 /// Returns the place of a target.

@@ -7,10 +7,10 @@ ghost use Rattle.insn.specs.Operands.{target_at as target_from, case_at as case_
 
 use crate::targets::target_of;
 use file_bytes::{Part, bytes_at, parts_of, u4_at, want};
-use shared_data::boxed::Boxed;
-use shared_data::items::Items;
 use jvms_file::fault::{ClassFault, ReadError};
 use jvms_file::insn::{Insn, LookupSwitch, SwitchCase, TableSwitch};
+use shared_data::boxed::Boxed;
+use shared_data::items::Items;
 use std::alloc::Global;
 
 /// Returns the number of pads of a switch: the bytes between its opcode and the next multiple of 4.

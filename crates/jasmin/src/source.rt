@@ -1,10 +1,10 @@
 //! The syntax tree of a source: one class, with its instructions as they are spelled. A text is the list of its UTF-16
 //! code units.
 
+use jvms_file::insn::{ArrayType, Branch, ClassUse, FieldUse, Invoke, LocalUse};
 use shared_data::boxed::Boxed;
 use shared_data::items::Items;
 use shared_data::shared::Text;
-use jvms_file::insn::{ArrayType, Branch, ClassUse, FieldUse, Invoke, LocalUse};
 
 /// A field that an instruction names.
 #[derive(Debug, Drop)]

@@ -11,11 +11,11 @@ ghost use Rattle.jasmin_instructions.specs.Views.{loaded_of};
 
 use crate::fault::LineFault;
 use crate::texts::text;
-use shared_data::boxed::Boxed;
 use jasmin::source::{ConstantWidth, LoadedConstant, Operation};
 use jasmin::statement::Flaw;
 use jasmin::token::{Lexeme, Token};
 use jasmin_operands::{Judged, class_at, exactly, i32_at, operand, spells_number, unless};
+use shared_data::boxed::Boxed;
 use std::alloc::{AllocError, Global};
 
 /// A constant that is loaded, borrowed from its line.

@@ -13,7 +13,6 @@ ghost use Rattle.jasmin_instructions.specs.Views.{two_texts};
 use crate::fault::LineFault;
 use crate::parts::{two_words, two_words_unless};
 use crate::texts::text;
-use shared_data::boxed::Boxed;
 use jasmin::source::{FieldName, Operation};
 use jasmin::statement::Flaw;
 use jasmin::token::{Lexeme, Token};
@@ -22,6 +21,7 @@ use jasmin_operands::{
     word_at,
 };
 use jvms_file::insn::FieldUse;
+use shared_data::boxed::Boxed;
 use std::alloc::Global;
 
 /// Judges a place that requires `class/name` of a field.

@@ -18,7 +18,6 @@ use crate::fault::LineFault;
 use crate::parts::{two_words, two_words_unless};
 use crate::texts::text;
 use descriptor::{is_constructor_name, method_units};
-use shared_data::boxed::Boxed;
 use jasmin::source::{MethodName, Operation};
 use jasmin::statement::Flaw;
 use jasmin::token::{Lexeme, Token};
@@ -27,6 +26,7 @@ use jasmin_operands::{
     operand, u8_at, unless, word_at, word_or_none,
 };
 use jvms_file::insn::Invoke;
+use shared_data::boxed::Boxed;
 use std::alloc::Global;
 
 /// The first unit of `<init>` and `<clinit>` (JVMS 2.9).

@@ -12,8 +12,8 @@ use crate::space::begin;
 use crate::text::text_at;
 use crate::units::units_of;
 use crate::word::{COLON, EQUALS, QUOTE, word_at};
-use shared_data::items::Items;
 use jasmin::token::{Lexeme, Token};
+use shared_data::items::Items;
 use std::alloc::{AllocError, Global};
 
 /// Returns a word of these units.

@@ -7,11 +7,11 @@ use crate::in_method::{
     with_catch, with_default, with_instruction, with_label, with_labelled_instruction, with_match,
     with_max_locals, with_max_stack, with_table_label, with_throws,
 };
-use shared_data::items::Items;
-use shared_data::shared::Text;
 use jasmin::reading::{OpenMethod, Part, Reading};
 use jasmin::source::MethodLines;
 use jasmin::statement::Statement;
+use shared_data::items::Items;
+use shared_data::shared::Text;
 use std::alloc::{AllocError, Global};
 
 /// Returns a method after its head.

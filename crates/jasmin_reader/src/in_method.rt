@@ -6,12 +6,12 @@ ghost use Rattle.jasmin.specs.declared.reading.OpenMethod.{OpenMethod as MethodV
 ghost use Rattle.jasmin.specs.declared.source.CodeItem.TheVariants as item;
 ghost use Rattle.jasmin.specs.Reading.{with_throws as method_with_throws, with_catch as method_with_catch, with_item as method_with_item, with_instruction as method_with_instruction, with_table_label as switch_with_label, with_match as switch_with_match, closed_switch};
 
-use shared_data::boxed::Boxed;
-use shared_data::items::Items;
-use shared_data::shared::Text;
 use jasmin::reading::{OpenMethod, SwitchLines};
 use jasmin::source::{CatchLine, CodeItem, LookupLines, MatchLine, Operation, TableLines};
 use jasmin::statement::Instruction;
+use shared_data::boxed::Boxed;
+use shared_data::items::Items;
+use shared_data::shared::Text;
 use std::alloc::{AllocError, Global};
 
 /// Sets the limit of the operand stack.

@@ -8,9 +8,9 @@ use crate::added::with_statement;
 use crate::members::Members;
 use crate::noted::{note_field, note_method};
 use crate::once::{has_locals, has_stack};
-use shared_data::items::Items;
 use jasmin::reading::{Part, Reading};
 use jasmin::statement::Statement;
+use shared_data::items::Items;
 use std::alloc::{AllocError, Global};
 use std::marker::Model;
 

@@ -10,10 +10,10 @@ use crate::fault::SourceFault;
 use crate::line::with_line;
 use crate::open::Open;
 use crate::text::text as ascii_text;
-use shared_data::shared::Text;
 use jasmin::reading::Reading;
 use jasmin::source::Source;
 use jasmin::statement::Flaw;
+use shared_data::shared::Text;
 use std::alloc::{AllocError, Global};
 
 /// Returns the state of the reader after the lines of a text and the number of lines, or the first faulty line.

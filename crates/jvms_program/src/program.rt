@@ -2,11 +2,11 @@
 
 use crate::case_table::CaseTable;
 use crate::instructions::Instructions;
+use jvms_file::descriptor::{FieldType, MethodType};
+use jvms_file::insn::{Branch, ClassUse, FieldUse, Invoke, Simple, TableSwitch};
 use shared_data::boxed::Boxed;
 use shared_data::items::Items;
 use shared_data::shared::{Shared, Text};
-use jvms_file::descriptor::{FieldType, MethodType};
-use jvms_file::insn::{Branch, ClassUse, FieldUse, Invoke, Simple, TableSwitch};
 
 /// A field that an instruction names (JVMS 5.1).
 #[derive(Debug, Drop)]

@@ -9,8 +9,8 @@ ghost use Rattle.linker.specs.Supers.{AreAllAbove, Fall, is_above};
 
 use crate::number_set::NumberSet;
 use classes::{ClassList, ranks_of, super_numbers, super_rows};
-use shared_data::items::Items;
 use jvms_program::program::Class;
+use shared_data::items::Items;
 use std::alloc::{AllocError, Global};
 use std::marker::Model;
 

@@ -8,10 +8,10 @@ use crate::method::methods_of;
 use crate::texts::Texts;
 use const_pool::Pool;
 use descriptor::Flags;
-use shared_data::items::Items;
-use shared_data::shared::Text;
 use jvms_file::class_file::ClassFile;
 use jvms_program::program::{Class, ClassKind};
+use shared_data::items::Items;
+use shared_data::shared::Text;
 use std::alloc::{AllocError, Global};
 use std::mem;
 

@@ -6,9 +6,9 @@ ghost use Rattle.jvms_program.specs.Meaning.{catch_of, handler_of, body_of, code
 
 use crate::instruction::instructions_of;
 use crate::texts::Texts;
-use shared_data::items::Items;
 use jvms_file::class_file::{Code, Handler, MethodAttribute};
 use jvms_program::program::{Body, Catch, ExceptionHandler};
+use shared_data::items::Items;
 use std::alloc::{AllocError, Global};
 
 /// Returns the exceptions that a handler with this catch_type catches: all for 0.

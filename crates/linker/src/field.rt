@@ -6,9 +6,9 @@ ghost use Rattle.jvms_program.specs.Meaning.{constant_of, field_of};
 use crate::loadable::loadable_of;
 use crate::texts::Texts;
 use descriptor::Flags;
-use shared_data::items::Items;
 use jvms_file::class_file::{FieldAttribute, FieldInfo};
 use jvms_program::program::{Field, Loadable};
+use shared_data::items::Items;
 use std::alloc::{AllocError, Global};
 
 /// Returns the constant that the first ConstantValue among attributes names (JVMS 4.7.2), if there is one.

@@ -6,11 +6,11 @@ ghost use Rattle.jvms_program.specs.Meaning.{instruction_of};
 use crate::loadable::loadable_of;
 use crate::reference::{field_reference_of, method_reference_of};
 use crate::texts::{Texts, copied};
-use shared_data::boxed::Boxed;
 use jvms_file::insn::{Insn, LookupSwitch, TableSwitch};
 use jvms_program::case_table::CaseTable;
 use jvms_program::instructions::Instructions;
 use jvms_program::program::Instruction;
+use shared_data::boxed::Boxed;
 use std::alloc::{AllocError, Global};
 
 /// Copies the cases of a tableswitch.

@@ -8,10 +8,10 @@ use crate::code::body_among;
 use crate::texts::Texts;
 use const_pool::Pool;
 use descriptor::{Flags, is_initializer_name};
-use shared_data::items::Items;
-use shared_data::shared::Text;
 use jvms_file::class_file::{MethodAttribute, MethodInfo};
 use jvms_program::program::{Method, MethodFlags};
+use shared_data::items::Items;
+use shared_data::shared::Text;
 use std::alloc::{AllocError, Global};
 
 /// Returns the classes that the first Exceptions among attributes lists (JVMS 4.7.5).

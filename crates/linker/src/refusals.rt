@@ -9,8 +9,8 @@ ghost use Rattle.linker.specs.Linking.{built_in_name, has_wrong_interface, has_w
 use built_in::{is_built_in, is_named};
 use classes::{ClassList, OBJECT};
 use descriptor::same_text;
-use shared_data::shared::Text;
 use jvms_program::program::{Class, ClassKind};
+use shared_data::shared::Text;
 use std::alloc::{AllocError, Global};
 use std::collections::BTreeSet;
 

@@ -9,9 +9,9 @@ ghost use Rattle.linker.specs.Spelled.{spelled, typed_text_of as spelled_of_entr
 
 use const_pool::Constant;
 use descriptor::{DescriptorFault, field_type, method_type, parse_field, parse_method};
+use jvms_file::descriptor::{FieldType, MethodType};
 use shared_data::items::Items;
 use shared_data::shared::{Shared, Text};
-use jvms_file::descriptor::{FieldType, MethodType};
 use std::alloc::{AllocError, Global};
 
 /// A text and its types. A text that is no descriptor has the types of the empty text.

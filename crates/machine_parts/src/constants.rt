@@ -14,10 +14,10 @@ use crate::parts::Parts;
 use crate::stored::stored_in_field;
 use classes::FieldName;
 use descriptor::same_text;
-use shared_data::shared::Text;
 use jvms_file::descriptor::FieldType;
 use jvms_machine::value::Value;
 use jvms_program::program::{Class, Field, Loadable};
+use shared_data::shared::Text;
 use std::alloc::AllocError;
 
 /// Returns the string that initialisation stores in a field, if the field is static and its constant is a string.

@@ -7,12 +7,12 @@ ghost use Rattle.jvms_machine.specs.Fields.{reaches as reaching, read as reads, 
 ghost use Rattle.machine_parts.specs.Decided.{seen, effect_value};
 
 use frames::Frame;
-use shared_data::shared::Text;
 use jvms_file::insn::ArrayType;
 use jvms_machine::action::{Action, Decision, Effect, FrameAction};
 use jvms_machine::machine::{BadCause, Outcome};
 use jvms_machine::value::Value;
 use jvms_program::program::Body;
+use shared_data::shared::Text;
 
 /// A text of an action: one of the program, or the name of an array class. The name is built only when the turn is
 /// applied.

@@ -12,11 +12,11 @@ ghost use Rattle.trace.specs.Recording.{recorded};
 
 use crate::marks::push_listed;
 use crate::parts::Parts;
-use shared_data::items::Items;
-use shared_data::shared::{Shared, Text};
 use jvms_machine::action::{Lock, MonitorUse};
 use jvms_machine::machine::ThreadId;
 use jvms_machine::trace::Item;
+use shared_data::items::Items;
+use shared_data::shared::{Shared, Text};
 use std::alloc::AllocError;
 use trace::Recording;
 

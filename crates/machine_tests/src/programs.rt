@@ -3,11 +3,11 @@
 
 use assembler::assemble;
 use fixtures::texts::units;
-use shared_data::items::Items;
 use jasmin_reader::read;
 use linker::{ClassFile, link};
 use machine::{Argument, Entry, Limits};
 use program::Program;
+use shared_data::items::Items;
 use std::alloc::{AllocError, Global};
 use std::test::Fail;
 

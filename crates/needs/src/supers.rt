@@ -12,11 +12,11 @@ use crate::lack::Lack;
 use crate::line::put_reason_of;
 use classes::{ClassList, superclass_name};
 use escapes::put_name;
-use shared_data::shared::Text;
 use jvms_file::class_file::ClassFile;
 use jvms_program::program::Class;
 use jvms_program::thrown::Thrown;
 use linker::meaning;
+use shared_data::shared::Text;
 use std::alloc::{AllocError, Global};
 
 /// Appends the line of a missing superclass or superinterface.

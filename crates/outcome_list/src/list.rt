@@ -4,8 +4,8 @@ ghost use Rattle.std.specs.Prelude.{◌≡◌, ◌++◌, ◌∷◌, [], length, 
 
 use crate::kind::Kind;
 use crate::names::Names;
-use shared_data::items::Items;
 use jvms_machine::machine::Outcome;
+use shared_data::items::Items;
 use std::alloc::{AllocError, Global};
 use std::marker::Model;
 

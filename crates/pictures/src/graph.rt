@@ -104,7 +104,10 @@ fn put_cycle_edge(
     rows: &[Row],
     edge: ConflictingPair,
 ) -> Result<(), AllocError> {
-    let (Some(earlier), Some(later)) = (transition_of(rows, edge.earlier), transition_of(rows, edge.later)) else {
+    let (Some(earlier), Some(later)) = (
+        transition_of(rows, edge.earlier),
+        transition_of(rows, edge.later),
+    ) else {
         return Ok(());
     };
     let (from, to) = (earlier.transaction, later.transaction);

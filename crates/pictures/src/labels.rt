@@ -4,10 +4,10 @@ use crate::rows::Row;
 use accesses::thread_of;
 use atom_graph::Checker;
 use escapes::put_method;
-use shared_data::shared::Shared;
 use jvms_machine::machine::ThreadId;
 use jvms_machine::trace::Item;
 use jvms_program::key::MethodKey;
+use shared_data::shared::Shared;
 use std::alloc::{AllocError, Global};
 use trace_text::put_line;
 

@@ -3,9 +3,9 @@
 ghost use Rattle.std.specs.Prelude.{◌≡◌, ◌+◌, IfOk};
 ghost use Rattle.pictures.specs.Rows.{chosen_rows, is_chosen, is_joined, rows_from, thinned};
 
-use shared_data::shared::Shared;
 use jvms_machine::trace::Item;
 use report::is_event;
+use shared_data::shared::Shared;
 use std::alloc::{AllocError, Global};
 use velodrome::verdict::ConflictingPair;
 

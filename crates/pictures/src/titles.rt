@@ -3,9 +3,9 @@
 use crate::sketches::Sketch;
 use accesses::thread_of;
 use atom_graph::Checker;
-use shared_data::shared::Shared;
 use jvms_machine::trace::Item;
 use report::is_event;
+use shared_data::shared::Shared;
 use std::alloc::{AllocError, Global};
 use std::collections::BTreeSet;
 

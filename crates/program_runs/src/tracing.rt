@@ -6,13 +6,13 @@ ghost use Rattle.program_runs.specs.Shown.{program_chooser_left, view_of_program
 ghost use Rattle.runs.specs.Choices.{chooser_after_choices};
 
 use crate::fault::ProgramFault;
-use shared_data::items::Items;
 use jvms_machine::machine::{Entry, Limits, ThreadId};
 use machine::Machine;
 use outcome_list::OutcomeList;
 use program::Program;
 use runs::{Ending, ending_after, take_turns};
 use schedule::Chooser;
+use shared_data::items::Items;
 use std::alloc::Global;
 use trace::{Recording, Trace};
 

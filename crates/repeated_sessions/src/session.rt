@@ -2,10 +2,10 @@
 
 use crate::answers::answer_all;
 use debugger::Session;
-use shared_data::items::Items;
 use machine::{Argument, Entry, Limits, MachineFault};
 use program::Program;
 use refused::{again, units_of};
+use shared_data::items::Items;
 use std::alloc::Global;
 
 /// The limits of the session.

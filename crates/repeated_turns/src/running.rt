@@ -1,10 +1,10 @@
 //! Takes the turns of a machine, one by one.
 
-use shared_data::items::Items;
 use machine::{Entry, Limits, Machine, ThreadId, is_enabled};
 use machine_text::{output_text, threads_text};
 use program::Program;
 use refused::again;
+use shared_data::items::Items;
 use trace::Trace;
 
 /// The limits of the run.

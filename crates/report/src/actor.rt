@@ -11,10 +11,10 @@ ghost use Rattle.report.specs.Marks.{methods_after};
 use crate::events::first;
 use accesses::thread_of;
 use atom_graph::Checker;
-use shared_data::shared::Shared;
 use jvms_machine::machine::ThreadId;
 use jvms_machine::trace::Item;
 use jvms_program::key::MethodKey;
+use shared_data::shared::Shared;
 use std::alloc::{AllocError, Global};
 
 /// The change that an item makes to the open methods of a thread.

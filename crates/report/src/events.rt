@@ -4,8 +4,8 @@ ghost use Rattle.std.specs.Prelude.{◌≡◌, IfOk, take};
 ghost use Rattle.velodrome.specs.Transactions.{is_event as is_event_item};
 ghost use Rattle.report.specs.CycleTexts.{event_places, events_of_transaction};
 
-use shared_data::shared::Shared;
 use jvms_machine::trace::Item;
+use shared_data::shared::Shared;
 use std::alloc::{AllocError, Global};
 
 /// Decides whether an item is an event, and not a mark.

@@ -2,8 +2,8 @@
 
 use cases::Case;
 use fixtures::texts::units;
-use shared_data::items::Items;
 use machine::{Argument, Entry, Limits, ThreadId};
+use shared_data::items::Items;
 use std::alloc::{AllocError, Global};
 
 /// Limits that only cases about limits reach.

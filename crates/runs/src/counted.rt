@@ -7,7 +7,7 @@ ghost use Rattle.runs.specs.Choices.{choices_from, chooser_after_choices, BrokeO
 ghost use Rattle.trace.specs.Recording.{recorded};
 
 use crate::kept::Kept;
-use crate::turn::{take_turn, take_consecutive_turns};
+use crate::turn::{take_consecutive_turns, take_turn};
 use machine::Machine;
 use schedule::Chooser;
 use std::alloc::{AllocError, Global};

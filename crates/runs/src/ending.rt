@@ -6,10 +6,10 @@ ghost use Rattle.runs.specs.Choices.{chooser_after_choices};
 ghost use Rattle.runs.specs.Endings.{ending_in, ending_of, uncaught_of, uncaught_threads};
 
 use crate::counted::count_turns;
-use shared_data::items::Items;
 use jvms_machine::value::Value;
 use machine::{Machine, Status, ThreadId};
 use schedule::Chooser;
+use shared_data::items::Items;
 use std::alloc::{AllocError, Global};
 use trace::Recording;
 

@@ -7,11 +7,11 @@ ghost use Rattle.runs.specs.Choices.{choices_from, chooser_after_choices, BrokeO
 ghost use Rattle.trace.specs.Recording.{recorded};
 
 use crate::kept::Kept;
-use crate::turn::{TurnsOn, take_turn, take_consecutive_turns};
-use shared_data::items::Items;
+use crate::turn::{TurnsOn, take_consecutive_turns, take_turn};
 use machine::{Machine, ThreadId};
 use outcome_list::OutcomeList;
 use schedule::Chooser;
+use shared_data::items::Items;
 use std::alloc::{AllocError, Global};
 use trace::Recording;
 

@@ -6,9 +6,9 @@ ghost use Rattle.schedule.specs.Choosers.{Listed, next};
 
 use crate::fault::ScheduleFault;
 use crate::numbers::thread_number;
+use jvms_machine::machine::ThreadId;
 use shared_data::items::Items;
 use shared_data::shared::Shared;
-use jvms_machine::machine::ThreadId;
 use std::alloc::{AllocError, Global};
 use std::marker::Model;
 

@@ -7,10 +7,10 @@ ghost use Rattle.jasmin.specs.Assembling.{labels_of, marks_no_instruction as lea
 ghost use Rattle.source_labels.specs.Leading.{item_leads_nowhere as item_leads_nowhere_in};
 
 use crate::labels::Labels;
-use shared_data::shared::Text;
 use jasmin::source::{
     CatchLine, CodeItem, LookupLines, MatchLine, MethodLines, Operation, TableLines,
 };
+use shared_data::shared::Text;
 
 /// Decides whether a label marks no instruction: it is undefined, or follows the last instruction.
 fn marks_no_instruction(labels: &Labels<'_>, label: &Text) -> bool
@@ -33,14 +33,17 @@ fn any_leads_nowhere(labels: &Labels<'_>, names: &[Text]) -> bool
 fn any_match_leads_nowhere(labels: &Labels<'_>, lines: &[MatchLine]) -> bool
     ensures { result ≡ list_any (λ line. leads_nowhere_in labels.now line.label) lines.now }
 {
-    lines.iter().any(|line| marks_no_instruction(labels, &line.label))
+    lines
+        .iter()
+        .any(|line| marks_no_instruction(labels, &line.label))
 }
 
 /// Decides whether a label of a tableswitch marks no instruction.
 fn table_leads_nowhere(labels: &Labels<'_>, lines: &TableLines) -> bool
     ensures { result ≡ list_any (leads_nowhere_in labels.now) (lines.now.default ∷ lines.now.labels) }
 {
-    marks_no_instruction(labels, &lines.default) || any_leads_nowhere(labels, lines.labels.as_slice())
+    marks_no_instruction(labels, &lines.default)
+        || any_leads_nowhere(labels, lines.labels.as_slice())
 }
 
 /// Decides whether a label of a lookupswitch marks no instruction.

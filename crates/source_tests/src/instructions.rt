@@ -2,14 +2,14 @@
 
 use crate::class_bytes::{G, refusal};
 use const_pool::ScannedPool;
-use shared_data::boxed::Boxed;
-use shared_data::items::Items;
 use insn::{Decoded, Insn, decode, insn_at};
 use jvms_file::fault::ClassFault;
 use jvms_file::insn::{
     Branch, Comparison, Division, IntInsn, Kind, LocalUse, LookupSwitch, Push, ReturnInsn, Simple,
     SwitchCase, TableSwitch,
 };
+use shared_data::boxed::Boxed;
+use shared_data::items::Items;
 use std::alloc::{AllocError, Global};
 use std::process::Abort;
 use std::test::Fail;

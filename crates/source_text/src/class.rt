@@ -10,8 +10,8 @@ use crate::access::{push_class_words, push_interface_words, push_word};
 use crate::member::{put_fields, put_methods};
 use crate::word::{Word, put_line};
 use descriptor::Flags;
-use shared_data::shared::Text;
 use jasmin::source::Source;
+use shared_data::shared::Text;
 use std::alloc::{AllocError, Global};
 
 /// Returns the words of a class's line.

@@ -13,11 +13,11 @@ use crate::mnemonic::{array_type_name, mnemonic};
 use crate::opcodes::opcode_of;
 use crate::word::{Word, put_ascii, put_line};
 use descriptor::method_units;
-use shared_data::shared::Text;
 use jasmin::source::{
     CodeItem, FieldName, LoadedConstant, LookupLines, MatchLine, MethodName, Operation, TableLines,
 };
 use jvms_file::insn::Invoke;
+use shared_data::shared::Text;
 use std::alloc::{AllocError, Global};
 
 /// Appends an instruction's line, indented by two spaces.

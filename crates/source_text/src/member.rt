@@ -13,8 +13,8 @@ use crate::access::{push_field_words, push_method_words, push_word};
 use crate::code::put_code;
 use crate::word::{Word, put_line};
 use descriptor::{Flags, is_initializer_name};
-use shared_data::shared::Text;
 use jasmin::source::{CatchLine, Caught, FieldConstant, FieldLine, MethodLines};
+use shared_data::shared::Text;
 use std::alloc::{AllocError, Global};
 
 /// Appends the words of a field's constant.

@@ -72,7 +72,9 @@ pub(crate) fn serves(kind: ArrayKind, t: ParsedType<'_>) -> bool
     ensures { result ≡ serving kind (type_of t.entry) }
 {
     match t.innermost {
-        ParsedElement::Primitive(primitive) if t.dimensions == 0 => serves_primitive(kind, primitive),
+        ParsedElement::Primitive(primitive) if t.dimensions == 0 => serves_primitive(
+            kind, primitive,
+        ),
         _ => is_reference_kind(kind),
     }
 }

@@ -10,13 +10,13 @@ ghost use Rattle.machine_parts.specs.Decided.{seen};
 use super::components::{behind_bracket, component_type};
 use crate::arrays::{has_room_for_elements, making};
 use frames::Frame;
-use shared_data::shared::Text;
 use jvms_machine::action::NewObject;
 use jvms_machine::machine::BadCause;
 use jvms_machine::value::Value;
 use jvms_program::thrown::Thrown;
 use machine_parts::{ActionText, Decided, Parts, bad, has_depth, never_seen};
 use machine_thread::Thread;
+use shared_data::shared::Text;
 
 /// The cap of the counts, which is more than any limit allows.
 const MOST: usize = 1 << 32;

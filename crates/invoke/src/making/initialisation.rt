@@ -13,7 +13,6 @@ ghost use Rattle.trace.specs.Recording.{recorded};
 
 use frames::Frame;
 use heap::Heap;
-use shared_data::shared::Text;
 use jvms_machine::machine::ThreadId;
 use jvms_machine::state::Initialisation;
 use jvms_machine::trace::Item;
@@ -21,6 +20,7 @@ use jvms_program::number::MethodNumber;
 use jvms_program::program::Body;
 use machine_parts::{Parts, push_listed};
 use machine_thread::Thread;
+use shared_data::shared::Text;
 use std::alloc::AllocError;
 use trace::Recording;
 
