@@ -4,7 +4,8 @@
     bench/definitions.py
 
 Prints each name that doesn't exist, with its line of the document, and ends with 1 if there is one. The gate runs it.
-The head of docs/DEFINITIONS.md says how the names are written.
+The head of docs/DEFINITIONS.md says how the names are written. Checks too that docs/PROOFS.md and docs/ARCHITECTURE.md
+have each crate, that each entry of PROOFS.md is a crate's, and that the wrong bodies and the laws that it names exist.
 """
 import re
 import sys
@@ -177,11 +178,42 @@ def document_faults(lines):
             yield from ((number, one) for one in row_faults(cells, crate, is_rule))
 
 
+def entry_faults(line):
+    """Yields the names in the heading of an entry of PROOFS.md that are no crates."""
+    named = line.removeprefix("### ").partition(" (")[0].split(", ")
+    yield from (one for one in named if NAMED.fullmatch(one) and one not in CRATES)
+
+
+def proof_faults(lines):
+    """Yields each crate, wrong body and law of PROOFS.md that doesn't exist, with the number of its line."""
+    for number, line in enumerate(lines, 1):
+        if line.startswith("### "):
+            yield from ((number, one) for one in entry_faults(line))
+        for crate, name in re.findall(r"`(\w+)/(\w+)`", line):
+            folders = (ROOT / "crates" / crate / "must-fail", ROOT / "bench" / "edits" / crate)
+            if crate in CRATES and not any((one / f"{name}.edit").exists() for one in folders):
+                yield number, f"{crate}/{name}"
+        for name in re.findall(r"\(`(\w+)`\)", line):
+            if not any(is_in_code(crate, name) for crate in CRATES):
+                yield number, name
+
+
+def left_out(text):
+    """Returns the crates that a page doesn't name, in code or in a heading of its own."""
+    return [one for one in sorted(CRATES) if not re.search(rf"`{one}`|^### .*\b{one}\b", text, re.M)]
+
+
 def main():
-    faults = list(document_faults(TEXT.read_text().splitlines()))
-    for number, name in faults:
-        print(f"docs/DEFINITIONS.md:{number}: {name} isn't there")
-    return 1 if faults else 0
+    named = (ROOT / "docs" / "PROOFS.md").read_text()
+    faults = [(TEXT.name, *one) for one in document_faults(TEXT.read_text().splitlines())]
+    faults += [("PROOFS.md", *one) for one in proof_faults(named.splitlines())]
+    for page, number, name in faults:
+        print(f"docs/{page}:{number}: {name} isn't there")
+    pages = {"PROOFS.md": named, "ARCHITECTURE.md": (ROOT / "docs" / "ARCHITECTURE.md").read_text()}
+    missing = [(page, one) for page, text in pages.items() for one in left_out(text)]
+    for page, name in missing:
+        print(f"docs/{page}: the crate {name} isn't named")
+    return 1 if faults or missing else 0
 
 
 if __name__ == "__main__":
