@@ -1,7 +1,7 @@
 -- The live transactions are those that open ones reach.
 use Rattle.std.proofs.Common.{◌≡◌, ℕ, zero, suc, ◌<◌, true, ◌↔◌, inl, inr, List, [], ◌∷◌, ◌++◌, length, refl, sym, subst, arith}
 use Rattle.velodrome.specs.Cycles.{IsIn, IsEdge, AreAtomic}
-use Rattle.velodrome.specs.Reach.{IsOpen, IsPath, IsFastDecision, AreReached}
+use Rattle.velodrome.specs.Reach.{IsOpen, IsPath, IsReached, AreReached}
 use Rattle.velodrome.specs.Orders.{IsOrder}
 use Rattle.velodrome.specs.Transactions.{Event, TraceState}
 use Rattle.atom_order.specs.Keeping.{Order, IsKept}
@@ -31,7 +31,7 @@ module _ (events : List Event) (n : ℕ) (o : Order) (k : IsKept events n o) whe
   stays_live a (c ∷ through) b h p = stays_live c through b (leads_to_live o.live o.into a c h (k.covers a c h p.0)) p.1
 
 module _ (w : TraceState) (o : Order) (k : IsKept w.events w.transactions o) (opens : (a : ℕ) → IsOpen w a ↔ (o.is_open a ≡ true)) where
-  reached_below : (fuel a : ℕ) → place a (o.dropped ++ o.live) < fuel → IsIn a o.live → IsFastDecision w a
+  reached_below : (fuel a : ℕ) → place a (o.dropped ++ o.live) < fuel → IsIn a o.live → IsReached w a
   reached_below zero a less h = absurd (omega arith)
   reached_below (suc fuel) a less h = elim (k.held a h) [
     | inl is ↦ (a, (opens a).1 is, ([], refl))

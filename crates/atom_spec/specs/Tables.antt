@@ -10,21 +10,21 @@ use Rattle.atom_spec.specs.declared.table.Table.{Table}
 use Rattle.atom_spec.specs.Found.{found}
 
 -- Returns the decision for a descriptor among the methods with one name of one class.
-abbrev pub said_of_name : NameTable → List ℕ → Bool
-said_of_name t descriptor = unwrap_or (found t.exactly descriptor) t.other
+abbrev pub decision_of_name : NameTable → List ℕ → Bool
+decision_of_name t descriptor = unwrap_or (found t.exactly descriptor) t.other
 
 abbrev pub of_names : Bool → Option NameTable → List ℕ → Bool
 of_names other None descriptor = other
-of_names other (Some t) descriptor = said_of_name t descriptor
+of_names other (Some t) descriptor = decision_of_name t descriptor
 
 -- Returns the decision for a name and a descriptor among the methods of one class.
-abbrev pub said_of_class : ClassTable → List ℕ → List ℕ → Bool
-said_of_class t name descriptor = of_names t.other (found t.names name) descriptor
+abbrev pub decision_of_class : ClassTable → List ℕ → List ℕ → Bool
+decision_of_class t name descriptor = of_names t.other (found t.names name) descriptor
 
 abbrev pub of_classes : Bool → Option ClassTable → List ℕ → List ℕ → Bool
 of_classes other None name descriptor = other
-of_classes other (Some t) name descriptor = said_of_class t name descriptor
+of_classes other (Some t) name descriptor = decision_of_class t name descriptor
 
 -- Returns the decision for a method.
-abbrev pub verdict_with_text : Table → MethodKey → Bool
-verdict_with_text t m = of_classes t.other (found t.classes m.class) m.name m.descriptor
+abbrev pub decision_of : Table → MethodKey → Bool
+decision_of t m = of_classes t.other (found t.classes m.class) m.name m.descriptor

@@ -30,11 +30,11 @@ pub(crate) struct Table {
 }
 
 impl NameTable {
-    ghost use Rattle.atom_spec.specs.Tables.{said_of_name};
+    ghost use Rattle.atom_spec.specs.Tables.{decision_of_name};
 
     /// Returns a table with one decision for all descriptors.
     fn new(alloc: Global, other: bool) -> NameTable
-        ensures { (q : List ℕ) → said_of_name result q ≡ other }
+        ensures { (q : List ℕ) → decision_of_name result q ≡ other }
     {
         NameTable {
             other,
@@ -44,7 +44,7 @@ impl NameTable {
 
     /// Returns the decision for a descriptor.
     fn said(&self, descriptor: &[u16]) -> bool
-        ensures { result ≡ said_of_name self.now descriptor.now }
+        ensures { result ≡ decision_of_name self.now descriptor.now }
     {
         match self.exactly.find(descriptor) {
             Some(said) => *said,
@@ -54,18 +54,18 @@ impl NameTable {
 
     /// Sets the decision for a descriptor.
     fn put(&mut self, alloc: Global, descriptor: &[u16], said: bool) -> Result<(), AllocError>
-        ensures { OnOk result ((q : List ℕ) → said_of_name self.new q ≡ (if same_text q descriptor.now then said else said_of_name self.old q)) }
+        ensures { OnOk result ((q : List ℕ) → decision_of_name self.new q ≡ (if same_text q descriptor.now then said else decision_of_name self.old q)) }
     {
         self.exactly.put(alloc, descriptor, said)
     }
 }
 
 impl ClassTable {
-    ghost use Rattle.atom_spec.specs.Tables.{said_of_name, said_of_class};
+    ghost use Rattle.atom_spec.specs.Tables.{decision_of_name, decision_of_class};
 
     /// Returns a table with one decision for all names.
     fn new(alloc: Global, other: bool) -> ClassTable
-        ensures { (p q : List ℕ) → said_of_class result p q ≡ other }
+        ensures { (p q : List ℕ) → decision_of_class result p q ≡ other }
     {
         ClassTable {
             other,
@@ -75,7 +75,7 @@ impl ClassTable {
 
     /// Returns the decision for a name and a descriptor.
     fn said(&self, name: &[u16], descriptor: &[u16]) -> bool
-        ensures { result ≡ said_of_class self.now name.now descriptor.now }
+        ensures { result ≡ decision_of_class self.now name.now descriptor.now }
     {
         match self.names.find(name) {
             Some(table) => table.said(descriptor),
@@ -85,8 +85,8 @@ impl ClassTable {
 
     /// Removes the table of a name and returns it. Without one, returns a table of the common decision.
     fn take(&mut self, alloc: Global, name: &[u16]) -> NameTable
-        ensures value { (q : List ℕ) → said_of_name result q ≡ said_of_class self.old name.now q }
-        ensures others { (p q : List ℕ) → same_text p name.now ≡ false → said_of_class self.new p q ≡ said_of_class self.old p q }
+        ensures value { (q : List ℕ) → decision_of_name result q ≡ decision_of_class self.old name.now q }
+        ensures others { (p q : List ℕ) → same_text p name.now ≡ false → decision_of_class self.new p q ≡ decision_of_class self.old p q }
     {
         match self.names.take(name) {
             Some(table) => table,
@@ -96,7 +96,7 @@ impl ClassTable {
 
     /// Sets the decision for all methods of a name.
     fn put_name(&mut self, alloc: Global, name: &[u16], said: bool) -> Result<(), AllocError>
-        ensures { OnOk result ((p q : List ℕ) → said_of_class self.new p q ≡ (if same_text p name.now then said else said_of_class self.old p q)) }
+        ensures { OnOk result ((p q : List ℕ) → decision_of_class self.new p q ≡ (if same_text p name.now then said else decision_of_class self.old p q)) }
     {
         self.names.put(alloc, name, NameTable::new(alloc, said))
     }
@@ -109,7 +109,7 @@ impl ClassTable {
         descriptor: &[u16],
         said: bool,
     ) -> Result<(), AllocError>
-        ensures { OnOk result ((p q : List ℕ) → said_of_class self.new p q ≡ (if same_text p name.now && same_text q descriptor.now then said else said_of_class self.old p q)) }
+        ensures { OnOk result ((p q : List ℕ) → decision_of_class self.new p q ≡ (if same_text p name.now && same_text q descriptor.now then said else decision_of_class self.old p q)) }
     {
         let mut table = self.take(alloc, name);
         table.put(alloc, descriptor, said)?;
@@ -120,11 +120,11 @@ impl ClassTable {
 impl Table {
     ghost use Rattle.jvms_program.specs.declared.key.MethodKey.{MethodKey};
     ghost use Rattle.velodrome.specs.Specification.{is_of};
-    ghost use Rattle.atom_spec.specs.Tables.{said_of_class, verdict_with_text};
+    ghost use Rattle.atom_spec.specs.Tables.{decision_of_class, decision_of};
 
     /// Returns a table with one decision for all methods.
     pub(crate) fn new(alloc: Global, other: bool) -> Table
-        ensures { (m : MethodKey) → verdict_with_text result m ≡ other }
+        ensures { (m : MethodKey) → decision_of result m ≡ other }
     {
         Table {
             other,
@@ -134,7 +134,7 @@ impl Table {
 
     /// Returns the decision for a method.
     pub(crate) fn said(&self, method: &MethodKey) -> bool
-        ensures { result ≡ verdict_with_text self.now method.now }
+        ensures { result ≡ decision_of self.now method.now }
     {
         match self.classes.find(method.class.as_slice()) {
             Some(table) => table.said(method.name.as_slice(), method.descriptor.as_slice()),
@@ -144,8 +144,8 @@ impl Table {
 
     /// Removes the table of a class and returns it. Without one, returns a table of the common decision.
     fn take(&mut self, alloc: Global, class: &[u16]) -> ClassTable
-        ensures value { (m : MethodKey) → same_text m.class class.now ≡ true → said_of_class result m.name m.descriptor ≡ verdict_with_text self.old m }
-        ensures others { (m : MethodKey) → same_text m.class class.now ≡ false → verdict_with_text self.new m ≡ verdict_with_text self.old m }
+        ensures value { (m : MethodKey) → same_text m.class class.now ≡ true → decision_of_class result m.name m.descriptor ≡ decision_of self.old m }
+        ensures others { (m : MethodKey) → same_text m.class class.now ≡ false → decision_of self.new m ≡ decision_of self.old m }
     {
         match self.classes.take(class) {
             Some(table) => table,
@@ -155,7 +155,7 @@ impl Table {
 
     /// Sets the decision for all methods of a class.
     fn put_class(&mut self, alloc: Global, class: &[u16], said: bool) -> Result<(), AllocError>
-        ensures { OnOk result ((m : MethodKey) → verdict_with_text self.new m ≡ (if same_text m.class class.now then said else verdict_with_text self.old m)) }
+        ensures { OnOk result ((m : MethodKey) → decision_of self.new m ≡ (if same_text m.class class.now then said else decision_of self.old m)) }
     {
         self.classes.put(alloc, class, ClassTable::new(alloc, said))
     }
@@ -168,7 +168,7 @@ impl Table {
         name: &[u16],
         said: bool,
     ) -> Result<(), AllocError>
-        ensures { OnOk result ((m : MethodKey) → verdict_with_text self.new m ≡ (if same_text m.class class.now && same_text m.name name.now then said else verdict_with_text self.old m)) }
+        ensures { OnOk result ((m : MethodKey) → decision_of self.new m ≡ (if same_text m.class class.now && same_text m.name name.now then said else decision_of self.old m)) }
     {
         let mut table = self.take(alloc, class);
         table.put_name(alloc, name, said)?;
@@ -184,7 +184,7 @@ impl Table {
         descriptor: &[u16],
         said: bool,
     ) -> Result<(), AllocError>
-        ensures { OnOk result ((m : MethodKey) → verdict_with_text self.new m ≡ (if same_text m.class class.now && same_text m.name name.now && same_text m.descriptor descriptor.now then said else verdict_with_text self.old m)) }
+        ensures { OnOk result ((m : MethodKey) → decision_of self.new m ≡ (if same_text m.class class.now && same_text m.name name.now && same_text m.descriptor descriptor.now then said else decision_of self.old m)) }
     {
         let mut table = self.take(alloc, class);
         table.put_exactly(alloc, name, descriptor, said)?;
@@ -193,7 +193,7 @@ impl Table {
 
     /// Sets the decision of a line for all methods of its pattern.
     pub(crate) fn put(&mut self, alloc: Global, line: &SpecificationLine) -> Result<(), AllocError>
-        ensures { OnOk result ((m : MethodKey) → verdict_with_text self.new m ≡ (if is_of line.now.pattern m then line.now.is_atomic else verdict_with_text self.old m)) }
+        ensures { OnOk result ((m : MethodKey) → decision_of self.new m ≡ (if is_of line.now.pattern m then line.now.is_atomic else decision_of self.old m)) }
     {
         let said = line.is_atomic;
         match &line.pattern {

@@ -1,7 +1,7 @@
 //! The book that workers share, guarded by a lock.
 
 ghost use Rattle.std.specs.Prelude.{◌≡◌, ◌<◌, ◌+◌, [], length, vec_len, replicate, IfOk, sum};
-ghost use Rattle.campaign_book.specs.Entries.{transition_of, IsEntryOf};
+ghost use Rattle.campaign_book.specs.Entries.{row_of, IsEntryOf};
 ghost use Rattle.campaign_book.specs.Rows.{IsStoring};
 ghost use Rattle.campaign.specs.Shares.{after_answer, IsAnswer};
 
@@ -62,8 +62,8 @@ impl<'a, C: Campaign> Guarded<'a, C> {
         requires { IsEntryOf C.program C.plan entry }
         ensures program { self.new.book.program ≡ self.old.book.program }
         ensures plan { self.new.book.plan ≡ self.old.book.plan }
-        ensures rows { IsStoring self.old.book.plan self.old.book.rows (transition_of entry.entry) result self.new.book.rows }
-        ensures answer { IsAnswer C.program C.plan (transition_of entry.entry) result }
+        ensures rows { IsStoring self.old.book.plan self.old.book.rows (row_of entry.entry) result self.new.book.rows }
+        ensures answer { IsAnswer C.program C.plan (row_of entry.entry) result }
         ensures share { share.new ≡ after_answer share.old result }
     {
         let Guarded { book, stored } = self;
@@ -120,7 +120,7 @@ impl<'a, C: Campaign> SharedBook<'a, C> {
     ) -> Result<(), StoreFault>
         // A report is of the campaign's program and plan.
         requires { IsEntryOf C.program C.plan entry }
-        ensures answer { IsAnswer C.program C.plan (transition_of entry.entry) result }
+        ensures answer { IsAnswer C.program C.plan (row_of entry.entry) result }
         ensures share { share.new ≡ after_answer share.old result }
     {
         self.lock.lock(rt).store(share, entry)

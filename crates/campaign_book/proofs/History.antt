@@ -10,7 +10,7 @@ use Rattle.campaign_book.specs.declared.entry.BookEntry.{BookEntry}
 use Rattle.campaign_book.specs.declared.entry.BookEntry.TheVariants as entry
 use Rattle.campaign_book.specs.Rows.{is_done, is_cycle, refusal, Replays, IsRight, with_row}
 use Rattle.campaign_book.specs.Books.{totals_of, IsBook}
-use Rattle.campaign_book.specs.Entries.{transition_of, IsEntryOf}
+use Rattle.campaign_book.specs.Entries.{row_of, IsEntryOf}
 
 pub replays_push : (plan : Plan) (past rows : List Row) (row : Row) → Replays plan past rows → refusal plan (past ++ rows) row ≡ None → Replays plan past (rows ++ row ∷ [])
 replays_push plan past [] row r new = (subst (λ rs. refusal plan rs row ≡ None) (append-nil past) new, tt)
@@ -23,9 +23,9 @@ totals_push rows row =
     let c = sum_by_push (λ r. cond (is_cycle r) 1 0) rows row in
     λ i. record { rows = a i; done = b i; cycles = c i }
 
-right_of : (program : List Class) (plan : Plan) (e : BookEntry) → IsEntryOf program plan e → IsRight program plan (transition_of e)
+right_of : (program : List Class) (plan : Plan) (e : BookEntry) → IsEntryOf program plan e → IsRight program plan (row_of e)
 right_of program plan (entry.Done report) is = rw (sym is.0, sym is.1) report.right
 right_of program plan (entry.Skipped number because) is = tt
 
-pub book_push : (program : List Class) (plan : Plan) (rows : List Row) (e : BookEntry) → IsEntryOf program plan e → refusal plan rows (transition_of e) ≡ None → IsBook program plan rows → IsBook program plan (rows ++ transition_of e ∷ [])
-book_push program plan rows e is new b = record { right = All-push (IsRight program plan) rows (transition_of e) b.right (right_of program plan e is); replays = replays_push plan [] rows (transition_of e) b.replays new }
+pub book_push : (program : List Class) (plan : Plan) (rows : List Row) (e : BookEntry) → IsEntryOf program plan e → refusal plan rows (row_of e) ≡ None → IsBook program plan rows → IsBook program plan (rows ++ row_of e ∷ [])
+book_push program plan rows e is new b = record { right = All-push (IsRight program plan) rows (row_of e) b.right (right_of program plan e is); replays = replays_push plan [] rows (row_of e) b.replays new }

@@ -8,9 +8,9 @@ use Rattle.campaign_book.specs.declared.entry.BookEntry.{BookEntry}
 use Rattle.campaign_book.specs.declared.entry.BookEntry.TheVariants as entry
 
 -- Returns the entry as plain data.
-abbrev pub transition_of : BookEntry → Row
-transition_of (entry.Done report) = row.Done report.number report.result
-transition_of (entry.Skipped number because) = row.Skipped number because
+abbrev pub row_of : BookEntry → Row
+row_of (entry.Done report) = row.Done report.number report.result
+row_of (entry.Skipped number because) = row.Skipped number because
 
 -- If the entry is a report, it is of this program and this plan.
 abbrev pub IsEntryOf : List Class → Plan → BookEntry → Type 0

@@ -87,7 +87,7 @@ impl<'a> Book<'a> {
     ghost use Rattle.std.specs.Prelude.{◌≡◌, []};
     ghost use Rattle.campaign_book.specs.Rows.{row_at, IsStoring};
     ghost use Rattle.campaign_book.specs.Books.{IsBook, totals_of};
-    ghost use Rattle.campaign_book.specs.Entries.{transition_of, IsEntryOf};
+    ghost use Rattle.campaign_book.specs.Entries.{row_of, IsEntryOf};
 
     /// Returns an empty book of a program and a plan. Takes no memory.
     pub fn new(alloc: Global, program: &'a Program, plan: &'a Plan) -> Book<'a>
@@ -122,7 +122,7 @@ impl<'a> Book<'a> {
         requires { IsEntryOf self.old.program self.old.plan entry }
         ensures program { self.new.program ≡ self.old.program }
         ensures plan { self.new.plan ≡ self.old.plan }
-        ensures rows { IsStoring self.old.plan self.old.rows (transition_of entry.entry) result self.new.rows }
+        ensures rows { IsStoring self.old.plan self.old.rows (row_of entry.entry) result self.new.rows }
         ensures was { IsBook self.old.program self.old.plan self.old.rows }
         ensures is { IsBook self.new.program self.new.plan self.new.rows }
     {

@@ -1,7 +1,7 @@
 //! The entries that a book stores.
 
 ghost use Rattle.std.specs.Prelude.{◌≡◌};
-ghost use Rattle.campaign_book.specs.Entries.{transition_of};
+ghost use Rattle.campaign_book.specs.Entries.{row_of};
 
 use crate::row::Row;
 use campaign_jobs::Report;
@@ -18,7 +18,7 @@ pub enum BookEntry<'a> {
 impl BookEntry<'_> {
     /// Returns the entry as plain data.
     pub fn row(&self) -> Row
-        ensures { result ≡ transition_of self.now }
+        ensures { result ≡ row_of self.now }
     {
         match self {
             BookEntry::Done(report) => Row::Done {

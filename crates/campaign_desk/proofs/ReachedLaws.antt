@@ -9,7 +9,7 @@ use Rattle.campaign_desk.specs.declared.knowledge.Knowledge.{Knowledge}
 use Rattle.campaign_desk.specs.Knowledge.{after_look, after_draw, after_lower, after_bound}
 use Rattle.campaign_desk.specs.Facts.{IsDesk}
 use Rattle.campaign_desk.specs.Events.{Event, Look, Draw, Lower, Bound, DeskState, first_state, seat_number, effect, after, after_all}
-use Rattle.campaign_desk.specs.Reached.{SameSeats, IsFastDecision}
+use Rattle.campaign_desk.specs.Reached.{SameSeats, IsReached}
 use Rattle.campaign_desk.proofs.FactLaws.{sum_by-set_at, get_elem-le-sum_by}
 use Rattle.campaign_desk.proofs.EventLaws.{each_leads_to_desk}
 use Rattle.campaign_desk.proofs.ViewLaws.{desk_same}
@@ -105,7 +105,7 @@ same_set vs ws w p u x same at here f = omega (arith, sum_by-set_at f vs w u x a
 -- ---- What is reached
 
 -- the facts hold of every state that is reached
-pub is_desk : (jobs workers next bound : ℕ) (seats : List Knowledge) → IsFastDecision jobs workers next bound seats → IsDesk jobs workers next bound seats
+pub is_desk : (jobs workers next bound : ℕ) (seats : List Knowledge) → IsReached jobs workers next bound seats → IsDesk jobs workers next bound seats
 is_desk jobs workers next bound seats r =
     let es = r.1.0 in
     let l = r.1.1 in
@@ -114,20 +114,20 @@ is_desk jobs workers next bound seats r =
     subst (λ (x : ℕ × ℕ). IsDesk jobs workers x.0 x.1 seats) (λ i. (l.0 i, l.1 i)) d
 
 -- the order of the seats doesn't matter
-pub reached_same : (jobs workers next bound : ℕ) (vs ws : List Knowledge) → SameSeats vs ws → IsFastDecision jobs workers next bound vs → IsFastDecision jobs workers next bound ws
+pub reached_same : (jobs workers next bound : ℕ) (vs ws : List Knowledge) → SameSeats vs ws → IsReached jobs workers next bound vs → IsReached jobs workers next bound ws
 reached_same jobs workers next bound vs ws same r =
     let l = r.1.1 in
     (r.0, (r.1.0, (l.0, l.1, λ f. l.2 f ∙ same f)))
 
 -- one more event, of the seat at p
-module _ (jobs workers next bound : ℕ) (seats : List Knowledge) (p : ℕ) (u : Knowledge) (r : IsFastDecision jobs workers next bound seats) (at : get_elem? seats p ≡ some u) where
+module _ (jobs workers next bound : ℕ) (seats : List Knowledge) (p : ℕ) (u : Knowledge) (r : IsReached jobs workers next bound seats) (at : get_elem? seats p ≡ some u) where
   abbrev state : DeskState
   state = after_all (first_state jobs workers) r.1.0
 
   -- the event continues the list, whichever number its seat has, if it changes the words and its seat so
   one_more : (e : ℕ → Event) (next' bound' : ℕ) (x : Knowledge) → ((w : ℕ) → seat_number (e w) ≡ w)
       → ((w : ℕ) → effect state (e w) (some u) ≡ record { next = next'; bound = bound'; seats = set state.seats w x })
-      → IsFastDecision jobs workers next' bound' (set seats p x)
+      → IsReached jobs workers next' bound' (set seats p x)
   one_more e next' bound' x of does =
       let l = r.1.1 in
       let there = place_of_seat state.seats seats p u l.2 at in
@@ -137,26 +137,26 @@ module _ (jobs workers next bound : ℕ) (seats : List Knowledge) (p : ℕ) (u :
       let Leads : DeskState → Type 0 = λ s. (s.next ≡ next') × (s.bound ≡ bound') × SameSeats s.seats (set seats p x) in
       (r.0, (r.1.0 ++ e w ∷ [], subst Leads (sym run) (refl, refl, same_set state.seats seats w p u x l.2 there.1 at)))
 
-  pub look_leads : IsFastDecision jobs workers next bound (set seats p (after_look u next))
+  pub look_leads : IsReached jobs workers next bound (set seats p (after_look u next))
   look_leads =
       let l = r.1.1 in
       one_more Look next bound (after_look u next) (λ w. refl)
       (λ w i. record { next = l.0 i; bound = l.1 i; seats = set state.seats w (after_look u (l.0 i)) })
 
-  pub draw_leads : u.is_done ≡ false → IsFastDecision jobs workers (next + 1) bound (set seats p (after_draw u next))
+  pub draw_leads : u.is_done ≡ false → IsReached jobs workers (next + 1) bound (set seats p (after_draw u next))
   draw_leads new =
       let l = r.1.1 in
       one_more Draw (next + 1) bound (after_draw u next) (λ w. refl)
       (λ w. ap (λ (b : Bool). cond b state (record state { next = state.next + 1; seats = set state.seats w (after_draw u state.next) })) new
       ∙ (λ i. record { next = l.0 i + 1; bound = l.1 i; seats = set state.seats w (after_draw u (l.0 i)) }))
 
-  pub lower_leads : (k : ℕ) → IsFastDecision jobs workers next (min bound k) (set seats p (after_lower u k))
+  pub lower_leads : (k : ℕ) → IsReached jobs workers next (min bound k) (set seats p (after_lower u k))
   lower_leads k =
       let l = r.1.1 in
       one_more (λ w. Lower w k) next (min bound k) (after_lower u k) (λ w. refl)
       (λ w i. record { next = l.0 i; bound = min (l.1 i) k; seats = set state.seats w (after_lower u k) })
 
-  pub bound_leads : IsFastDecision jobs workers next bound (set seats p (after_bound u bound))
+  pub bound_leads : IsReached jobs workers next bound (set seats p (after_bound u bound))
   bound_leads =
       let l = r.1.1 in
       one_more Bound next bound (after_bound u bound) (λ w. refl)

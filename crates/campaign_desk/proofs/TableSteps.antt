@@ -11,7 +11,7 @@ use Rattle.campaign_desk.specs.declared.knowledge.Terms.{Terms}
 use Rattle.campaign_desk.specs.Knowledge.{after_look, after_draw, after_lower, after_bound, IsLeastFor}
 use Rattle.campaign_desk.specs.Views.{seats_of, other_seats, first_seat, joined_seats, no_seats, seat_of, one_seat, HoldsOneSeat}
 use Rattle.campaign_desk.specs.Facts.{count_of, once_below, draw_count, lowering_count, bound_count}
-use Rattle.campaign_desk.specs.Reached.{IsFastDecision, IsReachedTable}
+use Rattle.campaign_desk.specs.Reached.{IsReached, IsReachedTable}
 use Rattle.campaign_desk.specs.Steps.{IsLook, IsDraw, IsLower, IsBound}
 use Rattle.campaign_desk.proofs.FactLaws.{its_jobs, all_counted, next_most, get_elem-le-sum_by}
 use Rattle.campaign_desk.proofs.ReachedLaws.{is_desk, reached_same, look_leads, draw_leads, lower_leads, bound_leads}
@@ -24,8 +24,8 @@ module _ {S : Type 0} (t : Terms) (slots id : ℕ) (u : Knowledge) where
   -- a step that changes the words and the seat so is allowed if some list of events leads there
   abbrev LeadsOn : (ℕ → ℕ) → (ℕ → ℕ) → (ℕ → ℕ → Knowledge) → (ℕ → ℕ → Me S (List Knowledge) → Type 0) → Type 0
   LeadsOn f g change then =
-      (next bound : ℕ) (seats : List Knowledge) (p : ℕ) → IsFastDecision t.jobs t.workers next bound seats → get_elem? seats p ≡ some u
-      → IsFastDecision t.jobs t.workers (f next) (g bound) (set seats p (change next bound)) × then next bound (one_seat (change next bound))
+      (next bound : ℕ) (seats : List Knowledge) (p : ℕ) → IsReached t.jobs t.workers next bound seats → get_elem? seats p ≡ some u
+      → IsReached t.jobs t.workers (f next) (g bound) (set seats p (change next bound)) × then next bound (one_seat (change next bound))
 
   -- a step on the next number
   on_next : (f : ℕ → ℕ) (change : ℕ → Knowledge) (then : ℕ → Me S (List Knowledge) → Type 0)
@@ -36,7 +36,7 @@ module _ {S : Type 0} (t : Terms) (slots id : ℕ) (u : Knowledge) where
       let P : List ℕ → Type 0 = λ ws. (w : List Knowledge) × (a : Act S) × Valid s.homes [] a
       × IsReachedTable t (record { words = slice_set ws 0 (f (slice_index ws 0)); homes = homes_after s.homes [] a; views = slice_set s.views id w })
       × then (slice_index ws 0) (w, carried_after [] a) in
-      subst P (sym h.2) (change h.0 ∷ [], keeps, tt, (f h.0, h.1, refl, subst (IsFastDecision t.jobs t.workers (f h.0) h.1) (sym (p.set_at (change h.0))) l.0), l.1)
+      subst P (sym h.2) (change h.0 ∷ [], keeps, tt, (f h.0, h.1, refl, subst (IsReached t.jobs t.workers (f h.0) h.1) (sym (p.set_at (change h.0))) l.0), l.1)
 
   -- a step on the bound
   on_bound : (g : ℕ → ℕ) (change : ℕ → Knowledge) (then : ℕ → Me S (List Knowledge) → Type 0)
@@ -47,7 +47,7 @@ module _ {S : Type 0} (t : Terms) (slots id : ℕ) (u : Knowledge) where
       let P : List ℕ → Type 0 = λ ws. (w : List Knowledge) × (a : Act S) × Valid s.homes [] a
       × IsReachedTable t (record { words = slice_set ws 1 (g (slice_index ws 1)); homes = homes_after s.homes [] a; views = slice_set s.views id w })
       × then (slice_index ws 1) (w, carried_after [] a) in
-      subst P (sym h.2) (change h.1 ∷ [], keeps, tt, (h.0, g h.1, refl, subst (IsFastDecision t.jobs t.workers h.0 (g h.1)) (sym (p.set_at (change h.1))) l.0), l.1)
+      subst P (sym h.2) (change h.1 ∷ [], keeps, tt, (h.0, g h.1, refl, subst (IsReached t.jobs t.workers h.0 (g h.1)) (sym (p.set_at (change h.1))) l.0), l.1)
 
   abbrev me : Me S (List Knowledge)
   me = one_seat u
@@ -72,7 +72,7 @@ module _ {S : Type 0} (t : Terms) (slots id : ℕ) (u : Knowledge) where
       let no_wrap : next + 1 ≡ (next + 1) % 2 ^ 64 = omega arith in
       let all_below = all_counted (λ y. y < next) u.draws
       (λ x h. below x (draw_count x seats) next t.jobs (d.draws x) (omega (arith, h, get_elem-le-sum_by (λ v. count_of x v.draws) seats p u at))) in (
-        subst (λ n. IsFastDecision t.jobs t.workers n bound (set seats p (after_draw u next))) no_wrap (draw_leads t.jobs t.workers next bound seats p u r at new),
+        subst (λ n. IsReached t.jobs t.workers n bound (set seats p (after_draw u next))) no_wrap (draw_leads t.jobs t.workers next bound seats p u r at new),
         λ w e. (
           ap (λ (x : Knowledge). one_seat (after_draw x next)) (same_seat w e),
           subst (λ (x : Knowledge). All (λ y. y < next) x.draws) (same_seat w e) all_below,
@@ -144,11 +144,11 @@ pass_splits S t id m v (suc n) some_left is = subst (λ us. Splits (IsReachedTab
 
 -- the words of a table that is closed with a pass of all seats
 pub table_closes : (S : Type 0) (t : Terms) (id : ℕ) (v : List Knowledge) (ws : List ℕ) (xs : List S) → length v ≡ t.workers → Final (Seen (IsReachedTable t) id v) ws xs
-    → (next : ℕ) × (bound : ℕ) × (ws ≡ next ∷ bound ∷ []) × IsFastDecision t.jobs t.workers next bound v
+    → (next : ℕ) × (bound : ℕ) × (ws ≡ next ∷ bound ∷ []) × IsReached t.jobs t.workers next bound v
 table_closes S t id v ws xs all f =
     let h = f.1.0 in
     let length_is = (is_desk t.jobs t.workers h.0 h.1 (seats_of f.0.views) h.3).all_seats ∙ sym all in
-    (h.0, h.1, sym f.2 ∙ h.2, subst (IsFastDecision t.jobs t.workers h.0 h.1) (all_in_one f.0.views id v f.1.1 length_is) h.3)
+    (h.0, h.1, sym f.2 ∙ h.2, subst (IsReached t.jobs t.workers h.0 h.1) (all_in_one f.0.views id v f.1.1 length_is) h.3)
 
 -- ---- Seats of a pass
 

@@ -20,15 +20,15 @@ LeadTo jobs workers next bound seats events =
     (s.next ≡ next) × (s.bound ≡ bound) × SameSeats s.seats seats
 
 -- Within the limits, some list of events leads to this next number, this bound and these seats.
-abbrev pub IsFastDecision : ℕ → ℕ → ℕ → ℕ → List Knowledge → Type 0
-IsFastDecision jobs workers next bound seats =
+abbrev pub IsReached : ℕ → ℕ → ℕ → ℕ → List Knowledge → Type 0
+IsReached jobs workers next bound seats =
     FitsLimits jobs workers × ((events : List Event) × LeadTo jobs workers next bound seats events)
 
 -- Some list of events leads to the words of a table and to the seats of all its views.
 abbrev pub IsReachedTable : {S : Type 0} → Terms → State S (List Knowledge) → Type 0
 IsReachedTable terms table =
     (next : ℕ) × (bound : ℕ) × (table.words ≡ next ∷ bound ∷ [])
-    × IsFastDecision terms.jobs terms.workers next bound (seats_of table.views)
+    × IsReached terms.jobs terms.workers next bound (seats_of table.views)
 
 -- These events lead to words and lists that are consistent with each other.
 abbrev pub LeadToDesk : ℕ → ℕ → List Event → Type 0

@@ -3,7 +3,7 @@
 ghost use Rattle.std.specs.Prelude.{◌≡◌, ◌<◌, All, vec_len, IfOk};
 ghost use Rattle.campaign_desk.specs.Knowledge.{after_lower, after_bound, IsLeastFor};
 ghost use Rattle.campaign_desk.specs.Facts.{IsDesk};
-ghost use Rattle.campaign_desk.specs.Reached.{IsFastDecision};
+ghost use Rattle.campaign_desk.specs.Reached.{IsReached};
 ghost use Rattle.campaign_desk.specs.Desk.{new_seats, knowledge_of};
 
 use crate::fault::DeskFault;
@@ -124,7 +124,7 @@ impl Desk {
     pub fn close(self, mut seats: Vec<Seat>) -> (u64, u64)
         requires all { vec_len seats ≡ self.workers }
         requires desk { All (λ s. s.table ≡ self.table) seats.items }
-        ensures reached { IsFastDecision self.jobs self.workers result.0 result.1
+        ensures reached { IsReached self.jobs self.workers result.0 result.1
             (knowledge_of seats.items) }
         ensures facts { IsDesk self.jobs self.workers result.0 result.1 (knowledge_of seats.items) }
     {

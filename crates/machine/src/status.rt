@@ -33,7 +33,7 @@ pub fn is_bad(outcome: Outcome) -> bool
 }
 
 /// Decides whether all threads have ended.
-fn text_of_lines(parts: &Parts) -> bool
+fn have_all_ended(parts: &Parts) -> bool
     ensures { result ≡ list_all (λ x. x.ended) parts.now.state.threads }
 {
     parts
@@ -74,7 +74,7 @@ fn standing(parts: &Parts) -> Status
     requires code { HaveTheirCode parts.now }
     ensures { result ≡ status_of parts.now.program parts.now.limits parts.now.start parts.now.state }
 {
-    if text_of_lines(parts) {
+    if have_all_ended(parts) {
         Status::Finished
     } else if any_enabled(parts, 0) {
         Status::Running

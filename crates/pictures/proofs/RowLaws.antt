@@ -11,19 +11,19 @@ pub no_rows : (n place : ℕ) (items : List Item) → rows_from n place items []
 no_rows n place [] = refl
 no_rows n place (i ∷ items) = refl
 
-abbrev transition_of : ℕ → ℕ → ℕ → Row
-transition_of n place t = record { event = n; place = place; transaction = t }
+abbrev row_of : ℕ → ℕ → ℕ → Row
+row_of n place t = record { event = n; place = place; transaction = t }
 
 here : (items : List Item) (k : ℕ) (i : Item) → k < length items → i ≡ get_or items k i → drop k items ≡ i ∷ drop (k + 1) items
 here items k i within is = drop_more items k i within ∙ ap (λ x. x ∷ drop (k + 1) items) (sym is)
 
 event_first : (b : Bool) (n place t : ℕ) (items : List Item) (ts : List ℕ) → b ≡ true
-    → cond b (transition_of n place t ∷ rows_from (n + 1) (place + 1) items ts) (rows_from n (place + 1) items (t ∷ ts)) ≡ transition_of n place t ∷ rows_from (n + 1) (place + 1) items ts
+    → cond b (row_of n place t ∷ rows_from (n + 1) (place + 1) items ts) (rows_from n (place + 1) items (t ∷ ts)) ≡ row_of n place t ∷ rows_from (n + 1) (place + 1) items ts
 event_first true n place t items ts is = refl
 event_first false n place t items ts is = absurd (Rattle.std.proofs.lemmas.Bool.true≢false (sym is))
 
 mark_first : (b : Bool) (n place t : ℕ) (items : List Item) (ts : List ℕ) → b ≡ false
-    → cond b (transition_of n place t ∷ rows_from (n + 1) (place + 1) items ts) (rows_from n (place + 1) items (t ∷ ts)) ≡ rows_from n (place + 1) items (t ∷ ts)
+    → cond b (row_of n place t ∷ rows_from (n + 1) (place + 1) items ts) (rows_from n (place + 1) items (t ∷ ts)) ≡ rows_from n (place + 1) items (t ∷ ts)
 mark_first false n place t items ts is = refl
 mark_first true n place t items ts is = absurd (Rattle.std.proofs.lemmas.Bool.true≢false is)
 
@@ -42,10 +42,10 @@ one_mark rows n place items rest ts i are within is mark =
     ap (λ l. rows ++ l) (sym (ap (λ l. rows_from n place l rest) (here items place i within is) ∙ after_mark n place i (drop (place + 1) items) rest mark)) ∙ are
 
 pub one_row : (rows more : List Row) (n place : ℕ) (items : List Item) (rest others ts : List ℕ) (i : Item) (t : ℕ) → AreRows rows n place items rest ts
-    → place < length items → i ≡ get_or items place i → is_event i ≡ true → rest ≡ t ∷ others → more ≡ rows ++ transition_of n place t ∷ [] → AreRows more (n + 1) (place + 1) items others ts
+    → place < length items → i ≡ get_or items place i → is_event i ≡ true → rest ≡ t ∷ others → more ≡ rows ++ row_of n place t ∷ [] → AreRows more (n + 1) (place + 1) items others ts
 one_row rows more n place items rest others ts i t are within is event rest_is more_is =
     ap (λ l. l ++ rows_from (n + 1) (place + 1) (drop (place + 1) items) others) more_is
-    ∙ append_assoc rows (transition_of n place t ∷ []) (rows_from (n + 1) (place + 1) (drop (place + 1) items) others)
+    ∙ append_assoc rows (row_of n place t ∷ []) (rows_from (n + 1) (place + 1) (drop (place + 1) items) others)
     ∙ ap (λ l. rows ++ l) (sym (
     ap (λ l. rows_from n place l rest) (here items place i within is)
     ∙ ap (λ l. rows_from n place (i ∷ drop (place + 1) items) l) rest_is

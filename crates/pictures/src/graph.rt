@@ -81,7 +81,7 @@ fn put_edge(
 }
 
 /// Returns the row of an event, if it is shown.
-fn transition_of(rows: &[Row], event: u64) -> Option<&Row> {
+fn row_of(rows: &[Row], event: u64) -> Option<&Row> {
     rows.get(place_of(rows, event)?)
 }
 
@@ -104,10 +104,7 @@ fn put_cycle_edge(
     rows: &[Row],
     edge: ConflictingPair,
 ) -> Result<(), AllocError> {
-    let (Some(earlier), Some(later)) = (
-        transition_of(rows, edge.earlier),
-        transition_of(rows, edge.later),
-    ) else {
+    let (Some(earlier), Some(later)) = (row_of(rows, edge.earlier), row_of(rows, edge.later)) else {
         return Ok(());
     };
     let (from, to) = (earlier.transaction, later.transaction);

@@ -14,7 +14,7 @@ use Rattle.jasmin.specs.declared.statement.Statement.TheVariants as statement
 use Rattle.jasmin.specs.declared.reading.OpenMethod.{OpenMethod}
 use Rattle.jasmin.specs.Denote.{has_code}
 use Rattle.jasmin.specs.Reading.{with_throws, with_catch, with_item}
-use Rattle.source_grammar_laws.specs.Sources.{IsDirective, MakesItem, MakesCode, after_throw, catches_in, stacks_in, locals_in, IsLimit, is_label_item}
+use Rattle.source_grammar_laws.specs.Sources.{IsDirective, MakesItem, MakesCode, throws_in, catches_in, stacks_in, locals_in, IsLimit, is_label_item}
 
 -- The limits determine this number, if one may be given already.
 abbrev pub IsLimitBehind : Option ℕ → List ℕ → ℕ → Type 0
@@ -37,7 +37,7 @@ pub record IsFilled (m : OpenMethod) (body : List Statement) (items : List CodeI
   pub access : lines.access ≡ m.access
   pub name : lines.name ≡ m.name
   pub descriptor : lines.descriptor ≡ m.descriptor
-  pub throws : lines.throws ≡ m.throws ++ after_throw body
+  pub throws : lines.throws ≡ m.throws ++ throws_in body
   pub catches : lines.catches ≡ m.catches ++ catches_in body
   pub stack : IsLimitBehind m.max_stack (stacks_in body) lines.max_stack
   pub locals : IsLimitBehind m.max_locals (locals_in body) lines.max_locals
@@ -72,7 +72,7 @@ directive_peeled (statement.MaxLocals n) m body items lines is h =
 directive_peeled (statement.Catch c) m body items lines is h =
     (tt, record { access = h.access; name = h.name; descriptor = h.descriptor; throws = h.throws; catches = h.catches ∙ one_more m.catches c (catches_in body); stack = h.stack; locals = h.locals; items_are = h.items_are; takes = h.takes })
 directive_peeled (statement.Throws name) m body items lines is h =
-    (tt, record { access = h.access; name = h.name; descriptor = h.descriptor; throws = h.throws ∙ one_more m.throws name (after_throw body); catches = h.catches; stack = h.stack; locals = h.locals; items_are = h.items_are; takes = h.takes })
+    (tt, record { access = h.access; name = h.name; descriptor = h.descriptor; throws = h.throws ∙ one_more m.throws name (throws_in body); catches = h.catches; stack = h.stack; locals = h.locals; items_are = h.items_are; takes = h.takes })
 directive_peeled statement.Dropped m body items lines is h =
     (tt, record { access = h.access; name = h.name; descriptor = h.descriptor; throws = h.throws; catches = h.catches; stack = h.stack; locals = h.locals; items_are = h.items_are; takes = h.takes })
 directive_peeled _ m body items lines is h = absurd is
@@ -85,7 +85,7 @@ directive_pushed (statement.MaxLocals n) m body items lines is fresh h =
 directive_pushed (statement.Catch c) m body items lines is fresh h =
     record { access = h.access; name = h.name; descriptor = h.descriptor; throws = h.throws; catches = h.catches ∙ sym (one_more m.catches c (catches_in body)); stack = h.stack; locals = h.locals; items_are = h.items_are; takes = h.takes }
 directive_pushed (statement.Throws name) m body items lines is fresh h =
-    record { access = h.access; name = h.name; descriptor = h.descriptor; throws = h.throws ∙ sym (one_more m.throws name (after_throw body)); catches = h.catches; stack = h.stack; locals = h.locals; items_are = h.items_are; takes = h.takes }
+    record { access = h.access; name = h.name; descriptor = h.descriptor; throws = h.throws ∙ sym (one_more m.throws name (throws_in body)); catches = h.catches; stack = h.stack; locals = h.locals; items_are = h.items_are; takes = h.takes }
 directive_pushed statement.Dropped m body items lines is fresh h =
     record { access = h.access; name = h.name; descriptor = h.descriptor; throws = h.throws; catches = h.catches; stack = h.stack; locals = h.locals; items_are = h.items_are; takes = h.takes }
 directive_pushed _ m body items lines is fresh h = absurd is
@@ -100,7 +100,7 @@ code_after_name d body (i ∷ items) is (directives, mine, behind, e, all, makes
 
 -- Statements add items and nothing else.
 pub record IsQuiet (xs : List Statement) : Type 0 where
-  pub thrown : (ss : List Statement) → after_throw (xs ++ ss) ≡ after_throw ss
+  pub thrown : (ss : List Statement) → throws_in (xs ++ ss) ≡ throws_in ss
   pub catches : (ss : List Statement) → catches_in (xs ++ ss) ≡ catches_in ss
   pub stacks : (ss : List Statement) → stacks_in (xs ++ ss) ≡ stacks_in ss
   pub locals : (ss : List Statement) → locals_in (xs ++ ss) ≡ locals_in ss

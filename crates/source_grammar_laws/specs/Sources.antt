@@ -80,10 +80,10 @@ MakesCode ss (i ∷ items) =
 
 -- ---- Methods
 
-abbrev pub after_throw : List Statement → List (List ℕ)
-after_throw [] = []
-after_throw (statement.Throws name ∷ ss) = name ∷ after_throw ss
-after_throw (s ∷ ss) = after_throw ss
+abbrev pub throws_in : List Statement → List (List ℕ)
+throws_in [] = []
+throws_in (statement.Throws name ∷ ss) = name ∷ throws_in ss
+throws_in (s ∷ ss) = throws_in ss
 
 abbrev pub catches_in : List Statement → List CatchLine
 catches_in [] = []
@@ -113,7 +113,7 @@ is_label_item (item.Operation o) = false
 -- The statements between `.method` and `.end method` make this method. A method without code has no instructions.
 abbrev pub MakesMethod : List Statement → MethodLines → Type 0
 MakesMethod body m =
-    MakesCode body m.code × (m.throws ≡ after_throw body) × (m.catches ≡ catches_in body) × IsLimit (stacks_in body) m.max_stack
+    MakesCode body m.code × (m.throws ≡ throws_in body) × (m.catches ≡ catches_in body) × IsLimit (stacks_in body) m.max_stack
     × IsLimit (locals_in body) m.max_locals × IsTrue (has_code m.name m.access || list_all is_label_item m.code)
 
 -- ---- Members

@@ -104,7 +104,7 @@ impl ThreadStates {
         match self.threads.get_mut(&thread) {
             Some(open) => open.reserve(),
             None => {
-                let open = OpenMethods::list_with_capacity(self.alloc)?;
+                let open = OpenMethods::with_capacity(self.alloc)?;
                 self.threads.insert(thread, open)?;
                 Ok(())
             }

@@ -51,7 +51,7 @@ fn is_same(method: &MethodKey, other: &MethodKey) -> bool
 
 impl OpenMethods {
     /// Returns a state without open methods, with memory for the first.
-    pub(crate) fn list_with_capacity(alloc: Global) -> Result<Self, AllocError>
+    pub(crate) fn with_capacity(alloc: Global) -> Result<Self, AllocError>
         ensures { IfOk result IsRoomy }
     {
         Ok(OpenMethods {

@@ -17,10 +17,10 @@ abbrev pub Reaches : List Event → ℕ → ℕ → Type 0
 Reaches events a b = (through : List ℕ) × IsPath events a through b
 
 -- An open transaction reaches b. It may be b itself.
-abbrev pub IsFastDecision : TraceState → ℕ → Type 0
-IsFastDecision w b = (a : ℕ) × IsOpen w a × Reaches w.events a b
+abbrev pub IsReached : TraceState → ℕ → Type 0
+IsReached w b = (a : ℕ) × IsOpen w a × Reaches w.events a b
 
 -- Open transactions reach exactly n transactions.
 abbrev pub AreReached : TraceState → ℕ → Type 0
 AreReached w n =
-    (live : List ℕ) × (length live ≡ n) × IsDistinct (λ x y. x == y) live × ((a : ℕ) → IsIn a live ↔ IsFastDecision w a)
+    (live : List ℕ) × (length live ≡ n) × IsDistinct (λ x y. x == y) live × ((a : ℕ) → IsIn a live ↔ IsReached w a)

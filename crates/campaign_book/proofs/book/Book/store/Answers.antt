@@ -1,14 +1,14 @@
 use Rattle.std.proofs.Common.{◌≡◌, [], ◌∷◌, ◌++◌, None, sym, ap, ◌∙◌, subst}
 use Rattle.campaign_book.specs.Rows.{refusal, with_row}
 use Rattle.campaign_book.specs.Books.{BookView, IsBook, totals_of}
-use Rattle.campaign_book.specs.Entries.{transition_of, IsEntryOf}
+use Rattle.campaign_book.specs.Entries.{row_of, IsEntryOf}
 use Rattle.campaign_book.proofs.History.{book_push, totals_push}
 use Rattle.campaign_book.proofs.book.Book.store.Goals as goal
 
 pub invariant_of-self-2 : goal.invariant_of-self-2
 invariant_of-self-2 c =
     let rows = c.self.inside.rows in
-    let row = transition_of c.args.entry in
+    let row = row_of c.args.entry in
     let items : c.push.new.self ≡ rows ++ row ∷ [] = c.in-Ok.ensures.ok ∙ ap (λ r. rows ++ r ∷ []) c.row-row.ensures in
     let new : refusal c.self.inside.plan.now rows row ≡ None = ap (refusal c.self.inside.plan.now rows) (sym c.row-row.ensures) ∙ sym c.refusal.ensures ∙ c.in_default.is in
     let of = subst (λ (b : BookView). IsEntryOf b.program b.plan c.args.entry) (sym c.self.view_is) c.requires in (

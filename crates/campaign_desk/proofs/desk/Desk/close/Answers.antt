@@ -5,7 +5,7 @@ use Rattle.std.proofs.lemmas.List.{map_push, length-map}
 use Rattle.atomic_table.specs.Table.{Me}
 use Rattle.campaign_desk.specs.declared.knowledge.Knowledge.{Knowledge}
 use Rattle.campaign_desk.specs.Desk.{SeatValue, DeskValue, knowledge_of}
-use Rattle.campaign_desk.specs.Reached.{IsFastDecision}
+use Rattle.campaign_desk.specs.Reached.{IsReached}
 use Rattle.campaign_desk.proofs.ReachedLaws.{is_desk}
 use Rattle.campaign_desk.proofs.TableSteps.{table_closes}
 use Rattle.campaign_desk.proofs.desk.Desk.close.Goals as goal
@@ -25,6 +25,6 @@ returns c =
     let end = table_closes _ key pass.id pass.me.0 _ _ all c.close_with-closed.ensures.values.2 in
     let next : end.0 ≡ c.word.result = some-injective _ _ (sym (ap (λ ws. get_elem? ws 0) end.2) ∙ c.word.ensures) in
     let bound : end.1 ≡ c.word-2.result = some-injective _ _ (sym (ap (λ ws. get_elem? ws 1) end.2) ∙ c.word-2.ensures) in
-    let P = λ (p : (ℕ × ℕ) × ((ℕ × ℕ) × List Knowledge)). IsFastDecision p.0.0 p.0.1 p.1.0.0 p.1.0.1 p.1.1 in
+    let P = λ (p : (ℕ × ℕ) × ((ℕ × ℕ) × List Knowledge)). IsReached p.0.0 p.0.1 p.1.0.0 p.1.0.1 p.1.1 in
     let reached = subst P (λ i. ((jobs i, workers i), ((next i, bound i), seats i))) end.3 in
     record { reached = reached; facts = is_desk _ _ _ _ _ reached }
