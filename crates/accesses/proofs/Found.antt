@@ -82,22 +82,6 @@ pub found : (q : Key) (es : Table) (l : PlaceAccesses) → IsDistinct same_keys 
 found q [] l apart is = absurd (none-some l is)
 found q (e ∷ es) l apart is = found_by q e es l (same_keys q e.0) apart refl (found q es l (IsDistinct-tail same_keys e.0 (keys_of es) apart)) is
 
--- ---- What a look-up doesn't find
-
-none_by : (q : Key) (e : Key × PlaceAccesses) (es : Table) (b : Bool) → same_keys q e.0 ≡ b → (lookup (same_keys q) es ≡ None → AreAt (kept_in es) (place_of q) []) → cond b (Some e.1) (lookup (same_keys q) es) ≡ None → AreAt (kept_in (e ∷ es)) (place_of q) []
-none_by q e es true same rest is = absurd (none-some e.1 (sym is))
-none_by q e es false same rest is = (
-  λ k is_in. absurd is_in,
-  λ k is_in near. ⊎_elim
-      (λ front. true≢false (sym near ∙ ap (λ (p : Place). same_place p (place_of q)) (here (place_of e.0) e.1 k front) ∙ turned q e.0 same))
-      (λ back. (rest is).1 k back near)
-      (in_either k (kept_at (place_of e.0) e.1) (kept_in es) is_in),
-)
-
-pub not_found : (q : Key) (es : Table) → lookup (same_keys q) es ≡ None → AreAt (kept_in es) (place_of q) []
-not_found q [] is = (λ k is_in. absurd is_in, λ k is_in near. is_in)
-not_found q (e ∷ es) is = none_by q e es (same_keys q e.0) refl (not_found q es) is
-
 -- ---- Links
 
 beside_is_main : (b : Bool) (p q : Place) → (same_place p q && (false || b)) ≡ true → b ≡ true
@@ -154,12 +138,6 @@ pub links_of_found : (kept : List Last) (p : Place) (b : Bool) (number : ℕ) (l
 links_of_found kept p b number l at = record {
   sound = λ k is_in. let w = sound_links kept p b number l at k is_in in (w.0, w.1, (access p b, inl refl, w.2), w.3);
   whole = λ k is_in one. whole_links kept p b number l at k is_in (alone (access p b) k one);
-}
-
-pub no_links : (kept : List Last) (p : Place) (b : Bool) (number : ℕ) → AreAt kept p [] → AreLinksOf kept number (access p b ∷ []) []
-no_links kept p b number at = record {
-  sound = λ l is_in. absurd is_in;
-  whole = λ k is_in one. absurd (at.1 k is_in (and_parts (same_place k.access.place p) (k.access.is_main || b) (alone (access p b) k one)).0);
 }
 
 -- If nothing is touched, no links are added.

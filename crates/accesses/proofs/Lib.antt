@@ -2,6 +2,7 @@ pub mod ByIndex
 pub mod Conflicting
 pub mod Entries
 pub mod Found
+pub mod Ready
 pub mod Members
 pub mod Noted
 pub mod Noting

@@ -2,7 +2,7 @@
 
 ghost use Rattle.std.specs.Prelude.{◌≡◌, ℕ, [], ◌∷◌, false, None, Some, IfOk, IfSome, OnOk, MatchOption, slice_get};
 ghost use Rattle.velodrome.specs.Conflicts.{thread_of};
-ghost use Rattle.accesses.specs.Accesses.{AreLinks, IsNoted, OfThread, Place as Kind, accesses_beside, main_at};
+ghost use Rattle.accesses.specs.Accesses.{Access, AreLinks, IsNoted, OfThread, Place as Kind, accesses_beside, main_at};
 ghost use Rattle.accesses.specs.Kept.{HasSpare, kept_at, kept_in};
 ghost use Rattle.accesses.specs.Links.{AreAdded, AreAt};
 ghost use Rattle.accesses.specs.OnePlace.{same_keys};
@@ -15,9 +15,8 @@ use crate::indexed::{of_thread, of_touched};
 use crate::lasts::{Noted, PlaceAccesses};
 use crate::place::Place;
 use crate::slot::Slot;
-use crate::sums::hash_of_touched;
 use crate::table::Table;
-use crate::touch::{Touch, has_main_touch, own, thread_of, touched};
+use crate::touch::{Touch, has_main_touch, thread_of, touched};
 use atom_order::Link;
 use jvms_machine::trace::Item;
 use std::alloc::{AllocError, Global};
@@ -61,96 +60,49 @@ impl Accesses {
         }
     }
 
-    /// Returns the links from remembered accesses to a new event.
-    pub fn links(&self, number: u64, item: &Item) -> Result<Vec<Link>, AllocError>
-        ensures { IfOk result (λ v. AreLinks (kept_of self.now) number item.now v.items) }
-    {
-        let mut links = Vec::new(self.alloc);
-        self.push_own(number, item, &mut links)?;
-        self.push_touched(number, item, &mut links)?;
-        Ok(links)
-    }
-
-    /// Appends the links of a new event from accesses to its own thread.
-    fn push_own(&self, number: u64, item: &Item, links: &mut Vec<Link>) -> Result<(), AllocError>
-        ensures { OnOk result (AreAdded (kept_of self.now) number (main_at (OfThread (thread_of item.now)) ∷ []) links.old.items links.new.items) }
-    {
-        match of_thread(&self.lasts, self.own, thread_of(item)) {
-            Some(lasts) => lasts.push_links(true, number, links),
-            None => self.push_links(&own(item), number, links),
-        }
-    }
-
-    /// Appends the links of a new event from accesses to what it touches.
-    fn push_touched(
+    /// Replaces a list by the links from remembered accesses to a new event, for which `reserve` has reserved memory.
+    pub fn ready_links(
         &self,
         number: u64,
         item: &Item,
         links: &mut Vec<Link>,
     ) -> Result<(), AllocError>
-        ensures { OnOk result (AreAdded (kept_of self.now) number (accesses_beside item.now) links.old.items links.new.items) }
+        requires { HasRoom self.now item.now }
+        ensures { OnOk result (AreLinks (kept_of self.now) number item.now links.new.items) }
     {
-        match self.touched_lasts(item) {
-            Some(lasts) => lasts.push_links(has_main_touch(item), number, links),
-            None => self.push_looked_up(number, item, links),
-        }
-    }
-
-    /// Returns the accesses to what an item touches, if the entry reserved last is the one.
-    fn touched_lasts(&self, item: &Item) -> Option<&PlaceAccesses>
-        ensures { IfSome result (λ l. (n : ℕ) × IsTouchedAt self.now.entries n item.now l.now) }
-    {
-        let slot = self.touched?;
-        of_touched(&self.lasts, slot.index, item)
-    }
-
-    /// Looks up what a new event touches, and appends the links from there.
-    fn push_looked_up(
-        &self,
-        number: u64,
-        item: &Item,
-        links: &mut Vec<Link>,
-    ) -> Result<(), AllocError>
-        ensures { OnOk result (AreAdded (kept_of self.now) number (accesses_beside item.now) links.old.items links.new.items) }
-    {
-        match touched(item)? {
-            Some(touch) => self.push_links(&touch, number, links),
+        links.clear();
+        self.push_at(self.own, true, number, links)?;
+        match self.touched {
+            Some(slot) => self.push_at(slot.index, slot.is_main, number, links),
             None => Ok(()),
         }
     }
 
-    /// Appends the links of a new event from accesses to one place.
-    fn push_links(
+    /// Appends the links of a new event from accesses to the place whose entry is at an index.
+    fn push_at(
         &self,
-        touch: &Touch,
+        index: usize,
+        is_main: bool,
         number: u64,
         links: &mut Vec<Link>,
     ) -> Result<(), AllocError>
-        ensures { OnOk result (AreAdded (kept_of self.now) number (access_of touch.now ∷ []) links.old.items links.new.items) }
+        ensures { OnOk result ((x : Access) → IsReady self.now.entries index x → is_main ≡ x.is_main → AreAdded (kept_of self.now) number (x ∷ []) links.old.items links.new.items) }
     {
-        match self.lasts_at(&touch.place) {
-            Some(lasts) => lasts.push_links(touch.is_main, number, links),
+        match self.lasts.get(index) {
+            Some((_, lasts)) => lasts.push_links(is_main, number, links),
             None => Ok(()),
         }
     }
 
-    /// Returns the accesses to a place, if the table has it.
-    fn lasts_at(&self, place: &Place) -> Option<&PlaceAccesses>
-        ensures { MatchOption result (AreAt (kept_of self.now) (place_of place.now) []) (λ l. AreAt (kept_of self.now) (place_of place.now) (kept_at (place_of place.now) l.now)) }
-    {
-        let index = self.lasts.index_of(place)?;
-        let (_, lasts) = self.lasts.get(index)?;
-        Some(lasts)
-    }
-
-    /// Reserves the memory that `note` needs for an item. The remembered accesses don't change.
-    pub fn reserve(&mut self, item: &Item) -> Result<(), AllocError>
+    /// Reserves the memory that `ready_links` and `note` need for an item. The remembered accesses don't change. `sum` is
+    /// the hash of what the item touches: with any other number it takes longer.
+    pub fn reserve(&mut self, sum: u32, item: &Item) -> Result<(), AllocError>
         ensures same { kept_of self.new ≡ kept_of self.old }
         ensures room { OnOk result (HasRoom self.new item.now) }
     {
         let entry = self.reserve_own(item)?;
         self.own = entry;
-        self.reserve_touched(item)
+        self.reserve_touched(sum, item)
     }
 
     /// Returns the entry of an item's thread. Adds one if there is none.
@@ -169,13 +121,12 @@ impl Accesses {
     }
 
     /// Reserves the entry of what an item touches.
-    fn reserve_touched(&mut self, item: &Item) -> Result<(), AllocError>
+    fn reserve_touched(&mut self, sum: u32, item: &Item) -> Result<(), AllocError>
         ensures same { kept_of self.new ≡ kept_of self.old }
         ensures own { self.new.own ≡ self.old.own }
         ensures ready { OnOk result (AreReady self.new.entries self.new.touched (accesses_beside item.now)) }
         ensures places { (n : ℕ) (p : Kind) → IsEntryOf self.old.entries n p → IsEntryOf self.new.entries n p }
     {
-        let sum = hash_of_touched(item);
         let guess = self.guesses.at(sum);
         match of_touched(&self.lasts, guess, item) {
             Some(_) => self.ready_guessed(guess, item),

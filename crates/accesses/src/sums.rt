@@ -56,9 +56,8 @@ pub fn hash_of_touched(item: &Item) -> u32 {
     }
 }
 
-/// Returns a hash of an item.
-pub fn hash_of_item(item: &Item) -> u32 {
-    let touched = hash_of_touched(item);
+/// Returns a hash of an item. `touched` is the hash of what the item touches.
+pub fn hash_of_item(touched: u32, item: &Item) -> u32 {
     match item {
         Item::Read { thread, .. } => mixed(mixed(touched, *thread), 1),
         Item::Write { thread, .. } => mixed(mixed(touched, *thread), 2),

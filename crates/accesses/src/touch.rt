@@ -36,16 +36,6 @@ pub fn thread_of(item: &Item) -> ThreadId
     }
 }
 
-/// Returns the access of an item to its own thread.
-pub fn own(item: &Item) -> Touch
-    ensures { access_of result ≡ main_at (OfThread (thread_of item.now)) }
-{
-    Touch {
-        place: Place::OfThread(thread_of(item)),
-        is_main: true,
-    }
-}
-
 /// Returns the access of an item to what it touches, if it touches something.
 pub fn touched(item: &Item) -> Result<Option<Touch>, AllocError>
     ensures { IfOk result (λ o. touches o ≡ accesses_beside item.now) }

@@ -6,7 +6,7 @@ ghost use Rattle.pool_entries.specs.Entries.{Gives};
 ghost use Rattle.assembly.specs.Assembled.{value_entry, field_attributes, field_info, fields_onto};
 ghost use Rattle.assembler.specs.Steps.{Enters};
 
-use crate::names::CONSTANT_VALUE;
+use class_file::CONSTANT_VALUE;
 use jasmin::source::{FieldConstant, FieldLine};
 use jvms_file::class_file::{FieldAttribute, FieldInfo};
 use pool_entries::{Entries, EntryFault};

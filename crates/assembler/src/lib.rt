@@ -7,7 +7,6 @@ mod class;
 mod fields;
 mod listing;
 mod methods;
-mod names;
 mod operands;
 mod throws;
 

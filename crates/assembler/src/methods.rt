@@ -3,7 +3,6 @@
 ghost use Rattle.std.specs.Prelude.{◌≡◌, not, [], Ok, Err, IfOk, MatchResult};
 ghost use Rattle.const_pool.specs.Interning.{pool_of};
 ghost use Rattle.jvms_file.specs.Results.{want};
-ghost use Rattle.jasmin.specs.Denote.{has_code};
 ghost use Rattle.jasmin.specs.Assembling.{repeats_label};
 ghost use Rattle.assembly.specs.declared.fault.AsmFault.TheVariants as fault;
 ghost use Rattle.assembly.specs.Faults.{Answers};
@@ -12,12 +11,11 @@ ghost use Rattle.assembler.specs.Steps.{Assembles, listed};
 
 use crate::catches::catches_of;
 use crate::listing::attributes_of;
-use crate::names::CODE;
 use crate::operands::operands_of;
 use crate::throws::throws_attribute;
 use assembly::fault::AsmFault;
-use code_bytes::code_within;
-use descriptor::{Flags, is_initializer_name};
+use class_file::CODE;
+use code_bytes::{code_within, has_code};
 use jasmin::source::{CodeItem, MethodLines};
 use jvms_file::class_file::{MethodAttribute, MethodInfo};
 use pool_entries::Entries;
@@ -84,14 +82,6 @@ fn code_attribute(
         labels,
     )?;
     Ok(MethodAttribute::Code { name, code })
-}
-
-/// Decides whether a method has code. All but native and abstract methods have, and each `<clinit>` (JVMS 4.7.3).
-fn has_code(method: &MethodLines) -> bool
-    ensures { result ≡ has_code method.now.name method.now.access }
-{
-    let flags = Flags::of_access(method.access);
-    is_initializer_name(method.name.as_slice()) || !(flags.is_native() || flags.is_abstract())
 }
 
 /// Returns the Code attribute of a method that has one (JVMS 4.7.3). `labels` are those of its code.

@@ -6,7 +6,7 @@ ghost use Rattle.assembly.specs.Operands.{classes_onto};
 ghost use Rattle.assembly.specs.Assembled.{throws_attributes};
 ghost use Rattle.assembler.specs.Steps.{Enters, listed};
 
-use crate::names::EXCEPTIONS;
+use class_file::EXCEPTIONS;
 use jvms_file::class_file::MethodAttribute;
 use pool_entries::{Entries, EntryFault};
 use shared_data::items::Items;

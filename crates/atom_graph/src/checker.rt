@@ -14,8 +14,10 @@ ghost use Rattle.atom_graph.specs.Checking.{IsFeeding, walk_of};
 use crate::copies::copied_method;
 use crate::counts::Counts;
 use crate::fault::FeedFault;
+use crate::stay::Stay;
 use crate::walked::StoredTrace;
 use crate::watch::Watch;
+use accesses::hash_of_touched;
 use atom_spec::Spec;
 use jvms_machine::machine::ThreadId;
 use jvms_machine::trace::Item;
@@ -85,7 +87,7 @@ impl Checker {
         ensures { IsFeeding self.old item.now result self.new }
     {
         let key = copied_method(method)?;
-        let copy = self.walked.prepare(thread, item)?;
+        let copy = self.walked.prepare(thread, hash_of_touched(item), item)?;
         self.walked.entered(thread, key, copy);
         Ok(())
     }
@@ -98,7 +100,7 @@ impl Checker {
         if !self.walked.courses.is_innermost(thread, method) {
             return Err(FeedFault::Unmatched);
         }
-        let copy = self.walked.prepare(thread, item)?;
+        let copy = self.walked.prepare_exit(hash_of_touched(item), item)?;
         let over = self.walked.over(thread);
         self.watch.leave(over)?;
         self.walked.exited(thread, copy);
@@ -115,13 +117,13 @@ impl Checker {
         if events >= MOST_EVENTS {
             return Err(FeedFault::TooMany);
         }
-        let copy = self.walked.prepare(thread, item)?;
-        let current = self.walked.courses.transaction(thread);
-        let transaction = self.walked.next(current);
-        let stay = self.walked.stay(thread, current);
+        let sum = hash_of_touched(item);
+        let (standing, copy) = self.walked.prepare_event(thread, sum, item)?;
+        let transaction = self.walked.next(standing.transaction);
+        let stay = Stay::of(standing.transaction, standing.is_in_atomic);
         self.watch
-            .event(events as u64 + 1, transaction, stay, item)?;
-        self.walked.happened(thread, current, transaction, copy);
+            .event(events as u64 + 1, transaction, stay, sum, item)?;
+        self.walked.happened(thread, standing, transaction, copy);
         Ok(())
     }
 

@@ -17,6 +17,8 @@ use std::alloc::{AllocError, Global};
 pub(crate) struct Reduced {
     pub graph: Graph,
     pub accesses: Accesses,
+    /// The links of the last event. Their memory is reused.
+    pub links: Vec<Link>,
 }
 
 impl Reduced {
@@ -27,6 +29,7 @@ impl Reduced {
         Ok(Reduced {
             graph: Graph::new(alloc)?,
             accesses: Accesses::new(alloc),
+            links: Vec::new(alloc),
         })
     }
 
@@ -38,15 +41,16 @@ impl Reduced {
         number: u64,
         transaction: u64,
         stay: Stay,
+        sum: u32,
         item: &Item,
     ) -> Result<Option<Found>, AllocError>
         requires { IsReady stay transaction self.old.graph }
         ensures ok { IfOk result (λ o. MatchOption o (IsTaken number transaction stay item.now self.old self.new) (λ f. IsClosedBy number transaction item.now self.old f)) }
         ensures err { OnErr result (IsLike self.old self.new) }
     {
-        self.accesses.reserve(item)?;
-        let links = self.accesses.links(number, item)?;
-        let live = self.graph.live_links(transaction, links.as_slice())?;
+        self.accesses.reserve(sum, item)?;
+        self.accesses.ready_links(number, item, &mut self.links)?;
+        let live = self.graph.live_links(transaction, self.links.as_slice())?;
         match grow(&mut self.graph, transaction, stay, live)? {
             Some(closing) => Ok(Some(Found::by(alloc, number, &closing)?)),
             None => {

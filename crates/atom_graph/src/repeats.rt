@@ -33,11 +33,12 @@ impl ItemCache {
         }
     }
 
-    /// Returns a shared item equal to this one: the cached one, or else a new clone.
-    pub(crate) fn once_more(&mut self, item: &Item) -> Result<Shared<Item>, AllocError>
+    /// Returns a shared item equal to this one: the cached one, or else a new clone. `sum` is the hash of what the item
+    /// touches.
+    pub(crate) fn once_more(&mut self, sum: u32, item: &Item) -> Result<Shared<Item>, AllocError>
         ensures { IfOk result (λ i. i ≡ item.now) }
     {
-        let sum = hash_of_item(item);
+        let sum = hash_of_item(sum, item);
         if let Some(taken) = self.taken_in(self.slot_of(sum), item)? {
             return Ok(taken);
         }

@@ -38,18 +38,26 @@ impl Watch {
         number: u64,
         transaction: u64,
         stay: Stay,
+        sum: u32,
         item: &Item,
     ) -> Result<(), AllocError>
         requires { self.old.found ≡ None → IsReady stay transaction self.old.reduced.graph }
         ensures ok { OnOk result (IsOn number transaction stay item.now self.old self.new) }
         ensures err { OnErr result (IsIdle self.old self.new) }
     {
-        if self.found.is_none() {
-            self.found = self
-                .reduced
-                .event(self.alloc, number, transaction, stay, item)?;
+        if self.found.is_some() {
+            return Ok(());
         }
-        Ok(())
+        match self
+            .reduced
+            .event(self.alloc, number, transaction, stay, sum, item)?
+        {
+            None => Ok(()),
+            Some(found) => {
+                self.found = Some(found);
+                Ok(())
+            }
+        }
     }
 
     /// Closes a transaction that ended, unless a cycle was found before. Without memory nothing changes.

@@ -20,3 +20,4 @@ pub mod Begun
 pub mod Linked
 pub mod Closed
 pub mod Lived
+pub mod Alone

@@ -1,7 +1,7 @@
 //! The graph of live transactions.
 
 ghost use Rattle.std.specs.Prelude.{ℕ, ◌==◌, ◌||◌, ◌&&◌, not, cond, ◌≡◌, ◌<◌, ◌+◌, ◌^◌, ◌++◌, [], false, true, length, drop, get_or, IfOk, OnOk, OnErr, MatchOption};
-ghost use Rattle.std.specs.List.{list_any};
+ghost use Rattle.std.specs.List.{list_all, list_any};
 ghost use Rattle.std.specs.Ordering.{nat_cmp};
 ghost use Rattle.atom_order.specs.declared.link.Link.{Link};
 ghost use Rattle.atom_order.specs.Reaching.{is_among, marked, to_be_dropped};
@@ -294,16 +294,57 @@ impl Graph {
             self.is_open[transaction as usize] = false;
             return Ok(());
         }
+        if place + 1 == self.live.len() {
+            return self.close_parts(transaction, place, &[transaction], &[]);
+        }
+        if self.are_open_after(place) {
+            let left = Vec::from_slice(self.alloc, self.live_after(place))?;
+            return self.close_parts(transaction, place, &[transaction], left.as_slice());
+        }
         let parts = self.parts(transaction, place)?;
-        self.dropped.extend_from_slice(parts.gone.as_slice())?;
-        self.is_open[transaction as usize] = false;
-        rearrange(
-            &mut self.live,
-            &mut self.places,
+        self.close_parts(
+            transaction,
             place,
+            parts.gone.as_slice(),
             parts.left.as_slice(),
-        );
-        forget(&mut self.into, parts.gone.as_slice(), self.alloc);
+        )
+    }
+
+    /// Returns the live transactions after a place.
+    fn live_after(&self, place: usize) -> &[u64]
+        requires { place < length self.now.live }
+        ensures { result.now ≡ drop (place + 1) self.now.live }
+    {
+        &self.live[place + 1..]
+    }
+
+    /// Decides whether all live transactions after a place are open.
+    fn are_open_after(&self, place: usize) -> bool
+        requires { place < length self.now.live }
+        ensures { result ≡ list_all (open_in self.now) (drop (place + 1) self.now.live) }
+    {
+        self.live_after(place).iter().all(|y| self.is_open(*y))
+    }
+
+    /// Closes the transaction at a place. Of the live transactions from there on, drops `gone` and keeps `left`.
+    fn close_parts(
+        &mut self,
+        transaction: u64,
+        place: usize,
+        gone: &[u64],
+        left: &[u64],
+    ) -> Result<(), AllocError>
+        requires place { place < length self.old.live }
+        requires there { get_or self.old.live place 0 ≡ transaction }
+        requires usable { IsUsable self.old }
+        requires parts { AreParts transaction place self.old gone.now left.now }
+        ensures ok { OnOk result (IsClosing transaction self.old self.new) }
+        ensures err { OnErr result (self.new ≡ self.old) }
+    {
+        self.dropped.extend_from_slice(gone)?;
+        self.is_open[transaction as usize] = false;
+        rearrange(&mut self.live, &mut self.places, place, left);
+        forget(&mut self.into, gone, self.alloc);
         Ok(())
     }
 

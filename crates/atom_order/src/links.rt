@@ -50,6 +50,9 @@ impl Links {
         ensures ok { OnOk result (self.new ≡ self.old ++ more.now) }
         ensures err { OnErr result (self.new ≡ self.old) }
     {
+        if more.is_empty() {
+            return Ok(());
+        }
         self.links.extend_from_slice(more)
     }
 }

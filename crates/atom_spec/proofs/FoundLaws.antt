@@ -46,23 +46,23 @@ apart : {X : Type 0} (a b : Bool) (x y z : X) → (b ≡ true → a ≡ false) �
 apart a false x y z h = refl
 apart a true x y z h = rw (h refl) refl
 
-method_in_order : {X : Type 0} (t : Ordering) (k : Vec ℕ Global) (v : X) (e : Vec ℕ Global × X) (entries : Entries X) (q : List ℕ) → key_cmp k e.0 ≡ t
+found_in_order : {X : Type 0} (t : Ordering) (k : Vec ℕ Global) (v : X) (e : Vec ℕ Global × X) (entries : Entries X) (q : List ℕ) → key_cmp k e.0 ≡ t
     → found (seen (insert_entry key_cmp entries k v)) q ≡ cond (same_text q k.items) (Some v) (found (seen entries) q)
     → found (seen (match_ordering t ((k, v) ∷ e ∷ entries) ((e.0, v) ∷ entries) (e ∷ insert_entry key_cmp entries k v))) q ≡ cond (same_text q k.items) (Some v) (found (seen (e ∷ entries)) q)
-method_in_order Less k v e entries q is more = refl
-method_in_order Equal k v e entries q is more =
+found_in_order Less k v e entries q is more = refl
+found_in_order Equal k v e entries q is more =
     let same : k.items ≡ e.0.items = exact_bytes k.items e.0.items is in
     let here : same_text q e.0.items ≡ same_text q k.items = ap (λ l. same_text q l) (sym same) in
     ap (λ b. cond b (Some v) (found (seen entries) q)) here ∙ covered (same_text q k.items) (Some v) (Some e.1) (found (seen entries) q)
     ∙ ap (λ b. cond (same_text q k.items) (Some v) (cond b (Some e.1) (found (seen entries) q))) (sym here)
-method_in_order Greater k v e entries q is more =
+found_in_order Greater k v e entries q is more =
     ap (λ o. cond (same_text q e.0.items) (Some e.1) o) more
     ∙ apart (same_text q e.0.items) (same_text q k.items) (Some v) (Some e.1) (found (seen entries) q)
     (λ same. ap (λ l. same_text l e.0.items) (same_is q k.items same) ∙ sym (is_eq-slice_cmp k.items e.0.items) ∙ ap is_eq is)
 
 found_inserted : {X : Type 0} (entries : Entries X) (k : Vec ℕ Global) (v : X) (q : List ℕ) → found (seen (insert_entry key_cmp entries k v)) q ≡ cond (same_text q k.items) (Some v) (found (seen entries) q)
 found_inserted [] k v q = refl
-found_inserted (e ∷ entries) k v q = method_in_order (key_cmp k e.0) k v e entries q refl (found_inserted entries k v q)
+found_inserted (e ∷ entries) k v q = found_in_order (key_cmp k e.0) k v e entries q refl (found_inserted entries k v q)
 
 pub found_put : {X : Type 0} (old new : Entries X) (k : Vec ℕ Global) (text : List ℕ) (v : X) (before : List (List ℕ × X)) → k.items ≡ text → new ≡ insert_entry key_cmp old k v → seen old ≡ before
     → (q : List ℕ) → found (seen new) q ≡ cond (same_text q text) (Some v) (found before q)

@@ -4,3 +4,4 @@ pub mod TextLines
 pub mod OneReading
 pub mod FoundLaws
 pub mod SaidLaws
+pub mod BuiltIns

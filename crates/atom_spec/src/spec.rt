@@ -1,6 +1,8 @@
 //! Specifications.
 
 ghost use Rattle.std.specs.Prelude.{◌≡◌, IfOk};
+ghost use Rattle.jvms_file.specs.Names.{begins_with};
+ghost use Rattle.jvms_program.specs.BuiltIn.{is_built_in};
 ghost use Rattle.velodrome.specs.Specification.{is_atomic as atomic_by};
 ghost use Rattle.atom_spec.specs.Said.{Says};
 ghost use Rattle.atom_spec.specs.Specs.{IsRead};
@@ -16,6 +18,9 @@ use shared_data::shared::Shared;
 use std::alloc::{AllocError, Global};
 use std::marker::Model;
 use velodrome::specification::SpecificationLine;
+
+/// The first unit of the names of built-in classes.
+const FIRST: u16 = b'j' as u16;
 
 /// The lines, and the look-up table of what they say.
 #[derive(Drop)]
@@ -51,6 +56,23 @@ fn table_of(alloc: Global, lines: &[SpecificationLine]) -> Result<Table, AllocEr
         table.put(alloc, line)?;
     }
     Ok(table)
+}
+
+/// Decides whether a text begins as the names of all built-in classes do.
+fn begins_as_built_in(class: &[u16]) -> bool
+    ensures { result ≡ begins_with 106 class.now }
+{
+    matches!(class, [FIRST, ..])
+}
+
+/// Decides whether a class is built in, by its name. Most other names differ from these in their first unit.
+fn is_built_in_class(class: &[u16]) -> bool
+    ensures { result ≡ is_built_in class.now }
+{
+    if !begins_as_built_in(class) {
+        return false;
+    }
+    is_built_in(class)
 }
 
 impl Spec {
@@ -95,6 +117,6 @@ impl Spec {
     {
         self.parts.get().table.said(method)
             && !is_initializer_name(method.name.as_slice())
-            && !is_built_in(method.class.as_slice())
+            && !is_built_in_class(method.class.as_slice())
     }
 }

@@ -10,8 +10,8 @@ use crate::classes::{
     interface_with, object_class, print_stream_class, runnable_class, serializable_class,
     system_class, thread_class,
 };
-use crate::text::is_text;
 use crate::throwables::{BELOW, push_below, throwable_class};
+use descriptor::is_text;
 use jvms_program::program::Class;
 use std::alloc::{AllocError, Global};
 

@@ -5,11 +5,11 @@ ghost use Rattle.jvms_program.specs.BuiltIn.{object, class_with, interface_with,
 
 use crate::code::{call_run, load, return_void, target_field};
 use crate::members::{abstracted, coded, field, native};
-use crate::text::text;
 use jvms_file::insn::{Branch, FieldUse};
 use jvms_program::program::{Class, ClassKind, Field, Instruction, Method};
 use shared_data::items::Items;
 use shared_data::shared::Text;
+use shared_data::texts::ascii_text;
 use std::alloc::{AllocError, Global};
 
 /// The name of the class that all others extend.
@@ -27,9 +27,9 @@ pub(crate) fn class_with(
     ensures { IfOk result (λ c. c ≡ class_with superclass.now interfaces.items fields.items methods.items name.now) }
 {
     Ok(Class {
-        name: text(alloc, name)?,
+        name: ascii_text(alloc, name)?,
         kind: ClassKind::Neither,
-        superclass: Some(text(alloc, superclass)?),
+        superclass: Some(ascii_text(alloc, superclass)?),
         interfaces: Items::from_vec(interfaces),
         fields: Items::from_vec(fields),
         methods: Items::from_vec(methods),
@@ -45,9 +45,9 @@ pub(crate) fn interface_with(
     ensures { IfOk result (λ c. c ≡ interface_with methods.items name.now) }
 {
     Ok(Class {
-        name: text(alloc, name)?,
+        name: ascii_text(alloc, name)?,
         kind: ClassKind::Interface,
-        superclass: Some(text(alloc, OBJECT)?),
+        superclass: Some(ascii_text(alloc, OBJECT)?),
         interfaces: Items::new(alloc),
         fields: Items::new(alloc),
         methods: Items::from_vec(methods),
@@ -72,7 +72,7 @@ pub(crate) fn object_class(alloc: Global) -> Result<Class, AllocError>
     let mut methods = Vec::new(alloc);
     put_object_methods(alloc, &mut methods)?;
     Ok(Class {
-        name: text(alloc, OBJECT)?,
+        name: ascii_text(alloc, OBJECT)?,
         kind: ClassKind::Neither,
         superclass: None,
         interfaces: Items::new(alloc),
@@ -142,7 +142,7 @@ fn put_thread_methods(alloc: Global, methods: &mut Vec<Method>) -> Result<(), Al
 pub(crate) fn thread_class(alloc: Global) -> Result<Class, AllocError>
     ensures { IfOk result (λ c. c ≡ thread_class) }
 {
-    let interfaces = vec![in alloc; text(alloc, "java/lang/Runnable")?]?;
+    let interfaces = vec![in alloc; ascii_text(alloc, "java/lang/Runnable")?]?;
     let fields = vec![in alloc; field(alloc, false, "target", "Ljava/lang/Runnable;")?]?;
     let mut methods = Vec::new(alloc);
     put_thread_methods(alloc, &mut methods)?;
@@ -193,7 +193,7 @@ pub(crate) fn print_stream_class(alloc: Global) -> Result<Class, AllocError>
 pub(crate) fn serializable_class(alloc: Global, name: &str) -> Result<Class, AllocError>
     ensures { IfOk result (λ c. c ≡ class_with object (codes "java/io/Serializable" ∷ []) [] [] name.now) }
 {
-    let interfaces = vec![in alloc; text(alloc, "java/io/Serializable")?]?;
+    let interfaces = vec![in alloc; ascii_text(alloc, "java/io/Serializable")?]?;
     let fields = Vec::new(alloc);
     let methods = Vec::new(alloc);
     class_with(alloc, OBJECT, interfaces, fields, methods, name)

@@ -3,12 +3,12 @@
 ghost use Rattle.std.specs.Prelude.{◌≡◌, IfOk};
 ghost use Rattle.jvms_program.specs.BuiltIn.{load, return_void, return_reference, field_insn, target_field, call_run, message_field};
 
-use crate::text::text;
 use descriptor::{field_type, method_type};
 use jvms_file::insn::{FieldUse, Invoke, Kind, LocalUse, ReturnInsn, Simple};
 use jvms_program::program::{FieldReference, Instruction, MethodReference};
 use shared_data::boxed::Boxed;
 use shared_data::shared::Shared;
+use shared_data::texts::ascii_text;
 use std::alloc::{AllocError, Global};
 
 /// Creates the instruction that pushes the reference in a local.
@@ -42,9 +42,9 @@ fn field_insn(
 ) -> Result<Instruction, AllocError>
     ensures { IfOk result (λ i. i ≡ field_insn how class.now name.now descriptor.now) }
 {
-    let class = text(alloc, class)?;
-    let name = text(alloc, name)?;
-    let descriptor = text(alloc, descriptor)?;
+    let class = ascii_text(alloc, class)?;
+    let name = ascii_text(alloc, name)?;
+    let descriptor = ascii_text(alloc, descriptor)?;
     let field_type = Shared::new(alloc, field_type(alloc, descriptor.as_slice())?)?;
     let reference = FieldReference {
         class,
@@ -85,9 +85,9 @@ pub(crate) fn message_field(alloc: Global, how: FieldUse) -> Result<Instruction,
 pub(crate) fn call_run(alloc: Global) -> Result<Instruction, AllocError>
     ensures { IfOk result (λ i. i ≡ call_run) }
 {
-    let class = text(alloc, "java/lang/Runnable")?;
-    let name = text(alloc, "run")?;
-    let descriptor = text(alloc, "()V")?;
+    let class = ascii_text(alloc, "java/lang/Runnable")?;
+    let name = ascii_text(alloc, "run")?;
+    let descriptor = ascii_text(alloc, "()V")?;
     let method_type = Shared::new(alloc, method_type(alloc, descriptor.as_slice())?)?;
     let reference = MethodReference {
         is_interface: true,

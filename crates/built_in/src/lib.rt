@@ -5,8 +5,6 @@ mod all;
 mod classes;
 mod code;
 mod members;
-mod text;
 mod throwables;
 
 pub use all::{built_in_classes, is_built_in};
-pub use text::{is_named, is_text};

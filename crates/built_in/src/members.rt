@@ -3,12 +3,12 @@
 ghost use Rattle.std.specs.Prelude.{◌≡◌, IfOk};
 ghost use Rattle.jvms_program.specs.BuiltIn.{method, coded, native, abstracted, field, no_flags};
 
-use crate::text::text;
 use descriptor::{field_type, method_type};
 use jvms_program::instructions::Instructions;
 use jvms_program::program::{Body, Field, Instruction, Method, MethodFlags};
 use shared_data::items::Items;
 use shared_data::shared::Shared;
+use shared_data::texts::ascii_text;
 use std::alloc::{AllocError, Global};
 
 /// Returns the flags of a method that has none.
@@ -34,8 +34,8 @@ fn method(
 ) -> Result<Method, AllocError>
     ensures { IfOk result (λ m. m ≡ method name.now descriptor.now flags body) }
 {
-    let name = text(alloc, name)?;
-    let descriptor = text(alloc, descriptor)?;
+    let name = ascii_text(alloc, name)?;
+    let descriptor = ascii_text(alloc, descriptor)?;
     let method_type = Shared::new(alloc, method_type(alloc, descriptor.as_slice())?)?;
     Ok(Method {
         name,
@@ -96,8 +96,8 @@ pub(crate) fn field(
 ) -> Result<Field, AllocError>
     ensures { IfOk result (λ f. f ≡ field is_static name.now descriptor.now) }
 {
-    let name = text(alloc, name)?;
-    let descriptor = text(alloc, descriptor)?;
+    let name = ascii_text(alloc, name)?;
+    let descriptor = ascii_text(alloc, descriptor)?;
     let field_type = Shared::new(alloc, field_type(alloc, descriptor.as_slice())?)?;
     Ok(Field {
         name,

@@ -6,9 +6,9 @@ ghost use Rattle.jvms_program.specs.BuiltIn.{coded, field, load, return_void, re
 use crate::classes::{OBJECT, class_with, plain_constructor};
 use crate::code::{load, message_field, return_reference, return_void};
 use crate::members::{coded, field};
-use crate::text::text;
 use jvms_file::insn::FieldUse;
 use jvms_program::program::{Class, Method};
+use shared_data::texts::ascii_text;
 use std::alloc::{AllocError, Global};
 
 /// The built-in classes below Throwable, each as the name of its superclass and its own name.
@@ -129,7 +129,7 @@ pub(crate) fn throwable_class(alloc: Global) -> Result<Class, AllocError>
 {
     let mut methods = throwable_constructors(alloc)?;
     methods.push(get_message(alloc)?)?;
-    let interfaces = vec![in alloc; text(alloc, "java/io/Serializable")?]?;
+    let interfaces = vec![in alloc; ascii_text(alloc, "java/io/Serializable")?]?;
     let fields = vec![in alloc; field(alloc, false, "message", "Ljava/lang/String;")?]?;
     class_with(
         alloc,

@@ -1,5 +1,5 @@
 -- Defines why a campaign has no table, or why it wasn't written.
-use Rattle.std.specs.Prelude.{◌≡◌, ℕ, ◌<◌, ◌≤◌, ◌⊎◌, List, Result, Ok}
+use Rattle.std.specs.Prelude.{◌≡◌, ℕ, ◌<◌, ◌≤◌, ◌⊎◌, Bool, true, false, List, Result, Ok}
 use Rattle.jvms_program.specs.declared.program.Class.{Class}
 use Rattle.campaign_desk.specs.declared.fault.DeskFault.TheVariants as desk_fault
 use Rattle.campaign_desk.specs.Limits.{most_jobs, most_workers}
@@ -7,6 +7,12 @@ use Rattle.judge.specs.Faults as judge
 use Rattle.judge.specs.Programs.{NotRun}
 use Rattle.campaigning.specs.declared.fault.CampaignFault.{CampaignFault}
 use Rattle.campaigning.specs.declared.fault.CampaignFault.TheVariants as fault
+
+-- Decides whether memory ran out for the campaign itself, and not for its inputs or its text.
+abbrev pub is_memory : CampaignFault → Bool
+is_memory (fault.Desk desk_fault.Memory) = true
+is_memory fault.WorkerFailed = true
+is_memory _ = false
 
 -- A campaign that began, or would have begun, halts for this reason.
 abbrev pub IsHalt : ℕ → ℕ → CampaignFault → Type 0

@@ -3,6 +3,7 @@
 ghost use Rattle.std.specs.Prelude.{◌≡◌};
 ghost use Rattle.judge.specs.declared.fault.JudgeFault.TheVariants.{Memory};
 ghost use Rattle.campaigning.specs.declared.fault.CampaignFault.TheVariants.{Judge, Output};
+ghost use Rattle.campaigning.specs.Faults.{is_memory};
 
 use campaign::DeskFault;
 use judge::JudgeFault;
@@ -29,7 +30,9 @@ pub enum CampaignFault {
 
 impl CampaignFault {
     /// Returns whether memory ran out for the campaign itself: G04, G05.
-    pub fn is_memory(&self) -> bool {
+    pub fn is_memory(&self) -> bool
+        ensures { result ≡ is_memory self.now }
+    {
         matches!(
             self,
             CampaignFault::Desk(DeskFault::Memory) | CampaignFault::WorkerFailed

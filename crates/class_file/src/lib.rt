@@ -18,4 +18,5 @@ pub use jvms_file::class_file::{
 };
 pub use jvms_file::fault::{ClassFault, ReadError};
 pub use laws::{what_is_written_is_read_again, what_is_written_spells};
+pub use names::{CODE, CONSTANT_VALUE, EXCEPTIONS};
 pub use spelled::{ClassFile, read, write};

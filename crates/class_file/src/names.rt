@@ -2,7 +2,7 @@
 //! 4.3.2).
 
 /// The name `ConstantValue`.
-pub(crate) const CONSTANT_VALUE: [u16; 13] = [
+pub const CONSTANT_VALUE: [u16; 13] = [
     b'C' as u16,
     b'o' as u16,
     b'n' as u16,
@@ -19,10 +19,10 @@ pub(crate) const CONSTANT_VALUE: [u16; 13] = [
 ];
 
 /// The name `Code`.
-pub(crate) const CODE: [u16; 4] = [b'C' as u16, b'o' as u16, b'd' as u16, b'e' as u16];
+pub const CODE: [u16; 4] = [b'C' as u16, b'o' as u16, b'd' as u16, b'e' as u16];
 
 /// The name `Exceptions`.
-pub(crate) const EXCEPTIONS: [u16; 10] = [
+pub const EXCEPTIONS: [u16; 10] = [
     b'E' as u16,
     b'x' as u16,
     b'c' as u16,

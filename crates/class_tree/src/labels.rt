@@ -4,19 +4,9 @@ ghost use Rattle.std.specs.Prelude.{◌≡◌, IfOk, map};
 ghost use Rattle.listing_spec.specs.TreeOf.{label_of};
 
 use shared_data::items::Items;
-use shared_data::shared::{Shared, Text};
+use shared_data::shared::Text;
+use shared_data::texts::ascii_text;
 use std::alloc::{AllocError, Global};
-
-/// Returns the text of ASCII bytes.
-fn text_of_bytes(alloc: Global, bytes: &[u8]) -> Result<Text, AllocError>
-    ensures { IfOk result (λ text. text ≡ bytes.now) }
-{
-    let mut units = Vec::with_capacity(alloc, bytes.len())?;
-    for byte in bytes {
-        units.push(u16::from(*byte))?;
-    }
-    Shared::new(alloc, Items::from_vec(units))
-}
 
 /// Returns the label of a place: `L` and its number.
 #[tactic(auto, unfolding(listing_spec::specs::TreeOf::label_of))]
@@ -24,7 +14,7 @@ pub(crate) fn label_of(alloc: Global, place: usize) -> Result<Text, AllocError>
     ensures { IfOk result (λ label. label ≡ label_of place) }
 {
     let label = format!(in alloc; "L{place}")?;
-    text_of_bytes(alloc, label.as_bytes())
+    ascii_text(alloc, label.as_str())
 }
 
 /// Returns the labels of targets, in order.

@@ -1,9 +1,7 @@
 //! Converts methods (JVMS 4.6).
 
 ghost use Rattle.std.specs.Prelude.{◌≡◌, IfOk, map};
-ghost use Rattle.std.specs.Option.{option_map};
 ghost use Rattle.jvms_file.specs.Results.{collected};
-ghost use Rattle.jvms_program.specs.Meaning.{code_of, throws_of};
 ghost use Rattle.listing_spec.specs.Faults.{Lists};
 ghost use Rattle.listing_spec.specs.TreeOf.{method_flags, method_with, method_lines};
 
@@ -11,46 +9,14 @@ use crate::code::items_of;
 use crate::handlers::catches_of;
 use crate::texts::Texts;
 use jasmin::source::{CatchLine, CodeItem, MethodLines};
-use jvms_file::class_file::{Code, MethodAttribute, MethodInfo};
+use jvms_file::class_file::MethodInfo;
+use jvms_program::attributes::{code_of, exceptions_of};
 use listing_spec::fault::ListFault;
 use shared_data::items::Items;
-use shared_data::shared::Text;
 use std::alloc::{AllocError, Global};
 
 /// The flags that have access words of methods (JVMS table 4.6-A).
 const FLAGS: u16 = 1343;
-
-/// Returns the classes of the first Exceptions attribute (JVMS 4.7.5).
-fn throws_of(
-    alloc: Global,
-    texts: &Texts<'_>,
-    attributes: &[MethodAttribute],
-) -> Result<Items<Text>, AllocError>
-    ensures { IfOk result (λ names. names ≡ throws_of texts.now attributes.now) }
-{
-    let mut rest = attributes;
-    while let [attribute, others @ ..] = rest {
-        if let MethodAttribute::Exceptions { name: _, classes } = attribute {
-            return texts.class_names(alloc, classes.as_slice());
-        }
-        rest = others;
-    }
-    Ok(Items::new(alloc))
-}
-
-/// Returns the code of the first Code attribute.
-fn code_of(attributes: &[MethodAttribute]) -> Option<&Code>
-    ensures { option_map (λ c. c.now) result ≡ code_of attributes.now }
-{
-    let mut rest = attributes;
-    while let [attribute, others @ ..] = rest {
-        if let MethodAttribute::Code { name: _, code } = attribute {
-            return Some(code);
-        }
-        rest = others;
-    }
-    None
-}
 
 /// Returns a method's lines, with these limits, catches and items.
 fn method_with(
@@ -68,7 +34,7 @@ fn method_with(
         access: info.access & FLAGS,
         name: texts.text(info.name)?,
         descriptor: texts.text(info.descriptor)?,
-        throws: throws_of(alloc, texts, info.attributes.as_slice())?,
+        throws: texts.class_names(alloc, exceptions_of(info.attributes.as_slice()))?,
         max_stack,
         max_locals,
         catches,

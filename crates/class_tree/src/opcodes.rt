@@ -5,7 +5,8 @@ ghost use Rattle.std.specs.Option.{unwrap_or};
 ghost use Rattle.jvms_file.specs.declared.insn.TheConstants.{OPCODES as table};
 ghost use Rattle.listing_spec.specs.TreeOf.{opcode_at};
 
-use jvms_file::insn::{OPCODES, Opcode};
+use jvms_file::insn::Opcode;
+use jvms_file::opcodes::form_of;
 
 /// Returns the byte at a place, or 0 after the last.
 fn byte_at(bytes: &[u8], place: usize) -> u8
@@ -27,19 +28,9 @@ pub(crate) fn opcode_at(bytes: &[u8], pc: u32) -> u8
     }
 }
 
-/// Returns the entry of an opcode, or `Reserved` if there is none.
-fn entry_of(entries: &[Opcode], code: u8) -> Opcode
-    ensures { result ≡ unwrap_or (slice_get entries.now code) Opcode.Reserved }
-{
-    entries
-        .get(usize::from(code))
-        .copied()
-        .unwrap_or(Opcode::Reserved)
-}
-
-/// Returns the form of an opcode's operands.
-pub(crate) fn form_of(code: u8) -> Opcode
+/// Returns the form of an opcode's operands, or `Reserved` if the code is no opcode.
+pub(crate) fn form_or_reserved(code: u8) -> Opcode
     ensures { result ≡ unwrap_or (slice_get table code) Opcode.Reserved }
 {
-    entry_of(&OPCODES, code)
+    form_of(code).unwrap_or(Opcode::Reserved)
 }

@@ -7,7 +7,7 @@ ghost use Rattle.class_tree.specs.Operations.{field_operation, invoke_operation,
 
 use crate::constants::{constant_operation, long_of};
 use crate::labels::label_of;
-use crate::opcodes::{form_of, opcode_at};
+use crate::opcodes::{form_or_reserved, opcode_at};
 use crate::references::{field_name, method_name};
 use crate::switches::{lookup_lines, table_lines};
 use crate::texts::Texts;
@@ -162,5 +162,5 @@ pub(crate) fn operation_of(
     ensures { Lists result (operation_of texts.now bytes.now pc insn.now) }
 {
     let code = opcode_at(bytes, pc);
-    operation_with(alloc, texts, code, form_of(code), insn)
+    operation_with(alloc, texts, code, form_or_reserved(code), insn)
 }

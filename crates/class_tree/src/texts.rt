@@ -8,6 +8,7 @@ ghost use Rattle.jvms_program.specs.Meaning.{text_of, class_text, name_and_type}
 use jvms_file::class_file::Constant;
 use shared_data::items::Items;
 use shared_data::shared::{Shared, Text};
+use shared_data::texts::copied_text;
 use std::alloc::{AllocError, Global};
 use std::marker::Model;
 
@@ -33,19 +34,12 @@ impl<'p> Model for Texts<'p> {
     ghost invariant = { λ t. (t.texts.items ≡ map utf8_of t.pool.now) × (t.nothing ≡ []) };
 }
 
-/// Returns a new text of these units.
-fn copied(alloc: Global, units: &[u16]) -> Result<Text, AllocError>
-    ensures { IfOk result (λ text. text ≡ units.now) }
-{
-    Shared::new(alloc, Items::from_vec(Vec::from_slice(alloc, units)?))
-}
-
 /// Returns the text of an entry, if it is a Utf8 entry (JVMS 4.4.7).
 fn entry_text(alloc: Global, constant: &Constant) -> Result<Option<Text>, AllocError>
     ensures { IfOk result (λ text. text ≡ utf8_of constant.now) }
 {
     match constant {
-        Constant::Utf8(text) => Ok(Some(copied(alloc, text.as_slice())?)),
+        Constant::Utf8(text) => Ok(Some(copied_text(alloc, text.as_slice())?)),
         _ => Ok(None),
     }
 }

@@ -146,8 +146,8 @@ module _ (program : List Class) (rows : List (List ℕ)) (ranks order : List ℕ
           let lt : rank ranks m < rank ranks at = ltb-true (rank ranks m) (rank ranks at) (in_passes (λ n. ltb (rank ranks n) (rank ranks at)) (super_numbers program c) m (lower program rows ranks order h at c there) fresh) in
           omega arith
 
-  pub with_marks : (class : ℕ) (marks : List ℕ) → AreMarkedFrom class 0 marks → AreAbove program ranks class marks
-  with_marks class marks are = record {
+  pub all_marked : (class : ℕ) (marks : List ℕ) → AreMarkedFrom class 0 marks → AreAbove program ranks class marks
+  all_marked class marks are = record {
     itself = are.itself;
     above = record { closed = λ m c at there. are.closed m c at there (omega arith) };
     below = are.below;

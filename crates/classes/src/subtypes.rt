@@ -9,8 +9,7 @@ use crate::ancestors::first_in_ancestry;
 use crate::class_type::class_type;
 use crate::list::Classes;
 use crate::look::ClassNamed;
-use built_in::is_named;
-use descriptor::{ParsedElement, ParsedType};
+use descriptor::{ParsedElement, ParsedType, is_named};
 use jvms_file::descriptor::Primitive;
 
 /// Returns the letter of a primitive type (JVMS table 4.3-A).

@@ -1,7 +1,7 @@
 //! Assembles the code of a method (JVMS 4.7.3).
 
 ghost use Rattle.std.specs.Prelude.{◌≡◌, length};
-ghost use Rattle.jasmin.specs.Denote.{operations};
+ghost use Rattle.jasmin.specs.Denote.{has_code, operations};
 ghost use Rattle.assembly.specs.CodeOf.{code_within as code_within_of};
 ghost use Rattle.assembly.specs.Faults.{Answers};
 
@@ -10,11 +10,20 @@ use crate::handlers::handlers_of;
 use crate::insns::insns_of;
 use crate::starts::{starts_of, widened};
 use assembly::fault::AsmFault;
+use descriptor::{Flags, is_initializer_name};
 use jasmin::source::MethodLines;
 use jvms_file::class_file::{Code, Layout};
 use shared_data::items::Items;
 use source_labels::Labels;
 use std::alloc::Global;
+
+/// Decides whether a method has code. All but native and abstract methods have, and each `<clinit>` (JVMS 4.7.3).
+pub fn has_code(method: &MethodLines) -> bool
+    ensures { result ≡ has_code method.now.name method.now.access }
+{
+    let flags = Flags::of_access(method.access);
+    is_initializer_name(method.name.as_slice()) || !(flags.is_native() || flags.is_abstract())
+}
 
 /// Returns the code of a method (JVMS 4.7.3). `operands` and `caught` are the pool entries that its instructions and
 /// its catches name, or 0 where they name none. `labels` are those of its code.

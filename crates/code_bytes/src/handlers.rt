@@ -4,7 +4,6 @@ ghost use Rattle.std.specs.Prelude.{◌≡◌, ◌≤◌, length, IfOk};
 ghost use Rattle.jasmin.specs.Denote.{operations};
 ghost use Rattle.assembly.specs.CodeOf.{handler_of as handler_at, handlers_from};
 
-use crate::room::list_with_capacity;
 use crate::targets::target_of;
 use jasmin::source::CatchLine;
 use jvms_file::class_file::Handler;
@@ -36,7 +35,7 @@ pub(crate) fn handlers_of(
     requires { length (operations labels.now) ≤ 65535 }
     ensures { IfOk result (λ handlers. handlers ≡ handlers_from labels.now caught.now catches.now) }
 {
-    let mut handlers = list_with_capacity(alloc, caught.len())?;
+    let mut handlers = Items::with_capacity(alloc, caught.len())?;
     let mut numbers = caught;
     let mut rest = catches;
     while let [number, others @ ..] = numbers {

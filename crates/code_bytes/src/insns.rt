@@ -7,14 +7,13 @@ ghost use Rattle.jvms_file.specs.declared.insn.Push.TheVariants as push;
 ghost use Rattle.jasmin.specs.Denote.{target, operations, simple_of as simple_at, switch_case};
 ghost use Rattle.assembly.specs.CodeOf.{insn_of as insn_at, insns_from};
 
-use crate::room::list_with_capacity;
 use crate::steps::next_operation;
 use crate::targets::target_of;
-use insn::form_of;
 use jasmin::source::{CodeItem, LookupLines, MatchLine, Operation, TableLines};
 use jvms_file::insn::{
     ArrayInsn, Insn, LookupSwitch, Opcode, Push, Simple, SwitchCase, TableSwitch,
 };
+use jvms_file::opcodes::form_of;
 use shared_data::boxed::Boxed;
 use shared_data::items::Items;
 use shared_data::shared::Text;
@@ -43,7 +42,7 @@ fn targets_of(alloc: Global, labels: &Labels<'_>, names: &[Text]) -> Result<Item
     requires { length (operations labels.now) ≤ 65535 }
     ensures { IfOk result (λ targets. targets ≡ map (target labels.now) names.now) }
 {
-    let mut targets = list_with_capacity(alloc, names.len())?;
+    let mut targets = Items::with_capacity(alloc, names.len())?;
     for name in names {
         targets.push(target_of(labels, name))?;
     }
@@ -87,7 +86,7 @@ fn cases_of(
     requires { length (operations labels.now) ≤ 65535 }
     ensures { IfOk result (λ cases. cases ≡ map (switch_case labels.now) pairs.now) }
 {
-    let mut cases = list_with_capacity(alloc, pairs.len())?;
+    let mut cases = Items::with_capacity(alloc, pairs.len())?;
     for pair in pairs {
         cases.push(case_of(labels, pair))?;
     }
@@ -159,7 +158,7 @@ pub(crate) fn insns_of(
     requires { length (operations labels.now) ≤ 65535 }
     ensures { IfOk result (λ insns. insns ≡ insns_from labels.now operands.now (operations items.now)) }
 {
-    let mut insns = list_with_capacity(alloc, operands.len())?;
+    let mut insns = Items::with_capacity(alloc, operands.len())?;
     let mut numbers = operands;
     let mut rest = items;
     while let [number, others @ ..] = numbers {

@@ -9,7 +9,6 @@ mod insns;
 mod numbers;
 mod opcodes;
 mod operation;
-mod room;
 mod sizes;
 mod starts;
 mod steps;
@@ -17,7 +16,10 @@ mod switches;
 mod targets;
 
 pub use assembly::fault::AsmFault;
-pub use code::code_within;
+pub use code::{code_within, has_code};
 pub use jasmin::source::MethodLines;
 pub use jvms_file::class_file::Code;
+pub use opcodes::{
+    branch_opcode, class_opcode, field_opcode, invoke_opcode, local_opcode, wide_branch_opcode,
+};
 pub use source_labels::Labels;

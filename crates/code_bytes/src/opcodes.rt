@@ -20,7 +20,7 @@ fn kind_number(kind: Kind) -> u8
 }
 
 /// Returns the opcode of iload to aload, of istore to astore, or of ret.
-pub(crate) fn local_opcode(how: LocalUse) -> u8
+pub fn local_opcode(how: LocalUse) -> u8
     ensures { result ≡ local_code how }
 {
     match how {
@@ -46,7 +46,7 @@ fn comparison_number(comparison: Comparison) -> u8
 }
 
 /// Returns the opcode of a branch with an offset of two bytes.
-pub(crate) fn branch_opcode(how: Branch) -> u8
+pub fn branch_opcode(how: Branch) -> u8
     ensures { result ≡ branch_code how }
 {
     match how {
@@ -63,7 +63,7 @@ pub(crate) fn branch_opcode(how: Branch) -> u8
 
 /// Returns the opcode of a branch with an offset of four bytes: goto_w or jsr_w. The value for any other branch isn't
 /// used.
-pub(crate) fn wide_branch_opcode(how: Branch) -> u8
+pub fn wide_branch_opcode(how: Branch) -> u8
     ensures { result ≡ wide_branch_code how }
 {
     match how {
@@ -79,7 +79,7 @@ pub(crate) fn wide_branch_opcode(how: Branch) -> u8
 }
 
 /// Returns the opcode of getstatic to putfield.
-pub(crate) fn field_opcode(how: FieldUse) -> u8
+pub fn field_opcode(how: FieldUse) -> u8
     ensures { result ≡ field_code how }
 {
     match how {
@@ -91,7 +91,7 @@ pub(crate) fn field_opcode(how: FieldUse) -> u8
 }
 
 /// Returns the opcode of invokevirtual to invokeinterface.
-pub(crate) fn invoke_opcode(how: Invoke) -> u8
+pub fn invoke_opcode(how: Invoke) -> u8
     ensures { result ≡ invoke_code how }
 {
     match how {
@@ -103,7 +103,7 @@ pub(crate) fn invoke_opcode(how: Invoke) -> u8
 }
 
 /// Returns the opcode of new, anewarray, checkcast or instanceof.
-pub(crate) fn class_opcode(how: ClassUse) -> u8
+pub fn class_opcode(how: ClassUse) -> u8
     ensures { result ≡ class_code how }
 {
     match how {

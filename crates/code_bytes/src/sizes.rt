@@ -4,19 +4,12 @@ ghost use Rattle.std.specs.Prelude.{◌≡◌, ◌+◌, ◌*◌, ◌≤◌, min,
 ghost use Rattle.jvms_file.specs.Instructions.{pad_length as pads_at};
 ghost use Rattle.assembly.specs.Sizes.{is_byte_step as steps_by_byte, invoke_size as size_of_invoke, size as size_of};
 
+use insn::pad_length;
 use jasmin::source::{BranchWidth, ConstantWidth, LookupLines, Operation, TableLines};
 use jvms_file::insn::Invoke;
 
 /// One more than the most bytes of code (JVMS 4.7.3).
 const TOO_MANY: usize = 65536;
-
-/// Returns the number of padding bytes between an opcode at byte `pc` and the next multiple of 4.
-pub(crate) fn pad_length(pc: usize) -> usize
-    ensures exact { result ≡ pads_at pc }
-    ensures few { result ≤ 3 }
-{
-    3 - pc % 4
-}
 
 /// Decides whether an `iinc` has one byte for the local variable and one for the increment.
 pub(crate) fn is_byte_step(local: u16, by: i16) -> bool

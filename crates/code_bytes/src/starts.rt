@@ -7,7 +7,6 @@ ghost use Rattle.assembly.specs.Faults.{Answers};
 ghost use Rattle.code_bytes.specs.Starting.{end_within, some_starts, starts_onto, starts_within};
 ghost use Rattle.code_bytes.specs.Few.{AreFew};
 
-use crate::room::list_with_capacity;
 use crate::sizes::capped_size;
 use crate::steps::next_operation;
 use assembly::fault::AsmFault;
@@ -47,7 +46,7 @@ fn collected_starts(
 ) -> Result<Items<u16>, AsmFault>
     ensures { Answers result (starts_onto [] 0 operands.now (operations items.now)) }
 {
-    let mut starts = list_with_capacity(alloc, operands.len())?;
+    let mut starts = Items::with_capacity(alloc, operands.len())?;
     let mut pc = 0;
     let mut numbers = operands;
     let mut rest = items;
@@ -89,7 +88,7 @@ pub(crate) fn starts_of(
 pub(crate) fn widened(alloc: Global, starts: &[u16]) -> Result<Items<u32>, AllocError>
     ensures { IfOk result (λ w. w ≡ starts.now) }
 {
-    let mut wide = list_with_capacity(alloc, starts.len())?;
+    let mut wide = Items::with_capacity(alloc, starts.len())?;
     for start in starts {
         wide.push(u32::from(*start))?;
     }

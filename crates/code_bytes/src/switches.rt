@@ -7,9 +7,9 @@ ghost use Rattle.assembly.specs.Bytes.{s4, pads as pads_at, table_bytes, lookup_
 ghost use Rattle.code_bytes.specs.Writing.{pair_bytes};
 
 use crate::numbers::{word_of, write_s4, write_u1};
-use crate::sizes::pad_length;
 use crate::targets::offset_of;
 use file_bytes::{write_length, write_u4};
+use insn::pad_length;
 use jasmin::source::{LookupLines, MatchLine, TableLines};
 use shared_data::shared::Text;
 use source_labels::Labels;

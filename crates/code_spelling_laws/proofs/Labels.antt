@@ -37,12 +37,12 @@ pub record Leads (starts : List ℕ) (items : List CodeItem) (label : List ℕ) 
   pub below : label_byte starts items label < 65536
 
 -- An optional place is present and less than a count.
-pub record InsnAtByte (count : ℕ) (place : Option ℕ) : Type 0 where
+pub record IsPlaced (count : ℕ) (place : Option ℕ) : Type 0 where
   pub number : ℕ
   pub is : place ≡ Some number
   pub within : number < count
 
-pub placed_of : (count : ℕ) (place : Option ℕ) → is_no_instruction count place ≡ false → InsnAtByte count place
+pub placed_of : (count : ℕ) (place : Option ℕ) → is_no_instruction count place ≡ false → IsPlaced count place
 placed_of count None nowhere = absurd (true≢false nowhere)
 placed_of count (Some p) nowhere = record { number = p; is = refl; within = ltb-true p count (not-false (nat_lt p count) nowhere) }
 

@@ -49,13 +49,13 @@ one_more x i n is =
       numbers = All-append P x.breakpoints (new ∷ []) (still_below x.next x.breakpoints is.numbers) (All-cons P new [] (omega arith) (All-nil P));
     }
 
-list_with_capacity : (b : Bool) (z y : Session) (e : DebugFault) → IsSession z → (if b then Ok z else Err e) ≡ Ok y → IsSession y
-list_with_capacity true z y e is h = subst IsSession (same_ok z y h) is
-list_with_capacity false z y e is h = absurd (no_ok e y h)
+session_if : (b : Bool) (z y : Session) (e : DebugFault) → IsSession z → (if b then Ok z else Err e) ≡ Ok y → IsSession y
+session_if true z y e is h = subst IsSession (same_ok z y h) is
+session_if false z y e is h = absurd (no_ok e y h)
 
 broken : (x y : Session) (i : ℕ) (n : Option MethodNumber) → IsSession x → broken_at x i n ≡ Ok y → IsSession y
 broken x y i None is h = absurd (no_ok fault.NoPlace y h)
-broken x y i (Some n) is h = list_with_capacity (nat_lt x.next 4294967296) _ y fault.NoBreakpoint (one_more x i n is) h
+broken x y i (Some n) is h = session_if (nat_lt x.next 4294967296) _ y fault.NoBreakpoint (one_more x i n is) h
 
 gone : (x y : Session) (i : Option ℕ) → IsSession x → deleted x i ≡ Ok y → IsSession y
 gone x y None is h = absurd (no_ok fault.NoBreakpoint y h)
@@ -64,8 +64,8 @@ gone x y (Some i) is h =
     let left = All-append P (take i x.breakpoints) (drop (suc i) x.breakpoints) (All-take P i x.breakpoints is.numbers) (All-drop P (suc i) x.breakpoints is.numbers) in
     subst IsSession (same_ok _ y h) (record { position = is.position; next = is.next; numbers = left })
 
-thread_after_action : (program : List Class) (limits : Limits) (start : Start) (x : Session) → IsSession x → IsSession (continued program limits start x)
-thread_after_action program limits start x is =
+continued_session : (program : List Class) (limits : Limits) (start : Start) (x : Session) → IsSession x → IsSession (continued program limits start x)
+continued_session program limits start x is =
     let within = next_hit_within (is_hit program limits start x) x.position (length x.choices - x.position) in
     record { position = omega (arith, within.1, is.position); next = is.next; numbers = is.numbers }
 
@@ -83,7 +83,7 @@ pub stays : (program : List Class) (limits : Limits) (start : Start) (x y : Sess
 stays program limits start x y (command.Step n) is h = subst IsSession (same_ok _ y h) (moved x (x.position + n) is)
 stays program limits start x y (command.Back n) is h = subst IsSession (same_ok _ y h) (moved x (x.position - n) is)
 stays program limits start x y (command.Goto n) is h = subst IsSession (same_ok _ y h) (moved x n is)
-stays program limits start x y command.Continue is h = subst IsSession (same_ok _ y h) (thread_after_action program limits start x is)
+stays program limits start x y command.Continue is h = subst IsSession (same_ok _ y h) (continued_session program limits start x is)
 stays program limits start x y command.ReverseContinue is h = subst IsSession (same_ok _ y h) (gone_back program limits start x is)
 stays program limits start x y (command.Pick t) is h = subst IsSession (same_ok _ y h) (pick_one x t is)
 stays program limits start x y (command.Break place) is h = broken x y place.instruction (method_of_place program place) is h

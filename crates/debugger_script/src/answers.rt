@@ -3,20 +3,18 @@
 ghost use Rattle.std.specs.Prelude.{◌≡◌, ◌-◌, ◌++◌, IfOk, codes, slice_get};
 ghost use Rattle.std.specs.Fmt.{decimal};
 ghost use Rattle.std.specs.String.{string_bytes};
-ghost use Rattle.trace_text.specs.Traces.{trace_text};
 ghost use Rattle.debugger_script.specs.Answers.{breakpoint_text, fault_text, last_text};
 ghost use Rattle.debugger_script.specs.Answers.{position_text, view_text};
 
 use debugger::{Breakpoint, DebugFault, Session, View};
 use jvms_machine::machine::{Outcome, ThreadId};
-use jvms_machine::trace::Item;
 use machine_text::{
     class_text, frames_text, object_text, outcome_text, output_text, place_text, status_name,
     threads_text,
 };
 use program::Program;
 use std::alloc::{AllocError, Global};
-use trace_text::put_line;
+use trace_text::write_items;
 
 /// Returns the text of the last choice before a position. It is empty if there is none.
 fn last_text(
@@ -90,17 +88,6 @@ fn removed_text(alloc: Global, number: u32) -> Result<String, AllocError>
     Ok(text)
 }
 
-/// Returns the lines of items.
-fn items_text(alloc: Global, items: &[Item]) -> Result<String, AllocError>
-    ensures { IfOk result (λ s. string_bytes s ≡ trace_text items.now) }
-{
-    let mut text = String::new(alloc);
-    for item in items {
-        put_line(&mut text, item)?;
-    }
-    Ok(text)
-}
-
 /// Returns the text of a view of a session at its position.
 pub fn view_text(alloc: Global, session: &Session<'_>, view: View) -> Result<String, AllocError>
     ensures { IfOk result (λ s. string_bytes s
@@ -115,7 +102,7 @@ pub fn view_text(alloc: Global, session: &Session<'_>, view: View) -> Result<Str
         View::Frames(t) => frames_text(alloc, machine, t),
         View::Object(reference) => object_text(alloc, machine, reference),
         View::Class(class) => class_text(alloc, machine, class),
-        View::Trace => items_text(alloc, session.items()),
+        View::Trace => write_items(alloc, session.items()),
         View::Output => output_text(alloc, machine),
     }
 }

@@ -1,10 +1,12 @@
 //! Names of classes and members (JVMS 4.2).
 
 ghost use Rattle.std.specs.Prelude.{◌≡◌};
-ghost use Rattle.jvms_file.specs.Names.{is_name, is_class_name, is_reserved, is_angle, is_constructor_name, is_initializer_name, is_method_name, same_text};
+ghost use Rattle.jvms_file.specs.Instructions.{is_invocable_name};
+ghost use Rattle.jvms_file.specs.Names.{begins_with, is_name, is_class_name, is_reserved, is_angle, is_constructor_name, is_initializer_name, is_method_name, same_text};
 ghost use Rattle.descriptor.specs.Scanning.{without_angles, unreserved};
 
 use crate::letters::{BRACKET, DOT, GREATER, LESS, SEMICOLON, SLASH};
+use jvms_file::insn::Invoke;
 
 /// The name of a constructor, `<init>` (JVMS 2.9).
 const CONSTRUCTOR: [u16; 6] = [
@@ -100,4 +102,21 @@ pub fn is_method_name(text: &[u16]) -> bool
     is_constructor_name(text)
         || is_initializer_name(text)
         || (is_name(text) && is_without_angles(text))
+}
+
+/// Decides whether a name begins with `<`.
+fn is_special_name(name: &[u16]) -> bool
+    ensures { result ≡ begins_with 60 name.now }
+{
+    matches!(name, [LESS, ..])
+}
+
+/// Decides whether an instruction may call a method of this name (JVMS 4.9.1).
+pub fn is_invocable_name(how: Invoke, name: &[u16]) -> bool
+    ensures { result ≡ is_invocable_name how name.now }
+{
+    match how {
+        Invoke::Special => !is_special_name(name) || is_constructor_name(name),
+        Invoke::Virtual | Invoke::Static | Invoke::Interface => !is_special_name(name),
+    }
 }

@@ -13,7 +13,7 @@ use Rattle.jvms_machine.proofs.ListLaws.{all_at, all_drop}
 use Rattle.jvms_machine.specs.Activations.{has_depth}
 use Rattle.jvms_machine.specs.Arrays.{array_decision, array_length_decision, element_at, element_size, fits_component, is_reference_kind, kind_of_elements, load_from, load_operands, loaded, measured, serves, store_below, store_operands, store_to, stored}
 use Rattle.jvms_machine.specs.Decisions.{bad}
-use Rattle.jvms_machine.specs.Fields.{are_of_field, field_decision, field_gives, field_takes, fields_of, found_field_decision, instance_decision, is_static_use, numbered_field_decision, object_decision, object_of_use, reaches, read, resolved_field_decision, static_decision}
+use Rattle.jvms_machine.specs.Fields.{are_of_field, field_decision, field_gives, field_takes, fields_of, found_field_decision, instance_decision, numbered_field_decision, object_decision, object_of_use, reaches, read, resolved_field_decision, static_decision}
 use Rattle.jvms_machine.specs.Heap.{component_type, value_of}
 use Rattle.jvms_machine.specs.Places.{top_value, value_size}
 use Rattle.jvms_machine.specs.State.{Activation, IsFrame, IsObject, IsValue, MethodFrame, Object, State, Thread, array, class_object, class_of, instance, text}
@@ -23,7 +23,7 @@ use Rattle.jvms_machine.specs.declared.action.FrameAction.{FrameAction}
 use Rattle.jvms_machine.specs.declared.machine.Limits.{Limits}
 use Rattle.jvms_machine.specs.declared.value.Value.{Value}
 use Rattle.jvms_program.specs.Program.{field_key_at}
-use Rattle.jvms_program.specs.Resolution.{ResolvedField, field_number, fits, resolved_field}
+use Rattle.jvms_program.specs.Resolution.{ResolvedField, field_number, fits, is_static_use, resolved_field}
 use Rattle.jvms_program.specs.Slots.{same_key}
 use Rattle.jvms_program.specs.declared.key.FieldKey.{FieldKey}
 use Rattle.jvms_program.specs.declared.number.FieldNumber.{FieldNumber}

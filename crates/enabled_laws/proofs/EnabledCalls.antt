@@ -8,7 +8,7 @@ use Rattle.jvms_file.specs.Names.{same_text}
 use Rattle.jvms_file.specs.declared.insn.Invoke.{Invoke}
 use Rattle.jvms_machine.proofs.ListLaws.{all_at}
 use Rattle.jvms_machine.specs.Activations.{has_depth}
-use Rattle.jvms_machine.specs.Calls.{are_of_call, call_decision, invoke_decision, is_static_call, receiver_call_decision, receiver_of, resolved_call_decision, selected, selected_decision, static_call_decision, taken, wrong_receiver}
+use Rattle.jvms_machine.specs.Calls.{are_of_call, call_decision, invoke_decision, receiver_call_decision, receiver_of, resolved_call_decision, selected, selected_decision, static_call_decision, taken, wrong_receiver}
 use Rattle.jvms_machine.specs.Decisions.{TurnDecision}
 use Rattle.jvms_machine.specs.Fields.{reaches, taking}
 use Rattle.jvms_machine.specs.Natives.{native_of_class, object_printed, print_decision, value_printed}
@@ -19,7 +19,7 @@ use Rattle.jvms_machine.specs.Waiting.{object_native_decision, owned, waits_or_n
 use Rattle.jvms_machine.specs.declared.machine.Limits.{Limits}
 use Rattle.jvms_machine.specs.declared.state.Hold.{Hold}
 use Rattle.jvms_machine.specs.declared.value.Value.{Value}
-use Rattle.jvms_program.specs.Resolution.{ResolvedMethod, fits, method_number, resolved_method}
+use Rattle.jvms_program.specs.Resolution.{ResolvedMethod, fits, is_static_call, method_number, resolved_method}
 use Rattle.jvms_program.specs.declared.number.MethodNumber.{MethodNumber}
 use Rattle.jvms_program.specs.declared.program.Class.{Class}
 use Rattle.jvms_program.specs.declared.program.Method.{Method}

@@ -10,10 +10,10 @@ use Rattle.jvms_file.specs.declared.insn.Invoke.{Invoke}
 use Rattle.jvms_machine.proofs.ListLaws.{all_at}
 use Rattle.jvms_machine.proofs.PlaceLaws.{IsWhole, top_is_whole}
 use Rattle.jvms_machine.specs.Activations.{has_depth}
-use Rattle.jvms_machine.specs.Calls.{are_of_call, call_decision, invoke_decision, is_static_call, object_call_decision, receiver_call_decision, receiver_of, resolved_call_decision, selected, selected_decision, static_call_decision, taken, wrong_receiver}
+use Rattle.jvms_machine.specs.Calls.{are_of_call, call_decision, invoke_decision, object_call_decision, receiver_call_decision, receiver_of, resolved_call_decision, selected, selected_decision, static_call_decision, taken, wrong_receiver}
 use Rattle.jvms_machine.specs.Decisions.{TurnDecision}
 use Rattle.jvms_machine.specs.Exceptions.{throws}
-use Rattle.jvms_machine.specs.Fields.{are_of_field, field_decision, field_gives, field_takes, fields_of, found_field_decision, instance_decision, is_static_use, numbered_field_decision, object_decision, object_of_use, receiver_decision, resolved_field_decision, static_decision, write_decision}
+use Rattle.jvms_machine.specs.Fields.{are_of_field, field_decision, field_gives, field_takes, fields_of, found_field_decision, instance_decision, numbered_field_decision, object_decision, object_of_use, receiver_decision, resolved_field_decision, static_decision, write_decision}
 use Rattle.jvms_machine.specs.Heap.{value_of}
 use Rattle.jvms_machine.specs.Initialisation.{asking}
 use Rattle.jvms_machine.specs.Natives.{native_of_class, object_printed, print_decision, value_printed}
@@ -30,7 +30,7 @@ use Rattle.jvms_machine.specs.declared.state.Hold.{Hold}
 use Rattle.jvms_machine.specs.declared.state.Wait.{Wait}
 use Rattle.jvms_machine.specs.declared.value.Value.{Value}
 use Rattle.jvms_program.specs.Program.{IsProgram, field_key_at, method_at}
-use Rattle.jvms_program.specs.Resolution.{ResolvedField, ResolvedMethod, field_number, fits, method_number, resolved_field, resolved_method}
+use Rattle.jvms_program.specs.Resolution.{ResolvedField, ResolvedMethod, field_number, fits, is_static_call, is_static_use, method_number, resolved_field, resolved_method}
 use Rattle.jvms_program.specs.declared.key.FieldKey.{FieldKey}
 use Rattle.jvms_program.specs.declared.number.FieldNumber.{FieldNumber}
 use Rattle.jvms_program.specs.declared.number.MethodNumber.{MethodNumber}

@@ -38,8 +38,8 @@ pub still_behind : (before now later : List ℕ) → IsAppended before now → l
 still_behind before now later is same = record { put = is.put; ascii = is.ascii; split = same ∙ is.split }
 
 -- A name, followed by a dot.
-pub name_after_tag : (before now later name : List ℕ) → IsAppended before now → later ≡ now ++ spelled name → IsAppended before later
-name_after_tag before now later name is e = more_behind before now later (spelled name) is (spelled_ascii name) e
+pub name_appended : (before now later name : List ℕ) → IsAppended before now → later ≡ now ++ spelled name → IsAppended before later
+name_appended before now later name is e = more_behind before now later (spelled name) is (spelled_ascii name) e
 
 pub dot_behind : (before now later : List ℕ) → IsAppended before now → later ≡ now ++ 46 ∷ [] → IsAppended before later
 dot_behind before now later is e = more_behind before now later (46 ∷ []) is (omega arith) e

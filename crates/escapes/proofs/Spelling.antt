@@ -67,12 +67,12 @@ pub record IsLeft (rest : List ℕ) : Type 0 where
   pub are : IsText units
   pub text : rest ≡ spelled units
 
-pub units_after_parenthesis : (us vs rest : List ℕ) → IsText us → IsText vs → spelled us ++ rest ≡ spelled vs → IsLeft rest
-units_after_parenthesis [] vs rest small few e = record { units = vs; are = few; text = e }
-units_after_parenthesis (u ∷ us) [] rest small few e = absurd (unit_is_some u (spelled us ++ rest) (sym (append_assoc (escaped u) (spelled us) rest) ∙ e))
-units_after_parenthesis (u ∷ us) (v ∷ vs) rest small few e =
+pub units_left : (us vs rest : List ℕ) → IsText us → IsText vs → spelled us ++ rest ≡ spelled vs → IsLeft rest
+units_left [] vs rest small few e = record { units = vs; are = few; text = e }
+units_left (u ∷ us) [] rest small few e = absurd (unit_is_some u (spelled us ++ rest) (sym (append_assoc (escaped u) (spelled us) rest) ∙ e))
+units_left (u ∷ us) (v ∷ vs) rest small few e =
     let parts = one_unit u v (spelled us ++ rest) (spelled vs) small.0 few.0 (sym (append_assoc (escaped u) (spelled us) rest) ∙ e) in
-    units_after_parenthesis us vs rest small.1 few.1 parts.1
+    units_left us vs rest small.1 few.1 parts.1
 
 -- A rest that begins with no unit isn't one of a name.
 nothing_left : (rest : List ℕ) (units : List ℕ) → IsText units → rest ≡ spelled units → (rest ≡ [] → ⊥)
@@ -83,7 +83,7 @@ nothing_left rest (u ∷ us) are e some none = none u (spelled us) are.0 e
 pub no_name : (text us rest : List ℕ) → IsText us → text ≡ spelled us ++ rest → (rest ≡ [] → ⊥)
     → ((u : ℕ) (behind : List ℕ) → IsUnit u → rest ≢ escaped u ++ behind) → (vs : List ℕ) → IsText vs → text ≢ spelled vs
 no_name text us rest small split some none vs few e =
-    let left = units_after_parenthesis us vs rest small few (sym split ∙ e) in
+    let left = units_left us vs rest small few (sym split ∙ e) in
     nothing_left rest left.units left.are left.text some none
 
 -- Equal spellings are those of equal names.

@@ -32,14 +32,15 @@ fn put_parts(
     put_name(out, descriptor)
 }
 
-/// Appends a member's class, name and descriptor. Without memory nothing changes.
-fn put_member(
+/// Appends a member: `C.m.D`.
+pub fn put_member(
     out: &mut String,
     class: &[u16],
     name: &[u16],
     descriptor: &[u16],
 ) -> Result<(), AllocError>
     ensures exact { OnOk result (string_bytes out.new ≡ string_bytes out.old ++ member_text class.now name.now descriptor.now) }
+    // Without memory nothing changes.
     ensures kept { OnErr result (string_bytes out.new ≡ string_bytes out.old) }
 {
     let before = out.len();

@@ -9,6 +9,6 @@ mod unit;
 
 pub use cuts::{cut, cut_twice, dots_in};
 pub use jvms_program::key::{FieldKey, MethodKey};
-pub use key::{field_of, method_of, put_field, put_method};
+pub use key::{field_of, method_of, put_field, put_member, put_method};
 pub use name::{name_of, name_units, put_name};
 pub use sort::NameSort;

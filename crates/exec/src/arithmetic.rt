@@ -5,8 +5,8 @@ ghost use Rattle.jvms_file.specs.declared.insn.IntInsn.TheVariants as int_insn;
 ghost use Rattle.jvms_machine.specs.Activations.{HasRoom, IfDoes};
 ghost use Rattle.jvms_machine.specs.Arithmetic.{int_decision, converted};
 
-use crate::decisions::{has_depth, pushes};
-use frames::Frame;
+use crate::decisions::pushes;
+use frames::SeenFrame;
 use jvms_file::insn;
 use jvms_machine::action::FrameDecision;
 use jvms_machine::machine::BadCause;
@@ -14,11 +14,11 @@ use jvms_machine::value::Value;
 use jvms_program::thrown::Thrown;
 
 #[inline(always)]
-pub(crate) fn binary(op: insn::Binary, frame: &Frame) -> FrameDecision
+pub(crate) fn binary(op: insn::Binary, frame: &SeenFrame) -> FrameDecision
     ensures decision { result ≡ int_decision frame.now.body (int_insn.Binary op) frame.now.activation }
     ensures room { IfDoes result (HasRoom frame.now.body frame.now.activation) }
 {
-    if !has_depth(frame, 2, 1) {
+    if !frame.has_depth(2, 1) {
         return FrameDecision::Stops(BadCause::Depth);
     }
     let (Value::Int(a), Value::Int(b)) = frame.top_two() else {
@@ -28,11 +28,11 @@ pub(crate) fn binary(op: insn::Binary, frame: &Frame) -> FrameDecision
 }
 
 #[inline(always)]
-fn division(op: insn::Division, frame: &Frame) -> FrameDecision
+fn division(op: insn::Division, frame: &SeenFrame) -> FrameDecision
     ensures decision { result ≡ int_decision frame.now.body (int_insn.Division op) frame.now.activation }
     ensures room { IfDoes result (HasRoom frame.now.body frame.now.activation) }
 {
-    if !has_depth(frame, 2, 1) {
+    if !frame.has_depth(2, 1) {
         return FrameDecision::Stops(BadCause::Depth);
     }
     let (Value::Int(a), Value::Int(b)) = frame.top_two() else {
@@ -45,11 +45,11 @@ fn division(op: insn::Division, frame: &Frame) -> FrameDecision
 }
 
 #[inline(always)]
-fn negate(frame: &Frame) -> FrameDecision
+fn negate(frame: &SeenFrame) -> FrameDecision
     ensures decision { result ≡ int_decision frame.now.body int_insn.Negate frame.now.activation }
     ensures room { IfDoes result (HasRoom frame.now.body frame.now.activation) }
 {
-    if !has_depth(frame, 1, 1) {
+    if !frame.has_depth(1, 1) {
         return FrameDecision::Stops(BadCause::Depth);
     }
     match frame.top() {
@@ -70,11 +70,11 @@ fn convert(to: insn::Conversion, n: i32) -> i32
 }
 
 #[inline(always)]
-fn conversion(to: insn::Conversion, frame: &Frame) -> FrameDecision
+fn conversion(to: insn::Conversion, frame: &SeenFrame) -> FrameDecision
     ensures decision { result ≡ int_decision frame.now.body (int_insn.Conversion to) frame.now.activation }
     ensures room { IfDoes result (HasRoom frame.now.body frame.now.activation) }
 {
-    if !has_depth(frame, 1, 1) {
+    if !frame.has_depth(1, 1) {
         return FrameDecision::Stops(BadCause::Depth);
     }
     match frame.top() {
@@ -84,7 +84,7 @@ fn conversion(to: insn::Conversion, frame: &Frame) -> FrameDecision
 }
 
 #[inline(never)]
-pub(crate) fn int(what: insn::IntInsn, frame: &Frame) -> FrameDecision
+pub(crate) fn int(what: insn::IntInsn, frame: &SeenFrame) -> FrameDecision
     ensures decision { result ≡ int_decision frame.now.body what frame.now.activation }
     ensures room { IfDoes result (HasRoom frame.now.body frame.now.activation) }
 {

@@ -5,8 +5,8 @@ ghost use Rattle.jvms_file.specs.declared.insn.Branch.TheVariants as branches;
 ghost use Rattle.jvms_machine.specs.Activations.{HasRoom, IfDoes, reference_in};
 ghost use Rattle.jvms_machine.specs.Branches.{branch_decision, compares as comparison_holds, is_same_reference as same_reference, is_null as null_reference, jumps_if};
 
-use crate::decisions::{has_depth, jumps};
-use frames::Frame;
+use crate::decisions::jumps;
+use frames::SeenFrame;
 use jvms_file::insn::{Branch, Comparison};
 use jvms_machine::action::{FrameAction, FrameDecision};
 use jvms_machine::machine::BadCause;
@@ -59,7 +59,7 @@ fn is_null(r: Option<u32>) -> bool
 
 // Returns a jump to the target if the test holds, else to the next instruction.
 #[inline(always)]
-fn jump_if(holds: bool, takes: u16, frame: &Frame, target: u32) -> FrameDecision
+fn jump_if(holds: bool, takes: u16, frame: &SeenFrame, target: u32) -> FrameDecision
     requires place { frame.now.activation.place + 1 < 2 ^ 64 }
     requires there { takes ≤ length frame.now.activation.operands }
     ensures decision { result ≡ jumps_if holds takes frame.now.activation target }
@@ -70,12 +70,12 @@ fn jump_if(holds: bool, takes: u16, frame: &Frame, target: u32) -> FrameDecision
 }
 
 #[inline(always)]
-pub(crate) fn if_zero(how: Comparison, target: u32, frame: &Frame) -> FrameDecision
+pub(crate) fn if_zero(how: Comparison, target: u32, frame: &SeenFrame) -> FrameDecision
     requires { frame.now.activation.place + 1 < 2 ^ 64 }
     ensures decision { result ≡ branch_decision frame.now.body (branches.IfZero how) target frame.now.activation }
     ensures room { IfDoes result (HasRoom frame.now.body frame.now.activation) }
 {
-    if !has_depth(frame, 1, 0) {
+    if !frame.has_depth(1, 0) {
         return FrameDecision::Stops(BadCause::Depth);
     }
     match frame.top() {
@@ -85,12 +85,12 @@ pub(crate) fn if_zero(how: Comparison, target: u32, frame: &Frame) -> FrameDecis
 }
 
 #[inline(always)]
-pub(crate) fn if_ints(how: Comparison, target: u32, frame: &Frame) -> FrameDecision
+pub(crate) fn if_ints(how: Comparison, target: u32, frame: &SeenFrame) -> FrameDecision
     requires { frame.now.activation.place + 1 < 2 ^ 64 }
     ensures decision { result ≡ branch_decision frame.now.body (branches.IfInts how) target frame.now.activation }
     ensures room { IfDoes result (HasRoom frame.now.body frame.now.activation) }
 {
-    if !has_depth(frame, 2, 0) {
+    if !frame.has_depth(2, 0) {
         return FrameDecision::Stops(BadCause::Depth);
     }
     match frame.top_two() {
@@ -100,12 +100,12 @@ pub(crate) fn if_ints(how: Comparison, target: u32, frame: &Frame) -> FrameDecis
 }
 
 #[inline(always)]
-fn if_same(target: u32, frame: &Frame) -> FrameDecision
+fn if_same(target: u32, frame: &SeenFrame) -> FrameDecision
     requires { frame.now.activation.place + 1 < 2 ^ 64 }
     ensures decision { result ≡ branch_decision frame.now.body branches.IfSame target frame.now.activation }
     ensures room { IfDoes result (HasRoom frame.now.body frame.now.activation) }
 {
-    if !has_depth(frame, 2, 0) {
+    if !frame.has_depth(2, 0) {
         return FrameDecision::Stops(BadCause::Depth);
     }
     let (a, b) = frame.top_two();
@@ -116,12 +116,12 @@ fn if_same(target: u32, frame: &Frame) -> FrameDecision
 }
 
 #[inline(always)]
-fn if_different(target: u32, frame: &Frame) -> FrameDecision
+fn if_different(target: u32, frame: &SeenFrame) -> FrameDecision
     requires { frame.now.activation.place + 1 < 2 ^ 64 }
     ensures decision { result ≡ branch_decision frame.now.body branches.IfDifferent target frame.now.activation }
     ensures room { IfDoes result (HasRoom frame.now.body frame.now.activation) }
 {
-    if !has_depth(frame, 2, 0) {
+    if !frame.has_depth(2, 0) {
         return FrameDecision::Stops(BadCause::Depth);
     }
     let (a, b) = frame.top_two();
@@ -132,12 +132,12 @@ fn if_different(target: u32, frame: &Frame) -> FrameDecision
 }
 
 #[inline(always)]
-pub(crate) fn if_null(target: u32, frame: &Frame) -> FrameDecision
+pub(crate) fn if_null(target: u32, frame: &SeenFrame) -> FrameDecision
     requires { frame.now.activation.place + 1 < 2 ^ 64 }
     ensures decision { result ≡ branch_decision frame.now.body branches.IfNull target frame.now.activation }
     ensures room { IfDoes result (HasRoom frame.now.body frame.now.activation) }
 {
-    if !has_depth(frame, 1, 0) {
+    if !frame.has_depth(1, 0) {
         return FrameDecision::Stops(BadCause::Depth);
     }
     match reference_of(frame.top()) {
@@ -147,12 +147,12 @@ pub(crate) fn if_null(target: u32, frame: &Frame) -> FrameDecision
 }
 
 #[inline(always)]
-pub(crate) fn if_non_null(target: u32, frame: &Frame) -> FrameDecision
+pub(crate) fn if_non_null(target: u32, frame: &SeenFrame) -> FrameDecision
     requires { frame.now.activation.place + 1 < 2 ^ 64 }
     ensures decision { result ≡ branch_decision frame.now.body branches.IfNonNull target frame.now.activation }
     ensures room { IfDoes result (HasRoom frame.now.body frame.now.activation) }
 {
-    if !has_depth(frame, 1, 0) {
+    if !frame.has_depth(1, 0) {
         return FrameDecision::Stops(BadCause::Depth);
     }
     match reference_of(frame.top()) {
@@ -163,11 +163,11 @@ pub(crate) fn if_non_null(target: u32, frame: &Frame) -> FrameDecision
 
 // Decides JVMS 6.5 `jsr`.
 #[inline(always)]
-fn subroutine(target: u32, frame: &Frame) -> FrameDecision
+fn subroutine(target: u32, frame: &SeenFrame) -> FrameDecision
     ensures decision { result ≡ branch_decision frame.now.body branches.Subroutine target frame.now.activation }
     ensures room { IfDoes result (HasRoom frame.now.body frame.now.activation) }
 {
-    if !has_depth(frame, 0, 1) {
+    if !frame.has_depth(0, 1) {
         return FrameDecision::Stops(BadCause::Depth);
     }
     FrameDecision::Does(FrameAction::Subroutine {
@@ -176,7 +176,7 @@ fn subroutine(target: u32, frame: &Frame) -> FrameDecision
 }
 
 #[inline(never)]
-pub(crate) fn branch(how: Branch, target: u32, frame: &Frame) -> FrameDecision
+pub(crate) fn branch(how: Branch, target: u32, frame: &SeenFrame) -> FrameDecision
     requires { frame.now.activation.place + 1 < 2 ^ 64 }
     ensures decision { result ≡ branch_decision frame.now.body how target frame.now.activation }
     ensures room { IfDoes result (HasRoom frame.now.body frame.now.activation) }

@@ -4,9 +4,9 @@ ghost use Rattle.std.specs.Prelude.{◌≡◌};
 ghost use Rattle.jvms_machine.specs.Activations.{HasRoom, IfDoes};
 ghost use Rattle.jvms_machine.specs.Constants.{pushed, push_decision, constant_decision};
 
-use crate::decisions::{has_depth, pushes};
+use crate::decisions::pushes;
 use crate::places::value_size;
-use frames::Frame;
+use frames::SeenFrame;
 use jvms_file::insn;
 use jvms_machine::action::FrameDecision;
 use jvms_machine::machine::BadCause;
@@ -14,11 +14,11 @@ use jvms_machine::value::Value;
 use jvms_program::program::Loadable;
 
 #[inline(always)]
-fn push_value(value: Value, frame: &Frame) -> FrameDecision
+fn push_value(value: Value, frame: &SeenFrame) -> FrameDecision
     ensures decision { result ≡ pushed frame.now.body frame.now.activation value }
     ensures room { IfDoes result (HasRoom frame.now.body frame.now.activation) }
 {
-    if has_depth(frame, 0, value_size(value)) {
+    if frame.has_depth(0, value_size(value)) {
         pushes(0, value)
     } else {
         FrameDecision::Stops(BadCause::Depth)
@@ -27,7 +27,7 @@ fn push_value(value: Value, frame: &Frame) -> FrameDecision
 
 /// Decides to push an int.
 #[inline(always)]
-pub(crate) fn push_int(n: i32, frame: &Frame) -> FrameDecision
+pub(crate) fn push_int(n: i32, frame: &SeenFrame) -> FrameDecision
     ensures decision { result ≡ pushed frame.now.body frame.now.activation (Value.Int n) }
     ensures room { IfDoes result (HasRoom frame.now.body frame.now.activation) }
 {
@@ -36,7 +36,7 @@ pub(crate) fn push_int(n: i32, frame: &Frame) -> FrameDecision
 
 /// Decides to push a long.
 #[inline(always)]
-pub(crate) fn push_long(n: i64, frame: &Frame) -> FrameDecision
+pub(crate) fn push_long(n: i64, frame: &SeenFrame) -> FrameDecision
     ensures decision { result ≡ pushed frame.now.body frame.now.activation (Value.Long n) }
     ensures room { IfDoes result (HasRoom frame.now.body frame.now.activation) }
 {
@@ -44,7 +44,7 @@ pub(crate) fn push_long(n: i64, frame: &Frame) -> FrameDecision
 }
 
 #[inline(never)]
-pub(crate) fn push(what: insn::Push, frame: &Frame) -> FrameDecision
+pub(crate) fn push(what: insn::Push, frame: &SeenFrame) -> FrameDecision
     ensures decision { result ≡ push_decision frame.now.body what frame.now.activation }
     ensures room { IfDoes result (HasRoom frame.now.body frame.now.activation) }
 {
@@ -60,7 +60,7 @@ pub(crate) fn push(what: insn::Push, frame: &Frame) -> FrameDecision
 
 /// Decides JVMS 6.5 `ldc` and `ldc2_w` for numbers. Strings and classes need more than the frame, so they are `Beyond`.
 #[inline(never)]
-pub(crate) fn constant(what: &Loadable, frame: &Frame) -> FrameDecision
+pub(crate) fn constant(what: &Loadable, frame: &SeenFrame) -> FrameDecision
     ensures decision { result ≡ constant_decision frame.now.body what.now frame.now.activation }
     ensures room { IfDoes result (HasRoom frame.now.body frame.now.activation) }
 {

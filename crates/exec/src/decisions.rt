@@ -13,14 +13,7 @@ pub fn has_depth(frame: &Frame, takes: u8, gives: u8) -> bool
     ensures { result ≡ (nat_le takes (length frame.now.activation.operands)
         && nat_le (length frame.now.activation.operands - takes + gives) frame.now.body.max_stack) }
 {
-    let height = usize::from(frame.height());
-    let takes = usize::from(takes);
-    let gives = usize::from(gives);
-    // The present operands already fit.
-    if gives <= takes {
-        return takes <= height;
-    }
-    takes <= height && height - takes + gives <= usize::from(frame.body().max_stack)
+    frame.seen().has_depth(takes, gives)
 }
 
 /// Returns the decision to replace the topmost `takes` operands by a value.

@@ -16,8 +16,10 @@ mod stack;
 mod switches;
 mod turn;
 
-pub use actions::apply;
+pub use actions::{apply, apply_open};
 pub use decisions::has_depth;
 pub use places::{element_size, is_of_kind, kind_of_elements, kind_size, top_value, value_size};
-pub use profile::{is_outside_array, is_outside_method};
-pub use turn::{decide, is_beyond, step, step_by_instruction};
+pub use profile::{
+    is_outside_array, is_outside_class, is_outside_method, is_outside_type, is_outside_use,
+};
+pub use turn::{decide, is_beyond, step, step_by_instruction, step_other};

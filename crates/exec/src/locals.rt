@@ -8,8 +8,8 @@ ghost use Rattle.jvms_machine.specs.declared.action.FrameDecision.TheVariants as
 ghost use Rattle.jvms_machine.specs.Activations.{HasRoom, IfDoes};
 ghost use Rattle.jvms_machine.specs.Locals.{load_decision, store_decision, local_decision, increment_decision};
 
-use crate::decisions::{has_depth, jumps, pushes};
-use frames::Frame;
+use crate::decisions::{jumps, pushes};
+use frames::SeenFrame;
 use jvms_file::insn::{Kind, LocalUse};
 use jvms_machine::action::{FrameAction, FrameDecision};
 use jvms_machine::machine::BadCause;
@@ -17,14 +17,14 @@ use jvms_machine::value::Value;
 
 /// Decides JVMS 6.5 `iload`.
 #[inline(always)]
-pub(crate) fn load_int(n: u16, frame: &Frame) -> FrameDecision
+pub(crate) fn load_int(n: u16, frame: &SeenFrame) -> FrameDecision
     ensures decision { result ≡ load_decision frame.now.body kinds.Int n frame.now.activation }
     ensures room { IfDoes result (HasRoom frame.now.body frame.now.activation) }
 {
     if usize::from(n) >= frame.local_count() {
         return FrameDecision::Stops(BadCause::Local);
     }
-    if !has_depth(frame, 0, 1) {
+    if !frame.has_depth(0, 1) {
         return FrameDecision::Stops(BadCause::Depth);
     }
     match frame.local(n) {
@@ -35,14 +35,14 @@ pub(crate) fn load_int(n: u16, frame: &Frame) -> FrameDecision
 
 /// Decides JVMS 6.5 `aload`.
 #[inline(always)]
-pub(crate) fn load_reference(n: u16, frame: &Frame) -> FrameDecision
+pub(crate) fn load_reference(n: u16, frame: &SeenFrame) -> FrameDecision
     ensures decision { result ≡ load_decision frame.now.body kinds.Reference n frame.now.activation }
     ensures room { IfDoes result (HasRoom frame.now.body frame.now.activation) }
 {
     if usize::from(n) >= frame.local_count() {
         return FrameDecision::Stops(BadCause::Local);
     }
-    if !has_depth(frame, 0, 1) {
+    if !frame.has_depth(0, 1) {
         return FrameDecision::Stops(BadCause::Depth);
     }
     match frame.local(n) {
@@ -54,14 +54,14 @@ pub(crate) fn load_reference(n: u16, frame: &Frame) -> FrameDecision
 
 /// Decides JVMS 6.5 `lload`.
 #[inline(always)]
-pub(crate) fn load_long(n: u16, frame: &Frame) -> FrameDecision
+pub(crate) fn load_long(n: u16, frame: &SeenFrame) -> FrameDecision
     ensures decision { result ≡ load_decision frame.now.body kinds.Long n frame.now.activation }
     ensures room { IfDoes result (HasRoom frame.now.body frame.now.activation) }
 {
     if usize::from(n) + 1 >= frame.local_count() {
         return FrameDecision::Stops(BadCause::Local);
     }
-    if !has_depth(frame, 0, 2) {
+    if !frame.has_depth(0, 2) {
         return FrameDecision::Stops(BadCause::Depth);
     }
     match (frame.local(n), frame.local_after(n)) {
@@ -70,7 +70,7 @@ pub(crate) fn load_long(n: u16, frame: &Frame) -> FrameDecision
     }
 }
 
-fn load(kind: Kind, n: u16, frame: &Frame) -> FrameDecision
+fn load(kind: Kind, n: u16, frame: &SeenFrame) -> FrameDecision
     ensures decision { result ≡ load_decision frame.now.body kind n frame.now.activation }
     ensures room { IfDoes result (HasRoom frame.now.body frame.now.activation) }
 {
@@ -96,14 +96,14 @@ fn stores_in(local: u16, takes: u8, value: Value) -> FrameDecision
 
 /// Decides JVMS 6.5 `istore`.
 #[inline(always)]
-pub(crate) fn store_int(n: u16, frame: &Frame) -> FrameDecision
+pub(crate) fn store_int(n: u16, frame: &SeenFrame) -> FrameDecision
     ensures decision { result ≡ store_decision frame.now.body kinds.Int n frame.now.activation }
     ensures room { IfDoes result (HasRoom frame.now.body frame.now.activation) }
 {
     if usize::from(n) >= frame.local_count() {
         return FrameDecision::Stops(BadCause::Local);
     }
-    if !has_depth(frame, 1, 0) {
+    if !frame.has_depth(1, 0) {
         return FrameDecision::Stops(BadCause::Depth);
     }
     match frame.top() {
@@ -114,14 +114,14 @@ pub(crate) fn store_int(n: u16, frame: &Frame) -> FrameDecision
 
 /// Decides JVMS 6.5 `astore`, which takes a reference, null or a return address.
 #[inline(always)]
-pub(crate) fn store_reference(n: u16, frame: &Frame) -> FrameDecision
+pub(crate) fn store_reference(n: u16, frame: &SeenFrame) -> FrameDecision
     ensures decision { result ≡ store_decision frame.now.body kinds.Reference n frame.now.activation }
     ensures room { IfDoes result (HasRoom frame.now.body frame.now.activation) }
 {
     if usize::from(n) >= frame.local_count() {
         return FrameDecision::Stops(BadCause::Local);
     }
-    if !has_depth(frame, 1, 0) {
+    if !frame.has_depth(1, 0) {
         return FrameDecision::Stops(BadCause::Depth);
     }
     match frame.top() {
@@ -134,14 +134,14 @@ pub(crate) fn store_reference(n: u16, frame: &Frame) -> FrameDecision
 
 /// Decides JVMS 6.5 `lstore`.
 #[inline(always)]
-pub(crate) fn store_long(n: u16, frame: &Frame) -> FrameDecision
+pub(crate) fn store_long(n: u16, frame: &SeenFrame) -> FrameDecision
     ensures decision { result ≡ store_decision frame.now.body kinds.Long n frame.now.activation }
     ensures room { IfDoes result (HasRoom frame.now.body frame.now.activation) }
 {
     if usize::from(n) + 1 >= frame.local_count() {
         return FrameDecision::Stops(BadCause::Local);
     }
-    if !has_depth(frame, 2, 0) {
+    if !frame.has_depth(2, 0) {
         return FrameDecision::Stops(BadCause::Depth);
     }
     match frame.top_two() {
@@ -150,7 +150,7 @@ pub(crate) fn store_long(n: u16, frame: &Frame) -> FrameDecision
     }
 }
 
-fn store(kind: Kind, n: u16, frame: &Frame) -> FrameDecision
+fn store(kind: Kind, n: u16, frame: &SeenFrame) -> FrameDecision
     ensures decision { result ≡ store_decision frame.now.body kind n frame.now.activation }
     ensures room { IfDoes result (HasRoom frame.now.body frame.now.activation) }
 {
@@ -164,11 +164,11 @@ fn store(kind: Kind, n: u16, frame: &Frame) -> FrameDecision
 
 // Decides JVMS 6.5 `ret`.
 #[inline(always)]
-fn return_to(n: u16, frame: &Frame) -> FrameDecision
+fn return_to(n: u16, frame: &SeenFrame) -> FrameDecision
     ensures decision { result ≡ local_decision frame.now.body local_use.Return n frame.now.activation }
     ensures room { IfDoes result (HasRoom frame.now.body frame.now.activation) }
 {
-    if n >= frame.body().max_locals {
+    if usize::from(n) >= frame.local_count() {
         return FrameDecision::Stops(BadCause::Local);
     }
     match frame.local(n) {
@@ -178,7 +178,7 @@ fn return_to(n: u16, frame: &Frame) -> FrameDecision
 }
 
 #[inline(never)]
-pub(crate) fn local(how: LocalUse, n: u16, frame: &Frame) -> FrameDecision
+pub(crate) fn local(how: LocalUse, n: u16, frame: &SeenFrame) -> FrameDecision
     ensures decision { result ≡ local_decision frame.now.body how n frame.now.activation }
     ensures room { IfDoes result (HasRoom frame.now.body frame.now.activation) }
 {
@@ -191,7 +191,7 @@ pub(crate) fn local(how: LocalUse, n: u16, frame: &Frame) -> FrameDecision
 
 // Decides JVMS 6.5 `iinc`.
 #[inline(always)]
-pub(crate) fn increment(n: u16, by: i16, frame: &Frame) -> FrameDecision
+pub(crate) fn increment(n: u16, by: i16, frame: &SeenFrame) -> FrameDecision
     ensures decision { result ≡ increment_decision frame.now.body n by frame.now.activation }
     ensures room { IfDoes result (HasRoom frame.now.body frame.now.activation) }
 {

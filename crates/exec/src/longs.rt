@@ -5,8 +5,8 @@ ghost use Rattle.jvms_file.specs.declared.insn.LongInsn.TheVariants as long_insn
 ghost use Rattle.jvms_machine.specs.Activations.{HasRoom, IfDoes};
 ghost use Rattle.jvms_machine.specs.LongArithmetic.{long_decision};
 
-use crate::decisions::{has_depth, pushes};
-use frames::Frame;
+use crate::decisions::pushes;
+use frames::SeenFrame;
 use jvms_file::insn::{self, LongInsn};
 use jvms_machine::action::FrameDecision;
 use jvms_machine::machine::BadCause;
@@ -14,11 +14,11 @@ use jvms_machine::value::Value;
 use jvms_program::thrown::Thrown;
 
 #[inline(always)]
-pub(crate) fn binary(op: insn::LongBinary, frame: &Frame) -> FrameDecision
+pub(crate) fn binary(op: insn::LongBinary, frame: &SeenFrame) -> FrameDecision
     ensures decision { result ≡ long_decision frame.now.body (long_insn.Binary op) frame.now.activation }
     ensures room { IfDoes result (HasRoom frame.now.body frame.now.activation) }
 {
-    if !has_depth(frame, 4, 2) {
+    if !frame.has_depth(4, 2) {
         return FrameDecision::Stops(BadCause::Depth);
     }
     let (Value::Long(a), Value::Second, Value::Long(b), Value::Second) = frame.top_four() else {
@@ -28,11 +28,11 @@ pub(crate) fn binary(op: insn::LongBinary, frame: &Frame) -> FrameDecision
 }
 
 #[inline(always)]
-pub(crate) fn division(op: insn::Division, frame: &Frame) -> FrameDecision
+pub(crate) fn division(op: insn::Division, frame: &SeenFrame) -> FrameDecision
     ensures decision { result ≡ long_decision frame.now.body (long_insn.Division op) frame.now.activation }
     ensures room { IfDoes result (HasRoom frame.now.body frame.now.activation) }
 {
-    if !has_depth(frame, 4, 2) {
+    if !frame.has_depth(4, 2) {
         return FrameDecision::Stops(BadCause::Depth);
     }
     let (Value::Long(a), Value::Second, Value::Long(b), Value::Second) = frame.top_four() else {
@@ -46,11 +46,11 @@ pub(crate) fn division(op: insn::Division, frame: &Frame) -> FrameDecision
 
 /// Decides JVMS 6.5 `lshl`, `lshr` and `lushr`. The shift distance is an int, on top of the long.
 #[inline(always)]
-pub(crate) fn shift(op: insn::LongShift, frame: &Frame) -> FrameDecision
+pub(crate) fn shift(op: insn::LongShift, frame: &SeenFrame) -> FrameDecision
     ensures decision { result ≡ long_decision frame.now.body (long_insn.Shift op) frame.now.activation }
     ensures room { IfDoes result (HasRoom frame.now.body frame.now.activation) }
 {
-    if !has_depth(frame, 3, 2) {
+    if !frame.has_depth(3, 2) {
         return FrameDecision::Stops(BadCause::Depth);
     }
     let (Value::Long(n), Value::Second, Value::Int(distance)) = frame.top_three() else {
@@ -60,11 +60,11 @@ pub(crate) fn shift(op: insn::LongShift, frame: &Frame) -> FrameDecision
 }
 
 #[inline(always)]
-pub(crate) fn negate(frame: &Frame) -> FrameDecision
+pub(crate) fn negate(frame: &SeenFrame) -> FrameDecision
     ensures decision { result ≡ long_decision frame.now.body long_insn.Negate frame.now.activation }
     ensures room { IfDoes result (HasRoom frame.now.body frame.now.activation) }
 {
-    if !has_depth(frame, 2, 2) {
+    if !frame.has_depth(2, 2) {
         return FrameDecision::Stops(BadCause::Depth);
     }
     match frame.top_two() {
@@ -74,11 +74,11 @@ pub(crate) fn negate(frame: &Frame) -> FrameDecision
 }
 
 #[inline(always)]
-pub(crate) fn from_int(frame: &Frame) -> FrameDecision
+pub(crate) fn from_int(frame: &SeenFrame) -> FrameDecision
     ensures decision { result ≡ long_decision frame.now.body long_insn.FromInt frame.now.activation }
     ensures room { IfDoes result (HasRoom frame.now.body frame.now.activation) }
 {
-    if !has_depth(frame, 1, 2) {
+    if !frame.has_depth(1, 2) {
         return FrameDecision::Stops(BadCause::Depth);
     }
     match frame.top() {
@@ -88,11 +88,11 @@ pub(crate) fn from_int(frame: &Frame) -> FrameDecision
 }
 
 #[inline(always)]
-pub(crate) fn to_int(frame: &Frame) -> FrameDecision
+pub(crate) fn to_int(frame: &SeenFrame) -> FrameDecision
     ensures decision { result ≡ long_decision frame.now.body long_insn.ToInt frame.now.activation }
     ensures room { IfDoes result (HasRoom frame.now.body frame.now.activation) }
 {
-    if !has_depth(frame, 2, 1) {
+    if !frame.has_depth(2, 1) {
         return FrameDecision::Stops(BadCause::Depth);
     }
     match frame.top_two() {
@@ -102,11 +102,11 @@ pub(crate) fn to_int(frame: &Frame) -> FrameDecision
 }
 
 #[inline(always)]
-pub(crate) fn compare(frame: &Frame) -> FrameDecision
+pub(crate) fn compare(frame: &SeenFrame) -> FrameDecision
     ensures decision { result ≡ long_decision frame.now.body long_insn.Compare frame.now.activation }
     ensures room { IfDoes result (HasRoom frame.now.body frame.now.activation) }
 {
-    if !has_depth(frame, 4, 1) {
+    if !frame.has_depth(4, 1) {
         return FrameDecision::Stops(BadCause::Depth);
     }
     let (Value::Long(a), Value::Second, Value::Long(b), Value::Second) = frame.top_four() else {
@@ -116,7 +116,7 @@ pub(crate) fn compare(frame: &Frame) -> FrameDecision
 }
 
 #[inline(never)]
-pub(crate) fn long(what: LongInsn, frame: &Frame) -> FrameDecision
+pub(crate) fn long(what: LongInsn, frame: &SeenFrame) -> FrameDecision
     ensures decision { result ≡ long_decision frame.now.body what frame.now.activation }
     ensures room { IfDoes result (HasRoom frame.now.body frame.now.activation) }
 {

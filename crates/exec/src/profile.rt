@@ -39,7 +39,7 @@ fn is_outside_primitive(primitive: Primitive) -> bool
 
 /// Decides whether a type is a float or a double, or an array of them.
 #[inline(always)]
-pub(crate) fn is_outside_type(t: &FieldType) -> bool
+pub fn is_outside_type(t: &FieldType) -> bool
     ensures { result ≡ outside_element t.now.element }
 {
     match &t.element {
@@ -82,7 +82,7 @@ fn is_outside_innermost(innermost: ParsedElement) -> bool
 }
 
 /// Decides whether a class name is that of an array of floats or doubles.
-pub(crate) fn is_outside_class(name: &[u16]) -> bool
+pub fn is_outside_class(name: &[u16]) -> bool
     ensures { result ≡ outside_class name.now }
 {
     if !is_array_name(name) {
@@ -131,7 +131,7 @@ fn is_never_new(name: &[u16]) -> bool
 }
 
 /// Decides whether an instruction on the class of a name is outside the profile.
-pub(crate) fn is_outside_use(how: ClassUse, name: &[u16]) -> bool
+pub fn is_outside_use(how: ClassUse, name: &[u16]) -> bool
     ensures { result ≡ outside_use how name.now }
 {
     match how {

@@ -5,9 +5,9 @@ ghost use Rattle.jvms_file.specs.declared.insn.StackForm.TheVariants as form;
 ghost use Rattle.jvms_machine.specs.Activations.{form_takes, form_gives, rearranged, HasRoom, IfDoes};
 ghost use Rattle.jvms_machine.specs.Stack.{stack_decision, is_second as second_value, is_set as set_value, are_set as set_values, parts_a_long as parts_long};
 ghost use Rattle.frames.specs.Frame.{with_operands};
+ghost use Rattle.frames.specs.Open.{open_frame, IsOpen};
 
-use crate::decisions::has_depth;
-use frames::Frame;
+use frames::{Frame, Head, OpenWork, SeenFrame};
 use jvms_file::insn::StackForm;
 use jvms_machine::action::{FrameAction, FrameDecision};
 use jvms_machine::machine::BadCause;
@@ -58,7 +58,7 @@ fn is_set(value: Value) -> bool
 
 // Decides whether the topmost `count` operands, one to four, are all set.
 #[inline]
-fn are_set(frame: &Frame, count: u8) -> bool
+fn are_set(frame: &SeenFrame, count: u8) -> bool
     requires least { 1 ≤ count }
     requires most { count ≤ 4 }
     requires there { count ≤ length frame.now.activation.operands }
@@ -90,7 +90,7 @@ fn is_second(value: Value) -> bool
 }
 
 /// Decides whether a group's border splits a long, for a form that takes two operands.
-fn parts_of_two(form: StackForm, frame: &Frame) -> bool
+fn parts_of_two(form: StackForm, frame: &SeenFrame) -> bool
     requires there { 2 ≤ length frame.now.activation.operands }
     requires few { form_takes form ≡ 2 }
     ensures { result ≡ parts_long form frame.now.activation.operands }
@@ -104,7 +104,7 @@ fn parts_of_two(form: StackForm, frame: &Frame) -> bool
 
 /// Decides whether a group's border splits a long from its second slot.
 #[inline(never)]
-fn parts_a_long(form: StackForm, frame: &Frame) -> bool
+fn parts_a_long(form: StackForm, frame: &SeenFrame) -> bool
     requires { form_takes form ≤ length frame.now.activation.operands }
     ensures { result ≡ parts_long form frame.now.activation.operands }
 {
@@ -130,11 +130,11 @@ fn parts_a_long(form: StackForm, frame: &Frame) -> bool
 
 /// Decides JVMS 6.5 `pop` to `swap`. It tests the depth, then that each operand is set, then that no long is split.
 #[inline(never)]
-pub(crate) fn stack(form: StackForm, frame: &Frame) -> FrameDecision
+pub(crate) fn stack(form: StackForm, frame: &SeenFrame) -> FrameDecision
     ensures decision { result ≡ stack_decision frame.now.body form frame.now.activation }
     ensures room { IfDoes result (HasRoom frame.now.body frame.now.activation) }
 {
-    if !has_depth(frame, takes(form), gives(form)) {
+    if !frame.has_depth(takes(form), gives(form)) {
         return FrameDecision::Stops(BadCause::Depth);
     }
     if !are_set(frame, takes(form)) || parts_a_long(form, frame) {
@@ -145,11 +145,11 @@ pub(crate) fn stack(form: StackForm, frame: &Frame) -> FrameDecision
 
 /// Decides JVMS 6.5 `dup`.
 #[inline(always)]
-pub(crate) fn duplicates(frame: &Frame) -> FrameDecision
+pub(crate) fn duplicates(frame: &SeenFrame) -> FrameDecision
     ensures decision { result ≡ stack_decision frame.now.body form.Dup frame.now.activation }
     ensures room { IfDoes result (HasRoom frame.now.body frame.now.activation) }
 {
-    if !has_depth(frame, 1, 2) {
+    if !frame.has_depth(1, 2) {
         return FrameDecision::Stops(BadCause::Depth);
     }
     let top = frame.top();
@@ -160,107 +160,164 @@ pub(crate) fn duplicates(frame: &Frame) -> FrameDecision
     }
 }
 
-/// Rearranges the operands by a form. It isn't inlined, so that the turns of the frequent instructions stay short
-/// enough to be inlined.
+/// Rearranges the operands of an open frame by a form. It is inlined where the form is known, so that the frame stays
+/// in registers.
+#[inline(always)]
+pub(crate) fn rearrange(form: StackForm, head: &mut Head, values: &mut [Value])
+    requires fits { IsOpen head.old values.old }
+    requires there { form_takes form ≤ length (open_frame head.old values.old).activation.operands }
+    requires room { length (open_frame head.old values.old).activation.operands - form_takes form + form_gives form ≤ (open_frame head.old values.old).body.max_stack }
+    ensures fits { IsOpen head.new values.new }
+    ensures frame { open_frame head.new values.new ≡ with_operands (open_frame head.old values.old) (rearranged form (open_frame head.old values.old).activation.operands) }
+{
+    match form {
+        StackForm::Pop => head.drop_operands(values, 1),
+        StackForm::Pop2 => head.drop_operands(values, 2),
+        StackForm::Dup => dup(head, values),
+        StackForm::DupX1 => dup_x1(head, values),
+        StackForm::DupX2 => dup_x2(head, values),
+        StackForm::Dup2 => dup2(head, values),
+        StackForm::Dup2X1 => dup2_x1(head, values),
+        StackForm::Dup2X2 => dup2_x2(head, values),
+        StackForm::Swap => swap(head, values),
+    }
+}
+
+/// The rearrangement of a form, as work on a frame.
+#[derive(Drop)]
+struct Rearrangement {
+    form: StackForm,
+}
+
+impl OpenWork<(), ()> for Rearrangement {
+    ghost use Rattle.std.specs.Prelude.{◌≡◌, ◌≤◌, ◌+◌, ◌-◌, length};
+    ghost use Rattle.jvms_machine.specs.Activations.{form_takes, form_gives, rearranged};
+    ghost use Rattle.frames.specs.Frame.{with_operands};
+
+    type Output = ();
+
+    ghost can = { λ w f. (form_takes w.form ≤ length f.activation.operands) × (length f.activation.operands - form_takes w.form + form_gives w.form ≤ f.body.max_stack) };
+
+    ghost does = { λ w f _ _ _ g _ _. g ≡ with_operands f (rearranged w.form f.activation.operands) };
+
+    #[inline(always)]
+    fn run(self, head: &mut Head<'_>, values: &mut [Value], _first: &mut (), _second: &mut ()) {
+        rearrange(self.form, head, values);
+    }
+}
+
+/// Rearranges the operands of a frame by a form. It isn't inlined, so that the turns of the frequent instructions stay
+/// short enough to be inlined.
 #[inline(never)]
-pub(crate) fn rearrange(form: StackForm, frame: &mut Frame)
+pub(crate) fn rearrange_frame(form: StackForm, frame: &mut Frame)
     requires there { form_takes form ≤ length frame.old.activation.operands }
     requires room { length frame.old.activation.operands - form_takes form + form_gives form ≤ frame.old.body.max_stack }
     ensures { frame.new ≡ with_operands frame.old (rearranged form frame.old.activation.operands) }
 {
-    match form {
-        StackForm::Pop => frame.drop_operands(1),
-        StackForm::Pop2 => frame.drop_operands(2),
-        StackForm::Dup => dup(frame),
-        StackForm::DupX1 => dup_x1(frame),
-        StackForm::DupX2 => dup_x2(frame),
-        StackForm::Dup2 => dup2(frame),
-        StackForm::Dup2X1 => dup2_x1(frame),
-        StackForm::Dup2X2 => dup2_x2(frame),
-        StackForm::Swap => swap(frame),
-    }
+    frame.open_for(Rearrangement { form }, &mut (), &mut ());
 }
 
-fn dup(frame: &mut Frame)
-    requires there { 1 ≤ length frame.old.activation.operands }
-    requires room { length frame.old.activation.operands + 1 ≤ frame.old.body.max_stack }
-    ensures { frame.new ≡ with_operands frame.old (rearranged form.Dup frame.old.activation.operands) }
+#[inline(always)]
+fn dup(head: &mut Head, values: &mut [Value])
+    requires fits { IsOpen head.old values.old }
+    requires there { 1 ≤ length (open_frame head.old values.old).activation.operands }
+    requires room { length (open_frame head.old values.old).activation.operands + 1 ≤ (open_frame head.old values.old).body.max_stack }
+    ensures fits { IsOpen head.new values.new }
+    ensures frame { open_frame head.new values.new ≡ with_operands (open_frame head.old values.old) (rearranged form.Dup (open_frame head.old values.old).activation.operands) }
 {
-    let a = frame.top();
-    frame.push(a);
+    let a = head.seen(values).top();
+    head.push(values, a);
 }
 
-fn dup_x1(frame: &mut Frame)
-    requires there { 2 ≤ length frame.old.activation.operands }
-    requires room { length frame.old.activation.operands + 1 ≤ frame.old.body.max_stack }
-    ensures { frame.new ≡ with_operands frame.old (rearranged form.DupX1 frame.old.activation.operands) }
+#[inline(always)]
+fn dup_x1(head: &mut Head, values: &mut [Value])
+    requires fits { IsOpen head.old values.old }
+    requires there { 2 ≤ length (open_frame head.old values.old).activation.operands }
+    requires room { length (open_frame head.old values.old).activation.operands + 1 ≤ (open_frame head.old values.old).body.max_stack }
+    ensures fits { IsOpen head.new values.new }
+    ensures frame { open_frame head.new values.new ≡ with_operands (open_frame head.old values.old) (rearranged form.DupX1 (open_frame head.old values.old).activation.operands) }
 {
-    let (a, b) = frame.top_two();
-    frame.drop_operands(2);
-    frame.push(b);
-    frame.push(a);
-    frame.push(b);
+    let (a, b) = head.seen(values).top_two();
+    head.drop_operands(values, 2);
+    head.push(values, b);
+    head.push(values, a);
+    head.push(values, b);
 }
 
-fn dup_x2(frame: &mut Frame)
-    requires there { 3 ≤ length frame.old.activation.operands }
-    requires room { length frame.old.activation.operands + 1 ≤ frame.old.body.max_stack }
-    ensures { frame.new ≡ with_operands frame.old (rearranged form.DupX2 frame.old.activation.operands) }
+#[inline(always)]
+fn dup_x2(head: &mut Head, values: &mut [Value])
+    requires fits { IsOpen head.old values.old }
+    requires there { 3 ≤ length (open_frame head.old values.old).activation.operands }
+    requires room { length (open_frame head.old values.old).activation.operands + 1 ≤ (open_frame head.old values.old).body.max_stack }
+    ensures fits { IsOpen head.new values.new }
+    ensures frame { open_frame head.new values.new ≡ with_operands (open_frame head.old values.old) (rearranged form.DupX2 (open_frame head.old values.old).activation.operands) }
 {
-    let (a, b, c) = frame.top_three();
-    frame.drop_operands(3);
-    frame.push(c);
-    frame.push(a);
-    frame.push(b);
-    frame.push(c);
+    let (a, b, c) = head.seen(values).top_three();
+    head.drop_operands(values, 3);
+    head.push(values, c);
+    head.push(values, a);
+    head.push(values, b);
+    head.push(values, c);
 }
 
-fn dup2(frame: &mut Frame)
-    requires there { 2 ≤ length frame.old.activation.operands }
-    requires room { length frame.old.activation.operands + 2 ≤ frame.old.body.max_stack }
-    ensures { frame.new ≡ with_operands frame.old (rearranged form.Dup2 frame.old.activation.operands) }
+#[inline(always)]
+fn dup2(head: &mut Head, values: &mut [Value])
+    requires fits { IsOpen head.old values.old }
+    requires there { 2 ≤ length (open_frame head.old values.old).activation.operands }
+    requires room { length (open_frame head.old values.old).activation.operands + 2 ≤ (open_frame head.old values.old).body.max_stack }
+    ensures fits { IsOpen head.new values.new }
+    ensures frame { open_frame head.new values.new ≡ with_operands (open_frame head.old values.old) (rearranged form.Dup2 (open_frame head.old values.old).activation.operands) }
 {
-    let (a, b) = frame.top_two();
-    frame.push(a);
-    frame.push(b);
+    let (a, b) = head.seen(values).top_two();
+    head.push(values, a);
+    head.push(values, b);
 }
 
-fn dup2_x1(frame: &mut Frame)
-    requires there { 3 ≤ length frame.old.activation.operands }
-    requires room { length frame.old.activation.operands + 2 ≤ frame.old.body.max_stack }
-    ensures { frame.new ≡ with_operands frame.old (rearranged form.Dup2X1 frame.old.activation.operands) }
+#[inline(always)]
+fn dup2_x1(head: &mut Head, values: &mut [Value])
+    requires fits { IsOpen head.old values.old }
+    requires there { 3 ≤ length (open_frame head.old values.old).activation.operands }
+    requires room { length (open_frame head.old values.old).activation.operands + 2 ≤ (open_frame head.old values.old).body.max_stack }
+    ensures fits { IsOpen head.new values.new }
+    ensures frame { open_frame head.new values.new ≡ with_operands (open_frame head.old values.old) (rearranged form.Dup2X1 (open_frame head.old values.old).activation.operands) }
 {
-    let (a, b, c) = frame.top_three();
-    frame.drop_operands(3);
-    frame.push(b);
-    frame.push(c);
-    frame.push(a);
-    frame.push(b);
-    frame.push(c);
+    let (a, b, c) = head.seen(values).top_three();
+    head.drop_operands(values, 3);
+    head.push(values, b);
+    head.push(values, c);
+    head.push(values, a);
+    head.push(values, b);
+    head.push(values, c);
 }
 
-fn dup2_x2(frame: &mut Frame)
-    requires there { 4 ≤ length frame.old.activation.operands }
-    requires room { length frame.old.activation.operands + 2 ≤ frame.old.body.max_stack }
-    ensures { frame.new ≡ with_operands frame.old (rearranged form.Dup2X2 frame.old.activation.operands) }
+#[inline(always)]
+fn dup2_x2(head: &mut Head, values: &mut [Value])
+    requires fits { IsOpen head.old values.old }
+    requires there { 4 ≤ length (open_frame head.old values.old).activation.operands }
+    requires room { length (open_frame head.old values.old).activation.operands + 2 ≤ (open_frame head.old values.old).body.max_stack }
+    ensures fits { IsOpen head.new values.new }
+    ensures frame { open_frame head.new values.new ≡ with_operands (open_frame head.old values.old) (rearranged form.Dup2X2 (open_frame head.old values.old).activation.operands) }
 {
-    let (a, b, c, d) = frame.top_four();
-    frame.drop_operands(4);
-    frame.push(c);
-    frame.push(d);
-    frame.push(a);
-    frame.push(b);
-    frame.push(c);
-    frame.push(d);
+    let (a, b, c, d) = head.seen(values).top_four();
+    head.drop_operands(values, 4);
+    head.push(values, c);
+    head.push(values, d);
+    head.push(values, a);
+    head.push(values, b);
+    head.push(values, c);
+    head.push(values, d);
 }
 
-fn swap(frame: &mut Frame)
-    requires there { 2 ≤ length frame.old.activation.operands }
-    requires room { length frame.old.activation.operands ≤ frame.old.body.max_stack }
-    ensures { frame.new ≡ with_operands frame.old (rearranged form.Swap frame.old.activation.operands) }
+#[inline(always)]
+fn swap(head: &mut Head, values: &mut [Value])
+    requires fits { IsOpen head.old values.old }
+    requires there { 2 ≤ length (open_frame head.old values.old).activation.operands }
+    requires room { length (open_frame head.old values.old).activation.operands ≤ (open_frame head.old values.old).body.max_stack }
+    ensures fits { IsOpen head.new values.new }
+    ensures frame { open_frame head.new values.new ≡ with_operands (open_frame head.old values.old) (rearranged form.Swap (open_frame head.old values.old).activation.operands) }
 {
-    let (a, b) = frame.top_two();
-    frame.drop_operands(2);
-    frame.push(b);
-    frame.push(a);
+    let (a, b) = head.seen(values).top_two();
+    head.drop_operands(values, 2);
+    head.push(values, b);
+    head.push(values, a);
 }

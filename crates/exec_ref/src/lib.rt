@@ -12,6 +12,6 @@ mod objects;
 pub use arrays::array_decision;
 pub use arrays::many::new_arrays_decision;
 pub use effects::reach;
+pub use fields::fast::fast_field;
 pub use fields::field_decision;
-pub use fields::told::fast_field;
 pub use objects::{class_decision, loadable_decision};

@@ -1,3 +1,2 @@
 mod Explained
-mod Faults
 mod Replays

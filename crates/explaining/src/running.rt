@@ -1,11 +1,10 @@
 //! Runs a program and explains the run.
 
-ghost use Rattle.std.specs.Prelude.{◌≡◌, length, IfErr, IfOk, OnErr, OnOk, Ok};
+ghost use Rattle.std.specs.Prelude.{◌≡◌, IfErr, IfOk, OnErr, OnOk, Ok};
 ghost use Rattle.std.specs.String.{string_bytes};
-ghost use Rattle.judge.specs.Faults.{IsFault, NamesFile};
 ghost use Rattle.judge.specs.Judgement.{IsJudgementOn};
-ghost use Rattle.judge.specs.Programs.{not_made, refused};
-ghost use Rattle.judge.specs.Shown.{chooser_left, program_judged, run_judged};
+ghost use Rattle.judge.specs.Runs.{IsRunOf};
+ghost use Rattle.judge.specs.Shown.{program_judged};
 ghost use Rattle.program_runs.specs.Faults.{IsProgramFault};
 ghost use Rattle.program_runs.specs.Shown.{HasEnding, program_chooser_left, view_of_program};
 ghost use Rattle.explaining.specs.Explanations.{explanation_of_inputs, program_explanation};
@@ -85,7 +84,7 @@ fn explain_program(
 
 /// Runs the program of class files and sources, and explains the run. The chooser may have moved even if the result is
 /// a fault.
-#[tactic(auto, using(crate::proofs::Faults::not_run), unfolding(judge::specs::Shown::run_judged, judge::specs::Shown::chooser_left, crate::specs::Explanations::explanation_of_inputs))]
+#[tactic(auto, using(judge::proofs::Faults::not_run), unfolding(judge::specs::Shown::run_judged, judge::specs::Shown::chooser_left, crate::specs::Explanations::explanation_of_inputs))]
 fn explain_inputs(
     alloc: Global,
     inputs: &[Input],
@@ -95,18 +94,11 @@ fn explain_inputs(
     most: TurnLimit,
     spec: Option<Spec>,
 ) -> Result<ExplainedRun, JudgeFault>
-    ensures ending { IfOk result (λ run.
-        HasEnding (run_judged most chooser.old limits inputs.now entry.now) run.ending) }
-    ensures judged { IfOk result (λ run. IsJudgementOn spec
-        (run_judged most chooser.old limits inputs.now entry.now) run.judgement) }
+    ensures run { IsRunOf (λ run. run.ending) (λ run. run.judgement)
+        spec most chooser.old chooser.new limits inputs.now entry.now result }
     ensures explained { IfOk result (λ run.
         explanation_of_inputs spec run.judgement most chooser.old limits inputs.now entry.now
         ≡ Ok (string_bytes run.explanation)) }
-    ensures chooser { OnOk result
-        (chooser_left most chooser.old limits inputs.now entry.now ≡ Ok chooser.new) }
-    ensures fault { IfErr result (λ fault.
-        IsFault fault (run_judged most chooser.old limits inputs.now entry.now)) }
-    ensures named { IfErr result (λ fault. NamesFile (length inputs.now) fault) }
 {
     let program = program_of(alloc, inputs)?;
     // The inputs are classes, because they make a program.
@@ -136,25 +128,17 @@ pub fn run_explained(
     most: TurnLimit,
     spec: Option<Spec>,
 ) -> Result<ExplainedRun, JudgeFault>
-    // The number of turns, result, output, status and uncaught exceptions are those of the run that `judge` returns.
-    ensures ending { IfOk result (λ run.
-        HasEnding (run_judged most chooser.old limits inputs.now entry.now) run.ending) }
-    // The judgement is the verdict on the items of that run with their counts, or `None` without a specification.
-    ensures judged { IfOk result (λ run. IsJudgementOn spec
-        (run_judged most chooser.old limits inputs.now entry.now) run.judgement) }
+    // How the run ends, its judgement and the chooser after it are those of the run that `judge` returns. A fault is
+    // returned only if its condition holds.
+    ensures run { IsRunOf (λ run. run.ending) (λ run. run.judgement)
+        spec most chooser.old chooser.new limits inputs.now entry.now result }
     // The explanation is that of the verdict's cycle, on the items of that run with their turns and places, and of the
     // threads of the machine after the run.
     ensures explained { IfOk result (λ run.
         explanation_of_inputs spec run.judgement most chooser.old limits inputs.now entry.now
         ≡ Ok (string_bytes run.explanation)) }
-    // The chooser is then the one after its choices. A fault leaves it unchanged.
-    ensures chooser { OnOk result
-        (chooser_left most chooser.old limits inputs.now entry.now ≡ Ok chooser.new) }
+    // A fault leaves the chooser unchanged.
     ensures kept { OnErr result (chooser.new ≡ chooser.old) }
-    // A fault is returned only if its condition holds. A fault of an input names one of these.
-    ensures fault { IfErr result (λ fault.
-        IsFault fault (run_judged most chooser.old limits inputs.now entry.now)) }
-    ensures named { IfErr result (λ fault. NamesFile (length inputs.now) fault) }
 {
     let mut moved = chooser.copy()?;
     let run = explain_inputs(alloc, inputs, limits, entry, &mut moved, most, spec)?;

@@ -3,5 +3,12 @@
 #![tactic(auto)]
 
 mod frame;
+mod head;
+mod open;
+mod seen;
+mod work;
 
 pub use frame::Frame;
+pub use head::Head;
+pub use seen::SeenFrame;
+pub use work::OpenWork;

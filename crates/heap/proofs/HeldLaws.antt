@@ -27,10 +27,10 @@ pub shown_at : (program : List Class) (objects : List StoredObject) (r place : �
 shown_at program objects zero place other is = absurd (other refl)
 shown_at program objects (suc r) place other is = let same : place ≡ r = omega (arith, is) in ap (λ i. option_map (shown program) (slice_get objects i)) same ∙ sym (get_map (shown program) objects r)
 
-pub view_of_run : (program : List Class) (objects : List StoredObject) (r place : ℕ) (o : Option (Bor StoredObject)) → r ≢ 0 → place ≡ r - 1 → option_copied o ≡ slice_get objects place
+pub shown_of : (program : List Class) (objects : List StoredObject) (r place : ℕ) (o : Option (Bor StoredObject)) → r ≢ 0 → place ≡ r - 1 → option_copied o ≡ slice_get objects place
     → option_map (λ x. shown program x.now) o ≡ object_at (map (shown program) objects) r
-view_of_run program objects r place None other is at = ap (option_map (shown program)) at ∙ shown_at program objects r place other is
-view_of_run program objects r place (Some o) other is at = ap (option_map (shown program)) at ∙ shown_at program objects r place other is
+shown_of program objects r place None other is at = ap (option_map (shown program)) at ∙ shown_at program objects r place other is
+shown_of program objects r place (Some o) other is at = ap (option_map (shown program)) at ∙ shown_at program objects r place other is
 
 pub kept_of : (program : List Class) (objects : List StoredObject) (texts classes : List (List ℕ × ℕ)) (place : ℕ) (o : Option (Bor StoredObject)) → AreStored program objects texts classes → option_copied o ≡ slice_get objects place
     → IfSome o (λ x. IsKept program x.now)

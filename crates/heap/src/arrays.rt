@@ -12,8 +12,8 @@ ghost use Rattle.heap.specs.Arrays.{IsArray, AppendsArrays};
 use crate::heap::Heap;
 use crate::held_object::StoredObject;
 use array_elements::{Elements, component, kind_of_array};
-use shared_data::items::Items;
-use shared_data::shared::{Shared, Text};
+use shared_data::shared::Text;
+use shared_data::texts::copied_text;
 use std::alloc::{AllocError, Global};
 
 /// Returns the number of arrays in a nested array of these lengths, the outermost first.
@@ -112,8 +112,7 @@ fn array_of_parts(
 fn component_class(alloc: Global, class: &Text) -> Result<Text, AllocError>
     ensures { IfOk result (λ t. t ≡ drop 1 class.now) }
 {
-    let units = Vec::from_slice(alloc, component(class.as_slice()))?;
-    Shared::new(alloc, Items::from_vec(units))
+    copied_text(alloc, component(class.as_slice()))
 }
 
 /// Appends an array of these lengths with this reference, followed by its parts. On an error some may have been

@@ -1,15 +1,16 @@
 //! The first values of the fields of an instance.
 
-ghost use Rattle.std.specs.Prelude.{◌≡◌, ◌++◌, IfOk, OnOk, map, option_copied, reverse};
+ghost use Rattle.std.specs.Prelude.{◌≡◌, ◌++◌, IfOk, OnOk, map, reverse};
 ghost use Rattle.std.specs.List.{flat_map};
 ghost use Rattle.jvms_program.specs.Resolution.{chain};
 ghost use Rattle.jvms_machine.specs.State.{default_of_element, default_value, instance_fields};
 ghost use Rattle.heap.specs.FirstValues.{own_values, values_down};
 ghost use Rattle.heap.specs.Held.{name_at};
 
+use classes::superclass_name;
 use jvms_file::descriptor::{Element, FieldType, Primitive};
 use jvms_machine::value::Value;
-use jvms_program::program::{Class, Field};
+use jvms_program::program::Field;
 use program::Program;
 use std::alloc::{AllocError, Global};
 
@@ -54,16 +55,6 @@ fn push_values(fields: &[Field], values: &mut Vec<Value>) -> Result<(), AllocErr
         }
     }
     Ok(())
-}
-
-/// Returns the name of a class's superclass.
-fn superclass_name(class: &Class) -> Option<&[u16]>
-    ensures { option_copied result ≡ class.now.superclass }
-{
-    match &class.superclass {
-        Some(superclass) => Some(superclass.as_slice()),
-        None => None,
-    }
 }
 
 /// Appends the first values of the fields of an instance of the class of a name, in reverse order. On an error some may

@@ -85,7 +85,7 @@ impl<'p> Heap<'p> {
 
     /// Returns the object of a reference.
     #[inline(always)]
-    #[tactic(auto, using(crate::proofs::HeldLaws::view_of_run, crate::proofs::HeldLaws::kept_of))]
+    #[tactic(auto, using(crate::proofs::HeldLaws::shown_of, crate::proofs::HeldLaws::kept_of))]
     pub(crate) fn object(&self, reference: u32) -> Option<&StoredObject>
         ensures shown { option_map (λ o. shown self.now.program o.now) result ≡ object_at self.now.objects reference }
         ensures kept { IfSome result (λ o. IsKept self.now.program o.now) }

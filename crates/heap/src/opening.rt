@@ -6,8 +6,8 @@ ghost use Rattle.jvms_machine.specs.Opening.{opening_heap};
 use crate::heap::Heap;
 use crate::primitive_arrays::PrimitiveArrays;
 use program::Program;
-use shared_data::items::Items;
-use shared_data::shared::{Shared, Text};
+use shared_data::shared::Text;
+use shared_data::texts::ascii_text;
 use std::alloc::{AllocError, Global};
 use text_index::Index;
 
@@ -20,17 +20,11 @@ const STACK_OVERFLOW: usize = 36;
 /// The place of `java/io/PrintStream`.
 const PRINT_STREAM: usize = 4;
 
-/// `[Ljava/lang/String;`, the class of main's argument.
-const STRINGS: [u16; 19] = [
-    91, 76, 106, 97, 118, 97, 47, 108, 97, 110, 103, 47, 83, 116, 114, 105, 110, 103, 59,
-];
-
 /// Returns the class of main's argument.
 fn strings(alloc: Global) -> Result<Text, AllocError>
     ensures { IfOk result (λ t. t ≡ codes "[Ljava/lang/String;") }
 {
-    let units = Vec::from_slice(alloc, &STRINGS)?;
-    Shared::new(alloc, Items::from_vec(units))
+    ascii_text(alloc, "[Ljava/lang/String;")
 }
 
 impl<'p> Heap<'p> {

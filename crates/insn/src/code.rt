@@ -12,7 +12,6 @@ ghost use Rattle.insn.specs.Locating.{placed_of, all_placed, resolved_one};
 use crate::located::InsnAt;
 use crate::operands::insn_at;
 use crate::places::with_places;
-use crate::room::list_with_capacity;
 use crate::starts::Starts;
 use const_pool::ScannedPool;
 use jvms_file::fault::{ClassFault, ReadError};
@@ -88,7 +87,7 @@ fn resolved_insn(alloc: Global, starts: &Starts, one: &InsnAt) -> Result<Insn, R
 fn resolved(alloc: Global, starts: &Starts, located: &[InsnAt]) -> Result<Items<Insn>, ReadError>
     ensures { Gives (λ x. x) result (all_resolved starts.now (all_placed located.now)) }
 {
-    let mut insns = list_with_capacity(alloc, located.len())?;
+    let mut insns = Items::with_capacity(alloc, located.len())?;
     for one in located {
         let insn = resolved_insn(alloc, starts, one)?;
         insns.push(insn)?;

@@ -5,10 +5,10 @@ ghost use Rattle.jvms_file.specs.Instructions.{wide_form as wide_form_at, wide_i
 ghost use Rattle.jvms_file.specs.Reading.{Gives};
 ghost use Rattle.insn.specs.Operands.{local_insn, increment_insn};
 
-use crate::opcodes::form_of;
 use file_bytes::{u1_at, u2_at};
 use jvms_file::fault::{ClassFault, ReadError};
 use jvms_file::insn::{Insn, LocalUse, Opcode, Simple};
+use jvms_file::opcodes::form_of;
 
 /// Reads the operand of a load, a store or ret, a local's number of one byte, and returns the instruction with the
 /// bytes after it.

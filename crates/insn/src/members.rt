@@ -2,13 +2,12 @@
 
 ghost use Rattle.std.specs.Prelude.{◌≡◌};
 ghost use Rattle.std.specs.Option.{option_copied, option_map, option_and_then};
-ghost use Rattle.jvms_file.specs.Instructions.{passes, is_field as field_entry, field_insn, method_numbers as numbers_of, invoked as method_of, is_invocable_name as name_invocable, is_invocable as invocable, interface_count as units_with_object, interface_operands as interface_rest, after_invoke as rest_behind, invoke_insn, is_usable_class as usable_class, names_usable as usable_name, class_insn};
+ghost use Rattle.jvms_file.specs.Instructions.{passes, is_field as field_entry, field_insn, method_numbers as numbers_of, invoked as method_of, is_invocable as invocable, interface_count as units_with_object, interface_operands as interface_rest, after_invoke as rest_behind, invoke_insn, is_usable_class as usable_class, names_usable as usable_name, class_insn};
 ghost use Rattle.jvms_file.specs.declared.insn.Invoke.TheVariants.{Interface};
-ghost use Rattle.jvms_file.specs.Names.{begins_with};
 ghost use Rattle.jvms_file.specs.Reading.{Gives};
 
 use const_pool::{Pool, ScannedPool};
-use descriptor::{dimensions_of, is_array_name, is_constructor_name};
+use descriptor::{dimensions_of, is_array_name, is_invocable_name};
 use file_bytes::{u1_at, u2_at, want};
 use jvms_file::class_file::Constant;
 use jvms_file::fault::{ClassFault, ReadError};
@@ -112,26 +111,6 @@ fn invoked(pool: &Pool, how: Invoke, number: u16) -> Option<(&[u16], &[u16])>
     match method_numbers(how, pool.entry(number)) {
         Some((_, name_and_type)) => pool.name_and_type(name_and_type),
         None => None,
-    }
-}
-
-/// The first unit of `<init>` and `<clinit>` (JVMS 2.9).
-const ANGLE: u16 = b'<' as u16;
-
-/// Decides whether a name begins with `<`.
-fn is_special_name(text: &[u16]) -> bool
-    ensures { result ≡ begins_with 60 text.now }
-{
-    matches!(text, [ANGLE, ..])
-}
-
-/// Decides whether an instruction may call a method of this name (JVMS 4.9.1).
-fn is_invocable_name(how: Invoke, name: &[u16]) -> bool
-    ensures { result ≡ name_invocable how name.now }
-{
-    match how {
-        Invoke::Special => !is_special_name(name) || is_constructor_name(name),
-        Invoke::Virtual | Invoke::Static | Invoke::Interface => !is_special_name(name),
     }
 }
 

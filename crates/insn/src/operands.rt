@@ -9,12 +9,12 @@ use crate::branches::{branch, branch_wide};
 use crate::constants::{constant, constant_long, constant_wide, push_byte, push_short};
 use crate::locals::{increment, local, wide};
 use crate::members::{class, field, invoke};
-use crate::opcodes::form_of;
 use crate::switches::{lookup_switch, table_switch};
 use const_pool::ScannedPool;
 use file_bytes::u1_at;
 use jvms_file::fault::{ClassFault, ReadError};
 use jvms_file::insn::{Insn, Opcode};
+use jvms_file::opcodes::form_of;
 use std::alloc::Global;
 
 /// Reads the operands of an opcode, and returns the instruction with the bytes after it.

@@ -5,7 +5,6 @@ ghost use Rattle.jvms_file.specs.Results.{collected};
 ghost use Rattle.jvms_file.specs.Reading.{Gives};
 ghost use Rattle.insn.specs.Places.{place_or_fault, case_or_fault, table_or_fault, lookup_or_fault, insn_or_fault};
 
-use crate::room::list_with_capacity;
 use crate::starts::Starts;
 use jvms_file::fault::{ClassFault, ReadError};
 use jvms_file::insn::{Insn, LookupSwitch, SwitchCase, TableSwitch};
@@ -47,7 +46,7 @@ fn places(
 ) -> Result<Items<u32>, ReadError>
     ensures { Gives (λ x. x) result (collected (place_or_fault starts.now fault) targets.now) }
 {
-    let mut found = list_with_capacity(alloc, targets.len())?;
+    let mut found = Items::with_capacity(alloc, targets.len())?;
     for target in targets {
         let one = place(starts, fault, *target)?;
         found.push(one)?;
@@ -64,7 +63,7 @@ fn cases(
 ) -> Result<Items<SwitchCase>, ReadError>
     ensures { Gives (λ x. x) result (collected (case_or_fault starts.now fault) switch_cases.now) }
 {
-    let mut found = list_with_capacity(alloc, switch_cases.len())?;
+    let mut found = Items::with_capacity(alloc, switch_cases.len())?;
     for switch_case in switch_cases {
         let one = case(starts, fault, *switch_case)?;
         found.push(one)?;

@@ -1,6 +1,6 @@
 //! The instructions with many targets (JVMS 6.5 tableswitch, lookupswitch).
 
-ghost use Rattle.std.specs.Prelude.{◌≡◌, ◌+◌, ◌≤ℤ◌, ◌-ℤ◌, unsigned_abs, None, Some};
+ghost use Rattle.std.specs.Prelude.{◌≡◌, ◌+◌, ◌≤◌, ◌≤ℤ◌, ◌-ℤ◌, unsigned_abs, None, Some};
 ghost use Rattle.jvms_file.specs.Instructions.{pad_length as pads_at, targets_at as targets_from, cases_at as cases_from, is_above as lies_above, table_switch_insn, lookup_switch_insn};
 ghost use Rattle.jvms_file.specs.Reading.{Gives};
 ghost use Rattle.insn.specs.Operands.{target_at as target_from, case_at as case_from};
@@ -13,9 +13,10 @@ use shared_data::boxed::Boxed;
 use shared_data::items::Items;
 use std::alloc::Global;
 
-/// Returns the number of pads of a switch: the bytes between its opcode and the next multiple of 4.
-pub(crate) fn pad_length(pc: usize) -> usize
-    ensures { result ≡ pads_at pc }
+/// Returns the number of pads of a switch whose opcode is at byte `pc`: the bytes up to the next multiple of 4.
+pub fn pad_length(pc: usize) -> usize
+    ensures exact { result ≡ pads_at pc }
+    ensures few { result ≤ 3 }
 {
     3 - pc % 4
 }

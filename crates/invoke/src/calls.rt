@@ -9,10 +9,10 @@ ghost use Rattle.jvms_machine.specs.Calls.{enter_decision as enters, called_deci
 ghost use Rattle.machine_parts.specs.Decided.{seen};
 ghost use Rattle.invoke.specs.Calling.{made_of};
 
+pub(crate) mod fast;
 pub(crate) mod invoke;
 mod operands;
 mod run_method;
-pub(crate) mod told;
 
 use crate::calls::run_method::run_decision;
 use exec::is_outside_method;

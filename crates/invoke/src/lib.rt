@@ -11,14 +11,14 @@ mod returns;
 mod threads;
 mod waiting;
 
+pub use calls::fast::{PlainCall, fast_call};
 pub use calls::first_call_decision;
 pub use calls::invoke::invoke_decision;
-pub use calls::told::{PlainCall, fast_call};
 pub use initialisation::initialisation_decision;
-pub use locking::told::{fast_monitor_enter, fast_monitor_exit};
+pub use locking::fast::{fast_monitor_enter, fast_monitor_exit};
 pub use locking::{monitor_enter_decision, monitor_exit_decision};
 pub use making::calls::{call, end, enter, return_below};
 pub use making::initialisation::{begin, finish, initialise, mark};
+pub use returns::fast::{PlainReturn, fast_return};
 pub use returns::method_return_decision;
-pub use returns::told::{PlainReturn, fast_return};
 pub use waiting::{retake, wait, waiting_decision};

@@ -6,7 +6,7 @@ ghost use Rattle.jvms_machine.specs.Arrays.{with_object_of};
 ghost use Rattle.jvms_machine.specs.Locking.{enter_object, exit_object, monitor_enter_decision as enters_monitor, monitor_exit_decision as exits_monitor};
 ghost use Rattle.machine_parts.specs.Decided.{seen};
 
-pub(crate) mod told;
+pub(crate) mod fast;
 
 use frames::Frame;
 use jvms_machine::action::Effect;

@@ -5,7 +5,7 @@ ghost use Rattle.jvms_program.specs.Program.{method_at};
 ghost use Rattle.jvms_machine.specs.Returns.{gives_kind as gives, gives_nothing as nothing, returns_to, returned_decision as returned, return_top_decision as returns_top, return_decision as returns, method_return_decision as method_returns};
 ghost use Rattle.machine_parts.specs.Decided.{seen};
 
-pub(crate) mod told;
+pub(crate) mod fast;
 
 use exec::{kind_size, top_value};
 use frames::Frame;

@@ -10,7 +10,6 @@ ghost use Rattle.jasmin_instructions.specs.Saying.{Says};
 
 use crate::fault::LineFault;
 use crate::parts::word_unless;
-use crate::texts::text;
 use descriptor::{dimensions_of, is_array_name, is_class_entry_name};
 use jasmin::source::Operation;
 use jasmin::statement::Flaw;
@@ -19,6 +18,7 @@ use jasmin_operands::{
     Judged, asked, both, class_at, exactly, operand, u8_at, unless, word_or_none,
 };
 use jvms_file::insn::ClassUse;
+use shared_data::texts::copied_text;
 use std::alloc::Global;
 
 /// The most dimensions of a class that `anewarray` takes (JVMS 6.5 `anewarray`).
@@ -75,7 +75,7 @@ pub(crate) fn class_operation(
     ensures { Says result (class_operation how (lexemes tokens.now)) }
 {
     let name = class_parts(how, tokens)?;
-    Ok(Operation::Class(how, text(alloc, name)?))
+    Ok(Operation::Class(how, copied_text(alloc, name)?))
 }
 
 /// Decides whether `count` dimensions are allowed for a class of this name: at least one, and at most those of the
@@ -139,5 +139,5 @@ pub(crate) fn multi_new_array_operation(
     ensures { Says result (multi_new_array_operation (lexemes tokens.now)) }
 {
     let (name, dimensions) = multi_parts(tokens)?;
-    Ok(Operation::MultiNewArray(text(alloc, name)?, dimensions))
+    Ok(Operation::MultiNewArray(copied_text(alloc, name)?, dimensions))
 }

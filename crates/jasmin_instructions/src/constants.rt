@@ -10,12 +10,12 @@ ghost use Rattle.jasmin_instructions.specs.Saying.{Says};
 ghost use Rattle.jasmin_instructions.specs.Views.{loaded_of};
 
 use crate::fault::LineFault;
-use crate::texts::text;
 use jasmin::source::{ConstantWidth, LoadedConstant, Operation};
 use jasmin::statement::Flaw;
 use jasmin::token::{Lexeme, Token};
 use jasmin_operands::{Judged, class_at, exactly, i32_at, operand, spells_number, unless};
 use shared_data::boxed::Boxed;
+use shared_data::texts::copied_text;
 use std::alloc::{AllocError, Global};
 
 /// A constant that is loaded, borrowed from its line.
@@ -71,8 +71,8 @@ fn loaded_of(alloc: Global, operand: BorrowedConstant<'_>) -> Result<LoadedConst
 {
     match operand {
         BorrowedConstant::Integer(number) => Ok(LoadedConstant::Integer(number)),
-        BorrowedConstant::String(units) => Ok(LoadedConstant::String(text(alloc, units)?)),
-        BorrowedConstant::Class(name) => Ok(LoadedConstant::Class(text(alloc, name)?)),
+        BorrowedConstant::String(units) => Ok(LoadedConstant::String(copied_text(alloc, units)?)),
+        BorrowedConstant::Class(name) => Ok(LoadedConstant::Class(copied_text(alloc, name)?)),
     }
 }
 

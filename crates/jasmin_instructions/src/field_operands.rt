@@ -12,7 +12,6 @@ ghost use Rattle.jasmin_instructions.specs.Views.{two_texts};
 
 use crate::fault::LineFault;
 use crate::parts::{two_words, two_words_unless};
-use crate::texts::text;
 use jasmin::source::{FieldName, Operation};
 use jasmin::statement::Flaw;
 use jasmin::token::{Lexeme, Token};
@@ -22,6 +21,7 @@ use jasmin_operands::{
 };
 use jvms_file::insn::FieldUse;
 use shared_data::boxed::Boxed;
+use shared_data::texts::copied_text;
 use std::alloc::Global;
 
 /// Judges a place that requires `class/name` of a field.
@@ -69,9 +69,9 @@ pub(crate) fn field_operation(
 {
     let (member, descriptor) = field_parts(tokens)?;
     let name = FieldName {
-        class: text(alloc, class_of(member))?,
-        name: text(alloc, name_of(member))?,
-        descriptor: text(alloc, descriptor)?,
+        class: copied_text(alloc, class_of(member))?,
+        name: copied_text(alloc, name_of(member))?,
+        descriptor: copied_text(alloc, descriptor)?,
     };
     Ok(Operation::Field(how, Boxed::new(alloc, name)?))
 }

@@ -12,9 +12,7 @@ use crate::constants::constant_operation;
 use crate::fault::LineFault;
 use crate::field_operands::field_operation;
 use crate::invoke_operands::invoke_operation;
-use crate::opcodes::form_of;
 use crate::parts::alone;
-use crate::texts::text;
 use jasmin::source::{BranchWidth, ConstantWidth, Operation};
 use jasmin::statement::{Flaw, Instruction};
 use jasmin::token::Token;
@@ -23,6 +21,8 @@ use jasmin_operands::{
     unless,
 };
 use jvms_file::insn::{Branch, Opcode};
+use jvms_file::opcodes::form_of;
+use shared_data::texts::copied_text;
 use std::alloc::Global;
 
 /// Judges the operands of JVMS 6.5 `iinc`.
@@ -47,7 +47,7 @@ fn branch_operation(
     ensures { Says result (branch_operation width how (lexemes tokens.now)) }
 {
     let label = alone(label_at(operand(tokens, 0)), tokens)?;
-    Ok(Operation::Branch(width, how, text(alloc, label)?))
+    Ok(Operation::Branch(width, how, copied_text(alloc, label)?))
 }
 
 /// Judges the operand of JVMS 6.5 `newarray`.

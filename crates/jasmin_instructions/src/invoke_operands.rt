@@ -3,9 +3,9 @@
 
 ghost use Rattle.std.specs.Prelude.{◌≡◌, true, [], Ok, Some, slice_get};
 ghost use Rattle.std.specs.Option.{option_map};
-ghost use Rattle.jvms_file.specs.Names.{begins_with, is_method_name};
+ghost use Rattle.jvms_file.specs.Names.{is_method_name};
 ghost use Rattle.jvms_file.specs.Members.{is_method_descriptor_for};
-ghost use Rattle.jvms_file.specs.Instructions.{is_invocable_name, interface_count};
+ghost use Rattle.jvms_file.specs.Instructions.{interface_count};
 ghost use Rattle.jasmin.specs.Lexing.{lexemes};
 ghost use Rattle.jasmin.specs.Judgements.{said, unless};
 ghost use Rattle.jasmin.specs.Operands.{tested, is_member, before_descriptor, descriptor_of};
@@ -16,8 +16,7 @@ ghost use Rattle.jasmin_instructions.specs.Views.{two_texts};
 use crate::descriptors::is_method_descriptor_for;
 use crate::fault::LineFault;
 use crate::parts::{two_words, two_words_unless};
-use crate::texts::text;
-use descriptor::{is_constructor_name, method_units};
+use descriptor::{is_invocable_name, method_units};
 use jasmin::source::{MethodName, Operation};
 use jasmin::statement::Flaw;
 use jasmin::token::{Lexeme, Token};
@@ -27,27 +26,8 @@ use jasmin_operands::{
 };
 use jvms_file::insn::Invoke;
 use shared_data::boxed::Boxed;
+use shared_data::texts::copied_text;
 use std::alloc::Global;
-
-/// The first unit of `<init>` and `<clinit>` (JVMS 2.9).
-const ANGLE: u16 = b'<' as u16;
-
-/// Decides whether a name begins with an angle bracket.
-fn is_special_name(name: &[u16]) -> bool
-    ensures { result ≡ begins_with 60 name.now }
-{
-    matches!(name, [ANGLE, ..])
-}
-
-/// Decides whether an instruction may invoke a method of this name (JVMS 4.9.1).
-fn is_invocable_name(how: Invoke, name: &[u16]) -> bool
-    ensures { result ≡ is_invocable_name how name.now }
-{
-    match how {
-        Invoke::Special => !is_special_name(name) || is_constructor_name(name),
-        Invoke::Virtual | Invoke::Static | Invoke::Interface => !is_special_name(name),
-    }
-}
 
 /// Judges `class/name` in the word of a method.
 fn method_member(word: &[u16]) -> Judged<&[u16]>
@@ -144,9 +124,9 @@ pub(crate) fn invoke_operation(
 {
     let (member, descriptor) = method_parts(how, tokens)?;
     let name = MethodName {
-        class: text(alloc, class_of(member))?,
-        name: text(alloc, name_of(member))?,
-        descriptor: text(alloc, descriptor)?,
+        class: copied_text(alloc, class_of(member))?,
+        name: copied_text(alloc, name_of(member))?,
+        descriptor: copied_text(alloc, descriptor)?,
     };
     Ok(Operation::Invoke(how, Boxed::new(alloc, name)?))
 }

@@ -9,12 +9,9 @@ mod fault;
 mod field_operands;
 mod instructions;
 mod invoke_operands;
-mod opcodes;
 mod parts;
-mod texts;
 
 pub use descriptors::is_method_descriptor_for;
 pub use fault::LineFault;
 pub use instructions::instruction_line;
 pub use parts::{alone, two_words, two_words_unless, word_unless};
-pub use texts::text;

@@ -6,7 +6,7 @@ ghost use Rattle.jasmin.specs.Operands.{flag_of, flag_at, flags_with, flags_in, 
 ghost use Rattle.jasmin_operands.specs.Views.{words_of};
 
 use crate::judgement::{Judged, asked, unless};
-use crate::words::same_word;
+use descriptor::is_text;
 use jasmin::statement::Flaw;
 use jasmin::token::{Lexeme, Token};
 
@@ -51,7 +51,7 @@ const METHOD_WORDS: [(&str, u16); 8] = [
 ];
 
 /// Returns the access words of a kind, with their flags.
-fn table_of(words: AccessWords) -> &'static [(&'static str, u16)]
+pub fn access_table(words: AccessWords) -> &'static [(&'static str, u16)]
     ensures { map (λ w. (w.0.now, w.1)) result.now ≡ words_of words }
 {
     match words {
@@ -67,7 +67,7 @@ fn flag_in(table: &[(&str, u16)], word: &[u16]) -> Option<u16>
 {
     let mut rest = table;
     while let [(text, flag), behind @ ..] = rest {
-        if same_word(text, word) {
+        if is_text(text, word) {
             return Some(*flag);
         }
         rest = behind;
@@ -80,7 +80,7 @@ fn flag_at(words: AccessWords, lexeme: &Lexeme) -> Option<u16>
     ensures { result ≡ flag_at (words_of words) lexeme.now }
 {
     match lexeme {
-        Lexeme::Word(units) => flag_in(table_of(words), units.as_slice()),
+        Lexeme::Word(units) => flag_in(access_table(words), units.as_slice()),
         _ => None,
     }
 }
@@ -111,7 +111,7 @@ fn access_word(words: AccessWords, before: u16, lexeme: &Lexeme) -> Judged<()>
     ensures { result ≡ access_word (words_of words) before lexeme.now }
 {
     match lexeme {
-        Lexeme::Word(units) => match flag_in(table_of(words), units.as_slice()) {
+        Lexeme::Word(units) => match flag_in(access_table(words), units.as_slice()) {
             Some(flag) => asked(before & flag == 0, Flaw::Flags),
             None => Err(Flaw::Flags),
         },

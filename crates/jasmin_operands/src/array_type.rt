@@ -5,7 +5,7 @@ ghost use Rattle.std.specs.Option.{option_map};
 ghost use Rattle.jasmin.specs.Operands.{array_type_of, array_type_at};
 
 use crate::judgement::Judged;
-use crate::words::same_word;
+use descriptor::is_text;
 use jasmin::statement::Flaw;
 use jasmin::token::Lexeme;
 use jvms_file::insn::ArrayType;
@@ -14,21 +14,21 @@ use jvms_file::insn::ArrayType;
 fn array_type_of(word: &[u16]) -> Option<ArrayType>
     ensures { result ≡ array_type_of word.now }
 {
-    if same_word("boolean", word) {
+    if is_text("boolean", word) {
         Some(ArrayType::Boolean)
-    } else if same_word("char", word) {
+    } else if is_text("char", word) {
         Some(ArrayType::Char)
-    } else if same_word("float", word) {
+    } else if is_text("float", word) {
         Some(ArrayType::Float)
-    } else if same_word("double", word) {
+    } else if is_text("double", word) {
         Some(ArrayType::Double)
-    } else if same_word("byte", word) {
+    } else if is_text("byte", word) {
         Some(ArrayType::Byte)
-    } else if same_word("short", word) {
+    } else if is_text("short", word) {
         Some(ArrayType::Short)
-    } else if same_word("int", word) {
+    } else if is_text("int", word) {
         Some(ArrayType::Int)
-    } else if same_word("long", word) {
+    } else if is_text("long", word) {
         Some(ArrayType::Long)
     } else {
         None

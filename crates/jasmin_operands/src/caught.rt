@@ -7,8 +7,8 @@ ghost use Rattle.jasmin.specs.Operands.{caught_at};
 ghost use Rattle.jasmin_operands.specs.Views.{caught_of};
 
 use crate::judgement::Judged;
-use crate::words::{same_word, word_at};
-use descriptor::is_class_entry_name;
+use crate::words::word_at;
+use descriptor::{is_class_entry_name, is_text};
 use jasmin::statement::Flaw;
 use jasmin::token::Lexeme;
 
@@ -30,7 +30,7 @@ pub fn caught_at(lexeme: Option<&Lexeme>) -> Judged<CaughtName<'_>>
     ensures { said caught_of result ≡ caught_at (option_map (λ l. l.now) lexeme.entry) }
 {
     let word = word_at(lexeme)?;
-    if same_word("all", word) {
+    if is_text("all", word) {
         Ok(CaughtName::All)
     } else if is_class_entry_name(word) {
         Ok(CaughtName::Class(word))

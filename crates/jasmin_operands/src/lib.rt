@@ -13,7 +13,7 @@ mod numerals;
 mod places;
 mod words;
 
-pub use access::{AccessWords, access_words, flags_in};
+pub use access::{AccessWords, access_table, access_words, flags_in};
 pub use array_type::array_type_at;
 pub use caught::{CaughtName, caught_at};
 pub use judgement::{Judged, asked, both, lesser, unless};
@@ -24,6 +24,6 @@ pub use numbers::{i8_at, i16_at, i32_at, i64_at, u8_at, u16_at};
 pub use numerals::{is_version, number_of, spells_number};
 pub use places::{exactly, operand};
 pub use words::{
-    class_at, class_name_at, field_descriptor_at, keyword_at, label_at, name_at, same_word,
-    word_at, word_or_none,
+    class_at, class_name_at, field_descriptor_at, keyword_at, label_at, name_at, word_at,
+    word_or_none,
 };

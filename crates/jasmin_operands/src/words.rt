@@ -2,36 +2,15 @@
 
 ghost use Rattle.std.specs.Prelude.{◌≡◌};
 ghost use Rattle.std.specs.Option.{option_map};
-ghost use Rattle.jvms_file.specs.Names.{same_text};
 ghost use Rattle.jasmin.specs.Judgements.{said};
 ghost use Rattle.jasmin.specs.Operands.{word_at, keyword_at, name_at, class_name_at, class_at, field_descriptor_at, is_label, label_at};
 ghost use Rattle.jasmin.specs.Statements.{word_or_none};
 
 use crate::judgement::{Judged, asked};
 use crate::letters::{DOT, MINUS, NINE, PLUS, ZERO};
-use descriptor::{is_class_entry_name, is_class_name, is_field_descriptor, is_name};
+use descriptor::{is_class_entry_name, is_class_name, is_field_descriptor, is_name, is_text};
 use jasmin::statement::Flaw;
 use jasmin::token::Lexeme;
-
-/// Decides whether bytes and units are the same text.
-fn are_same(bytes: &[u8], units: &[u16]) -> bool
-    ensures { result ≡ same_text bytes.now units.now }
-{
-    match (bytes.split_first(), units.split_first()) {
-        (None, None) => true,
-        (Some((byte, bytes)), Some((unit, units))) => {
-            u16::from(*byte) == *unit && are_same(bytes, units)
-        }
-        _ => false,
-    }
-}
-
-/// Decides whether a word's units are those of an ASCII text.
-pub fn same_word(text: &str, word: &[u16]) -> bool
-    ensures { result ≡ same_text text.now word.now }
-{
-    are_same(text.as_bytes(), word)
-}
 
 /// Judges a place that requires a word, and returns the word.
 ///
@@ -66,7 +45,7 @@ pub fn keyword_at(text: &str, lexeme: Option<&Lexeme>) -> Judged<()>
     ensures { result ≡ keyword_at text.now (option_map (λ l. l.now) lexeme.entry) }
 {
     let word = word_at(lexeme)?;
-    asked(same_word(text, word), Flaw::Operand)
+    asked(is_text(text, word), Flaw::Operand)
 }
 
 /// Judges a place that requires the name of a field or a local variable (JVMS 4.2.2).

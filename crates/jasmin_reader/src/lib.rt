@@ -13,7 +13,6 @@ mod open;
 mod place;
 mod source;
 mod switch;
-mod text;
 mod written;
 
 pub use fault::SourceFault;

@@ -9,11 +9,11 @@ ghost use Rattle.jasmin_reader.specs.Readings.{Reads, IsRead};
 use crate::fault::SourceFault;
 use crate::line::with_line;
 use crate::open::Open;
-use crate::text::text as ascii_text;
 use jasmin::reading::Reading;
 use jasmin::source::Source;
 use jasmin::statement::Flaw;
 use shared_data::shared::Text;
+use shared_data::texts::ascii_text;
 use std::alloc::{AllocError, Global};
 
 /// Returns the state of the reader after the lines of a text and the number of lines, or the first faulty line.

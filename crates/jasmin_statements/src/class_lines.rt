@@ -11,11 +11,12 @@ ghost use Rattle.jasmin_instructions.specs.Saying.{Says};
 use crate::places::{but_last, last_of};
 use jasmin::statement::{Flaw, Statement};
 use jasmin::token::{Lexeme, Token};
-use jasmin_instructions::{LineFault, alone, text, word_unless};
+use jasmin_instructions::{LineFault, alone, word_unless};
 use jasmin_operands::{
     AccessWords, Judged, access_words, asked, both, class_name_at, exactly, flags_in, is_version,
     operand,
 };
+use shared_data::texts::copied_text;
 use std::alloc::Global;
 
 /// Judges the version of a `.bytecode`, which is dropped.
@@ -79,7 +80,7 @@ pub(crate) fn class_line(
     let name = class_head(tokens)?;
     Ok(Statement::Class {
         access: flags_in(AccessWords::Class, but_last(tokens)) | added,
-        name: text(alloc, name)?,
+        name: copied_text(alloc, name)?,
     })
 }
 
@@ -89,7 +90,7 @@ pub(crate) fn super_line(alloc: Global, tokens: &[Token]) -> Result<Statement, L
     ensures { Says result (super_line (lexemes tokens.now)) }
 {
     let name = alone(class_name_at(operand(tokens, 0)), tokens)?;
-    Ok(Statement::Superclass(text(alloc, name)?))
+    Ok(Statement::Superclass(copied_text(alloc, name)?))
 }
 
 /// Judges `.implements NAME`.
@@ -98,5 +99,5 @@ pub(crate) fn implements_line(alloc: Global, tokens: &[Token]) -> Result<Stateme
     ensures { Says result (implements_line (lexemes tokens.now)) }
 {
     let name = alone(class_name_at(operand(tokens, 0)), tokens)?;
-    Ok(Statement::Implements(text(alloc, name)?))
+    Ok(Statement::Implements(copied_text(alloc, name)?))
 }

@@ -10,14 +10,16 @@ ghost use Rattle.jasmin_operands.specs.Views.{caught_of};
 ghost use Rattle.jasmin_instructions.specs.Saying.{Says};
 ghost use Rattle.jasmin_instructions.specs.Views.{two_texts};
 
+use descriptor::is_text;
 use jasmin::source::{CatchLine, Caught};
 use jasmin::statement::{Flaw, Statement};
 use jasmin::token::{Lexeme, Token};
-use jasmin_instructions::{LineFault, alone, text, two_words, word_unless};
+use jasmin_instructions::{LineFault, alone, two_words, word_unless};
 use jasmin_operands::{
     CaughtName, Judged, both, caught_at, class_at, exactly, field_descriptor_at, keyword_at,
-    label_at, name_at, operand, same_word, u16_at, unless, word_at,
+    label_at, name_at, operand, u16_at, unless, word_at,
 };
+use shared_data::texts::copied_text;
 use std::alloc::{AllocError, Global};
 
 /// Judges the first operand of `.limit`, `stack` or `locals`, and decides whether it is `stack`.
@@ -25,9 +27,9 @@ fn limit_at(lexeme: Option<&Lexeme>) -> Judged<bool>
     ensures { result ≡ limit_at (option_map (λ l. l.now) lexeme.entry) }
 {
     let word = word_at(lexeme)?;
-    if same_word("stack", word) {
+    if is_text("stack", word) {
         Ok(true)
-    } else if same_word("locals", word) {
+    } else if is_text("locals", word) {
         Ok(false)
     } else {
         Err(Flaw::Operand)
@@ -103,7 +105,7 @@ fn caught_of(alloc: Global, caught: CaughtName<'_>) -> Result<Caught, AllocError
 {
     match caught {
         CaughtName::All => Ok(Caught::All),
-        CaughtName::Class(name) => Ok(Caught::Class(text(alloc, name)?)),
+        CaughtName::Class(name) => Ok(Caught::Class(copied_text(alloc, name)?)),
     }
 }
 
@@ -115,9 +117,9 @@ pub(crate) fn catch_line(alloc: Global, tokens: &[Token]) -> Result<Statement, L
     let (caught, (from, (to, handler))) = catch_parts(tokens)?;
     Ok(Statement::Catch(CatchLine {
         caught: caught_of(alloc, caught)?,
-        from: text(alloc, from)?,
-        to: text(alloc, to)?,
-        using: text(alloc, handler)?,
+        from: copied_text(alloc, from)?,
+        to: copied_text(alloc, to)?,
+        using: copied_text(alloc, handler)?,
     }))
 }
 
@@ -127,7 +129,7 @@ pub(crate) fn throws_line(alloc: Global, tokens: &[Token]) -> Result<Statement, 
     ensures { Says result (throws_line (lexemes tokens.now)) }
 {
     let name = alone(class_at(operand(tokens, 0)), tokens)?;
-    Ok(Statement::Throws(text(alloc, name)?))
+    Ok(Statement::Throws(copied_text(alloc, name)?))
 }
 
 /// Judges `.line N`.

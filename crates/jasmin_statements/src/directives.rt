@@ -3,40 +3,40 @@
 ghost use Rattle.std.specs.Prelude.{◌≡◌};
 ghost use Rattle.jasmin.specs.LineKinds.{directive_named};
 
+use descriptor::is_text;
 use jasmin::statement::Directive;
-use jasmin_operands::same_word;
 
 /// Returns the directive of this name, which begins with a dot.
 pub(crate) fn directive_named(word: &[u16]) -> Option<Directive>
     ensures { result ≡ directive_named word.now }
 {
-    if same_word(".bytecode", word) {
+    if is_text(".bytecode", word) {
         Some(Directive::Bytecode)
-    } else if same_word(".source", word) {
+    } else if is_text(".source", word) {
         Some(Directive::Source)
-    } else if same_word(".class", word) {
+    } else if is_text(".class", word) {
         Some(Directive::Class)
-    } else if same_word(".interface", word) {
+    } else if is_text(".interface", word) {
         Some(Directive::Interface)
-    } else if same_word(".super", word) {
+    } else if is_text(".super", word) {
         Some(Directive::Super)
-    } else if same_word(".implements", word) {
+    } else if is_text(".implements", word) {
         Some(Directive::Implements)
-    } else if same_word(".field", word) {
+    } else if is_text(".field", word) {
         Some(Directive::Field)
-    } else if same_word(".method", word) {
+    } else if is_text(".method", word) {
         Some(Directive::Method)
-    } else if same_word(".end", word) {
+    } else if is_text(".end", word) {
         Some(Directive::End)
-    } else if same_word(".limit", word) {
+    } else if is_text(".limit", word) {
         Some(Directive::Limit)
-    } else if same_word(".catch", word) {
+    } else if is_text(".catch", word) {
         Some(Directive::Catch)
-    } else if same_word(".throws", word) {
+    } else if is_text(".throws", word) {
         Some(Directive::Throws)
-    } else if same_word(".line", word) {
+    } else if is_text(".line", word) {
         Some(Directive::Line)
-    } else if same_word(".var", word) {
+    } else if is_text(".var", word) {
         Some(Directive::Var)
     } else {
         None

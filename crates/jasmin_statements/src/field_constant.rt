@@ -2,17 +2,17 @@
 
 ghost use Rattle.std.specs.Prelude.{◌≡◌, IfOk};
 ghost use Rattle.std.specs.Option.{option_map};
-ghost use Rattle.jvms_file.specs.Names.{same_text};
 ghost use Rattle.jasmin.specs.Lexing.{lexemes};
 ghost use Rattle.jasmin.specs.Judgements.{said};
 ghost use Rattle.jasmin.specs.Statements.{is_long, is_int_type, is_string_type, int_constant, constant_at, constant_in};
 ghost use Rattle.jasmin_statements.specs.Views.{constant_of};
 
+use descriptor::is_named;
 use jasmin::source::FieldConstant;
 use jasmin::statement::Flaw;
 use jasmin::token::{Lexeme, Token};
-use jasmin_instructions::text;
-use jasmin_operands::{Judged, exactly, i32_at, i64_at, operand, same_word, unless};
+use jasmin_operands::{Judged, exactly, i32_at, i64_at, operand, unless};
+use shared_data::texts::copied_text;
 use std::alloc::{AllocError, Global};
 
 /// The constant of a field, borrowed from its line.
@@ -23,36 +23,29 @@ pub(crate) enum LentConstant<'a> {
     String(&'a [u16]),
 }
 
-/// Decides whether a word is a given one.
-fn is_word(word: &[u16], text: &str) -> bool
-    ensures { result ≡ same_text word.now text.now }
-{
-    same_word(text, word)
-}
-
 /// Decides whether a field's type is long.
 fn is_long(descriptor: &[u16]) -> bool
     ensures { result ≡ is_long descriptor.now }
 {
-    is_word(descriptor, "J")
+    is_named(descriptor, "J")
 }
 
 /// Decides whether a field's constant is an int.
 fn is_int_type(descriptor: &[u16]) -> bool
     ensures { result ≡ is_int_type descriptor.now }
 {
-    is_word(descriptor, "I")
-        || is_word(descriptor, "B")
-        || is_word(descriptor, "C")
-        || is_word(descriptor, "S")
-        || is_word(descriptor, "Z")
+    is_named(descriptor, "I")
+        || is_named(descriptor, "B")
+        || is_named(descriptor, "C")
+        || is_named(descriptor, "S")
+        || is_named(descriptor, "Z")
 }
 
 /// Decides whether a field's type is String.
 fn is_string_type(descriptor: &[u16]) -> bool
     ensures { result ≡ is_string_type descriptor.now }
 {
-    is_word(descriptor, "Ljava/lang/String;")
+    is_named(descriptor, "Ljava/lang/String;")
 }
 
 /// Judges a number of 32 bits, the constant of a field of such a type.
@@ -108,7 +101,7 @@ fn constant_of(alloc: Global, constant: LentConstant<'_>) -> Result<FieldConstan
     Ok(match constant {
         LentConstant::Integer(number) => FieldConstant::Integer(number),
         LentConstant::Long(number) => FieldConstant::Long(number),
-        LentConstant::String(units) => FieldConstant::String(text(alloc, units)?),
+        LentConstant::String(units) => FieldConstant::String(copied_text(alloc, units)?),
     })
 }
 

@@ -15,11 +15,12 @@ use crate::places::last_of;
 use jasmin::source::FieldLine;
 use jasmin::statement::Statement;
 use jasmin::token::{Lexeme, Token};
-use jasmin_instructions::{LineFault, text};
+use jasmin_instructions::LineFault;
 use jasmin_operands::{
     AccessWords, Judged, access_words, both, field_descriptor_at, flags_in, name_at, operand,
     unless, word_or_none,
 };
+use shared_data::texts::copied_text;
 use std::alloc::Global;
 
 /// The operands of a field after its access words, borrowed from its line: the name, the descriptor and the constant.
@@ -143,8 +144,8 @@ pub(crate) fn field_line(alloc: Global, tokens: &[Token]) -> Result<Statement, L
     let (name, (descriptor, constant)) = field_parts(head, field_tail(tokens))?;
     Ok(Statement::Field(FieldLine {
         access: flags_in(AccessWords::Field, field_access(head)),
-        name: text(alloc, name)?,
-        descriptor: text(alloc, descriptor)?,
+        name: copied_text(alloc, name)?,
+        descriptor: copied_text(alloc, descriptor)?,
         constant: constant_if(alloc, constant)?,
     }))
 }

@@ -10,9 +10,10 @@ ghost use Rattle.jasmin_statements.specs.Kinds.{labelled_kind};
 
 use crate::directives::directive_named;
 use crate::mnemonics::opcode_named;
+use descriptor::is_text;
 use jasmin::statement::{Flaw, LineKind, OpenSwitch};
 use jasmin::token::{Lexeme, Token};
-use jasmin_operands::{Judged, same_word};
+use jasmin_operands::Judged;
 
 /// The first unit of a directive's name.
 const DOT: u16 = b'.' as u16;
@@ -102,7 +103,7 @@ fn is_default(tokens: &[Token]) -> bool
                 ..
             },
             ..
-        ] => same_word("default", word.as_slice()),
+        ] => is_text("default", word.as_slice()),
         _ => false,
     }
 }

@@ -14,11 +14,12 @@ use crate::places::{but_last, last_of};
 use descriptor::{Flags, is_initializer_name, is_method_name};
 use jasmin::statement::{ClassSort, Flaw, Statement};
 use jasmin::token::Token;
-use jasmin_instructions::{LineFault, is_method_descriptor_for, text, two_words, two_words_unless};
+use jasmin_instructions::{LineFault, is_method_descriptor_for, two_words, two_words_unless};
 use jasmin_operands::{
     AccessWords, Judged, access_words, asked, before_descriptor, both, descriptor_of, exactly,
     flags_in, keyword_at, operand, word_at,
 };
+use shared_data::texts::copied_text;
 use std::alloc::Global;
 
 /// Decides whether a method of a class of this sort may have these flags. A method of an interface is abstract, except
@@ -109,8 +110,8 @@ pub(crate) fn method_line(
     let (name, descriptor) = method_head(sort, access, tokens)?;
     Ok(Statement::Method {
         access,
-        name: text(alloc, name)?,
-        descriptor: text(alloc, descriptor)?,
+        name: copied_text(alloc, name)?,
+        descriptor: copied_text(alloc, descriptor)?,
     })
 }
 

@@ -5,8 +5,8 @@ ghost use Rattle.jvms_file.specs.Names.{same_text};
 ghost use Rattle.jasmin.specs.declared.mnemonic.TheConstants.{MNEMONICS as names};
 ghost use Rattle.jasmin.specs.LineKinds.{opcode_named};
 
+use descriptor::is_text;
 use jasmin::mnemonic::MNEMONICS;
-use jasmin_operands::same_word;
 
 /// The opcode of invokespecial. `invokenonvirtual` is another name of it.
 const INVOKESPECIAL: u8 = 183;
@@ -16,7 +16,7 @@ const INVOKESPECIAL: u8 = 183;
 fn is_name(name: &str, word: &[u16]) -> bool
     ensures { result ≡ same_text name.now word.now }
 {
-    name.len() == word.len() && same_word(name, word)
+    name.len() == word.len() && is_text(name, word)
 }
 
 /// Returns the place of a word among names, if it is one of them.
@@ -48,7 +48,7 @@ fn listed_opcode(word: &[u16]) -> Option<u8>
 pub(crate) fn opcode_named(word: &[u16]) -> Option<u8>
     ensures { result ≡ opcode_named word.now }
 {
-    if same_word("invokenonvirtual", word) {
+    if is_text("invokenonvirtual", word) {
         Some(INVOKESPECIAL)
     } else {
         listed_opcode(word)

@@ -14,8 +14,9 @@ use crate::places::behind;
 use crate::switch_lines::{case_line, default_line};
 use jasmin::statement::{ClassSort, Directive, LineKind, OpenSwitch, Statement};
 use jasmin::token::Token;
-use jasmin_instructions::{LineFault, instruction_line, text};
+use jasmin_instructions::{LineFault, instruction_line};
 use jasmin_operands::{Judged, label_at, lesser, operand};
+use shared_data::texts::copied_text;
 use std::alloc::{AllocError, Global};
 
 /// The flag that `.class` adds: ACC_SUPER (JVMS table 4.1-A).
@@ -65,7 +66,7 @@ fn labelled_line(alloc: Global, code: u8, tokens: &[Token]) -> Result<Statement,
     let instruction = instruction_line(alloc, code, behind(3, tokens));
     match (label_line(tokens), instruction) {
         (Ok(label), Ok(instruction)) => Ok(Statement::LabelledInstruction(
-            text(alloc, label)?,
+            copied_text(alloc, label)?,
             instruction,
         )),
         (Ok(_), Err(fault)) => Err(fault),
@@ -91,7 +92,7 @@ fn line_of(
         LineKind::Directive(directive) => directive_line(alloc, directive, sort, behind(1, tokens)),
         LineKind::Case => case_line(alloc, switch, tokens),
         LineKind::Default => default_line(alloc, tokens),
-        LineKind::Label => Ok(Statement::Label(text(alloc, label_line(tokens)?)?)),
+        LineKind::Label => Ok(Statement::Label(copied_text(alloc, label_line(tokens)?)?)),
         LineKind::Instruction(code) => {
             Ok(Statement::Instruction(instruction_line(alloc, code, behind(1, tokens))?))
         }

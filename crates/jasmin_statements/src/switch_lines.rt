@@ -12,8 +12,9 @@ ghost use Rattle.jasmin_instructions.specs.Saying.{Says};
 use jasmin::source::MatchLine;
 use jasmin::statement::{Flaw, OpenSwitch, Statement};
 use jasmin::token::{Lexeme, Token};
-use jasmin_instructions::{LineFault, alone, text, word_unless};
+use jasmin_instructions::{LineFault, alone, word_unless};
 use jasmin_operands::{Judged, asked, both, exactly, i32_at, label_at, operand};
+use shared_data::texts::copied_text;
 use std::alloc::Global;
 
 /// Judges the label of a line of a `tableswitch`. Its value `next` has to fit an int.
@@ -33,7 +34,7 @@ fn table_line(alloc: Global, next: i64, tokens: &[Token]) -> Result<Statement, L
     ensures { Says result (table_line next (lexemes tokens.now)) }
 {
     let label = table_label(next, tokens)?;
-    Ok(Statement::TableLabel(text(alloc, label)?))
+    Ok(Statement::TableLabel(copied_text(alloc, label)?))
 }
 
 /// Judges a place that requires a colon.
@@ -96,7 +97,7 @@ fn match_line(alloc: Global, last: Option<i32>, tokens: &[Token]) -> Result<Stat
     let (value, label) = match_parts(last, tokens)?;
     Ok(Statement::Match(MatchLine {
         value,
-        label: text(alloc, label)?,
+        label: copied_text(alloc, label)?,
     }))
 }
 
@@ -121,5 +122,5 @@ pub(crate) fn default_line(alloc: Global, tokens: &[Token]) -> Result<Statement,
     ensures { Says result (default_line (lexemes tokens.now)) }
 {
     let label = label_after_colon(tokens)?;
-    Ok(Statement::Default(text(alloc, label)?))
+    Ok(Statement::Default(copied_text(alloc, label)?))
 }

@@ -1,2 +1,2 @@
 mod Classes
-mod Faults
+pub mod Faults

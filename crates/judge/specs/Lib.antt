@@ -1,4 +1,5 @@
 pub mod Faults
 pub mod Judgement
 pub mod Programs
+pub mod Runs
 pub mod Shown

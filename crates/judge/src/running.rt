@@ -1,9 +1,9 @@
 //! Runs a program, keeps only the end, and judges the run.
 
-ghost use Rattle.std.specs.Prelude.{◌≡◌, length, IfOk, IfErr, OnOk, OnErr, Ok};
-ghost use Rattle.judge.specs.Faults.{IsFault, NamesFile};
+ghost use Rattle.std.specs.Prelude.{◌≡◌, IfOk, IfErr, OnOk, OnErr, Ok};
 ghost use Rattle.judge.specs.Judgement.{IsJudgementOn};
-ghost use Rattle.judge.specs.Shown.{chooser_left, program_judged, run_judged};
+ghost use Rattle.judge.specs.Runs.{IsRunOf};
+ghost use Rattle.judge.specs.Shown.{program_judged};
 ghost use Rattle.program_runs.specs.Faults.{IsProgramFault};
 ghost use Rattle.program_runs.specs.Shown.{HasEnding, program_chooser_left, view_of_program};
 
@@ -70,15 +70,8 @@ fn run_inputs(
     most: TurnLimit,
     spec: Option<Spec>,
 ) -> Result<RunSummary, JudgeFault>
-    ensures ending { IfOk result (λ run.
-        HasEnding (run_judged most chooser.old limits inputs.now entry.now) run.ending) }
-    ensures judged { IfOk result (λ run. IsJudgementOn spec
-        (run_judged most chooser.old limits inputs.now entry.now) run.judgement) }
-    ensures chooser { OnOk result
-        (chooser_left most chooser.old limits inputs.now entry.now ≡ Ok chooser.new) }
-    ensures fault { IfErr result (λ fault.
-        IsFault fault (run_judged most chooser.old limits inputs.now entry.now)) }
-    ensures named { IfErr result (λ fault. NamesFile (length inputs.now) fault) }
+    ensures { IsRunOf (λ run. run.ending) (λ run. run.judgement)
+        spec most chooser.old chooser.new limits inputs.now entry.now result }
 {
     let program = program_of(alloc, inputs)?;
     let run = run_and_check(alloc, &program, limits, entry, chooser, most, spec)?;
@@ -100,21 +93,12 @@ pub fn run(
     most: TurnLimit,
     spec: Option<Spec>,
 ) -> Result<RunSummary, JudgeFault>
-    // The number of turns, the result, output, status and uncaught exceptions are those of the run that `judge`
-    // returns.
-    ensures ending { IfOk result (λ run.
-        HasEnding (run_judged most chooser.old limits inputs.now entry.now) run.ending) }
-    // The judgement is the verdict on the items of that run with their counts, or `None` without a specification.
-    ensures judged { IfOk result (λ run. IsJudgementOn spec
-        (run_judged most chooser.old limits inputs.now entry.now) run.judgement) }
-    // The chooser is then the one after its choices. A fault leaves it unchanged.
-    ensures chooser { OnOk result
-        (chooser_left most chooser.old limits inputs.now entry.now ≡ Ok chooser.new) }
+    // How the run ends, its judgement and the chooser after it are those of the run that `judge` returns. A fault is
+    // returned only if its condition holds.
+    ensures run { IsRunOf (λ run. run.ending) (λ run. run.judgement)
+        spec most chooser.old chooser.new limits inputs.now entry.now result }
+    // A fault leaves the chooser unchanged.
     ensures kept { OnErr result (chooser.new ≡ chooser.old) }
-    // A fault is returned only if its condition holds. A fault of an input names one of these.
-    ensures fault { IfErr result (λ fault.
-        IsFault fault (run_judged most chooser.old limits inputs.now entry.now)) }
-    ensures named { IfErr result (λ fault. NamesFile (length inputs.now) fault) }
 {
     let mut moved = chooser.copy()?;
     let run = run_inputs(alloc, inputs, limits, entry, &mut moved, most, spec)?;

@@ -7,3 +7,4 @@ pub mod descriptor;
 pub mod fault;
 pub mod insn;
 pub mod laws;
+pub mod opcodes;

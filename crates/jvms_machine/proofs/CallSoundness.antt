@@ -26,14 +26,14 @@ use Rattle.jvms_program.specs.declared.program.Body.{Body}
 use Rattle.jvms_program.specs.declared.program.MethodReference.{MethodReference}
 use Rattle.jvms_program.specs.declared.program.Instruction.TheVariants as instruction
 use Rattle.jvms_program.specs.Program.{IsProgram, method_at}
-use Rattle.jvms_program.specs.Resolution.{ResolvedMethod, fits, resolved_method, method_number}
+use Rattle.jvms_program.specs.Resolution.{ResolvedMethod, fits, resolved_method, method_number, is_static_call}
 use Rattle.jvms_machine.specs.Decisions.{TurnDecision}
 use Rattle.jvms_machine.specs.State.{State, Object, Thread, Frame, MethodFrame, object_at, class_of, IsReference, IsValue, body_at, is_synchronized_at, IsFrame, IsDirectlyAbove, result_length}
 use Rattle.jvms_machine.specs.Start.{Start, IsArgument, IsStart}
 use Rattle.jvms_machine.specs.Activations.{has_depth}
 use Rattle.jvms_machine.specs.Steps.{instruction_at}
 use Rattle.jvms_machine.specs.Profile.{is_outside_method}
-use Rattle.jvms_machine.specs.Calls.{entered, enter_decision, with_body, called_decision, first_call, entry_decision, run_of_class, selected_run, run_of_object, run_decision, first_call_decision, is_static_call, taken, receiver_of, are_of_call, numbered, call_decision, static_call_decision, selected, selected_decision, wrong_receiver, object_call_decision, receiver_call_decision, resolved_call_decision, invoke_decision}
+use Rattle.jvms_machine.specs.Calls.{entered, enter_decision, with_body, called_decision, first_call, entry_decision, run_of_class, selected_run, run_of_object, run_decision, first_call_decision, taken, receiver_of, are_of_call, numbered, call_decision, static_call_decision, selected, selected_decision, wrong_receiver, object_call_decision, receiver_call_decision, resolved_call_decision, invoke_decision}
 use Rattle.jvms_machine.specs.Monitors.{locked_reference}
 use Rattle.jvms_machine.specs.Actions.{with_lock, first_arguments, first_called, given, stack_without_operands, calling, top_operands, arguments_of, applied_to, items_of}
 use Rattle.jvms_machine.specs.Marks.{calls_in, calls_of}

@@ -101,8 +101,8 @@ no_forks t before after same =
     let none : length after.threads - length before.threads ≡ 0 = omega arith in
     sym (ap (λ n. map (λ u. item.Fork t u) (range_with_len (length before.threads) n)) none)
 
-by_instance_test : (t : ℕ) (before after : State) (items : List Item) (held free : List ℕ) → Changes before after held free → filter is_acquire items ≡ map (λ r. item.Acquire t r) held → filter is_release items ≡ map (λ r. item.Release t r) free → filter is_fork items ≡ [] → HasEventsOf t before after items
-by_instance_test t before after items held free changes acquires releases forks =
+has_events : (t : ℕ) (before after : State) (items : List Item) (held free : List ℕ) → Changes before after held free → filter is_acquire items ≡ map (λ r. item.Acquire t r) held → filter is_release items ≡ map (λ r. item.Release t r) free → filter is_fork items ≡ [] → HasEventsOf t before after items
+has_events t before after items held free changes acquires releases forks =
     record {
       acquires = acquires ∙ sym (ap (λ (rs : List ℕ). map (λ r. item.Acquire t r) rs) changes.held_are);
       releases = releases ∙ sym (ap (λ (rs : List ℕ). map (λ r. item.Release t r) rs) changes.free_are);
@@ -120,7 +120,7 @@ changes_none before after same threads =
 
 quiet : (t : ℕ) (before after : State) (items : List Item) → after.monitors ≡ before.monitors → length after.threads ≡ length before.threads → AreOther items → HasEventsOf t before after items
 quiet t before after items same threads other =
-    by_instance_test t before after items [] [] (changes_none before after same threads) other.acquires other.releases other.forks
+    has_events t before after items [] [] (changes_none before after same threads) other.acquires other.releases other.forks
 
 -- The events of one monitor that becomes held, if the condition is true.
 acquired : (t r : ℕ) (b : Bool) → (filter is_acquire (cond b (item.Acquire t r ∷ []) []) ≡ map (λ q. item.Acquire t q) (cond b (r ∷ []) [])) × (filter is_release (cond b (item.Acquire t r ∷ []) []) ≡ []) × (filter is_fork (cond b (item.Acquire t r ∷ []) []) ≡ [])
@@ -168,11 +168,11 @@ module _ (program : List Class) (s : State) (t : ℕ) where
   lock_is_told after n (lock.Monitor monitor) same threads can =
       let others = entries_are_other program t n in
       let acquires = acquired t monitor.reference monitor.outermost in
-      by_instance_test t s after _ (cond monitor.outermost (monitor.reference ∷ []) []) [] (entered_changes after monitor same threads can.0)
+      has_events t s after _ (cond monitor.outermost (monitor.reference ∷ []) []) [] (entered_changes after monitor same threads can.0)
       (after_others is_acquire (enter_items program t n) (lock_items t (lock.Monitor monitor)) others.acquires ∙ acquires.0) (after_others is_release (enter_items program t n) (lock_items t (lock.Monitor monitor)) others.releases ∙ acquires.1) (after_others is_fork (enter_items program t n) (lock_items t (lock.Monitor monitor)) others.forks ∙ acquires.2)
   lock_is_told after n (lock.NewClass class r) same threads can =
       let others = entries_are_other program t n in
-      by_instance_test t s after _ (r ∷ []) [] (new_changes after class r same threads can.1)
+      has_events t s after _ (r ∷ []) [] (new_changes after class r same threads can.1)
       (after_others is_acquire (enter_items program t n) (lock_items t (lock.NewClass class r)) others.acquires) (after_others is_release (enter_items program t n) (lock_items t (lock.NewClass class r)) others.releases) (after_others is_fork (enter_items program t n) (lock_items t (lock.NewClass class r)) others.forks)
 
   left_changes : {limits : Limits} → Sound program limits s → (after : State) (monitor : MonitorUse) → after.monitors ≡ (with_unlock s (Some monitor)).monitors → length after.threads ≡ length s.threads → IsLeft s monitor → Changes s after [] (cond monitor.outermost (monitor.reference ∷ []) [])
@@ -189,7 +189,7 @@ module _ (program : List Class) (s : State) (t : ℕ) where
   unlock_is_told sound after n (Some monitor) same threads left =
       let others = exits_are_other program t n in
       let releases = released t monitor.reference monitor.outermost in
-      by_instance_test t s after _ [] (cond monitor.outermost (monitor.reference ∷ []) []) (left_changes sound after monitor same threads left)
+      has_events t s after _ [] (cond monitor.outermost (monitor.reference ∷ []) []) (left_changes sound after monitor same threads left)
       (before_others is_acquire (release_items t monitor) (exit_items program t n) others.acquires ∙ releases.0) (before_others is_release (release_items t monitor) (exit_items program t n) others.releases ∙ releases.1) (before_others is_fork (release_items t monitor) (exit_items program t n) others.forks ∙ releases.2)
 
 -- ---- States with the same monitors and threads
@@ -262,12 +262,12 @@ module _ (program : List Class) (limits : Limits) (start : Start) (s : State) (t
       let made = with_lock program s t (lock.Monitor monitor) in
       let after = with_changed made t (thread_after_action act) in
       let acquires = acquired t monitor.reference monitor.outermost in
-      by_instance_test t s after _ (cond monitor.outermost (monitor.reference ∷ []) []) [] (entered_changes program s t after monitor refl (as_many made (thread_after_action act) refl) can.0) acquires.0 acquires.1 acquires.2
+      has_events t s after _ (cond monitor.outermost (monitor.reference ∷ []) []) [] (entered_changes program s t after monitor refl (as_many made (thread_after_action act) refl) can.0) acquires.0 acquires.1 acquires.2
   effect_is_told operands (effect.Unlocks monitor) act can heard others =
       let made = with_unlock s (Some monitor) in
       let after = with_changed made t (thread_after_action act) in
       let releases = released t monitor.reference monitor.outermost in
-      by_instance_test t s after _ [] (cond monitor.outermost (monitor.reference ∷ []) []) (left_changes program s t sound after monitor refl (as_many made (thread_after_action act) refl) heard) releases.0 releases.1 releases.2
+      has_events t s after _ [] (cond monitor.outermost (monitor.reference ∷ []) []) (left_changes program s t sound after monitor refl (as_many made (thread_after_action act) refl) heard) releases.0 releases.1 releases.2
   effect_is_told operands (effect.Starts r u) act can heard others =
       record { acquires = sym (ap (λ (rs : List ℕ). map (λ q. item.Acquire t q) rs) (none_new_in_same s.monitors)); releases = sym (ap (λ (rs : List ℕ). map (λ q. item.Release t q) rs) (none_new_in_same s.monitors)); forks = one_fork r u (thread_after_action act) heard }
   effect_is_told operands (effect.Notifies r all) act can heard others = beside_is_told _ (thread_after_action act) _ (refl, refl) none_are_other
@@ -301,7 +301,7 @@ module _ (program : List Class) (limits : Limits) (start : Start) (s : State) (t
       quiet t s _ [] beside.0 (as_many (with_exception program s e) _ beside.1) none_are_other
   action_is_told (action.Waits w) ready heard =
       let after = with_changed (with_waiter s t w.reference) t (put_to_wait w) in
-      by_instance_test t s after _ [] (w.reference ∷ [])
+      has_events t s after _ [] (w.reference ∷ [])
       (record {
         held_are = freed_new w.reference s.monitors;
         free_are = freed_old s.heap s.threads w.reference heard.0 s.monitors sound.monitors heard.1;
@@ -310,7 +310,7 @@ module _ (program : List Class) (limits : Limits) (start : Start) (s : State) (t
       refl refl refl
   action_is_told (action.Retakes w) ready heard =
       let after = with_changed (with_retaken s t w) t waited in
-      by_instance_test t s after _ (w.reference ∷ []) []
+      has_events t s after _ (w.reference ∷ []) []
       (record { held_are = retaken_new t w s.monitors heard; free_are = retaken_old t w s.monitors; threads_are = as_many (with_retaken s t w) waited refl })
       refl refl refl
   action_is_told (action.Raises e) ready heard = beside_is_told _ _ [] (beside_exception program s e) none_are_other

@@ -20,7 +20,7 @@ use Rattle.jvms_program.specs.declared.program.FieldReference.{FieldReference}
 use Rattle.jvms_program.specs.declared.thrown.Thrown.{Thrown}
 use Rattle.jvms_program.specs.declared.thrown.Thrown.TheVariants as thrown
 use Rattle.jvms_program.specs.Program.{field_key_at}
-use Rattle.jvms_program.specs.Resolution.{ResolvedField, fits, resolved_field, field_number}
+use Rattle.jvms_program.specs.Resolution.{ResolvedField, fits, resolved_field, field_number, is_static_use}
 use Rattle.jvms_machine.specs.Decisions.{TurnDecision}
 use Rattle.jvms_machine.specs.State.{State, Object, Thread, Frame, MethodFrame, object_at, class_of, IsValue}
 use Rattle.jvms_file.specs.Descriptors.{units_of}
@@ -29,7 +29,7 @@ use Rattle.jvms_machine.specs.Start.{Start}
 use Rattle.jvms_machine.specs.Activations.{has_depth}
 use Rattle.jvms_program.specs.Slots.{same_key}
 use Rattle.jvms_machine.specs.Heap.{stored_as, value_of}
-use Rattle.jvms_machine.specs.Fields.{is_static_use, field_takes, field_gives, are_of_field, taking, write_decision, static_decision, fields_of, object_decision, receiver_decision, object_of_use, instance_decision, numbered_field_decision, found_field_decision, resolved_field_decision, field_decision}
+use Rattle.jvms_machine.specs.Fields.{field_takes, field_gives, are_of_field, taking, write_decision, static_decision, fields_of, object_decision, receiver_decision, object_of_use, instance_decision, numbered_field_decision, found_field_decision, resolved_field_decision, field_decision}
 use Rattle.jvms_machine.proofs.ThreadChanges.{Stands}
 use Rattle.jvms_machine.proofs.KeptStates.{Keeps, still}
 use Rattle.jvms_machine.proofs.ExceptionSoundness.{throws_keeps}

@@ -1,17 +1,11 @@
 -- The printed bytes (own): an int or a long in decimal, a string in UTF-8, null as its name, and the end of a line.
-use Rattle.std.specs.Prelude.{ℕ, ◌+◌, ◌-◌, ◌*◌, Bool, true, false, ◌&&◌, nat_le, if◌then◌else◌, List, [], ◌∷◌, ◌++◌, Option, Some, codes, encode_utf8}
+use Rattle.std.specs.Prelude.{ℕ, ◌+◌, ◌-◌, ◌*◌, Bool, true, false, ◌&&◌, if◌then◌else◌, List, [], ◌∷◌, ◌++◌, Option, Some, codes, encode_utf8}
 use Rattle.std.specs.List.{flat_map}
 use Rattle.std.specs.Fmt.{signed_decimal}
+use Rattle.shared_data.specs.Surrogates.{is_high, is_low}
 use Rattle.jvms_machine.specs.declared.action.Printed.{Printed}
 use Rattle.jvms_machine.specs.declared.action.Printed.TheVariants as printed
 use Rattle.jvms_machine.specs.State.{Object, text, object_at}
-
--- Decide whether a unit is the high or the low surrogate of a supplementary character.
-abbrev pub is_high : ℕ → Bool
-is_high u = nat_le 0xd800 u && nat_le u 0xdbff
-
-abbrev pub is_low : ℕ → Bool
-is_low u = nat_le 0xdc00 u && nat_le u 0xdfff
 
 -- Returns the characters of units. A pair of surrogates is one character, and a single surrogate becomes a question
 -- mark.

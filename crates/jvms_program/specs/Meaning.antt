@@ -102,11 +102,15 @@ code_of (method_attribute.Code name c ∷ others) = Some c
 code_of (method_attribute.Exceptions name classes ∷ others) = code_of others
 code_of (method_attribute.Kept a ∷ others) = code_of others
 
+-- The classes of the first Exceptions attribute (JVMS 4.7.5), by their numbers.
+abbrev pub exceptions_of : List MethodAttribute → List ℕ
+exceptions_of [] = []
+exceptions_of (method_attribute.Exceptions name classes ∷ others) = classes
+exceptions_of (method_attribute.Code name c ∷ others) = exceptions_of others
+exceptions_of (method_attribute.Kept a ∷ others) = exceptions_of others
+
 abbrev pub throws_of : List Constant → List MethodAttribute → List (List ℕ)
-throws_of pool [] = []
-throws_of pool (method_attribute.Exceptions name classes ∷ others) = map (class_text pool) classes
-throws_of pool (method_attribute.Code name c ∷ others) = throws_of pool others
-throws_of pool (method_attribute.Kept a ∷ others) = throws_of pool others
+throws_of pool attributes = map (class_text pool) (exceptions_of attributes)
 
 -- The flags of a method (JVMS 4.6). <clinit> keeps no flag: it is called as a static method that is neither native,
 -- abstract nor synchronized.

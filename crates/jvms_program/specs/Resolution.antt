@@ -7,6 +7,10 @@ use Rattle.std.specs.List.{find, flat_map, list_any}
 use Rattle.jvms_file.specs.declared.descriptor.Element.{Element}
 use Rattle.jvms_file.specs.declared.descriptor.Element.TheVariants as element
 use Rattle.jvms_file.specs.declared.descriptor.FieldType.{FieldType}
+use Rattle.jvms_file.specs.declared.insn.FieldUse.{FieldUse}
+use Rattle.jvms_file.specs.declared.insn.FieldUse.TheVariants as field_use
+use Rattle.jvms_file.specs.declared.insn.Invoke.{Invoke}
+use Rattle.jvms_file.specs.declared.insn.Invoke.TheVariants as invoke
 use Rattle.jvms_program.specs.declared.thrown.Thrown.{Thrown}
 use Rattle.jvms_program.specs.declared.thrown.Thrown.TheVariants as thrown
 use Rattle.jvms_program.specs.declared.program.Class.{Class}
@@ -106,6 +110,20 @@ unfoldable pub fits : List Class → List ℕ → List ℕ → Bool
 fits program a b = are_subtypes program (class_type a) (class_type b)
 
 -- ---- Resolution (JVMS 5.4.3)
+
+-- An instruction uses a static field.
+abbrev pub is_static_use : FieldUse → Bool
+is_static_use field_use.GetStatic = true
+is_static_use field_use.PutStatic = true
+is_static_use field_use.Get = false
+is_static_use field_use.Put = false
+
+-- An instruction calls a static method.
+abbrev pub is_static_call : Invoke → Bool
+is_static_call invoke.Static = true
+is_static_call invoke.Virtual = false
+is_static_call invoke.Special = false
+is_static_call invoke.Interface = false
 
 -- A class is there. For an array that is the class of its elements.
 abbrev pub type_exists : List Class → FieldType → Bool

@@ -2,6 +2,7 @@
 //! classes, and the resolution of names.
 #![tactic(auto)]
 
+pub mod attributes;
 pub mod case_table;
 pub mod frequent;
 pub mod instructions;
@@ -10,3 +11,4 @@ pub mod laws;
 pub mod number;
 pub mod program;
 pub mod thrown;
+pub mod uses;

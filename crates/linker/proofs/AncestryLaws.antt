@@ -149,7 +149,7 @@ module _ (program : List Class) where
   -- ---- Classes that are reached
 
   -- The class of a number is above names, at most `most` classes up.
-  pub record IsFastDecision (names : List (List ℕ)) (most n : ℕ) : Type 0 where
+  pub record IsReached (names : List (List ℕ)) (most n : ℕ) : Type 0 where
     pub name : List ℕ
     pub number : class_number program name ≡ Some n
     pub above : is_above program most name names ≡ true
@@ -164,7 +164,7 @@ module _ (program : List Class) where
       ∙ or_left (same_text c.name name) (is_above program most name (supers_of c)) (ap (λ n. same_text n name) (name_is program name c h) ∙ nat_list_eq_equiv.refl name)
 
   started_by : (super : List ℕ) (names : List (List ℕ)) (n : ℕ) (o : Option ℕ) → class_number program super ≡ o
-      → (is_in (numbers_of program names) n ≡ true → IsFastDecision names 1 n) → is_in (to_list o ++ numbers_of program names) n ≡ true → IsFastDecision (super ∷ names) 1 n
+      → (is_in (numbers_of program names) n ≡ true → IsReached names 1 n) → is_in (to_list o ++ numbers_of program names) n ≡ true → IsReached (super ∷ names) 1 n
   started_by super names n None h more there =
       let r = more there in
       record { name = r.name; number = r.number; above = or_right (names_class r.name (ancestry_within 1 program super)) (is_above program 1 r.name names) r.above }
@@ -183,7 +183,7 @@ module _ (program : List Class) where
       (or_cases (eqb n m) (is_in (numbers_of program names) n) there)
 
   -- The classes of the names themselves.
-  pub started : (names : List (List ℕ)) (n : ℕ) → is_in (numbers_of program names) n ≡ true → IsFastDecision names 1 n
+  pub started : (names : List (List ℕ)) (n : ℕ) → is_in (numbers_of program names) n ≡ true → IsReached names 1 n
   started [] n there = absurd (false≢true there)
   started (super ∷ names) n there = started_by super names n (class_number program super) refl (started names n) there
 
@@ -214,7 +214,7 @@ module _ (program : List Class) where
       (or_cases (names_class name (ancestry_within (suc most) program super)) (is_above program (suc most) name names) there)
 
   -- The supers of a class that is reached, one class further up.
-  pub next_reached : (names : List (List ℕ)) (most n m : ℕ) (c : Class) → slice_get program n ≡ Some c → IsFastDecision names most n → is_in (super_numbers program c) m ≡ true → IsFastDecision names (suc most) m
+  pub next_reached : (names : List (List ℕ)) (most n m : ℕ) (c : Class) → slice_get program n ≡ Some c → IsReached names most n → is_in (super_numbers program c) m ≡ true → IsReached names (suc most) m
   next_reached names most n m c at r there =
       let s = started (supers_of c) m there in
       record { name = s.name; number = s.number; above = more_above most r.name s.name c names (sym (named_at program r.name n r.number) ∙ at) s.above r.above }
@@ -229,7 +229,7 @@ module _ (program : List Class) where
   -- Numbers that contain those of the names, contain those of each class's supers, and are all reached.
   pub all_above : (names : List (List ℕ)) (numbers : List ℕ) → list_all (is_in numbers) (numbers_of program names) ≡ true
       → ((m : ℕ) (c : Class) → slice_get program m ≡ Some c → is_in numbers m ≡ true → list_all (is_in numbers) (super_numbers program c) ≡ true)
-      → ((n : ℕ) → is_in numbers n ≡ true → IsFastDecision names (length program) n)
+      → ((n : ℕ) → is_in numbers n ≡ true → IsReached names (length program) n)
       → AreAllAbove program names numbers
   all_above names numbers start closed reached = record {
     all = λ name n number.
@@ -303,12 +303,12 @@ module _ (program : List Class) where
       let here = numbers_within_by (class_number program name) (number_within name) in
       list_all-append (λ n. ltb n (length program)) (to_list (class_number program name)) (numbers_of program names) ∙ (λ i. here i && numbers_within names i)
 
-  higher : (names : List (List ℕ)) (least most n : ℕ) → least ≤ most → IsFastDecision names least n → IsFastDecision names most n
+  higher : (names : List (List ℕ)) (least most n : ℕ) → least ≤ most → IsReached names least n → IsReached names most n
   higher names least most n h r = record { name = r.name; number = r.number; above = grown least most r.name names h r.above }
 
   -- Each number of a set is reached, at most as many classes up as its place in the set.
   pub record AreReached (names : List (List ℕ)) (numbers : List ℕ) : Type 0 where
-    pub reached : (j : ℕ) → j < length numbers → IsFastDecision names (j + 1) (get_or numbers j 0)
+    pub reached : (j : ℕ) → j < length numbers → IsReached names (j + 1) (get_or numbers j 0)
 
   pub reached_first : (names : List (List ℕ)) (numbers : List ℕ) → numbers ≡ numbers_of program names → AreReached names (with_numbers [] numbers)
   reached_first names numbers are = record {
@@ -329,7 +329,7 @@ module _ (program : List Class) where
       record {
         reached = λ j within.
             ⊎_elim
-            (λ (early : j < length numbers). subst (IsFastDecision names (j + 1)) (sym (same_place numbers more j early)) (before.reached j early))
+            (λ (early : j < length numbers). subst (IsReached names (j + 1)) (sym (same_place numbers more j early)) (before.reached j early))
             (λ (late : length numbers ≤ j).
             let m = get_or (with_numbers numbers more) j 0 in
             higher names (suc (place + 1)) (j + 1) m (omega arith)
@@ -371,7 +371,7 @@ module _ (program : List Class) where
       subst (λ (ns : List ℕ). list_all (is_in numbers) ns ≡ true) (ap (λ n. get_or (super_rows program) n []) p.2 ∙ row m c at) (closed.closed p.0 (omega (arith, p.1))))
       (λ n there.
       let p = place_of numbers n there in
-      higher names (p.0 + 1) (length program) n (omega (arith, p.1)) (subst (IsFastDecision names (p.0 + 1)) p.2 (reached.reached p.0 p.1)))
+      higher names (p.0 + 1) (length program) n (omega (arith, p.1)) (subst (IsReached names (p.0 + 1)) p.2 (reached.reached p.0 p.1)))
 
   within_by : (n : ℕ) (o : Option Class) → slice_get program n ≡ o → list_all (λ m. ltb m (length program)) (get_or (super_rows program) n []) ≡ true
   within_by n None at =

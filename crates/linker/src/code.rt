@@ -7,6 +7,7 @@ ghost use Rattle.jvms_program.specs.Meaning.{catch_of, handler_of, body_of, code
 use crate::instruction::instructions_of;
 use crate::texts::Texts;
 use jvms_file::class_file::{Code, Handler, MethodAttribute};
+use jvms_program::attributes::code_of;
 use jvms_program::program::{Body, Catch, ExceptionHandler};
 use shared_data::items::Items;
 use std::alloc::{AllocError, Global};
@@ -59,20 +60,6 @@ fn body_of(alloc: Global, texts: &Texts, code: &Code) -> Result<Body, AllocError
         instructions: instructions_of(alloc, texts, code.insns.as_slice())?,
         handlers: handlers_of(alloc, texts, code.handlers.as_slice())?,
     })
-}
-
-/// Returns the first Code among attributes.
-fn code_of(attributes: &[MethodAttribute]) -> Option<&Code>
-    ensures { option_map (λ c. c.now) result ≡ code_of attributes.now }
-{
-    let mut rest = attributes;
-    while let [attribute, others @ ..] = rest {
-        if let MethodAttribute::Code { name: _, code } = attribute {
-            return Some(code);
-        }
-        rest = others;
-    }
-    None
 }
 
 /// Returns the code of a method that has these attributes, if one is Code.

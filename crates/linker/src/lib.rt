@@ -19,5 +19,5 @@ mod texts;
 pub use class::meaning;
 pub use fault::LinkFault;
 pub use jvms_file::class_file::ClassFile;
-pub use linking::link;
+pub use linking::{classes_of, last_classes, link};
 pub use program::Program;

@@ -17,7 +17,7 @@ use program::Program;
 use std::alloc::{AllocError, Global};
 
 /// Returns the classes that class files mean, in order. Drops each file as soon as it has its class.
-fn classes_of(alloc: Global, files: Vec<ClassFile>) -> Result<Vec<Class>, AllocError>
+pub fn classes_of(alloc: Global, files: Vec<ClassFile>) -> Result<Vec<Class>, AllocError>
     ensures { IfOk result (λ classes. classes.items ≡ map meaning files.items) }
 {
     let mut classes = Vec::with_capacity(alloc, files.len())?;
@@ -28,7 +28,7 @@ fn classes_of(alloc: Global, files: Vec<ClassFile>) -> Result<Vec<Class>, AllocE
 }
 
 /// Returns the last `count` classes of a list.
-fn last_classes(list: &ClassList, count: usize) -> &[Class]
+pub fn last_classes(list: &ClassList, count: usize) -> &[Class]
     ensures { result.now ≡ drop (length list.now - count) list.now }
 {
     let classes = list.classes();

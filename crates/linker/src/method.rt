@@ -2,35 +2,17 @@
 
 ghost use Rattle.std.specs.Prelude.{◌≡◌, IfOk, map};
 ghost use Rattle.jvms_file.specs.Members.{is_initializer};
-ghost use Rattle.jvms_program.specs.Meaning.{throws_of, flags_of, method_of};
+ghost use Rattle.jvms_program.specs.Meaning.{flags_of, method_of};
 
 use crate::code::body_among;
 use crate::texts::Texts;
 use const_pool::Pool;
 use descriptor::{Flags, is_initializer_name};
-use jvms_file::class_file::{MethodAttribute, MethodInfo};
+use jvms_file::class_file::MethodInfo;
+use jvms_program::attributes::exceptions_of;
 use jvms_program::program::{Method, MethodFlags};
 use shared_data::items::Items;
-use shared_data::shared::Text;
 use std::alloc::{AllocError, Global};
-
-/// Returns the classes that the first Exceptions among attributes lists (JVMS 4.7.5).
-fn throws_of(
-    alloc: Global,
-    texts: &Texts,
-    attributes: &[MethodAttribute],
-) -> Result<Items<Text>, AllocError>
-    ensures { IfOk result (λ names. names ≡ throws_of texts.now attributes.now) }
-{
-    let mut rest = attributes;
-    while let [attribute, others @ ..] = rest {
-        if let MethodAttribute::Exceptions { name: _, classes } = attribute {
-            return texts.class_names(alloc, classes.as_slice());
-        }
-        rest = others;
-    }
-    Ok(Items::new(alloc))
-}
 
 /// Decides whether a method of this name is a class's or an interface's initialization method (JVMS 2.9).
 fn is_initializer(pool: &Pool, name: u16) -> bool
@@ -67,7 +49,7 @@ fn method_of(alloc: Global, texts: &Texts, info: &MethodInfo) -> Result<Method, 
         descriptor: descriptor.text.share()?,
         method_type: descriptor.method_type.share()?,
         flags: flags_of(is_initializer(texts.pool(), info.name), info.access),
-        throws: throws_of(alloc, texts, attributes)?,
+        throws: texts.class_names(alloc, exceptions_of(attributes))?,
         body: body_among(alloc, texts, attributes)?,
     })
 }

@@ -6,9 +6,9 @@ ghost use Rattle.jvms_program.specs.Program.{class_named};
 ghost use Rattle.jvms_program.specs.Resolution.{is_interface_kind, names_interface};
 ghost use Rattle.linker.specs.Linking.{built_in_name, has_wrong_interface, has_wrong_superclass, is_never_extended, lacks_super, missing_super, names_of, repeated_name, wrong_super};
 
-use built_in::{is_built_in, is_named};
+use built_in::is_built_in;
 use classes::{ClassList, OBJECT};
-use descriptor::same_text;
+use descriptor::{is_named, same_text};
 use jvms_program::program::{Class, ClassKind};
 use shared_data::shared::Text;
 use std::alloc::{AllocError, Global};

@@ -12,6 +12,7 @@ use descriptor::{DescriptorFault, field_type, method_type, parse_field, parse_me
 use jvms_file::descriptor::{FieldType, MethodType};
 use shared_data::items::Items;
 use shared_data::shared::{Shared, Text};
+use shared_data::texts::copied_text;
 use std::alloc::{AllocError, Global};
 
 /// A text and its types. A text that is no descriptor has the types of the empty text.
@@ -76,9 +77,8 @@ fn typed_text_by(alloc: Global, text: &[u16], nothing: &TypedText) -> Result<Typ
 {
     let field_type = field_type_of(alloc, text, &nothing.field_type)?;
     let method_type = method_type_of(alloc, text, &nothing.method_type)?;
-    let units = Vec::from_slice(alloc, text)?;
     Ok(TypedText {
-        text: Shared::new(alloc, Items::from_vec(units))?,
+        text: copied_text(alloc, text)?,
         field_type,
         method_type,
     })

@@ -1,7 +1,8 @@
 -- Defines which trees have a text. A word has no white space, line end, quote, colon or equals sign, and no surrogate
 -- without its other half.
-use Rattle.std.specs.Prelude.{ℕ, Bool, true, false, not, ◌==◌, ◌&&◌, ◌||◌, nat_le, if◌then◌else◌, List, [], ◌∷◌, Option, Some, None, is_some, codes}
+use Rattle.std.specs.Prelude.{ℕ, Bool, true, false, not, ◌==◌, ◌&&◌, ◌||◌, if◌then◌else◌, List, [], ◌∷◌, Option, Some, None, is_some, codes}
 use Rattle.std.specs.List.{list_all, list_any}
+use Rattle.shared_data.specs.Surrogates.{is_high, is_low}
 use Rattle.jvms_file.specs.Names.{same_text}
 use Rattle.jasmin.specs.declared.source.LoadedConstant.{LoadedConstant}
 use Rattle.jasmin.specs.declared.source.LoadedConstant.TheVariants as loaded
@@ -18,14 +19,6 @@ use Rattle.jasmin.specs.declared.source.Source.{Source}
 use Rattle.jasmin.specs.Denote.{has_code}
 use Rattle.jasmin.specs.Lexing.{ends_word}
 use Rattle.jasmin.specs.Numerals.{number_of}
-
--- Decides whether a unit is a high surrogate, the first half of a supplementary character. Below, a low surrogate, the
--- second half.
-abbrev pub is_high : ℕ → Bool
-is_high u = nat_le 0xd800 u && nat_le u 0xdbff
-
-abbrev pub is_low : ℕ → Bool
-is_low u = nat_le 0xdc00 u && nat_le u 0xdfff
 
 -- Decides whether each surrogate has its other half.
 unfoldable pub is_paired : List ℕ → Bool

@@ -1,5 +1,5 @@
 -- Quiet turns leave the other threads as enabled as they were.
-use Rattle.std.proofs.Common.{ap, false, refl, subst, sym, true, ℕ, ◌∙◌, ◌≡◌}
+use Rattle.std.proofs.Common.{List, None, Option, ap, false, refl, subst, sym, true, ℕ, ◌∙◌, ◌≡◌}
 use Rattle.std.specs.Borrow.{Bor}
 use Rattle.std.specs.Prelude.{◌≢◌, Err, IfOk, Ok, OnOk, Result}
 use Rattle.enabled_laws.proofs.QuietTurns.{quiet_leaves_enabled}
@@ -10,6 +10,12 @@ use Rattle.jvms_machine.specs.declared.action.Decision.{Decision}
 use Rattle.jvms_machine.specs.declared.action.Decision.TheVariants as decision
 use Rattle.jvms_machine.specs.declared.action.Effect.{Effect}
 use Rattle.jvms_machine.specs.declared.action.Effect.TheVariants as effect
+use Rattle.jvms_machine.specs.declared.action.FrameAction.{FrameAction}
+use Rattle.jvms_machine.specs.declared.action.Lock.TheVariants as lock
+use Rattle.jvms_machine.specs.declared.value.Value.{Value}
+use Rattle.jvms_program.specs.declared.number.MethodNumber.{MethodNumber}
+use Rattle.jvms_machine.specs.Decisions.{TurnDecision}
+use Rattle.jvms_machine.specs.Fields.{reaches}
 use Rattle.jvms_machine.specs.Status.{is_bad}
 use Rattle.jvms_program.specs.declared.program.Body.{Body}
 use Rattle.machine_parts.specs.Decided.{seen, action_value, effect_value}
@@ -63,6 +69,22 @@ decision_seen (decision.Makes act) = action_seen act
 -- A quiet decision of the code is a quiet decision of the definitions.
 pub decided_quietly : (m : Machine) (t : ℕ) (what : Decision (Bor Body) ActionText) → seen what ≡ decision_of m t → is_quiet_decision what ≡ true → IsQuietTurn m t
 decided_quietly m t what told quiet = ap is_quiet_decision (sym told) ∙ decision_seen what ∙ quiet
+
+-- A quiet decision of the code is quiet in the definitions.
+pub seen_quietly : (what : Decision (Bor Body) ActionText) (d : TurnDecision) → seen what ≡ d → is_quiet_decision what ≡ true → is_quiet_decision d ≡ true
+seen_quietly what d is quiet = ap is_quiet_decision (sym is) ∙ decision_seen what ∙ quiet
+
+-- A turn that a fast path decided is quiet if its effect is.
+pub reached_quietly : (m : Machine) (t : ℕ) (what : Effect (List ℕ)) (act : FrameAction) → decision_of m t ≡ reaches what act → is_quiet_decision (reaches what act) ≡ true → IsQuietTurn m t
+reached_quietly m t what act is quiet = ap is_quiet_decision is ∙ quiet
+
+-- A call that enters no monitor is quiet.
+pub called_quietly : (m : Machine) (t : ℕ) (method : MethodNumber) (code : Body) (takes : ℕ) → decision_of m t ≡ decision.Makes (action.Calls method code takes lock.Nothing) → IsQuietTurn m t
+called_quietly m t method code takes is = ap is_quiet_decision is
+
+-- A return that leaves no monitor is quiet.
+pub returned_quietly : (m : Machine) (t : ℕ) (method : MethodNumber) (value : Option Value) → decision_of m t ≡ decision.Makes (action.Returns method value None) → IsQuietTurn m t
+returned_quietly m t method value is = ap is_quiet_decision is
 
 -- A quiet turn leaves each other thread as enabled as it was.
 pub quiet_leaves : (m after : Machine) (t : ℕ) → IsMachine m → IsQuietTurn m t → after ≡ with_state m (transition_of m t).state → LeavesOthers m t after

@@ -1,6 +1,7 @@
 pub mod Adding
 pub mod CanTurn
 pub mod Entries
+pub mod FastTurns
 pub mod Others
 pub mod Runs
 pub mod Started

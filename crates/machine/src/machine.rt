@@ -11,10 +11,10 @@ ghost use Rattle.trace.specs.Recording.{recorded};
 
 use crate::fault::MachineFault;
 use crate::limits::are_limits;
-use crate::making::{Turn, step};
+use crate::making::Turn;
 use crate::opening::open;
 use crate::peek::peek;
-use crate::running::step_consecutive;
+use crate::running::{step, step_consecutive};
 use crate::start::start_of;
 use jvms_machine::machine::{Entry, Limits, Outcome, ThreadId};
 use jvms_machine::value::Value;

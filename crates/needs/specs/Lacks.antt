@@ -9,9 +9,7 @@ use Rattle.jvms_program.specs.declared.program.Loadable.{Loadable}
 use Rattle.jvms_program.specs.declared.program.Loadable.TheVariants as loadable
 use Rattle.jvms_program.specs.declared.thrown.Thrown.{Thrown}
 use Rattle.jvms_program.specs.declared.thrown.Thrown.TheVariants as thrown
-use Rattle.jvms_program.specs.Resolution.{class_exists, resolved_field, resolved_method}
-use Rattle.jvms_machine.specs.Calls.{is_static_call}
-use Rattle.jvms_machine.specs.Fields.{is_static_use}
+use Rattle.jvms_program.specs.Resolution.{class_exists, is_static_call, is_static_use, resolved_field, resolved_method}
 use Rattle.needs.specs.declared.lack.Lack.{Lack}
 use Rattle.needs.specs.declared.lack.Lack.TheVariants as lack
 use Rattle.needs.specs.Outside.{is_outside}

@@ -5,7 +5,7 @@ ghost use Rattle.std.specs.List.{list_any};
 ghost use Rattle.needs.specs.Hints.{hint_of, is_absence as absence, is_assertion as assertion, is_box as box_class, is_boxing as boxing, is_text_builder as text_builder, unnamed_hint as said_unnamed};
 
 use crate::lack::Lack;
-use built_in::is_named;
+use descriptor::is_named;
 use jvms_program::thrown::Thrown;
 
 /// The UTF-16 code unit of `$`.

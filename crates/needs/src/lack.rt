@@ -2,15 +2,14 @@
 
 ghost use Rattle.std.specs.Prelude.{◌≡◌};
 ghost use Rattle.std.specs.Result.{result_err};
-ghost use Rattle.jvms_machine.specs.Calls.{is_static_call as static_call};
-ghost use Rattle.jvms_machine.specs.Fields.{is_static_use as static_use};
-ghost use Rattle.jvms_program.specs.Resolution.{resolved_field, resolved_method};
+ghost use Rattle.jvms_program.specs.Resolution.{is_static_call as static_call, is_static_use as static_use, resolved_field, resolved_method};
 ghost use Rattle.needs.specs.Lacks.{absence, constant_error, first_lack, lack_of, resolution_error};
 
 use crate::outside::is_outside;
 use jvms_file::insn::{FieldUse, Invoke};
 use jvms_program::program::{FieldReference, Instruction, Loadable, MethodReference};
 use jvms_program::thrown::Thrown;
+use jvms_program::uses::{is_static_call, is_static_use};
 use program::Program;
 
 /// A reason why an instruction can't run.
@@ -41,20 +40,6 @@ fn constant_error(program: &Program, constant: &Loadable) -> Option<Thrown>
         Loadable::Class(name) => absence(program, name.as_slice()),
         _ => None,
     }
-}
-
-/// Returns whether an instruction names a static field.
-fn is_static_use(how: FieldUse) -> bool
-    ensures { result ≡ static_use how }
-{
-    matches!(how, FieldUse::GetStatic | FieldUse::PutStatic)
-}
-
-/// Returns whether an instruction calls a static method.
-fn is_static_call(how: Invoke) -> bool
-    ensures { result ≡ static_call how }
-{
-    matches!(how, Invoke::Static)
 }
 
 /// Returns the error of a resolution that failed.

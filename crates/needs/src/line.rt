@@ -3,13 +3,12 @@
 ghost use Rattle.std.specs.Prelude.{◌≡◌, ◌++◌, OnOk};
 ghost use Rattle.std.specs.Option.{option_map};
 ghost use Rattle.std.specs.String.{string_bytes};
-ghost use Rattle.escapes.specs.Keys.{member_text};
 ghost use Rattle.needs.specs.Lines.{error_text, hint_text, instruction_text, lack_text, named_text, need_line, need_text, place_text, reason_of, reason_text};
 
 use crate::hint::{hint_of, is_absence, unnamed_hint};
 use crate::lack::{Lack, lack_of};
 use crate::named::{class_named, member_named};
-use escapes::{MethodKey, put_method, put_name};
+use escapes::{MethodKey, put_member, put_method, put_name};
 use jvms_program::number::MethodNumber;
 use jvms_program::program::Instruction;
 use jvms_program::thrown::Thrown;
@@ -38,22 +37,6 @@ fn lack_name(lack: Lack) -> &'static str
         Lack::Unresolved(error) => error_name(error),
         Lack::OutOfProfile => "OutOfProfile",
     }
-}
-
-/// Appends a member: `C.m.D`.
-pub(crate) fn put_member(
-    out: &mut String,
-    class: &[u16],
-    name: &[u16],
-    descriptor: &[u16],
-) -> Result<(), AllocError>
-    ensures { OnOk result (string_bytes out.new ≡ string_bytes out.old ++ member_text class.now name.now descriptor.now) }
-{
-    put_name(out, class)?;
-    out.push_str(".")?;
-    put_name(out, name)?;
-    out.push_str(".")?;
-    put_name(out, descriptor)
 }
 
 /// Appends what is named, after a space: the class if it is missing, else the member, if there is one.

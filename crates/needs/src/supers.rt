@@ -1,10 +1,9 @@
 //! Writes the lines of missing superclasses and superinterfaces.
 
-ghost use Rattle.std.specs.Prelude.{◌≡◌, ◌++◌, ◌-◌, IfOk, OnOk, drop, length, map};
+ghost use Rattle.std.specs.Prelude.{◌≡◌, ◌++◌, IfOk, OnOk};
 ghost use Rattle.std.specs.List.{flat_map};
 ghost use Rattle.std.specs.Option.{option_to_list};
 ghost use Rattle.std.specs.String.{string_bytes};
-ghost use Rattle.jvms_program.specs.Meaning.{meaning};
 ghost use Rattle.jvms_program.specs.Program.{program_of};
 ghost use Rattle.needs.specs.Supers.{line_of_super, lines_of_supers, missing_supers, super_line};
 
@@ -15,7 +14,7 @@ use escapes::put_name;
 use jvms_file::class_file::ClassFile;
 use jvms_program::program::Class;
 use jvms_program::thrown::Thrown;
-use linker::meaning;
+use linker::{classes_of, last_classes};
 use shared_data::shared::Text;
 use std::alloc::{AllocError, Global};
 
@@ -104,25 +103,6 @@ fn put_all_supers(out: &mut String, list: &ClassList, classes: &[Class]) -> Resu
         put_supers(out, list, class)?;
     }
     Ok(())
-}
-
-/// Returns the classes of class files, in order.
-fn classes_of(alloc: Global, files: Vec<ClassFile>) -> Result<Vec<Class>, AllocError>
-    ensures { IfOk result (λ classes. classes.items ≡ map meaning files.items) }
-{
-    let mut classes = Vec::with_capacity(alloc, files.len())?;
-    for file in files {
-        classes.push(meaning(alloc, file)?)?;
-    }
-    Ok(classes)
-}
-
-/// Returns the last `count` classes of a list.
-fn last_classes(list: &ClassList, count: usize) -> &[Class]
-    ensures { result.now ≡ drop (length list.now - count) list.now }
-{
-    let classes = list.classes();
-    classes.split_at(classes.len().saturating_sub(count)).1
 }
 
 /// Returns a line for each superclass and superinterface that class files name and that is neither among them nor built

@@ -9,11 +9,10 @@ ghost use Rattle.velodrome.specs.Specification.{is_of as pattern_is_of};
 ghost use Rattle.velodrome.specs.declared.specification.Pattern.TheVariants as pattern_case;
 ghost use Rattle.needs.specs.Unmatched.{matches_in as pattern_matches_in, no_match_line, unmatched_line, unmatched_lines};
 
-use crate::line::put_member;
 use atom_spec::{Pattern, SpecificationLine};
 use built_in::is_built_in;
 use descriptor::same_text;
-use escapes::put_name;
+use escapes::{put_member, put_name};
 use jvms_program::program::{Class, Method};
 use program::Program;
 use std::alloc::AllocError;

@@ -41,9 +41,9 @@ usable _ = refl
 behind_two : (n : ℕ) (r : ℕ → Option ℕ) → r (n + 1 + 1) ≡ r (n + 2)
 behind_two n r = let far : n + 1 + 1 ≡ n + 2 = omega arith in ap r far
 
-number_after_tag : (n : ℕ) (x e : Entry) (pool : List Constant)
+number_after_entry : (n : ℕ) (x e : Entry) (pool : List Constant)
     → number_in n (constants_of x ++ pool) (constant_of e) ≡ cond (is_same e x) (Some n) (number_in (n + width x) pool (constant_of e))
-number_after_tag n x e pool =
+number_after_entry n x e pool =
     elim (takes_two (constant_of x)) as (λ two. number_in n (cond two (constant_of x ∷ constant.Unusable ∷ []) (constant_of x ∷ []) ++ pool) (constant_of e) ≡ cond (is_same e x) (Some n) (number_in (n + cond two 2 1) pool (constant_of e))) [
       | true ↦ rw (one_constant e x, usable e) (ap (cond (is_same e x) (Some n)) (behind_two n (λ m. number_in m pool (constant_of e))))
       | false ↦ rw (one_constant e x) refl
@@ -52,7 +52,7 @@ number_after_tag n x e pool =
 same_number : (n : ℕ) (es : List Entry) (e : Entry) → number_in n (pool_of es) (constant_of e) ≡ number_from n es e
 same_number n [] e = refl
 same_number n (x ∷ es) e =
-    number_after_tag n x e (pool_of es) ∙ ap (cond (is_same e x) (Some n)) (same_number (n + width x) es e)
+    number_after_entry n x e (pool_of es) ∙ ap (cond (is_same e x) (Some n)) (same_number (n + width x) es e)
 
 -- ---- Interning
 

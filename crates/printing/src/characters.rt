@@ -1,23 +1,11 @@
 //! Converts UTF-16 code units to characters, and to their bytes in UTF-8.
 
 ghost use Rattle.std.specs.Prelude.{◌≡◌, ◌+◌, ◌-◌, ◌*◌, ◌<◌, ◌≤◌, ◌∷◌, ◌++◌, [], length, take, IsOk, OnOk, OnErr, IsTrue, if◌then◌else◌, encode_utf8};
-ghost use Rattle.jvms_machine.specs.Output.{is_high, is_low, characters, text_bytes};
+ghost use Rattle.shared_data.specs.Surrogates.{is_high, is_low};
+ghost use Rattle.jvms_machine.specs.Output.{characters, text_bytes};
 
+use shared_data::surrogates::{is_high, is_low};
 use std::alloc::AllocError;
-
-/// Decides whether a unit is a high surrogate.
-fn is_high(unit: u16) -> bool
-    ensures { result ≡ is_high unit }
-{
-    0xd800 <= unit && unit <= 0xdbff
-}
-
-/// Decides whether a unit is a low surrogate.
-fn is_low(unit: u16) -> bool
-    ensures { result ≡ is_low unit }
-{
-    0xdc00 <= unit && unit <= 0xdfff
-}
 
 /// Returns the supplementary character of a surrogate pair.
 fn joined(high: u16, low: u16) -> char

@@ -1,22 +1,21 @@
 -- Consecutive turns by a chooser.
-use Rattle.std.proofs.Common.{◌≡◌, ℕ, zero, suc, ◌+◌, ◌-◌, ◌<◌, ◌≤◌, List, [], ◌∷◌, ◌++◌, length, take, refl, ap, sym, ◌∙◌, arith, Option, Some, None}
+use Rattle.std.proofs.Common.{◌≡◌, ℕ, zero, suc, ◌+◌, ◌-◌, ◌<◌, ◌≤◌, ◌⊎◌, inl, inr, List, [], ◌∷◌, ◌++◌, length, refl, ap, sym, ◌∙◌, arith, Option, Some, None}
 use Rattle.std.proofs.lemmas.List.{append-nil, append_assoc}
-use Rattle.std.proofs.Math.Seq.{take-append_seam}
 use Rattle.jvms_machine.specs.declared.machine.Outcome.{Outcome}
 use Rattle.jvms_machine.specs.declared.trace.Item.{Item}
 use Rattle.trace.specs.Recording.{recorded}
 use Rattle.machine.specs.Machine.{Machine, transition_of, with_state}
-use Rattle.machine.specs.Runs.{IsRun}
+use Rattle.machine.specs.Runs.{run_of, IsRun}
 use Rattle.machine.proofs.RunLaws.{run_none, run_more}
 use Rattle.schedule.specs.Choosers.{Chooser}
-use Rattle.runs.specs.Choices.{after_turn, choice_of, chooser_after, choices_from, chooser_after_choices, first_then, BrokeOff, IsTurnOf}
+use Rattle.runs.specs.Choices.{after_turn, choice_of, chooser_after, choices_from, chooser_after_choices, first_then, left_or, BrokeOff, IsTurnOf, MayHaveGiven}
 
 -- Turns were taken by the first choices of a chooser, and led to this machine and these items. What is left of the
 -- chooser gives the other choices.
 pub record AreTaken (before : Machine) (first : Chooser) (most : ℕ) (items_before : Option (List Item)) (made : ℕ) (choices : List ℕ) (outcomes : List Outcome) (m : Machine) (chooser : Chooser) (items : Option (List Item)) : Type 0 where
   pub within : made ≤ most
-  pub left : choices ++ choices_from (most - made) chooser m ≡ choices_from most first before
-  pub left_behind : chooser_after_choices (most - made) chooser m ≡ chooser_after_choices most first before
+  pub left : (n : ℕ) → choices ++ choices_from n chooser m ≡ choices_from (made + n) first before
+  pub left_behind : (n : ℕ) → chooser_after_choices n chooser m ≡ chooser_after_choices (made + n) first before
   pub ran : IsRun before choices outcomes m items_before items
 
 pub one_left : (n : ℕ) (chooser : Chooser) (m : Machine) (t : ℕ) → choice_of chooser m ≡ Some t → choices_from (suc n) chooser m ≡ t ∷ choices_from n (chooser_after chooser m) (after_turn m t)
@@ -40,23 +39,51 @@ pub nothing_behind : (chooser : Chooser) (m : Machine) → chooser_after_choices
 unfolding chooser_after_choices
 nothing_behind chooser m = refl
 
+left_or_behind : (t : Option ℕ) (left : Chooser) → left_or t left (λ _. left) ≡ left
+left_or_behind None left = refl
+left_or_behind (Some t) left = refl
+
+-- The chooser after at most one choice.
+once_behind : (chooser : Chooser) (m : Machine) → chooser_after_choices 1 chooser m ≡ chooser_after chooser m
+unfolding chooser_after_choices
+once_behind chooser m = left_or_behind (choice_of chooser m) (chooser_after chooser m)
+
+one_more_made : (made : ℕ) → made + 1 ≡ suc made
+one_more_made made = omega arith
+
 pub nothing_left : (chooser : Chooser) (m : Machine) → choices_from 0 chooser m ≡ []
 unfolding choices_from
 nothing_left chooser m = refl
+
+none_before : (n : ℕ) → n ≡ 0 + n
+none_before n = omega arith
 
 -- No turn is taken yet.
 pub taken_none : (m : Machine) (chooser : Chooser) (most : ℕ) (items : Option (List Item)) (choices : List ℕ) (outcomes : List Outcome) → choices ≡ [] → outcomes ≡ [] → AreTaken m chooser most items 0 choices outcomes m chooser items
 taken_none m chooser most items choices outcomes no_choice no_outcome =
     rw (no_choice, no_outcome) record {
       within = omega arith;
-      left = ap (λ n. choices_from n chooser m) (omega arith);
-      left_behind = ap (λ n. chooser_after_choices n chooser m) (omega arith);
+      left = λ n. ap (λ k. choices_from k chooser m) (none_before n);
+      left_behind = λ n. ap (λ k. chooser_after_choices k chooser m) (none_before n);
       ran = run_none m items;
     }
 
--- Before a turn, the number of turns that are left is one more than after it.
-more_left : (most made : ℕ) → made < most → most - made ≡ suc (most - (made + 1))
-more_left most made below = omega arith
+-- The turns behind one more turn are one fewer.
+one_later : (made n : ℕ) → made + suc n ≡ made + 1 + n
+one_later made n = omega arith
+
+-- The turns that were taken and those that are left are as many as the limit.
+up_to : (made most : ℕ) → made ≤ most → made + (most - made) ≡ most
+up_to made most within = omega (arith, within)
+
+one_more_up_to : (made most : ℕ) → made < most → made + suc (most - (made + 1)) ≡ most
+one_more_up_to made most below = omega (arith, below)
+
+none_more : (made : ℕ) → made + 0 ≡ made
+none_more made = omega arith
+
+none_up_to : (made most : ℕ) → made ≤ most → most ≤ made → made + 0 ≡ most
+none_up_to made most within reached = omega (arith, within, reached)
 
 -- One more turn is taken.
 pub taken_more : (before : Machine) (first : Chooser) (most : ℕ) (items_before : Option (List Item)) (made : ℕ) (choices : List ℕ) (outcomes : List Outcome) (m : Machine) (chooser : Chooser) (items : Option (List Item))
@@ -68,19 +95,19 @@ pub taken_more : (before : Machine) (first : Chooser) (most : ℕ) (items_before
 taken_more before first most items_before made choices outcomes m chooser items t o after later items_after taken below chosen later_is outcome state items_are =
     record {
       within = omega arith;
-      left =
-          append_assoc choices (t ∷ []) (choices_from (most - (made + 1)) later after)
-          ∙ ap (λ c. choices ++ t ∷ choices_from (most - (made + 1)) c after) later_is
-          ∙ ap (λ x. choices ++ t ∷ choices_from (most - (made + 1)) (chooser_after chooser m) x) state
-          ∙ ap (λ l. choices ++ l) (sym (one_left (most - (made + 1)) chooser m t chosen))
-          ∙ ap (λ n. choices ++ choices_from n chooser m) (sym (more_left most made below))
-          ∙ taken.left;
-      left_behind =
-          ap (λ c. chooser_after_choices (most - (made + 1)) c after) later_is
-          ∙ ap (λ x. chooser_after_choices (most - (made + 1)) (chooser_after chooser m) x) state
-          ∙ sym (one_behind (most - (made + 1)) chooser m t chosen)
-          ∙ ap (λ n. chooser_after_choices n chooser m) (sym (more_left most made below))
-          ∙ taken.left_behind;
+      left = λ n.
+          append_assoc choices (t ∷ []) (choices_from n later after)
+          ∙ ap (λ c. choices ++ t ∷ choices_from n c after) later_is
+          ∙ ap (λ x. choices ++ t ∷ choices_from n (chooser_after chooser m) x) state
+          ∙ ap (λ l. choices ++ l) (sym (one_left n chooser m t chosen))
+          ∙ taken.left (suc n)
+          ∙ ap (λ k. choices_from k first before) (one_later made n);
+      left_behind = λ n.
+          ap (λ c. chooser_after_choices n c after) later_is
+          ∙ ap (λ x. chooser_after_choices n (chooser_after chooser m) x) state
+          ∙ sym (one_behind n chooser m t chosen)
+          ∙ taken.left_behind (suc n)
+          ∙ ap (λ k. chooser_after_choices k first before) (one_later made n);
       ran = run_more before m after choices outcomes items_before items items_after t o taken.ran outcome state items_are;
     }
 
@@ -92,16 +119,27 @@ pub taken_next : (before : Machine) (first : Chooser) (most : ℕ) (items_before
 taken_next before first most items_before made choices outcomes m chooser items taken after later more are below is =
     taken_more before first most items_before made choices outcomes m chooser items taken.0 taken.1 after later more are below is.0 is.3 is.1 is.2 is.4
 
+-- What a chooser left or gave is what is left of the first chooser after as many choices as were taken, or after one more.
+given_here : (first : Chooser) (before : Machine) (made : ℕ) (m : Machine) (chooser later : Chooser)
+    → ((n : ℕ) → chooser_after_choices n chooser m ≡ chooser_after_choices (made + n) first before) → MayHaveGiven chooser m later
+    → (later ≡ chooser_after_choices made first before) ⊎ (later ≡ chooser_after_choices (suc made) first before)
+given_here first before made m chooser later left_behind (inl same) =
+    inl (same ∙ sym (nothing_behind chooser m) ∙ left_behind 0 ∙ ap (λ k. chooser_after_choices k first before) (none_more made))
+given_here first before made m chooser later left_behind (inr gave) =
+    inr (gave ∙ sym (once_behind chooser m) ∙ left_behind 1 ∙ ap (λ k. chooser_after_choices k first before) (one_more_made made))
+
 -- A run that breaks off here has taken the turns of some first choices.
-pub broken_here : (before : Machine) (first : Chooser) (most : ℕ) (items_before : Option (List Item)) (made : ℕ) (choices : List ℕ) (outcomes : List Outcome) (m : Machine) (chooser : Chooser) (items : Option (List Item))
-    → AreTaken before first most items_before made choices outcomes m chooser items → BrokeOff before (choices_from most first before) m items_before items
-broken_here before first most items_before made choices outcomes m chooser items taken =
-    let rest = choices_from (most - made) chooser m in
-    let are : take (length choices) (choices_from most first before) ≡ choices = ap (λ l. take (length choices) l) (sym taken.left) ∙ take-append_seam choices rest in
+pub broken_here : (before : Machine) (first : Chooser) (most : ℕ) (items_before : Option (List Item)) (made : ℕ) (choices : List ℕ) (outcomes : List Outcome) (m : Machine) (chooser later : Chooser) (items : Option (List Item))
+    → AreTaken before first most items_before made choices outcomes m chooser items → MayHaveGiven chooser m later → BrokeOff before first most m later items_before items
+broken_here before first most items_before made choices outcomes m chooser later items taken gave =
+    let are : choices ≡ choices_from made first before =
+    sym (append-nil choices) ∙ ap (λ l. choices ++ l) (sym (nothing_left chooser m)) ∙ taken.left 0 ∙ ap (λ k. choices_from k first before) (none_more made) in
     record {
-      made = length choices;
-      state = rw are taken.ran.1;
-      items = rw are taken.ran.2;
+      made = made;
+      within = taken.within;
+      state = taken.ran.1 ∙ ap (λ l. with_state before (run_of before l).state) are;
+      items = taken.ran.2 ∙ ap (λ l. recorded items_before (run_of before l).items) are;
+      given = given_here first before made m chooser later taken.left_behind gave;
     }
 
 -- Lists that equal the choices and the outcomes are those of the run.
@@ -113,14 +151,19 @@ told before first most items_before made choices more outcomes more_outcomes m c
 pub all_given : (before : Machine) (first : Chooser) (most : ℕ) (items_before : Option (List Item)) (made : ℕ) (choices : List ℕ) (outcomes : List Outcome) (m : Machine) (chooser : Chooser) (items : Option (List Item))
     → AreTaken before first most items_before made choices outcomes m chooser items → choice_of chooser m ≡ None → choices ≡ choices_from most first before
 all_given before first most items_before made choices outcomes m chooser items taken none =
-    sym (append-nil choices) ∙ ap (λ l. choices ++ l) (sym (none_left (most - made) chooser m none)) ∙ taken.left
+    sym (append-nil choices)
+    ∙ ap (λ l. choices ++ l) (sym (none_left (most - made) chooser m none))
+    ∙ taken.left (most - made)
+    ∙ ap (λ k. choices_from k first before) (up_to made most taken.within)
 
 -- If the limit is reached, these are all the choices.
 pub all_made : (before : Machine) (first : Chooser) (most : ℕ) (items_before : Option (List Item)) (made : ℕ) (choices : List ℕ) (outcomes : List Outcome) (m : Machine) (chooser : Chooser) (items : Option (List Item))
     → AreTaken before first most items_before made choices outcomes m chooser items → most ≤ made → choices ≡ choices_from most first before
 all_made before first most items_before made choices outcomes m chooser items taken reached =
-    let none : most - made ≡ 0 = omega arith in
-    sym (append-nil choices) ∙ ap (λ l. choices ++ l) (sym (nothing_left chooser m)) ∙ ap (λ n. choices ++ choices_from n chooser m) (sym none) ∙ taken.left
+    sym (append-nil choices)
+    ∙ ap (λ l. choices ++ l) (sym (nothing_left chooser m))
+    ∙ taken.left 0
+    ∙ ap (λ k. choices_from k first before) (none_up_to made most taken.within reached)
 
 -- If the chooser gives none, what is left of it is the chooser after all the choices.
 pub behind_all_given : (before : Machine) (first : Chooser) (most : ℕ) (items_before : Option (List Item)) (made : ℕ) (choices : List ℕ) (outcomes : List Outcome) (m : Machine) (chooser later : Chooser) (items : Option (List Item))
@@ -128,15 +171,16 @@ pub behind_all_given : (before : Machine) (first : Chooser) (most : ℕ) (items_
 behind_all_given before first most items_before made choices outcomes m chooser later items taken below none later_is =
     later_is
     ∙ sym (none_behind (most - (made + 1)) chooser m none)
-    ∙ ap (λ n. chooser_after_choices n chooser m) (sym (more_left most made below))
-    ∙ taken.left_behind
+    ∙ taken.left_behind (suc (most - (made + 1)))
+    ∙ ap (λ k. chooser_after_choices k first before) (one_more_up_to made most below)
 
 -- If the limit is reached, this is the chooser after all the choices.
 pub behind_all_made : (before : Machine) (first : Chooser) (most : ℕ) (items_before : Option (List Item)) (made : ℕ) (choices : List ℕ) (outcomes : List Outcome) (m : Machine) (chooser : Chooser) (items : Option (List Item))
     → AreTaken before first most items_before made choices outcomes m chooser items → most ≤ made → chooser ≡ chooser_after_choices most first before
 behind_all_made before first most items_before made choices outcomes m chooser items taken reached =
-    let none : most - made ≡ 0 = omega arith in
-    sym (nothing_behind chooser m) ∙ ap (λ n. chooser_after_choices n chooser m) (sym none) ∙ taken.left_behind
+    sym (nothing_behind chooser m)
+    ∙ taken.left_behind 0
+    ∙ ap (λ k. chooser_after_choices k first before) (none_up_to made most taken.within reached)
 
 first_then_few : (n : ℕ) (o : Option ℕ) (rest : ℕ → List ℕ) → ((t : ℕ) → length (rest t) ≤ n) → length (first_then o rest) ≤ suc n
 first_then_few n None rest few = omega arith

@@ -8,7 +8,7 @@ use Rattle.trace.specs.Recording.{recorded}
 use Rattle.machine.specs.Machine.{Machine, with_state}
 use Rattle.machine.specs.Runs.{run_of}
 use Rattle.schedule.specs.Choosers.{Chooser}
-use Rattle.runs.specs.Choices.{choice_of, chooser_after, choices_from, chooser_after_choices, AreConsecutiveTurns, BrokeOff, IsTurnOf}
+use Rattle.runs.specs.Choices.{choice_of, chooser_after, choices_from, chooser_after_choices, AreConsecutiveTurns, BrokeOff, IsTurnOf, MayHaveGiven}
 use Rattle.runs.proofs.ChosenTurns.{AreTaken, all_given, all_made, behind_all_given, behind_all_made, broken_here, taken_next, taken_none}
 use Rattle.runs.proofs.TurnsOn.{taken_on}
 
@@ -56,10 +56,10 @@ counted_next before first most items_before made m chooser items taken after lat
     }
 
 -- A run that breaks off here has taken the turns of some first choices.
-pub counted_broken : (before : Machine) (first : Chooser) (most : ℕ) (items_before : Option (List Item)) (made : ℕ) (m : Machine) (chooser : Chooser) (items : Option (List Item))
-    → AreCounted before first most items_before made m chooser items → BrokeOff before (choices_from most first before) m items_before items
-counted_broken before first most items_before made m chooser items are =
-    broken_here before first most items_before made are.choices are.outcomes m chooser items are.taken
+pub counted_broken : (before : Machine) (first : Chooser) (most : ℕ) (items_before : Option (List Item)) (made : ℕ) (m : Machine) (chooser later : Chooser) (items : Option (List Item))
+    → AreCounted before first most items_before made m chooser items → MayHaveGiven chooser m later → BrokeOff before first most m later items_before items
+counted_broken before first most items_before made m chooser later items are gave =
+    broken_here before first most items_before made are.choices are.outcomes m chooser later items are.taken gave
 
 -- The number, the machine and the items are those of all turns that a chooser gives, up to the limit.
 pub record AllCounted (before : Machine) (first : Chooser) (most : ℕ) (items_before : Option (List Item)) (made : ℕ) (m : Machine) (items : Option (List Item)) : Type 0 where

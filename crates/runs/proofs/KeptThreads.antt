@@ -1,17 +1,18 @@
 -- The enabled threads, from turn to turn.
-use Rattle.std.proofs.Common.{Bool, List, [], ap, append-nil, append_assoc, arith, cond, eqb-true, false, length, not, refl, subst, suc, sym, true, zero, ℕ, ◌&&◌, ◌++◌, ◌+◌, ◌-◌, ◌<◌, ◌==◌, ◌∙◌, ◌∷◌, ◌≡◌, ◌≤◌}
+use Rattle.std.proofs.Common.{Bool, List, [], ap, append-nil, append_assoc, arith, cond, eqb-true, false, inl, inr, length, not, refl, subst, suc, sym, true, zero, ℕ, ◌&&◌, ◌++◌, ◌+◌, ◌-◌, ◌<◌, ◌==◌, ◌∙◌, ◌∷◌, ◌≡◌, ◌≤◌}
 use Rattle.std.proofs.lemmas.Bool.{cond_both, eqb-false, false≢true}
 use Rattle.std.proofs.lemmas.Bool.Decides.{nat_tests}
-use Rattle.std.specs.List.{filter, range_with_len}
-use Rattle.std.specs.Prelude.{◌≢◌}
+use Rattle.std.specs.List.{filter, list_any, range_with_len}
+use Rattle.std.specs.Prelude.{◌≢◌, ◌||◌, ◌⊎◌, Err, Ok, OnOk, Result}
 use Rattle.jvms_machine.specs.Status.{is_bad, is_enabled}
 use Rattle.jvms_machine.specs.declared.machine.Outcome.{Outcome}
 use Rattle.jvms_machine.specs.declared.machine.Outcome.TheVariants as outcome
 use Rattle.machine.specs.Machine.{Machine, transition_of}
 use Rattle.machine.specs.Others.{LeavesOthers}
-use Rattle.schedule.specs.Choosers.{enabled_of}
+use Rattle.schedule.specs.Choosers.{enabled_of, may_go_on}
 use Rattle.schedule.specs.Enabled.{can_go_on, enabled_threads}
-use Rattle.runs.specs.Kept.{AreEnabled, is_fit, one_enabled}
+use Rattle.runs.specs.Kept.{AreEnabled, AreIdle, IsKept, is_fit, one_enabled}
+use Rattle.runs.specs.declared.kept.Kept.{Kept}
 
 -- ---- One thread after another
 
@@ -97,3 +98,100 @@ module _ (m after : Machine) (t : ℕ) (threads : length after.state.threads ≡
 
   pub kept_on : (seen : List ℕ) → seen ≡ enabled_threads m → AreEnabled after seen
   kept_on seen are = record { enabled = are ∙ sym left_enabled; fit = left_fit }
+
+-- ---- Idle threads
+
+-- No thread is known to be idle.
+pub none_idle : (m : Machine) (idle : List ℕ) → idle ≡ [] → AreIdle m idle
+none_idle m idle none = rw none (record { not_on = λ u is. absurd (false≢true (sym is)); fit = λ u is. absurd (false≢true (sym is)) })
+
+-- Nothing is kept.
+pub nothing_kept : (m : Machine) (kept : Kept) → kept.is_current ≡ false → kept.idle.items ≡ [] → IsKept m kept
+nothing_kept m kept old none = record { current = λ current. absurd (false≢true (sym old ∙ current)); beside = none_idle m kept.idle.items none }
+
+any_append : (t u : ℕ) (xs : List ℕ) → not (list_any (λ x. x == u) (xs ++ t ∷ [])) ≡ false → not (list_any (λ x. x == u) xs) ≡ true → t ≡ u
+any_append t u [] is none = eqb-true t u (not_true (t == u) is)
+  where
+    not_true : (b : Bool) → not (b || false) ≡ false → b ≡ true
+    not_true true e = refl
+    not_true false e = absurd (false≢true (sym e))
+any_append t u (x ∷ xs) is none = by_first (x == u) is none (any_append t u xs)
+  where
+    by_first : (b : Bool) → not (b || list_any (λ y. y == u) (xs ++ t ∷ [])) ≡ false → not (b || list_any (λ y. y == u) xs) ≡ true
+        → (not (list_any (λ y. y == u) (xs ++ t ∷ [])) ≡ false → not (list_any (λ y. y == u) xs) ≡ true → t ≡ u) → t ≡ u
+    by_first true e f rest = absurd (false≢true f)
+    by_first false e f rest = rest e f
+
+-- One more thread is idle.
+one_idle : (m : Machine) (idle : List ℕ) (t : ℕ) → AreIdle m idle → can_go_on m t ≡ false → is_bad (transition_of m t).outcome ≡ false → AreIdle m (idle ++ t ∷ [])
+one_idle m idle t are off fit =
+    record {
+      not_on = λ u is. by_old (λ v. can_go_on m v ≡ false) u is (are.not_on u) off;
+      fit = λ u is. by_old (λ v. is_bad (transition_of m v).outcome ≡ false) u is (are.fit u) fit;
+    }
+  where
+    by_old : (P : ℕ → Type 0) (u : ℕ) → may_go_on (idle ++ t ∷ []) u ≡ false → (may_go_on idle u ≡ false → P u) → P t → P u
+    by_old P u is old now =
+        cond_both (may_go_on idle u) true false (λ _. P u) (λ apart. subst P (any_append t u idle is apart) now) (λ among. old among)
+
+-- A thread that isn't enabled may be noted as idle.
+pub idle_noted : (m after : Machine) (kept noted : Kept) (t : ℕ) (o : Outcome) → after ≡ m → IsKept m kept → o ≡ (transition_of m t).outcome → is_enabled o ≡ false
+    → noted.is_current ≡ kept.is_current → noted.threads ≡ kept.threads
+    → (noted.idle.items ≡ kept.idle.items) ⊎ ((is_bad o ≡ false) × (noted.idle.items ≡ kept.idle.items ++ t ∷ [])) → IsKept after noted
+idle_noted m after kept noted t o same are outcome off current threads items =
+    rw same (record {
+      current = λ is. rw threads (are.current (sym current ∙ is));
+      beside = by_items items;
+    })
+  where
+    by_items : (noted.idle.items ≡ kept.idle.items) ⊎ ((is_bad o ≡ false) × (noted.idle.items ≡ kept.idle.items ++ t ∷ [])) → AreIdle m noted.idle.items
+    by_items (inl kept_so) = rw kept_so are.beside
+    by_items (inr more) = rw more.1 (one_idle m kept.idle.items t are.beside (sym (ap is_enabled outcome) ∙ off) (sym (ap is_bad outcome) ∙ more.0))
+
+-- A quiet turn of another thread leaves idle threads idle.
+pub idle_on : (m after : Machine) (t : ℕ) (idle : List ℕ) → AreIdle m idle → may_go_on idle t ≡ true → LeavesOthers m t after → AreIdle after idle
+idle_on m after t idle are beside others =
+    record {
+      not_on = λ u is. (others u (apart u is) (are.fit u is)).enabled ∙ are.not_on u is;
+      fit = λ u is. (others u (apart u is) (are.fit u is)).fit;
+    }
+  where
+    apart : (u : ℕ) → may_go_on idle u ≡ false → u ≢ t
+    apart u is same = false≢true (sym is ∙ ap (may_go_on idle) same ∙ beside)
+
+-- An enabled thread isn't idle.
+pub enabled_apart : (m : Machine) (idle : List ℕ) (u : ℕ) → AreIdle m idle → can_go_on m u ≡ true → may_go_on idle u ≡ true
+enabled_apart m idle u are on =
+    cond_both (may_go_on idle u) true false (λ _. may_go_on idle u ≡ true) (λ apart. apart) (λ among. absurd (false≢true (sym (are.not_on u among) ∙ on)))
+
+-- A turn of a thread that isn't idle leaves idle threads idle if it was quiet. Otherwise none is noted.
+pub kept_after : (m after : Machine) (kept noted : Kept) (idle : List ℕ) (t : ℕ) (is_quiet : Bool) → IsKept m kept → idle ≡ kept.idle.items → may_go_on idle t ≡ true
+    → (is_quiet ≡ true → LeavesOthers m t after) → noted.is_current ≡ false
+    → (is_quiet ≡ true → noted.idle.items ≡ kept.idle.items) → (is_quiet ≡ false → noted.idle.items ≡ []) → IsKept after noted
+kept_after m after kept noted idle t is_quiet are same beside others old quiet other =
+    record {
+      current = λ current. absurd (false≢true (sym old ∙ current));
+      beside = by_quiet is_quiet others quiet other;
+    }
+  where
+    by_quiet : (b : Bool) → (b ≡ true → LeavesOthers m t after) → (b ≡ true → noted.idle.items ≡ kept.idle.items) → (b ≡ false → noted.idle.items ≡ []) → AreIdle after noted.idle.items
+    by_quiet true others quiet other = rw (quiet refl) (idle_on m after t kept.idle.items are.beside (subst (λ (l : List ℕ). may_go_on l t ≡ true) same beside) (others refl))
+    by_quiet false others quiet other = none_idle after noted.idle.items (other refl)
+
+-- No thread is noted as idle any more.
+pub idle_forgotten : (m : Machine) (kept forgot : Kept) → IsKept m kept → forgot.is_current ≡ kept.is_current → forgot.threads ≡ kept.threads → forgot.idle.items ≡ [] → IsKept m forgot
+idle_forgotten m kept forgot are current threads none =
+    record {
+      current = λ is. rw threads (are.current (sym current ∙ is));
+      beside = none_idle m forgot.idle.items none;
+    }
+
+-- The list is current again, and the idle threads are those that were.
+pub refreshed : {A E : Type 0} (m : Machine) (kept now : Kept) (r : Result A E) → IsKept m kept → OnOk r (now.is_current ≡ true → AreEnabled m now.threads.items) → OnOk r (now.idle.items ≡ kept.idle.items) → OnOk r (IsKept m now)
+refreshed m kept now (Ok done) are current idle = record { current = current; beside = rw idle are.beside }
+refreshed m kept now (Err e) are current idle = tt
+
+-- A thread that is noted as idle if there is memory, and whose turn isn't Bad.
+pub noted_or_not : (ok bad : Bool) (before more after : List ℕ) → bad ≡ false → after ≡ cond ok more before → (after ≡ before) ⊎ ((bad ≡ false) × (after ≡ more))
+noted_or_not true bad before more after fit is = inr (fit, is)
+noted_or_not false bad before more after fit is = inl is

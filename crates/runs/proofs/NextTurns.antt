@@ -1,5 +1,7 @@
 -- The turn of the thread that a chooser predicts.
-use Rattle.std.proofs.Common.{◌≡◌, ℕ, ◌≤◌, true, false, List, length, Option, Some, ap, sym, ◌∙◌}
+use Rattle.std.proofs.Common.{◌≡◌, ℕ, true, false, List, length, Option, None, Some, ap, subst, sym, ◌∙◌}
+use Rattle.std.specs.Prelude.{IfOk, Result, is_some}
+use Rattle.std.proofs.lemmas.Bool.{false≢true}
 use Rattle.jvms_machine.specs.declared.machine.Outcome.{Outcome}
 use Rattle.jvms_machine.specs.declared.trace.Item.{Item}
 use Rattle.jvms_machine.specs.Status.{is_enabled}
@@ -7,10 +9,11 @@ use Rattle.jvms_machine.proofs.UnmadeTurns.{unmade_turn_keeps}
 use Rattle.trace.specs.Recording.{recorded}
 use Rattle.trace.proofs.Recorded.{recorded_none}
 use Rattle.machine.specs.Machine.{Machine, transition_of, with_state}
-use Rattle.schedule.specs.Choosers.{Chooser, counted_times, IsNextFor}
+use Rattle.schedule.specs.Choosers.{Chooser, counted_times, may_go_on, IsNextBeside}
 use Rattle.schedule.specs.Enabled.{can_go_on}
-use Rattle.runs.specs.Choices.{choice_of, chooser_after}
-use Rattle.runs.proofs.TurnsOn.{next_once}
+use Rattle.runs.specs.Choices.{IsTurn, choice_of, chooser_after}
+use Rattle.runs.specs.Kept.{AreIdle}
+use Rattle.runs.proofs.KeptThreads.{enabled_apart}
 
 -- A turn of a thread that isn't enabled changes nothing.
 pub unmade : (m after : Machine) (t : ℕ) (o : Outcome) (items more : Option (List Item))
@@ -20,10 +23,28 @@ unmade m after t o items more outcome disabled state items_are =
     let kept = unmade_turn_keeps m.program m.limits m.start m.state t (sym (ap is_enabled outcome) ∙ disabled) in
     (state ∙ ap (with_state m) kept.0, items_are ∙ ap (λ l. recorded items l) kept.1 ∙ recorded_none items)
 
--- A predicted thread that is enabled is the next choice, and counting it gives the chooser after that choice.
-pub chosen : (m : Machine) (chooser : Chooser) (t times : ℕ) (o : Outcome)
-    → 1 ≤ times → IsNextFor times t (length m.state.threads) chooser → o ≡ (transition_of m t).outcome → is_enabled o ≡ true
+-- A thread that is predicted beside idle threads is the next choice if it is enabled, and counting it gives the chooser
+-- after that choice.
+pub chosen_beside : (m : Machine) (chooser : Chooser) (are_idle idle : List ℕ) (t : ℕ) (o : Outcome)
+    → AreIdle m are_idle → idle ≡ are_idle → IsNextBeside idle t (length m.state.threads) chooser → o ≡ (transition_of m t).outcome → is_enabled o ≡ true
     → (choice_of chooser m ≡ Some t) × (counted_times 1 t chooser ≡ chooser_after chooser m)
-chosen m chooser t times o some next_is outcome enabled =
-    let is = next_once times t (length m.state.threads) chooser (can_go_on m) some next_is (sym (ap is_enabled outcome) ∙ enabled) in
+unfolding IsNextBeside counted_times
+chosen_beside m chooser are_idle idle t o are same next_is outcome enabled =
+    let is = next_is (can_go_on m) (λ u on. subst (λ (l : List ℕ). may_go_on l u ≡ true) (sym same) (enabled_apart m are_idle u are on)) (sym (ap is_enabled outcome) ∙ enabled) in
     (ap (λ n. n.0) is, sym (ap (λ n. n.1) is))
+
+-- ---- A prediction that is tried again
+
+-- If no turn was taken, nothing has changed.
+pub untaken : (m m1 : Machine) (chooser chooser1 : Chooser) (items items1 : Option (List Item)) (first : Option (ℕ × Outcome))
+    → is_some first ≡ false → IsTurn m chooser items first m1 chooser1 items1 → (m1 ≡ m) × (chooser1 ≡ chooser) × (items1 ≡ items)
+untaken m m1 chooser chooser1 items items1 None none is = is
+untaken m m1 chooser chooser1 items items1 (Some taken) none is = absurd (false≢true (sym none))
+
+-- The turn after one that wasn't taken is the first.
+pub tried_again : {E : Type 0} (m m1 after : Machine) (chooser chooser1 later : Chooser) (items items1 more : Option (List Item)) (r : Result (Option (ℕ × Outcome)) E)
+    → (m1 ≡ m) × (chooser1 ≡ chooser) × (items1 ≡ items) → IfOk r (λ taken. IsTurn m1 chooser1 items1 taken after later more) → IfOk r (λ taken. IsTurn m chooser items taken after later more)
+tried_again m m1 after chooser chooser1 later items items1 more r same second =
+    subst (λ (x : Machine). IfOk r (λ taken. IsTurn x chooser items taken after later more)) same.0
+    (subst (λ (x : Chooser). IfOk r (λ taken. IsTurn m1 x items taken after later more)) same.1
+    (subst (λ (x : Option (List Item)). IfOk r (λ taken. IsTurn m1 chooser1 x taken after later more)) same.2 second))

@@ -1,5 +1,5 @@
 -- Consecutive turns of one thread.
-use Rattle.std.proofs.Common.{◌≡◌, ℕ, zero, suc, ◌+◌, ◌-◌, ◌<◌, ◌≤◌, ◌≢◌, Bool, true, List, [], ◌∷◌, ◌++◌, length, replicate, refl, ap, sym, ◌∙◌, subst, arith, Option, Some}
+use Rattle.std.proofs.Common.{◌≡◌, ℕ, zero, suc, ◌+◌, ◌-◌, ◌<◌, ◌≤◌, ◌≢◌, List, [], ◌∷◌, ◌++◌, length, replicate, refl, ap, sym, ◌∙◌, subst, arith, Option, Some}
 use Rattle.std.proofs.lemmas.List.{append-nil, append_assoc, replicate-append-replicate}
 use Rattle.jvms_machine.specs.declared.machine.Outcome.{Outcome}
 use Rattle.jvms_machine.specs.declared.machine.Outcome.TheVariants as outcome
@@ -31,13 +31,6 @@ pub fewer_on : (m after : Machine) (chooser later : Chooser) (items more : Optio
     → IsNextFor turns thread (length m.state.threads) chooser → later ≡ counted_times times thread chooser → AreConsecutiveTurns m chooser items thread times after later more
 fewer_on m after chooser later items more thread times turns ran few next_is counted_is =
     record { ran = ran; chosen = next_fewer times turns thread (length m.state.threads) chooser few next_is; counted = counted_is }
-
--- A thread that is next for at least one turn is the next choice if it is enabled.
-pub next_once : (times thread threads : ℕ) (chooser : Chooser) (p : ℕ → Bool) → 1 ≤ times → IsNextFor times thread threads chooser → p thread ≡ true
-    → next chooser (enabled_of p threads) ≡ (Some thread, counted_times 1 thread chooser)
-unfolding IsNextFor counted_times
-next_once zero thread threads chooser p some is enabled = let never : ⊥ = omega arith in absurd never
-next_once (suc times) thread threads chooser p some is enabled = is.0 p enabled
 
 on_taken : (n threads : ℕ) (before : Machine) (first : Chooser) (most : ℕ) (items_before : Option (List Item)) (made : ℕ) (choices : List ℕ) (outcomes : List Outcome) (m : Machine) (chooser : Chooser) (items : Option (List Item))
     (t : ℕ) (after : Machine) (later : Chooser) (more : Option (List Item))

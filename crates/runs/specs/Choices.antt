@@ -1,5 +1,5 @@
 -- The choices of a chooser in a run, and their turns.
-use Rattle.std.specs.Prelude.{◌≡◌, ℕ, zero, suc, List, [], ◌∷◌, take, length, Option, Some, None}
+use Rattle.std.specs.Prelude.{◌≡◌, ℕ, zero, suc, ◌≤◌, ◌⊎◌, List, [], ◌∷◌, length, Option, Some, None}
 use Rattle.jvms_machine.specs.declared.machine.Outcome.{Outcome}
 use Rattle.jvms_machine.specs.declared.trace.Item.{Item}
 use Rattle.trace.specs.Recording.{recorded}
@@ -71,9 +71,17 @@ chooser_after_choices zero chooser m = chooser
 chooser_after_choices (suc most) chooser m =
     let n = next chooser (enabled_threads m) in left_or n.0 n.1 (λ t. chooser_after_choices most n.1 (after_turn m t))
 
--- A run broke off after the turns of some first choices, maybe of none or of all. The machine and the items are
--- those of their run.
-pub record BrokeOff (before : Machine) (choices : List ℕ) (after : Machine) (items_before : Option (List Item)) (items_after : Option (List Item)) : Type 0 where
+-- A chooser is unchanged, or has given its next choice in a machine.
+abbrev pub MayHaveGiven : Chooser → Machine → Chooser → Type 0
+MayHaveGiven chooser m later = (later ≡ chooser) ⊎ (later ≡ chooser_after chooser m)
+
+-- A run of at most this number of turns broke off after some first turns, maybe none or all.
+pub record BrokeOff (before : Machine) (first : Chooser) (most : ℕ) (after : Machine) (later : Chooser) (items_before : Option (List Item)) (items_after : Option (List Item)) : Type 0 where
+  -- The turns of this number of first choices were taken.
   pub made : ℕ
-  pub state : after ≡ with_state before (run_of before (take made choices)).state
-  pub items : items_after ≡ recorded items_before (run_of before (take made choices)).items
+  pub within : made ≤ most
+  -- The machine and the items are those after these turns.
+  pub state : after ≡ with_state before (run_of before (choices_from made first before)).state
+  pub items : items_after ≡ recorded items_before (run_of before (choices_from made first before)).items
+  -- The chooser has given the choices of these turns, and maybe the one after them.
+  pub given : (later ≡ chooser_after_choices made first before) ⊎ (later ≡ chooser_after_choices (suc made) first before)

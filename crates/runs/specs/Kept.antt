@@ -2,6 +2,7 @@
 use Rattle.std.specs.Prelude.{◌≡◌, ℕ, ◌<◌, false, not, if◌then◌else◌, Bool, IsTrue, List, [], ◌∷◌, length}
 use Rattle.jvms_machine.specs.Status.{is_bad}
 use Rattle.machine.specs.Machine.{Machine, transition_of}
+use Rattle.schedule.specs.Choosers.{may_go_on}
 use Rattle.schedule.specs.Enabled.{can_go_on, enabled_threads}
 use Rattle.runs.specs.declared.kept.Kept.{Kept}
 
@@ -18,6 +19,13 @@ pub record AreEnabled (m : Machine) (threads : List ℕ) : Type 0 where
   pub enabled : threads ≡ enabled_threads m
   pub fit : (u : ℕ) → u < length m.state.threads → is_bad (transition_of m u).outcome ≡ false
 
--- If the list is current, it has the enabled threads of a machine, and no thread's turn is Bad.
-abbrev pub IsKept : Machine → Kept → Type 0
-IsKept m kept = IsTrue kept.is_current → AreEnabled m kept.threads.items
+-- These threads are idle: they aren't enabled, and their turns aren't Bad.
+pub record AreIdle (m : Machine) (idle : List ℕ) : Type 0 where
+  pub not_on : (u : ℕ) → may_go_on idle u ≡ false → can_go_on m u ≡ false
+  pub fit : (u : ℕ) → may_go_on idle u ≡ false → is_bad (transition_of m u).outcome ≡ false
+
+-- If the list is current, it has the enabled threads of a machine, and no thread's turn is Bad. The threads that are
+-- noted as idle are idle.
+pub record IsKept (m : Machine) (kept : Kept) : Type 0 where
+  pub current : IsTrue kept.is_current → AreEnabled m kept.threads.items
+  pub beside : AreIdle m kept.idle.items

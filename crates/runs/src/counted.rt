@@ -18,7 +18,8 @@ use trace::Recording;
 ///
 /// # Errors
 ///
-/// Memory ran out. The turns of some first choices were taken, maybe of none or of all.
+/// Memory ran out. The turns of some first choices were taken, maybe of none or of all. The chooser has given these
+/// choices, and maybe one more.
 pub fn count_turns(
     alloc: Global,
     machine: &mut Machine<'_>,
@@ -32,7 +33,7 @@ pub fn count_turns(
     ensures state { OnOk result (machine.new ≡ with_state machine.old (run_of machine.old (choices_from most chooser.old machine.old)).state) }
     ensures items { OnOk result (recording.new ≡ recorded recording.old (run_of machine.old (choices_from most chooser.old machine.old)).items) }
     // Without memory, the turns of some first choices were taken.
-    ensures broken { OnErr result (BrokeOff machine.old (choices_from most chooser.old machine.old) machine.new recording.old recording.new) }
+    ensures broken { OnErr result (BrokeOff machine.old chooser.old most machine.new chooser.new recording.old recording.new) }
 {
     let mut kept = Kept::new(alloc);
     let mut made = 0;

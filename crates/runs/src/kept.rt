@@ -1,55 +1,89 @@
 //! The enabled threads of a machine, kept from turn to turn of a run.
 
-ghost use Rattle.std.specs.Prelude.{◌≡◌, ◌++◌, ◌&&◌, false, IsTrue, OnOk, Some};
-ghost use Rattle.runs.specs.Kept.{IsKept, is_fit, one_enabled};
+ghost use Rattle.std.specs.Prelude.{◌≡◌, ◌++◌, ◌∷◌, [], ◌&&◌, ◌⊎◌, false, IsTrue, OnOk};
+ghost use Rattle.jvms_machine.specs.Status.{is_bad as bad};
+ghost use Rattle.runs.specs.Kept.{AreEnabled, IsKept, is_fit, one_enabled};
 ghost use Rattle.schedule.specs.Enabled.{enabled_threads};
 
-use machine::{Machine, ThreadId, is_bad, is_enabled};
+use machine::{Machine, Outcome, ThreadId, is_bad, is_enabled};
 use std::alloc::{AllocError, Global};
 
-/// A list of the enabled threads of a machine, in rising order, if it is current.
+/// A list of the enabled threads of a machine, in rising order, if it is current, and some idle threads.
 #[derive(Drop)]
 pub(crate) struct Kept {
     /// The threads.
     pub threads: Vec<ThreadId>,
     /// Set if these are the enabled threads, and no thread's turn is Bad.
     pub is_current: bool,
-    /// The thread that was predicted last and wasn't enabled. It may be enabled again.
-    pub suspect: Option<ThreadId>,
+    /// Idle threads: they aren't enabled, and their turns aren't Bad. There may be others.
+    pub idle: Vec<ThreadId>,
 }
 
 impl Kept {
-    /// Returns a list that isn't current.
+    /// Returns a list that isn't current, and no idle threads.
     pub(crate) fn new(alloc: Global) -> Kept
-        ensures { result.is_current ≡ false }
+        ensures current { result.is_current ≡ false }
+        ensures idle { result.idle.items ≡ [] }
     {
         Kept {
             threads: Vec::new(alloc),
             is_current: false,
-            suspect: None,
+            idle: Vec::new(alloc),
         }
     }
 
-    /// Marks the list as not current.
+    /// Marks the list as not current, and no thread as idle.
     #[inline(always)]
     pub(crate) fn forget(&mut self)
-        ensures { self.new.is_current ≡ false }
+        ensures current { self.new.is_current ≡ false }
+        ensures idle { self.new.idle.items ≡ [] }
     {
         self.is_current = false;
+        self.idle.clear();
     }
 
-    /// Returns whether a thread wasn't enabled when it was predicted last.
+    /// Marks no thread as idle.
     #[inline(always)]
-    pub(crate) fn suspects(&self, thread: ThreadId) -> bool
-        ensures { IsTrue result → self.now.suspect ≡ Some thread }
+    pub(crate) fn forget_idle(&mut self)
+        ensures current { self.new.is_current ≡ self.old.is_current }
+        ensures threads { self.new.threads ≡ self.old.threads }
+        ensures idle { self.new.idle.items ≡ [] }
     {
-        self.suspect == Some(thread)
+        self.idle.clear();
+    }
+
+    /// Notes a thread that isn't enabled as idle, unless its turn is Bad. If there is no memory, nothing changes.
+    pub(crate) fn note_idle(&mut self, thread: ThreadId, outcome: Outcome)
+        ensures current { self.new.is_current ≡ self.old.is_current }
+        ensures threads { self.new.threads ≡ self.old.threads }
+        ensures idle { (self.new.idle.items ≡ self.old.idle.items) ⊎ ((bad outcome ≡ false) × (self.new.idle.items ≡ self.old.idle.items ++ thread ∷ [])) }
+    {
+        if is_bad(outcome) {
+            return;
+        }
+        let _noted = self.idle.push(thread);
+    }
+
+    /// Marks the list as not current after a turn of a thread that isn't idle. After a turn that wasn't quiet, no
+    /// thread is marked as idle.
+    #[inline(always)]
+    pub(crate) fn note_turn(&mut self, is_quiet: bool)
+        ensures current { self.new.is_current ≡ false }
+        ensures quiet { IsTrue is_quiet → self.new.idle.items ≡ self.old.idle.items }
+        ensures other { is_quiet ≡ false → self.new.idle.items ≡ [] }
+    {
+        self.is_current = false;
+        if is_quiet {
+            return;
+        }
+        self.idle.clear();
     }
 
     /// Appends a thread if it is enabled. If its turn is Bad, the list isn't current.
     fn inspect(&mut self, machine: &Machine<'_>, thread: ThreadId) -> Result<(), AllocError>
         ensures threads { OnOk result (self.new.threads.items ≡ self.old.threads.items ++ one_enabled machine.now thread) }
         ensures fit { OnOk result (self.new.is_current ≡ self.old.is_current && is_fit machine.now thread) }
+        ensures idle { OnOk result (self.new.idle.items ≡ self.old.idle.items) }
     {
         let outcome = machine.peek(thread);
         if is_bad(outcome) {
@@ -64,7 +98,8 @@ impl Kept {
     /// Inspects each thread of a machine, and lists those that are enabled.
     fn inspect_all(&mut self, machine: &Machine<'_>) -> Result<(), AllocError>
         ensures threads { OnOk result (self.new.threads.items ≡ enabled_threads machine.now) }
-        ensures kept { OnOk result (IsKept machine.now self.new) }
+        ensures kept { OnOk result (IsTrue self.new.is_current → AreEnabled machine.now self.new.threads.items) }
+        ensures idle { OnOk result (self.new.idle.items ≡ self.old.idle.items) }
     {
         // There are at most as many threads as the limit, so each number fits `ThreadId`.
         machine.state_is_sound();
@@ -83,6 +118,7 @@ impl Kept {
         requires { IsKept machine.now self.old }
         ensures threads { OnOk result (self.new.threads.items ≡ enabled_threads machine.now) }
         ensures kept { OnOk result (IsKept machine.now self.new) }
+        ensures idle { OnOk result (self.new.idle.items ≡ self.old.idle.items) }
     {
         if self.is_current {
             return Ok(());

@@ -2,7 +2,7 @@
 
 ghost use Rattle.std.specs.Prelude.{◌≡◌, ◌≤◌, true, length, IfOk, IsTrue, OnErr, OnOk};
 ghost use Rattle.jvms_machine.specs.Status.{is_enabled};
-ghost use Rattle.runs.specs.Choices.{AreConsecutiveTurns, IsNextTurn, IsTurn};
+ghost use Rattle.runs.specs.Choices.{AreConsecutiveTurns, IsNextTurn, IsTurn, MayHaveGiven};
 ghost use Rattle.runs.specs.Kept.{IsKept};
 ghost use Rattle.schedule.specs.Choosers.{is_seeded};
 ghost use Rattle.schedule.specs.Enabled.{can_go_on};
@@ -26,9 +26,11 @@ pub(crate) struct TurnsOn {
 }
 
 /// Takes consecutive turns of the thread that the chooser predicts, at most `most` of them, and returns their
-/// number. Each has the outcome `Ran`. Takes none if the chooser predicts no thread.
+/// number. Each has the outcome `Ran`. Takes none if the chooser predicts no thread, or one for a single turn.
 ///
 /// Fast path of a run: consults the chooser once for all of these turns.
+#[inline(always)]
+#[tactic(auto, using(crate::proofs::KeptThreads::nothing_kept))]
 pub(crate) fn take_consecutive_turns(
     machine: &mut Machine<'_>,
     chooser: &mut Chooser,
@@ -47,7 +49,7 @@ pub(crate) fn take_consecutive_turns(
             times: 0,
         };
     };
-    if kept.suspects(thread) {
+    if turns == 1 {
         return TurnsOn { thread, times: 0 };
     }
     kept.forget();
@@ -56,9 +58,9 @@ pub(crate) fn take_consecutive_turns(
     TurnsOn { thread, times }
 }
 
-/// Takes one turn of the thread that the chooser predicts, and returns the thread and the outcome. Returns `None`,
-/// with nothing changed, if the chooser predicts no thread, or one that isn't enabled, or wasn't when it was predicted
-/// last.
+/// Takes one turn of the thread that the chooser predicts beside idle threads, and returns the thread and the outcome.
+/// Returns `None`, with machine, chooser and items unchanged, if the chooser predicts no thread, or one that isn't
+/// enabled. That thread is noted as idle.
 ///
 /// Decides that turn once, and inspects no other thread. On an error, the machine and the items are unchanged.
 fn take_candidate(
@@ -67,24 +69,46 @@ fn take_candidate(
     kept: &mut Kept,
     recording: &mut Recording,
 ) -> Result<Option<Taken>, AllocError>
+    requires { IsKept machine.old kept.old }
     ensures taken { IfOk result (λ taken. IsTurn machine.old chooser.old recording.old taken machine.new chooser.new recording.new) }
-    ensures forgotten { kept.new.is_current ≡ kept.old.is_current }
+    ensures enabled { OnOk result (IsKept machine.new kept.new) }
+    ensures kept { OnErr result (machine.new ≡ machine.old) }
+    ensures chooser { OnErr result (chooser.new ≡ chooser.old) }
+    ensures no_items { OnErr result (recording.new ≡ recording.old) }
+{
+    let Some(thread) = chooser.candidate_beside(machine, kept.idle.as_slice()) else {
+        return Ok(None);
+    };
+    let turn = machine.step_watched(thread, recording)?;
+    if !is_enabled(turn.outcome) {
+        kept.note_idle(thread, turn.outcome);
+        return Ok(None);
+    }
+    kept.note_turn(turn.is_quiet);
+    chooser.count(thread, 1);
+    Ok(Some((thread, turn.outcome)))
+}
+
+/// Takes one turn as `take_candidate` does. If the predicted thread isn't enabled, tries the one that is predicted
+/// beside it. Most often that one is enabled.
+#[inline(always)]
+fn take_either_candidate(
+    machine: &mut Machine<'_>,
+    chooser: &mut Chooser,
+    kept: &mut Kept,
+    recording: &mut Recording,
+) -> Result<Option<Taken>, AllocError>
+    requires { IsKept machine.old kept.old }
+    ensures taken { IfOk result (λ taken. IsTurn machine.old chooser.old recording.old taken machine.new chooser.new recording.new) }
+    ensures enabled { OnOk result (IsKept machine.new kept.new) }
     ensures kept { OnErr result (machine.new ≡ machine.old) }
     ensures no_items { OnErr result (recording.new ≡ recording.old) }
 {
-    let Some(Candidate { thread, .. }) = chooser.candidate(machine) else {
-        return Ok(None);
-    };
-    if kept.suspects(thread) {
-        return Ok(None);
+    let taken = take_candidate(machine, chooser, kept, recording)?;
+    if taken.is_some() {
+        return Ok(taken);
     }
-    let outcome = machine.step_recorded(thread, recording)?;
-    if !is_enabled(outcome) {
-        kept.suspect = Some(thread);
-        return Ok(None);
-    }
-    chooser.count(thread, 1);
-    Ok(Some((thread, outcome)))
+    take_candidate(machine, chooser, kept, recording)
 }
 
 /// Returns whether the same threads are enabled before and after a turn of a thread: the turn was quiet and took place,
@@ -107,6 +131,7 @@ fn leaves_enabled(turn: Turn, machine: &Machine<'_>, thread: ThreadId, threads: 
 ///
 /// Fast path of a seeded run: after a quiet turn, inspects its thread alone.
 #[inline(always)]
+#[tactic(auto, using(crate::proofs::KeptThreads::nothing_kept, crate::proofs::KeptThreads::idle_forgotten))]
 fn take_by_word(
     machine: &mut Machine<'_>,
     chooser: &mut Chooser,
@@ -118,8 +143,10 @@ fn take_by_word(
     ensures taken { IfOk result (λ taken. IsNextTurn machine.old chooser.old recording.old taken machine.new chooser.new recording.new) }
     ensures enabled { OnOk result (IsKept machine.new kept.new) }
     ensures kept { OnErr result (machine.new ≡ machine.old) }
+    ensures given { OnErr result (MayHaveGiven chooser.old machine.old chooser.new) }
     ensures no_items { OnErr result (recording.new ≡ recording.old) }
 {
+    kept.forget_idle();
     kept.refresh(machine)?;
     let Some(thread) = chooser.next_by_word(kept.threads.as_slice()) else {
         return Ok(None);
@@ -133,8 +160,10 @@ fn take_by_word(
 }
 
 /// Takes the turn of the chooser's next choice, and returns the choice and the outcome. Returns `None` if there is
-/// no choice. Then, as on an error, the machine and the items are unchanged.
+/// no choice. Then, as on an error, the machine and the items are unchanged. On an error, the chooser may have given its
+/// next choice.
 #[inline(always)]
+#[tactic(auto, using(crate::proofs::KeptThreads::nothing_kept))]
 pub(crate) fn take_turn(
     machine: &mut Machine<'_>,
     chooser: &mut Chooser,
@@ -145,21 +174,19 @@ pub(crate) fn take_turn(
     ensures taken { IfOk result (λ taken. IsNextTurn machine.old chooser.old recording.old taken machine.new chooser.new recording.new) }
     ensures enabled { OnOk result (IsKept machine.new kept.new) }
     ensures kept { OnErr result (machine.new ≡ machine.old) }
+    ensures given { OnErr result (MayHaveGiven chooser.old machine.old chooser.new) }
     ensures no_items { OnErr result (recording.new ≡ recording.old) }
 {
     if chooser.is_seeded() {
         return take_by_word(machine, chooser, kept, recording);
     }
-    kept.forget();
-    if let Some(taken) = take_candidate(machine, chooser, kept, recording)? {
+    if let Some(taken) = take_either_candidate(machine, chooser, kept, recording)? {
         return Ok(Some(taken));
     }
     let Some(thread) = chooser.next(machine) else {
         return Ok(None);
     };
-    if kept.suspects(thread) {
-        kept.suspect = None;
-    }
+    kept.forget();
     let outcome = machine.step_recorded(thread, recording)?;
     Ok(Some((thread, outcome)))
 }

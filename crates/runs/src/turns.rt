@@ -54,7 +54,8 @@ fn put_choices(choices: &mut Vec<ThreadId>, on: TurnsOn) -> Result<(), AllocErro
 ///
 /// # Errors
 ///
-/// Memory ran out. The turns of some first choices were taken, maybe of none or of all.
+/// Memory ran out. The turns of some first choices were taken, maybe of none or of all. The chooser has given these
+/// choices, and maybe one more.
 pub fn take_turns(
     alloc: Global,
     machine: &mut Machine<'_>,
@@ -69,7 +70,7 @@ pub fn take_turns(
     ensures state { IfOk result (λ r. machine.new ≡ with_state machine.old (run_of machine.old r.choices).state) }
     ensures items { IfOk result (λ r. recording.new ≡ recorded recording.old (run_of machine.old r.choices).items) }
     // Without memory, the turns of some first choices were taken.
-    ensures broken { OnErr result (BrokeOff machine.old (choices_from most chooser.old machine.old) machine.new recording.old recording.new) }
+    ensures broken { OnErr result (BrokeOff machine.old chooser.old most machine.new chooser.new recording.old recording.new) }
 {
     let mut choices = Vec::new(alloc);
     let mut outcomes = OutcomeList::new(alloc);

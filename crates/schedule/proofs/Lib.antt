@@ -1,4 +1,5 @@
 mod Alone
+mod Beside
 mod Candidates
 mod Choices
 mod Ranges

@@ -93,8 +93,8 @@ pub record IsRead (text rest : List ℕ) (held : Option (List ℕ)) : Type 0 whe
   pub kept : IfSome held (λ v. v ≡ threads)
   pub some : 0 < length text
 
-pub empty_reading : (text : List ℕ) → 0 < length text → IsRead text text (Some [])
-empty_reading text some = record { front = []; threads = []; parts = refl; written = tt; kept = refl; some = some }
+pub nothing_read : (text : List ℕ) → 0 < length text → IsRead text text (Some [])
+nothing_read text some = record { front = []; threads = []; parts = refl; written = tt; kept = refl; some = some }
 
 -- The list after has one more thread than the list before. Without memory there is no list after.
 abbrev pub Adds : Option (List ℕ) → ℕ → Option (List ℕ) → Type 0

@@ -1,5 +1,5 @@
 -- The choices of choosers. A chooser is the state of a schedule.
-use Rattle.std.specs.Prelude.{◌≡◌, ℕ, zero, suc, ◌+◌, ◌%◌, min, Bool, true, false, ◌&&◌, ◌==◌, nat_lt, if◌then◌else◌, List, [], ◌∷◌, length, Option, None, Some, slice_get}
+use Rattle.std.specs.Prelude.{◌≡◌, ℕ, zero, suc, ◌+◌, ◌%◌, min, Bool, true, false, not, ◌&&◌, ◌==◌, nat_lt, if◌then◌else◌, List, [], ◌∷◌, length, Option, None, Some, slice_get}
 use Rattle.std.specs.List.{filter, find, list_any, range_with_len}
 use Rattle.std.specs.Option.{option_or}
 use Rattle.rand_pcg.specs.Lcg.{Lcg, started, increment_of}
@@ -113,6 +113,17 @@ IsNextFor zero thread threads chooser = Unit {0}
 IsNextFor (suc times) thread threads chooser =
     ((is_enabled : ℕ → Bool) → is_enabled thread ≡ true → next chooser (enabled_of is_enabled threads) ≡ (Some thread, counted thread chooser))
     × IsNextFor times thread threads (counted thread chooser)
+
+-- Decides whether a thread may be enabled: it isn't one of the idle threads.
+abbrev pub may_go_on : List ℕ → ℕ → Bool
+may_go_on idle thread = not (list_any (λ t. t == thread) idle)
+
+-- Among this number of threads, one is the next choice if it is enabled and no idle thread is. Which other threads are
+-- enabled doesn't matter.
+unfoldable pub IsNextBeside : List ℕ → ℕ → ℕ → Chooser → Type 0
+IsNextBeside idle thread threads chooser =
+    (is_enabled : ℕ → Bool) → ((t : ℕ) → is_enabled t ≡ true → may_go_on idle t ≡ true) → is_enabled thread ≡ true
+    → next chooser (enabled_of is_enabled threads) ≡ (Some thread, counted thread chooser)
 
 -- Decides whether the chooser chooses among all enabled threads.
 abbrev pub asks : Chooser → Bool

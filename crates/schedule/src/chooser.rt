@@ -1,11 +1,11 @@
 //! Choosers: each gives the thread of the next turn.
 
-ghost use Rattle.std.specs.Prelude.{ℕ, List, ◌≡◌, ◌≤◌, ◌↔◌, length, IfOk, IfSome, IsErrOf, IsTrue, MatchOption};
+ghost use Rattle.std.specs.Prelude.{ℕ, List, ◌≡◌, ◌≤◌, ◌↔◌, length, true, IfOk, IfSome, IsErrOf, IsTrue, MatchOption};
 ghost use Rattle.schedule.specs.Schedules as schedules;
 ghost use Rattle.schedule.specs.Schedules.{Schedule, Listed, RoundRobin, Spells, WritesSeed};
 ghost use Rattle.schedule.specs.Enabled.{enabled_threads};
 ghost use Rattle.schedule.specs.Rules.{shown};
-ghost use Rattle.schedule.specs.Choosers.{opened, enabled_of, by_word, counted_times, is_seeded, next, Alone, Seeded, IsNextFor, IsSeeded};
+ghost use Rattle.schedule.specs.Choosers.{opened, enabled_of, by_word, counted_times, is_seeded, may_go_on, next, Alone, Seeded, IsNextBeside, IsNextFor, IsSeeded};
 
 use crate::fault::ScheduleFault;
 use crate::list::{ListLeft, listed};
@@ -262,6 +262,21 @@ impl Chooser {
             Rule::RoundRobin(turns) => turns.candidate(machine),
             Rule::Alone => candidate_alone(machine),
             Rule::Listed(_) | Rule::Seeded(_) => None,
+        }
+    }
+
+    /// Predicts the next choice beside idle threads, which aren't enabled, without inspecting any thread. The
+    /// prediction holds if the predicted thread is enabled.
+    ///
+    /// `rr:Q` predicts the last thread if it has turns left and isn't idle, else the next thread that isn't idle. All
+    /// other choosers predict nothing.
+    pub fn candidate_beside(&self, machine: &Machine<'_>, idle: &[ThreadId]) -> Option<ThreadId>
+        ensures next { IfSome result (λ t. IsNextBeside idle.now t (length machine.now.state.threads) self.now) }
+        ensures beside { IfSome result (λ t. may_go_on idle.now t ≡ true) }
+    {
+        match &self.rule {
+            Rule::RoundRobin(turns) => turns.candidate_beside(machine.count(), idle),
+            Rule::Listed(_) | Rule::Seeded(_) | Rule::Alone => None,
         }
     }
 

@@ -1,9 +1,9 @@
 //! Round robin: each enabled thread in turn, for a quantum of consecutive turns.
 
-ghost use Rattle.std.specs.Prelude.{◌≡◌, ◌≤◌, IfSome};
-ghost use Rattle.schedule.specs.Choosers.{enabled_of, stays, round_robin, after_choice, turns_with, counted_times, IsNextFor, RoundRobin};
+ghost use Rattle.std.specs.Prelude.{◌≡◌, ◌≤◌, IfSome, true};
+ghost use Rattle.schedule.specs.Choosers.{enabled_of, stays, round_robin, after_choice, turns_with, counted_times, may_go_on, IsNextBeside, IsNextFor, RoundRobin};
 
-use crate::threads::{Threads, next_enabled};
+use crate::threads::{Beside, Threads, next_enabled};
 use jvms_machine::machine::ThreadId;
 
 /// A prediction of the next choice: a thread for a number of consecutive turns, as long as it is enabled.
@@ -75,6 +75,16 @@ impl Turns {
         let above = self.thread + 1;
         let thread = if above < count { above } else { 0 };
         Some(Candidate { thread, turns: 1 })
+    }
+
+    /// Predicts the next choice beside idle threads, without inspecting any thread. That is the last thread for its
+    /// remaining turns, if it isn't idle, else the next thread that isn't idle. Returns `None` if all threads are idle.
+    #[tactic(auto, using(crate::proofs::Beside::choice_beside))]
+    pub(crate) fn candidate_beside(&self, count: u32, idle: &[ThreadId]) -> Option<ThreadId>
+        ensures next { IfSome result (λ t. IsNextBeside idle.now t count (RoundRobin self.now.quantum self.now.thread self.now.turns)) }
+        ensures beside { IfSome result (λ t. may_go_on idle.now t ≡ true) }
+    {
+        self.choice(&Beside { count, idle })
     }
 
     /// Counts a turn of a thread.

@@ -1,6 +1,7 @@
 //! Tests of the texts that spell schedules, and of what choosers choose.
 
 use super::*;
+use crate::round_robin::Turns;
 use crate::threads::Threads;
 use jvms_machine::machine::ThreadId;
 use std::alloc::Global;
@@ -126,6 +127,20 @@ fn a_list_gives_its_threads(rt: HostRuntime) -> Result<(), Fail> {
         (none, None),
     ];
     are_chosen(&rt, alloc, "list:0,007,7,0000000000000000000000012", &turns)
+}
+
+#[test]
+fn round_robin_passes_over_idle_threads(rt: HostRuntime) -> Result<(), Fail> {
+    let turns = Turns {
+        quantum: 1,
+        thread: 0,
+        turns: 1,
+    };
+    assert_eq!(rt; turns.candidate_beside(3, &[]), Some(1));
+    assert_eq!(rt; turns.candidate_beside(3, &[1]), Some(2));
+    assert_eq!(rt; turns.candidate_beside(3, &[2, 1]), Some(0));
+    assert_eq!(rt; turns.candidate_beside(3, &[0, 1, 2]), None);
+    Ok(())
 }
 
 #[test]

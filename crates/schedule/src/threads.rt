@@ -2,7 +2,7 @@
 
 ghost use Rattle.std.specs.Prelude.{◌≡◌, ℕ, ◌-◌, Bool, length, slice_get};
 ghost use Rattle.std.specs.List.{find, range_with_len};
-ghost use Rattle.schedule.specs.Choosers.{alone, enabled_of, next_of};
+ghost use Rattle.schedule.specs.Choosers.{alone, enabled_of, may_go_on, next_of};
 ghost use Rattle.schedule.specs.Enabled.{can_go_on};
 
 use jvms_machine::machine::ThreadId;
@@ -40,6 +40,29 @@ impl Threads for Machine<'_> {
 
     fn is_enabled(&self, thread: ThreadId) -> bool {
         is_enabled(self.peek(thread))
+    }
+}
+
+/// A number of threads, numbered from 0, of which all may be enabled but those that are idle.
+#[derive(Clone, Copy)]
+pub(crate) struct Beside<'a> {
+    /// The number of threads.
+    pub count: u32,
+    /// The idle threads: they aren't enabled. There may be others.
+    pub idle: &'a [ThreadId],
+}
+
+impl Threads for Beside<'_> {
+    ghost count = { λ b. b.count };
+
+    ghost passes = { λ b. may_go_on b.idle.now };
+
+    fn count(&self) -> u32 {
+        self.count
+    }
+
+    fn is_enabled(&self, thread: ThreadId) -> bool {
+        !self.idle.contains(&thread)
     }
 }
 

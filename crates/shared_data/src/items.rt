@@ -30,6 +30,16 @@ impl<T> Items<T> {
         }
     }
 
+    /// Creates an empty list with the capacity for `count` items. So a list that is filled and kept takes no more memory
+    /// than its items.
+    pub fn with_capacity(alloc: Global, count: usize) -> Result<Self, AllocError>
+        ensures { IfOk result (λ list. list ≡ []) }
+    {
+        Ok(Items {
+            items: Vec::with_capacity(alloc, count)?,
+        })
+    }
+
     /// Converts a vector to a list, without a copy.
     pub fn from_vec(items: Vec<T>) -> Self
         ensures { result ≡ items.items }

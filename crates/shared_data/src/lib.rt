@@ -5,3 +5,5 @@
 pub mod boxed;
 pub mod items;
 pub mod shared;
+pub mod surrogates;
+pub mod texts;

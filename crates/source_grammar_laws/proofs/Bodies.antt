@@ -91,9 +91,9 @@ directive_pushed statement.Dropped m body items lines is fresh h =
 directive_pushed _ m body items lines is fresh h = absurd is
 
 -- A directive may precede code.
-pub code_after_name : (d : Statement) (body : List Statement) (items : List CodeItem) → IsDirective d → MakesCode body items → MakesCode (d ∷ body) items
-code_after_name d body [] is all = (is, all)
-code_after_name d body (i ∷ items) is (directives, mine, behind, e, all, makes, rest) =
+pub code_after_directive : (d : Statement) (body : List Statement) (items : List CodeItem) → IsDirective d → MakesCode body items → MakesCode (d ∷ body) items
+code_after_directive d body [] is all = (is, all)
+code_after_directive d body (i ∷ items) is (directives, mine, behind, e, all, makes, rest) =
     (d ∷ directives, mine, behind, ap (λ (xs : List Statement). d ∷ xs) e, (is, all), makes, rest)
 
 -- ---- Items

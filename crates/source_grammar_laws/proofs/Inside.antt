@@ -25,7 +25,7 @@ use Rattle.jasmin.specs.Reading.{last_value, is_repeated, with_item, opened, end
 use Rattle.source_grammar_laws.specs.Lines.{IsPermitted, Suits}
 use Rattle.source_grammar_laws.specs.Sources.{sort_of, IsDirective, AreRising, MakesItem, MakesCode, is_label_item, MakesMethod, Member, is_field, is_method, MakesMembers, fields_in, methods_in}
 use Rattle.source_grammar_laws.proofs.Steps.{Admits, Runs, IsWhole, IsApart}
-use Rattle.source_grammar_laws.proofs.Bodies.{IsLimitBehind, IsFilled, changed, IsFresh, directive_pushed, code_after_name, item_quiet, takes_item, item_pushed}
+use Rattle.source_grammar_laws.proofs.Bodies.{IsLimitBehind, IsFilled, changed, IsFresh, directive_pushed, code_after_directive, item_quiet, takes_item, item_pushed}
 
 -- ---- The remaining statements
 
@@ -197,7 +197,7 @@ directive_said d ss r t m is fresh h =
       behind = h.behind;
       items = h.items;
       whole = ap (λ (xs : List Statement). d ∷ xs) h.whole;
-      code = code_after_name d h.body h.items is h.code;
+      code = code_after_directive d h.body h.items is h.code;
       filled = directive_pushed d m h.body h.items h.lines is fresh h.filled;
       rest = h.rest;
     }

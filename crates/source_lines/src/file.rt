@@ -11,7 +11,8 @@ use crate::number::put_number;
 use crate::pool::{is_named, utf8_at};
 use crate::table::line_of_byte;
 use escapes::put_name;
-use jvms_file::class_file::{ClassFile, Code, Constant, KeptAttribute, MethodAttribute};
+use jvms_file::class_file::{ClassFile, Code, Constant, KeptAttribute};
+use jvms_program::attributes::code_of;
 use std::alloc::AllocError;
 
 /// Returns the name whose number is the content of a SourceFile attribute.
@@ -33,20 +34,6 @@ fn source_name<'f>(pool: &'f [Constant], attributes: &[KeptAttribute]) -> Option
     while let [attribute, others @ ..] = rest {
         if is_named(pool, "SourceFile", attribute) {
             return name_in(pool, attribute.bytes.as_slice());
-        }
-        rest = others;
-    }
-    None
-}
-
-/// Returns the first Code among attributes.
-fn code_of(attributes: &[MethodAttribute]) -> Option<&Code>
-    ensures { option_map (λ c. c.now) result ≡ code_of attributes.now }
-{
-    let mut rest = attributes;
-    while let [attribute, others @ ..] = rest {
-        if let MethodAttribute::Code { name: _, code } = attribute {
-            return Some(code);
         }
         rest = others;
     }

@@ -6,7 +6,7 @@ ghost use Rattle.jvms_file.specs.ConstantPool.{entry, utf8_at};
 ghost use Rattle.jvms_program.specs.Meaning.{text_of};
 ghost use Rattle.source_lines.specs.SourceLines.{is_named as attribute_is_named};
 
-use built_in::is_named as is_text;
+use descriptor::is_named as is_text;
 use jvms_file::class_file::{Constant, KeptAttribute};
 
 /// Returns the pool entry with this number, if there is one. Entries count from 1.

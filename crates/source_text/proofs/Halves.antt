@@ -9,7 +9,8 @@ use Rattle.std.proofs.lemmas.Bool.{and_parts, or_parts, not-true, cond_both}
 use Rattle.std.proofs.lemmas.Bool.Decides.{nat_tests}
 use Rattle.std.proofs.lemmas.Str.{chars_from_encodes}
 use Rattle.jasmin.specs.Sources.{units_of}
-use Rattle.listing_spec.specs.Printable.{is_high, is_low, is_paired}
+use Rattle.shared_data.specs.Surrogates.{is_high, is_low}
+use Rattle.listing_spec.specs.Printable.{is_paired}
 use Rattle.source_text.specs.Lines.{text_of_lines}
 use Rattle.source_text.proofs.Plain.{AllPlain, paired_append, nil_plain}
 

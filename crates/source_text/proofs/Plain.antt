@@ -5,7 +5,8 @@ use Rattle.std.specs.List.{list_all, AllByRecursion}
 use Rattle.std.proofs.lemmas.Bool.{and_parts, and_from, and_left, or_parts, or_from, not-true, not_from_false, cond_both, lt-leb, ne_eqb}
 use Rattle.std.proofs.lemmas.List.Folds.{list_all-append}
 use Rattle.jasmin.specs.Lexing.{is_space, ends_word}
-use Rattle.listing_spec.specs.Printable.{is_high, is_low, is_paired, is_word_unit, is_word}
+use Rattle.shared_data.specs.Surrogates.{is_high, is_low}
+use Rattle.listing_spec.specs.Printable.{is_paired, is_word_unit, is_word}
 use Rattle.listing_spec.specs.Printed.{joined}
 
 -- Decides whether a unit is neither a line feed nor a carriage return.

@@ -6,6 +6,7 @@ ghost use Rattle.listing_spec.specs.Printed.{access_names, written_class_words, 
 ghost use Rattle.source_text.specs.Words.{units_in};
 
 use crate::word::Word;
+use jasmin_operands::{AccessWords, access_table};
 use std::alloc::AllocError;
 
 /// The access words of a class without `super`, which `.class` adds.
@@ -16,29 +17,6 @@ const INTERFACE_WORDS: [(&str, u16); 3] = [
     ("public", 0x0001),
     ("final", 0x0010),
     ("super", 0x0020),
-];
-
-/// The access words of fields.
-const FIELD_WORDS: [(&str, u16); 7] = [
-    ("public", 0x0001),
-    ("private", 0x0002),
-    ("protected", 0x0004),
-    ("static", 0x0008),
-    ("final", 0x0010),
-    ("volatile", 0x0040),
-    ("transient", 0x0080),
-];
-
-/// The access words of methods.
-const METHOD_WORDS: [(&str, u16); 8] = [
-    ("public", 0x0001),
-    ("private", 0x0002),
-    ("protected", 0x0004),
-    ("static", 0x0008),
-    ("final", 0x0010),
-    ("synchronized", 0x0020),
-    ("native", 0x0100),
-    ("abstract", 0x0400),
 ];
 
 /// Appends a word.
@@ -99,12 +77,12 @@ pub(crate) fn push_interface_words(words: &mut Vec<Word<'_>>, access: u16) -> Re
 pub(crate) fn push_field_words(words: &mut Vec<Word<'_>>, access: u16) -> Result<(), AllocError>
     ensures { OnOk result (map units_in words.new.items ≡ map units_in words.old.items ++ access_names field_words access) }
 {
-    push_words(words, &FIELD_WORDS, access)
+    push_words(words, access_table(AccessWords::Field), access)
 }
 
 /// Appends the access words of a method.
 pub(crate) fn push_method_words(words: &mut Vec<Word<'_>>, access: u16) -> Result<(), AllocError>
     ensures { OnOk result (map units_in words.new.items ≡ map units_in words.old.items ++ access_names method_words access) }
 {
-    push_words(words, &METHOD_WORDS, access)
+    push_words(words, access_table(AccessWords::Method), access)
 }

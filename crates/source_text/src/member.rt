@@ -12,7 +12,7 @@ ghost use Rattle.source_text.specs.Lines.{ended, text_of_lines};
 use crate::access::{push_field_words, push_method_words, push_word};
 use crate::code::put_code;
 use crate::word::{Word, put_line};
-use descriptor::{Flags, is_initializer_name};
+use code_bytes::has_code;
 use jasmin::source::{CatchLine, Caught, FieldConstant, FieldLine, MethodLines};
 use shared_data::shared::Text;
 use std::alloc::{AllocError, Global};
@@ -164,14 +164,6 @@ fn put_limits(
         out,
         &[Word::Ascii(".limit"), Word::Ascii("locals"), locals],
     )
-}
-
-/// Decides whether a method has code: it is neither native nor abstract, or is `<clinit>`.
-fn has_code(method: &MethodLines) -> bool
-    ensures { result ≡ method_has_code method.now.name method.now.access }
-{
-    let flags = Flags::of_access(method.access);
-    is_initializer_name(method.name.as_slice()) || !(flags.is_native() || flags.is_abstract())
 }
 
 /// Appends the limits, the handlers and the code of a method.

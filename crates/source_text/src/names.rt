@@ -3,21 +3,9 @@
 ghost use Rattle.std.specs.Prelude.{◌≡◌, ◌≢◌, ◌<◌, [], length, true, false, not, ◌&&◌, ◌||◌, ◌==◌, IfSome, MatchOption};
 ghost use Rattle.std.specs.List.{list_all, list_any};
 ghost use Rattle.jasmin.specs.Lexing.{ends_word as unit_ends_word};
-ghost use Rattle.listing_spec.specs.Printable.{is_high as high_half, is_low as low_half, is_paired as halves_paired, is_word_unit as unit_of_word, is_word as name_is_word, is_before_descriptor as name_before_descriptor};
+ghost use Rattle.listing_spec.specs.Printable.{is_paired as halves_paired, is_word_unit as unit_of_word, is_word as name_is_word, is_before_descriptor as name_before_descriptor};
 
-/// Decides whether a unit is a high surrogate, the first half of a supplementary character.
-fn is_high(unit: u16) -> bool
-    ensures { result ≡ high_half unit }
-{
-    0xd800 <= unit && unit <= 0xdbff
-}
-
-/// Decides whether a unit is a low surrogate, the second half of a supplementary character.
-fn is_low(unit: u16) -> bool
-    ensures { result ≡ low_half unit }
-{
-    0xdc00 <= unit && unit <= 0xdfff
-}
+use shared_data::surrogates::{is_high, is_low};
 
 /// Returns the units after the first character, or `None` if it is half of a supplementary character.
 #[tactic(auto, unfolding(listing_spec::specs::Printable::is_paired))]

@@ -1,120 +1,12 @@
 //! Maps operations to their opcodes (JVMS 7).
 
-ghost use Rattle.std.specs.Prelude.{◌≡◌, ◌≤◌};
-ghost use Rattle.assembly.specs.Opcodes.{kind_number as number_of_kind, local_opcode as local_code, comparison_number as number_of_comparison, branch_opcode as branch_code, wide_branch_opcode as wide_branch_code, field_opcode as field_code, invoke_opcode as invoke_code, class_opcode as class_code};
+ghost use Rattle.std.specs.Prelude.{◌≡◌};
 ghost use Rattle.listing_spec.specs.Printed.{opcode_of as code_of};
 
+use code_bytes::{
+    branch_opcode, class_opcode, field_opcode, invoke_opcode, local_opcode, wide_branch_opcode,
+};
 use jasmin::source::{BranchWidth, ConstantWidth, Operation};
-use jvms_file::insn::{Branch, ClassUse, Comparison, FieldUse, Invoke, Kind, LocalUse};
-
-/// Returns the position of a kind among the opcodes of loads, and among those of stores.
-fn kind_number(kind: Kind) -> u8
-    ensures exact { result ≡ number_of_kind kind }
-    ensures few { result ≤ 4 }
-{
-    match kind {
-        Kind::Int => 0,
-        Kind::Long => 1,
-        Kind::Float => 2,
-        Kind::Double => 3,
-        Kind::Reference => 4,
-    }
-}
-
-/// Returns the opcode of iload to aload, of istore to astore, or of ret.
-fn local_opcode(how: LocalUse) -> u8
-    ensures { result ≡ local_code how }
-{
-    match how {
-        LocalUse::Load(kind) => 21 + kind_number(kind),
-        LocalUse::Store(kind) => 54 + kind_number(kind),
-        LocalUse::Return => 169,
-    }
-}
-
-/// Returns the position of a comparison among the opcodes of branches that compare.
-fn comparison_number(comparison: Comparison) -> u8
-    ensures exact { result ≡ number_of_comparison comparison }
-    ensures few { result ≤ 5 }
-{
-    match comparison {
-        Comparison::Equal => 0,
-        Comparison::NotEqual => 1,
-        Comparison::Less => 2,
-        Comparison::GreaterOrEqual => 3,
-        Comparison::Greater => 4,
-        Comparison::LessOrEqual => 5,
-    }
-}
-
-/// Returns the opcode of a branch with an offset of two bytes.
-fn short_branch_opcode(how: Branch) -> u8
-    ensures { result ≡ branch_code how }
-{
-    match how {
-        Branch::IfZero(comparison) => 153 + comparison_number(comparison),
-        Branch::IfInts(comparison) => 159 + comparison_number(comparison),
-        Branch::IfSame => 165,
-        Branch::IfDifferent => 166,
-        Branch::Goto => 167,
-        Branch::Subroutine => 168,
-        Branch::IfNull => 198,
-        Branch::IfNonNull => 199,
-    }
-}
-
-/// Returns the opcode of a branch with an offset of four bytes: goto_w or jsr_w. The value for any other branch isn't
-/// used.
-fn wide_branch_opcode(how: Branch) -> u8
-    ensures { result ≡ wide_branch_code how }
-{
-    match how {
-        Branch::Goto => 200,
-        Branch::IfZero(_)
-        | Branch::IfInts(_)
-        | Branch::IfSame
-        | Branch::IfDifferent
-        | Branch::Subroutine
-        | Branch::IfNull
-        | Branch::IfNonNull => 201,
-    }
-}
-
-/// Returns the opcode of getstatic to putfield.
-fn field_opcode(how: FieldUse) -> u8
-    ensures { result ≡ field_code how }
-{
-    match how {
-        FieldUse::GetStatic => 178,
-        FieldUse::PutStatic => 179,
-        FieldUse::Get => 180,
-        FieldUse::Put => 181,
-    }
-}
-
-/// Returns the opcode of invokevirtual to invokeinterface.
-fn invoke_opcode(how: Invoke) -> u8
-    ensures { result ≡ invoke_code how }
-{
-    match how {
-        Invoke::Virtual => 182,
-        Invoke::Special => 183,
-        Invoke::Static => 184,
-        Invoke::Interface => 185,
-    }
-}
-
-/// Returns the opcode of new, anewarray, checkcast or instanceof.
-fn class_opcode(how: ClassUse) -> u8
-    ensures { result ≡ class_code how }
-{
-    match how {
-        ClassUse::New => 187,
-        ClassUse::NewArray => 189,
-        ClassUse::CheckCast => 192,
-        ClassUse::InstanceOf => 193,
-    }
-}
 
 /// Returns the opcode of an operation, without `wide`.
 pub(crate) fn opcode_of(operation: &Operation) -> u8
@@ -129,7 +21,7 @@ pub(crate) fn opcode_of(operation: &Operation) -> u8
         Operation::ConstantLong(_) => 20,
         Operation::Local(how, _) => local_opcode(*how),
         Operation::Increment(_, _) => 132,
-        Operation::Branch(BranchWidth::Short, how, _) => short_branch_opcode(*how),
+        Operation::Branch(BranchWidth::Short, how, _) => branch_opcode(*how),
         Operation::Branch(BranchWidth::Wide, how, _) => wide_branch_opcode(*how),
         Operation::Table(_) => 170,
         Operation::Lookup(_) => 171,

@@ -5,10 +5,11 @@ ghost use Rattle.std.specs.List.{list_all};
 ghost use Rattle.listing_spec.specs.Printable.{is_word as name_is_word, is_loadable_word as constant_is_loadable, is_printable_operation as operation_is_printable, is_printable_item as item_is_printable, is_printable_caught as caught_is_printable, is_printable_field as field_is_printable, is_printable_method as method_is_printable, is_printable as is_printable_source};
 
 use crate::names::{is_before_descriptor, is_word};
+use descriptor::is_text;
 use jasmin::source::{
     CatchLine, Caught, CodeItem, FieldLine, LoadedConstant, MethodLines, Operation, Source,
 };
-use jasmin_operands::{same_word, spells_number};
+use jasmin_operands::spells_number;
 use shared_data::shared::Text;
 
 /// Decides whether all names of a list can be spelled as words.
@@ -75,7 +76,7 @@ fn is_printable_caught(caught: &Caught) -> bool
 {
     match caught {
         Caught::All => true,
-        Caught::Class(name) => is_word(name.as_slice()) && !same_word("all", name.as_slice()),
+        Caught::Class(name) => is_word(name.as_slice()) && !is_text("all", name.as_slice()),
     }
 }
 

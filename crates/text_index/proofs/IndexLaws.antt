@@ -51,23 +51,23 @@ apart : {X : Type 0} (a b : Bool) (x y z : X) → (b ≡ true → a ≡ false) �
 apart a false x y z h = refl
 apart a true x y z h = rw (h refl) refl
 
-method_in_order : (t : Ordering) (k : Vec ℕ Global) (v : ℕ) (e : Vec ℕ Global × ℕ) (entries : Entries) (q : List ℕ) → key_cmp k e.0 ≡ t
+found_in_order : (t : Ordering) (k : Vec ℕ Global) (v : ℕ) (e : Vec ℕ Global × ℕ) (entries : Entries) (q : List ℕ) → key_cmp k e.0 ≡ t
     → found (seen (insert_entry key_cmp entries k v)) q ≡ cond (same_text k.items q) (Some v) (found (seen entries) q)
     → found (seen (match_ordering t ((k, v) ∷ e ∷ entries) ((e.0, v) ∷ entries) (e ∷ insert_entry key_cmp entries k v))) q ≡ cond (same_text k.items q) (Some v) (found (seen (e ∷ entries)) q)
-method_in_order Less k v e entries q is more = ap (λ b. cond b (Some v) (found (seen (e ∷ entries)) q)) (asked_as q k.items)
-method_in_order Equal k v e entries q is more =
+found_in_order Less k v e entries q is more = ap (λ b. cond b (Some v) (found (seen (e ∷ entries)) q)) (asked_as q k.items)
+found_in_order Equal k v e entries q is more =
     let same : k.items ≡ e.0.items = exact_bytes k.items e.0.items is in
     let here : is_eq (slice_cmp nat_cmp q e.0.items) ≡ same_text k.items q = asked_as q e.0.items ∙ ap (λ l. same_text l q) (sym same) in
     ap (λ b. cond b (Some v) (found (seen entries) q)) here ∙ covered (same_text k.items q) (Some v) (Some e.1) (found (seen entries) q)
     ∙ ap (λ b. cond (same_text k.items q) (Some v) (cond b (Some e.1) (found (seen entries) q))) (sym here)
-method_in_order Greater k v e entries q is more =
+found_in_order Greater k v e entries q is more =
     ap (λ o. cond (is_eq (slice_cmp nat_cmp q e.0.items)) (Some e.1) o) more
     ∙ apart (is_eq (slice_cmp nat_cmp q e.0.items)) (same_text k.items q) (Some v) (Some e.1) (found (seen entries) q)
     (λ same. ap (λ l. is_eq (slice_cmp nat_cmp l e.0.items)) (sym (same_is k.items q same)) ∙ ap is_eq is)
 
 found_inserted : (entries : Entries) (k : Vec ℕ Global) (v : ℕ) (q : List ℕ) → found (seen (insert_entry key_cmp entries k v)) q ≡ cond (same_text k.items q) (Some v) (found (seen entries) q)
 found_inserted [] k v q = ap (λ b. cond b (Some v) None) (asked_as q k.items)
-found_inserted (e ∷ entries) k v q = method_in_order (key_cmp k e.0) k v e entries q refl (found_inserted entries k v q)
+found_inserted (e ∷ entries) k v q = found_in_order (key_cmp k e.0) k v e entries q refl (found_inserted entries k v q)
 
 pub found_put : (old new : Entries) (k : Vec ℕ Global) (units : List ℕ) (v : ℕ) (before : List (List ℕ × ℕ)) → k.items ≡ units → new ≡ insert_entry key_cmp old k v → seen old ≡ before
     → (q : List ℕ) → found (seen new) q ≡ cond (same_text units q) (Some v) (found before q)

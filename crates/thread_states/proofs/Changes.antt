@@ -53,7 +53,7 @@ changes f t before o lines old new now view is put same =
 same_place : (t u : ℕ) → (u == t) ≡ true → t ≡ u
 same_place t u same = grind (arith, nat_tests)
 
-same_at : (b : Bool) (t u : ℕ) (g : ℕ → ThreadState) → (u == t) ≡ b → (if b then g t else g u) ≡ g u
+pub same_at : (b : Bool) (t u : ℕ) (g : ℕ → ThreadState) → (u == t) ≡ b → (if b then g t else g u) ≡ g u
 same_at true t u g tied = ap g (same_place t u tied)
 same_at false t u g tied = refl
 

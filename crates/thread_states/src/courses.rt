@@ -1,12 +1,14 @@
 //! The state of each thread: its open methods and its transaction.
 
-ghost use Rattle.std.specs.Prelude.{◌≡◌, ℕ, [], None, Some, drop, OnOk, if◌then◌else◌};
+ghost use Rattle.std.specs.Prelude.{◌≡◌, ℕ, [], None, Some, drop, IfOk, IfSome, OnOk, if◌then◌else◌};
 ghost use Rattle.velodrome.specs.Specification.{is_atomic as atomic_by};
 ghost use Rattle.velodrome.specs.Transactions.{entered, exited, has_atomic, is_innermost};
 ghost use Rattle.thread_states.specs.ThreadStates.{thread_state_in, IsChanged};
 ghost use Rattle.thread_states.specs.Seen.{HasRoom};
+ghost use Rattle.thread_states.specs.Standings.{IsStanding};
 
 use crate::open::OpenMethods;
+use crate::standing::Standing;
 use atom_spec::Spec;
 use jvms_machine::machine::ThreadId;
 use jvms_program::key::MethodKey;
@@ -65,34 +67,51 @@ impl ThreadStates {
         }
     }
 
-    /// Returns the transaction that a thread is in.
-    pub fn transaction(&self, thread: ThreadId) -> Option<u64>
-        ensures { result ≡ (thread_state_in self.now.table thread).transaction }
+    /// Returns the standing of a thread.
+    fn standing(&self, thread: ThreadId) -> Standing
+        ensures { IsStanding result self.now.lines (thread_state_in self.now.table thread) }
+    {
+        match self.threads.get(&thread) {
+            None => Standing {
+                transaction: None,
+                is_in_atomic: false,
+            },
+            Some(open) => open.standing(),
+        }
+    }
+
+    /// Returns the transaction that ends with the next exit of a thread, if one does.
+    pub fn over(&self, thread: ThreadId) -> Option<u64>
+        ensures { result ≡ (if has_atomic self.now.lines (drop 1 (thread_state_in self.now.table thread).methods) then None else (thread_state_in self.now.table thread).transaction) }
     {
         match self.threads.get(&thread) {
             None => None,
-            Some(open) => open.transaction(),
+            Some(open) => open.over(),
         }
     }
 
-    /// Decides whether one of a thread's open methods is atomic.
-    pub fn is_in_atomic(&self, thread: ThreadId) -> bool
-        ensures { result ≡ has_atomic self.now.lines (thread_state_in self.now.table thread).methods }
+    /// Returns the standing of a thread if the memory that its next item needs is reserved.
+    fn ready_standing(&self, thread: ThreadId) -> Option<Standing>
+        ensures { IfSome result (λ s. IsStanding s self.now.lines (thread_state_in self.now.table thread) × HasRoom thread self.now) }
     {
         match self.threads.get(&thread) {
-            None => false,
-            Some(open) => open.is_in_atomic(),
+            None => None,
+            Some(open) => open.ready_standing(),
         }
     }
 
-    /// Decides whether an atomic method of a thread stays open after its innermost one exits.
-    pub fn stays_in_atomic(&self, thread: ThreadId) -> bool
-        ensures { result ≡ has_atomic self.now.lines (drop 1 (thread_state_in self.now.table thread).methods) }
+    /// Reserves the memory that the next item of a thread needs, and returns the thread's standing. No thread's state
+    /// changes.
+    pub fn ready(&mut self, thread: ThreadId) -> Result<Standing, AllocError>
+        ensures lines { self.new.lines ≡ self.old.lines }
+        ensures same { (u : ℕ) → thread_state_in self.new.table u ≡ thread_state_in self.old.table u }
+        ensures ready { IfOk result (λ s. IsStanding s self.new.lines (thread_state_in self.new.table thread) × HasRoom thread self.new) }
     {
-        match self.threads.get(&thread) {
-            None => false,
-            Some(open) => open.stays_in_atomic(),
+        if let Some(standing) = self.ready_standing(thread) {
+            return Ok(standing);
         }
+        self.reserve(thread)?;
+        Ok(self.standing(thread))
     }
 
     /// Reserves the memory that the next item of a thread needs. No thread's state changes.
@@ -146,5 +165,19 @@ impl ThreadStates {
             return;
         };
         open.happened(transaction);
+    }
+
+    /// Records an event of a thread whose standing is known. Fast path of `happened`: mostly nothing changes.
+    pub fn happened_in(&mut self, thread: ThreadId, standing: Standing, transaction: u64)
+        requires room { HasRoom thread self.old }
+        requires standing { IsStanding standing self.old.lines (thread_state_in self.old.table thread) }
+        requires transaction { IfSome standing.transaction (λ t. transaction ≡ t) }
+        ensures lines { self.new.lines ≡ self.old.lines }
+        ensures course { IsChanged thread (record (thread_state_in self.old.table thread) { transaction = if has_atomic self.old.lines (thread_state_in self.old.table thread).methods then Some transaction else None }) self.old.table self.new.table }
+    {
+        if standing.stays() {
+            return;
+        }
+        self.happened(thread, transaction);
     }
 }

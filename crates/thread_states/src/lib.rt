@@ -3,5 +3,7 @@
 
 mod courses;
 mod open;
+mod standing;
 
 pub use courses::ThreadStates;
+pub use standing::Standing;

@@ -1,10 +1,11 @@
 //! The state of one thread.
 
-ghost use Rattle.std.specs.Prelude.{◌≡◌, ◌<◌, ◌∷◌, [], None, Some, drop, OnOk, IfOk, slice_get, if◌then◌else◌};
+ghost use Rattle.std.specs.Prelude.{◌≡◌, ◌<◌, ◌∷◌, [], None, Some, drop, IfSome, OnOk, IfOk, slice_get, if◌then◌else◌};
 ghost use Rattle.std.specs.Option.{option_copied};
 ghost use Rattle.velodrome.specs.Transactions.{same_method, is_innermost};
 ghost use Rattle.thread_states.specs.Open.{any_atomic, keys_of, AreInner, IsRoomy};
 
+use crate::standing::Standing;
 use jvms_program::key::MethodKey;
 use std::alloc::{AllocError, Global};
 use std::marker::Model;
@@ -78,13 +79,6 @@ impl OpenMethods {
         }
     }
 
-    /// Returns the transaction that the thread is in.
-    pub(crate) fn transaction(&self) -> Option<u64>
-        ensures { result ≡ self.now.transaction }
-    {
-        self.transaction
-    }
-
     /// Decides whether one of the methods is atomic.
     pub(crate) fn is_in_atomic(&self) -> bool
         ensures { result ≡ any_atomic self.now.methods }
@@ -102,6 +96,39 @@ impl OpenMethods {
         match self.innermost() {
             None => false,
             Some(open) => open.is_inner,
+        }
+    }
+
+    /// Returns the transaction that the thread is in, and whether one of the methods is atomic.
+    pub(crate) fn standing(&self) -> Standing
+        ensures transaction { result.transaction ≡ self.now.transaction }
+        ensures is_in_atomic { result.is_in_atomic ≡ any_atomic self.now.methods }
+    {
+        Standing {
+            transaction: self.transaction,
+            is_in_atomic: self.is_in_atomic(),
+        }
+    }
+
+    /// Returns the transaction that ends with the exit of the innermost method, if one does.
+    pub(crate) fn over(&self) -> Option<u64>
+        ensures { result ≡ (if any_atomic (drop 1 self.now.methods) then None else self.now.transaction) }
+    {
+        if self.stays_in_atomic() {
+            None
+        } else {
+            self.transaction
+        }
+    }
+
+    /// Returns the standing of the thread if there is memory for one more method.
+    pub(crate) fn ready_standing(&self) -> Option<Standing>
+        ensures { IfSome result (λ s. (s.transaction ≡ self.now.transaction) × (s.is_in_atomic ≡ any_atomic self.now.methods) × (0 < self.now.room)) }
+    {
+        if self.methods.len() < self.methods.capacity() {
+            Some(self.standing())
+        } else {
+            None
         }
     }
 

@@ -9,6 +9,7 @@ use Rattle.velodrome.specs.Specification.{Specification}
 use Rattle.velodrome.specs.Transactions.{TraceState}
 use Rattle.velodrome.specs.Verdicts.{IsVerdict}
 use Rattle.trace.specs.Bytes.{AppendsBeginning}
+use Rattle.trace_text.specs.declared.fault.TraceFault.TheVariants as trace_fault
 use Rattle.trace_text.specs.Traces.{IsRead, IsTextOf}
 use Rattle.atom_graph.specs.declared.counts.Counts.{Counts}
 use Rattle.atom_graph.specs.declared.fault.FeedFault.{FeedFault}
@@ -35,6 +36,13 @@ refused_or line (Some why) behind = Some (line, why)
 abbrev pub first_refused : Fed → ℕ → List Item → Option (ℕ × FeedFault)
 first_refused fed line [] = None
 first_refused fed line (i ∷ items) = refused_or line (fault_of fed i) (first_refused (with_item i fed) (line + 1) items)
+
+-- Decides whether memory ran out.
+abbrev pub is_memory : CheckFault → Bool
+is_memory (check.Trace trace_fault.Memory) = true
+is_memory check.ItemMemory = true
+is_memory check.Memory = true
+is_memory _ = false
 
 abbrev pub refusal_of : ℕ → FeedFault → CheckFault
 refusal_of line feed.Unmatched = check.Unmatched line

@@ -2,7 +2,7 @@
 
 ghost use Rattle.std.specs.Prelude.{◌≡◌};
 ghost use Rattle.trace_check.specs.declared.fault.CheckFault.TheVariants as check;
-ghost use Rattle.trace_check.specs.Checks.{refusal_of};
+ghost use Rattle.trace_check.specs.Checks.{is_memory, refusal_of};
 
 use atom_graph::FeedFault;
 use std::alloc::AllocError;
@@ -35,7 +35,9 @@ pub enum CheckFault {
 
 impl CheckFault {
     /// Decides whether memory ran out.
-    pub fn is_memory(self) -> bool {
+    pub fn is_memory(self) -> bool
+        ensures { result ≡ is_memory self }
+    {
         matches!(
             self,
             CheckFault::Trace(TraceFault::Memory) | CheckFault::ItemMemory | CheckFault::Memory

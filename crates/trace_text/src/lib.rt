@@ -5,6 +5,7 @@ mod fault;
 mod item;
 mod known;
 mod laws;
+mod line;
 mod members;
 mod number;
 mod reading;
@@ -19,4 +20,4 @@ pub use laws::{
 };
 pub use reading::read;
 pub use trace::Trace;
-pub use writing::{put_line, write};
+pub use writing::{put_line, write, write_items};

@@ -4,12 +4,10 @@ ghost use Rattle.trace_text.specs.Traces.{IsRead};
 
 use crate::fault::TraceFault;
 use crate::item::item_of;
+use crate::line::cut_line;
 use crate::members::Keys;
-use escapes::cut;
 use std::alloc::Global;
 use trace::Trace;
-
-const LINE_FEED: u8 = b'\n';
 
 /// Reads a trace: one item a line, each line ended by LF.
 ///
@@ -26,7 +24,7 @@ pub fn read(alloc: Global, text: &str) -> Result<Trace, TraceFault>
     let mut rest = text.as_bytes();
     while !rest.is_empty() {
         line += 1;
-        let Some((first, behind)) = cut(rest, LINE_FEED) else {
+        let Some((first, behind)) = cut_line(rest) else {
             return Err(TraceFault::Syntax { line });
         };
         let Some(item) = item_of(&mut keys, first)? else {

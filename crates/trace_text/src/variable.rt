@@ -1,6 +1,6 @@
 //! Writes and reads the variables of items.
 
-ghost use Rattle.std.specs.Prelude.{◌≡◌, ◌++◌, OnOk, IfOk};
+ghost use Rattle.std.specs.Prelude.{◌≡◌, ◌++◌, OnOk, IfOk, MatchOption};
 ghost use Rattle.std.specs.String.{string_bytes};
 ghost use Rattle.escapes.specs.Readings.{IsReadAs};
 ghost use Rattle.trace_text.specs.Items.{IsVariable, variable_text};
@@ -83,6 +83,24 @@ fn instance_of<'t>(keys: &mut Keys<'t>, text: &'t [u8]) -> Result<Option<Variabl
     }
 }
 
+/// Decides whether a text begins with a digit, as instance fields and elements do.
+fn begins_with_digit(text: &[u8]) -> bool {
+    matches!(text, [b'0'..=b'9', ..])
+}
+
+/// Fast path of `variable_of`: returns the static field if the text was read before, else mostly `None`.
+fn known_static<'t>(keys: &Keys<'t>, text: &[u8]) -> Result<Option<Variable>, AllocError>
+    ensures { IfOk result (λ o. MatchOption o (Unit {0}) (λ v. IsVariable v × (text.now ≡ variable_text v))) }
+{
+    if begins_with_digit(text) {
+        return Ok(None);
+    }
+    match keys.fields.known(text)? {
+        Some(field) => Ok(Some(Variable::Static { field })),
+        None => Ok(None),
+    }
+}
+
 /// Reads a variable. Returns `None` if the text is none.
 pub(crate) fn variable_of<'t>(
     keys: &mut Keys<'t>,
@@ -90,6 +108,9 @@ pub(crate) fn variable_of<'t>(
 ) -> Result<Option<Variable>, AllocError>
     ensures { IfOk result (IsReadAs IsVariable variable_text text.now) }
 {
+    if let Some(variable) = known_static(keys, text)? {
+        return Ok(Some(variable));
+    }
     match dots_in(text) {
         0 => Ok(element_of(text)),
         2 => static_of(keys, text),

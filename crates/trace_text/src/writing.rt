@@ -1,4 +1,4 @@
-//! Writes traces.
+//! Writes items and traces.
 
 ghost use Rattle.std.specs.Prelude.{◌≡◌, ◌++◌, OnOk, IfOk};
 ghost use Rattle.std.specs.String.{string_bytes};
@@ -17,13 +17,20 @@ pub fn put_line(out: &mut String, item: &Item) -> Result<(), AllocError>
     out.push_str("\n")
 }
 
+/// Returns the text of items: one a line, each ended by LF. Fails if memory runs out.
+pub fn write_items(alloc: Global, items: &[Item]) -> Result<String, AllocError>
+    ensures { IfOk result (λ text. string_bytes text ≡ trace_text items.now) }
+{
+    let mut text = String::new(alloc);
+    for item in items {
+        put_line(&mut text, item)?;
+    }
+    Ok(text)
+}
+
 /// Returns the text of a trace: one item a line, each ended by LF. Fails if memory runs out.
 pub fn write(alloc: Global, trace: &Trace) -> Result<String, AllocError>
     ensures { IfOk result (λ text. string_bytes text ≡ trace_text trace.now) }
 {
-    let mut text = String::new(alloc);
-    for item in trace.items() {
-        put_line(&mut text, item)?;
-    }
-    Ok(text)
+    write_items(alloc, trace.items())
 }

@@ -22,7 +22,7 @@ use Rattle.listing_spec.specs.TreeOf.{class_flags, field_line, method_lines, tre
 use Rattle.classfile_laws.proofs.Steps.{step, want_step}
 use Rattle.tree_form_laws.proofs.Steps.{same_Ok, other_holds}
 use Rattle.tree_form_laws.proofs.Flags.{class_flags_small, interface_kept}
-use Rattle.tree_form_laws.proofs.Lists.{all_typed_texts, zip_all, distinct_as, collected_zip}
+use Rattle.tree_form_laws.proofs.Lists.{all_spelled, zip_all, distinct_as, collected_zip}
 use Rattle.tree_form_laws.proofs.Pools.{sound_of, proper_named}
 use Rattle.tree_form_laws.proofs.Fields.{IsFieldOf, field_formed, fields_agree}
 use Rattle.tree_form_laws.proofs.Methods.{IsMethodOf, method_formed, methods_agree}
@@ -57,7 +57,7 @@ methods_zip bytes c methods spelled e =
 interfaces_named : (bytes : List ℕ) (c : ClassFile) → Spells bytes c → AllByRecursion (λ name. IsTrue (is_class_name name)) (map (class_text c.pool) c.interfaces)
 interfaces_named bytes c spelled =
     let are = sound_of spelled.pool c.pool spelled.of_pool in
-    all_typed_texts (SpellsInterface c.pool) (λ name. IsTrue (is_class_name name)) (class_text c.pool) (λ first n is. proper_named c.pool are n is.1)
+    all_spelled (SpellsInterface c.pool) (λ name. IsTrue (is_class_name name)) (class_text c.pool) (λ first n is. proper_named c.pool are n is.1)
     spelled.of_interfaces.1.1 c.interfaces spelled.of_interfaces.1.4
 
 with_formed : (bytes : List ℕ) (c : ClassFile) (fields : List FieldLine) (methods : List MethodLines) → Spells bytes c → not (c.super_class == 0) ≡ true

@@ -22,10 +22,10 @@ all_made P f each [] = tt
 all_made P f each (x ∷ xs) = (each x, all_made P f each xs)
 
 -- All mapped elements have a property, if each that bytes spell has it.
-pub all_typed_texts : {A B : Type 0} (P : List ℕ → A → Type 0) (Q : B → Type 0) (f : A → B) → ((bytes : List ℕ) (x : A) → P bytes x → Q (f x))
+pub all_spelled : {A B : Type 0} (P : List ℕ → A → Type 0) (Q : B → Type 0) (f : A → B) → ((bytes : List ℕ) (x : A) → P bytes x → Q (f x))
     → (bytes : List ℕ) (xs : List A) → InOrder P bytes xs → AllByRecursion Q (map f xs)
-all_typed_texts P Q f each bytes [] are = tt
-all_typed_texts P Q f each bytes (x ∷ xs) are = (each are.0 x are.3, all_typed_texts P Q f each are.1 xs are.4)
+all_spelled P Q f each bytes [] are = tt
+all_spelled P Q f each bytes (x ∷ xs) are = (each are.0 x are.3, all_spelled P Q f each are.1 xs are.4)
 
 -- ---- Two lists, element by element
 

@@ -28,7 +28,7 @@ use Rattle.classfile_laws.proofs.Steps.{step}
 use Rattle.classfile_laws.proofs.InsnPads.{zero_pads_spell}
 use Rattle.tree_form_laws.proofs.Steps.{same_Ok, other_holds}
 use Rattle.tree_form_laws.proofs.Flags.{method_flags_small, static_kept, abstract_kept}
-use Rattle.tree_form_laws.proofs.Lists.{all_typed_texts}
+use Rattle.tree_form_laws.proofs.Lists.{all_spelled}
 use Rattle.tree_form_laws.proofs.Pools.{IsSound, class_named}
 use Rattle.tree_form_laws.proofs.Texts.{text_named, text_passes, initializer_is, same_texts}
 use Rattle.tree_form_laws.proofs.Operations.{operation_formed}
@@ -76,14 +76,14 @@ catch_formed pool are n is =
 catches_formed : (pool : List Constant) → IsSound pool → (major : ℕ) (c : Code) → IsSpelledCode pool major c → AllByRecursion (λ (l : CatchLine). IsFormedCaught l.caught) (map (catch_of pool) c.handlers)
 catches_formed pool are major c spelled =
     let code = spelled.1.2 in
-    all_typed_texts (SpellsHandler pool c.layout.starts (length code)) (λ (l : CatchLine). IsFormedCaught l.caught) (catch_of pool)
+    all_spelled (SpellsHandler pool c.layout.starts (length code)) (λ (l : CatchLine). IsFormedCaught l.caught) (catch_of pool)
     (λ bytes h is. catch_formed pool are h.catch_type is.11) spelled.1.7.1.1 c.handlers spelled.1.7.1.4
 
 throws_formed : (pool : List Constant) → IsSound pool → (major : ℕ) (bytes : List ℕ) (attributes : List MethodAttribute) → InOrder (SpellsMethodAttribute pool major) bytes attributes → AllByRecursion IsClassOrArray (throws_of pool attributes)
 throws_formed pool are major bytes [] spelled = tt
 throws_formed pool are major bytes (method_attribute.Exceptions name classes ∷ others) spelled =
     let content = spelled.3.4.1 in
-    all_typed_texts (SpellsClassNumber pool) IsClassOrArray (class_text pool) (λ first n is. class_named pool are n is.1) content.1 classes content.4
+    all_spelled (SpellsClassNumber pool) IsClassOrArray (class_text pool) (λ first n is. class_named pool are n is.1) content.1 classes content.4
 throws_formed pool are major bytes (method_attribute.Code name c ∷ others) spelled = throws_formed pool are major spelled.1 others spelled.4
 throws_formed pool are major bytes (method_attribute.Kept a ∷ others) spelled = throws_formed pool are major spelled.1 others spelled.4
 

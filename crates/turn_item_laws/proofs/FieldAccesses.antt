@@ -9,7 +9,7 @@ use Rattle.jvms_file.specs.declared.insn.FieldUse.{FieldUse}
 use Rattle.jvms_file.specs.declared.insn.FieldUse.TheVariants as field_use
 use Rattle.jvms_program.specs.BuiltIn.{is_built_in}
 use Rattle.jvms_program.specs.Program.{field_key_at}
-use Rattle.jvms_program.specs.Resolution.{ResolvedField, field_number, fits, resolved_field}
+use Rattle.jvms_program.specs.Resolution.{ResolvedField, field_number, fits, is_static_use, resolved_field}
 use Rattle.jvms_program.specs.declared.key.FieldKey.{FieldKey}
 use Rattle.jvms_program.specs.declared.number.FieldNumber.{FieldNumber}
 use Rattle.jvms_program.specs.declared.program.Class.{Class}
@@ -19,7 +19,7 @@ use Rattle.jvms_program.specs.declared.thrown.Thrown.TheVariants as thrown
 use Rattle.jvms_machine.specs.Actions.{effect_items, event, field_variable}
 use Rattle.jvms_machine.specs.Activations.{has_depth}
 use Rattle.jvms_machine.specs.Decisions.{TurnDecision, never_seen}
-use Rattle.jvms_machine.specs.Fields.{are_of_field, field_decision, field_gives, field_takes, fields_of, found_field_decision, instance_decision, is_static_use, numbered_field_decision, object_decision, object_of_use, read, receiver_decision, resolved_field_decision, static_decision, taking, write_decision}
+use Rattle.jvms_machine.specs.Fields.{are_of_field, field_decision, field_gives, field_takes, fields_of, found_field_decision, instance_decision, numbered_field_decision, object_decision, object_of_use, read, receiver_decision, resolved_field_decision, static_decision, taking, write_decision}
 use Rattle.jvms_machine.specs.Heap.{stored_as, value_of}
 use Rattle.jvms_machine.specs.Places.{kind_of_type, top_value, value_size}
 use Rattle.jvms_machine.specs.State.{MethodFrame, Object, State, Thread, class_of, object_at}

@@ -11,7 +11,7 @@ use Rattle.jvms_file.specs.declared.insn.ReturnInsn.{ReturnInsn}
 use Rattle.jvms_file.specs.declared.insn.Simple.{Simple}
 use Rattle.jvms_file.specs.declared.insn.Simple.TheVariants as simple
 use Rattle.jvms_program.specs.Program.{method_at}
-use Rattle.jvms_program.specs.Resolution.{resolved_field}
+use Rattle.jvms_program.specs.Resolution.{is_static_use, resolved_field}
 use Rattle.jvms_program.specs.declared.number.MethodNumber.{MethodNumber}
 use Rattle.jvms_program.specs.declared.program.Body.{Body}
 use Rattle.jvms_program.specs.declared.program.Class.{Class}
@@ -21,7 +21,6 @@ use Rattle.jvms_program.specs.declared.program.Instruction.TheVariants as instru
 use Rattle.jvms_program.specs.declared.program.MethodReference.{MethodReference}
 use Rattle.jvms_machine.specs.Arrays.{array_decision}
 use Rattle.jvms_machine.specs.Decisions.{TurnDecision, never_seen}
-use Rattle.jvms_machine.specs.Fields.{is_static_use}
 use Rattle.jvms_machine.specs.Profile.{is_outside_array, is_outside_element, is_outside_method}
 use Rattle.jvms_machine.specs.Start.{Start}
 use Rattle.jvms_machine.specs.State.{Frame, MethodFrame, State, Thread, monitor_at, status_by}

@@ -9,14 +9,14 @@ use Rattle.jvms_file.specs.declared.insn.FieldUse.TheVariants as field_use
 use Rattle.jvms_file.specs.declared.insn.Simple.TheVariants as simple
 use Rattle.jvms_program.specs.BuiltIn.{is_built_in}
 use Rattle.jvms_program.specs.Program.{field_key}
-use Rattle.jvms_program.specs.Resolution.{ResolvedField, resolved_field}
+use Rattle.jvms_program.specs.Resolution.{ResolvedField, is_static_use, resolved_field}
 use Rattle.jvms_program.specs.declared.key.FieldKey.{FieldKey}
 use Rattle.jvms_program.specs.declared.program.Class.{Class}
 use Rattle.jvms_program.specs.declared.program.Instruction.{Instruction}
 use Rattle.jvms_program.specs.declared.program.Instruction.TheVariants as instruction
 use Rattle.jvms_program.specs.declared.thrown.Thrown.{Thrown}
 use Rattle.jvms_machine.specs.Arrays.{element_size}
-use Rattle.jvms_machine.specs.Fields.{is_static_use, object_of_use}
+use Rattle.jvms_machine.specs.Fields.{object_of_use}
 use Rattle.jvms_machine.specs.State.{MethodFrame, State}
 use Rattle.jvms_machine.specs.Steps.{instruction_at}
 use Rattle.jvms_machine.specs.declared.trace.Item.{Item}

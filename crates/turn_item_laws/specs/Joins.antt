@@ -4,13 +4,13 @@ use Rattle.std.specs.Option.{option_and_then}
 use Rattle.std.specs.Prelude.{Bool, Err, List, None, Ok, Option, Result, Some, [], codes, false, if◌then◌else◌, slice_get, true, ℕ, ◌&&◌, ◌∷◌}
 use Rattle.jvms_file.specs.Names.{same_text}
 use Rattle.jvms_file.specs.declared.insn.Invoke.{Invoke}
-use Rattle.jvms_program.specs.Resolution.{ResolvedMethod, resolved_method}
+use Rattle.jvms_program.specs.Resolution.{ResolvedMethod, is_static_call, resolved_method}
 use Rattle.jvms_program.specs.declared.program.Class.{Class}
 use Rattle.jvms_program.specs.declared.program.Instruction.{Instruction}
 use Rattle.jvms_program.specs.declared.program.Instruction.TheVariants as instruction
 use Rattle.jvms_program.specs.declared.program.MethodReference.{MethodReference}
 use Rattle.jvms_program.specs.declared.thrown.Thrown.{Thrown}
-use Rattle.jvms_machine.specs.Calls.{is_static_call, receiver_of, selected}
+use Rattle.jvms_machine.specs.Calls.{receiver_of, selected}
 use Rattle.jvms_machine.specs.State.{MethodFrame, Object, State, Thread, class_of, object_at}
 use Rattle.jvms_machine.specs.Steps.{instruction_at}
 use Rattle.jvms_machine.specs.Threads.{thread_of}

@@ -16,7 +16,7 @@ impl<'p> Frame<'p> {
     pub fn locals(&self) -> &[Value]
         ensures { result.now ≡ self.now.activation.locals }
     {
-        &self.values.as_slice()[..self.local_count]
+        &self.values.as_slice()[..self.head.local_count]
     }
 
     /// Returns the number of local variables, which is `max_locals`.
@@ -24,7 +24,7 @@ impl<'p> Frame<'p> {
     pub fn local_count(&self) -> usize
         ensures { result ≡ self.now.body.max_locals }
     {
-        self.local_count
+        self.head.local_count
     }
 
     /// Returns local variable `n`.
@@ -64,8 +64,8 @@ impl<'p> Frame<'p> {
         ensures { self.new ≡ with_locals self.old (slice_set self.old.activation.locals (n + 1) value.Unset) }
     {
         // The count is a 16-bit number.
-        let _count = self.body.max_locals;
-        if usize::from(n) + 1 < self.local_count {
+        let _count = self.head.body.max_locals;
+        if usize::from(n) + 1 < self.head.local_count {
             self.set_local(n + 1, Value::Unset);
         }
     }
@@ -105,7 +105,7 @@ impl<'p> Frame<'p> {
         ensures { self.new ≡ with_locals self.old (with_stored self.old.activation.locals n (value.Long long)) }
     {
         // The count is a 16-bit number.
-        let last = self.body.max_locals - 1;
+        let last = self.head.body.max_locals - 1;
         prove!(n < last);
         let next = n + 1;
         self.part_long(n);

@@ -18,8 +18,8 @@ impl<'p> Frame<'p> {
         ensures within { result ≤ self.now.body.max_stack }
     {
         // The height is at most max_stack, which is a u16.
-        let _most = self.body.max_stack;
-        self.height as u16
+        let _most = self.head.body.max_stack;
+        self.head.height as u16
     }
 
     /// Pushes an operand.
@@ -29,8 +29,12 @@ impl<'p> Frame<'p> {
         requires { length self.old.activation.operands < self.old.body.max_stack }
         ensures { self.new ≡ with_operands self.old (value ∷ self.old.activation.operands) }
     {
-        put(&mut self.values, self.local_count + self.height, value);
-        self.height += 1;
+        put(
+            &mut self.values,
+            self.head.local_count + self.head.height,
+            value,
+        );
+        self.head.height += 1;
     }
 
     /// Removes the topmost operand.
@@ -40,7 +44,7 @@ impl<'p> Frame<'p> {
         requires { 1 ≤ length self.old.activation.operands }
         ensures { self.new ≡ with_operands self.old (drop 1 self.old.activation.operands) }
     {
-        self.height -= 1;
+        self.head.height -= 1;
     }
 
     /// Removes the topmost `count` operands.
@@ -49,7 +53,7 @@ impl<'p> Frame<'p> {
         requires { count ≤ length self.old.activation.operands }
         ensures { self.new ≡ with_operands self.old (drop count self.old.activation.operands) }
     {
-        self.height -= count;
+        self.head.height -= count;
     }
 
     /// Removes the topmost `count` operands. Most instructions take none, one or two, which are the fast path.
@@ -77,7 +81,11 @@ impl<'p> Frame<'p> {
         requires { 1 ≤ length self.old.activation.operands }
         ensures { self.new ≡ with_operands self.old (value ∷ drop 1 self.old.activation.operands) }
     {
-        put(&mut self.values, self.local_count + self.height - 1, value);
+        put(
+            &mut self.values,
+            self.head.local_count + self.head.height - 1,
+            value,
+        );
     }
 
     /// Replaces the topmost `takes` operands by a value of one slot.
@@ -139,7 +147,7 @@ impl<'p> Frame<'p> {
         requires { depth < length self.now.activation.operands }
         ensures { slice_get self.now.activation.operands depth ≡ Some result }
     {
-        self.values.as_slice()[self.local_count + self.height - 1 - depth]
+        self.values.as_slice()[self.head.local_count + self.head.height - 1 - depth]
     }
 
     /// Returns the two operands below the top `count`, the lower one first.
@@ -162,7 +170,7 @@ impl<'p> Frame<'p> {
         requires { count ≤ length self.now.activation.operands }
         ensures { result.now ≡ reverse (take count self.now.activation.operands) }
     {
-        let end = self.local_count + self.height;
+        let end = self.head.local_count + self.head.height;
         &self.values.as_slice()[end - count..end]
     }
 

@@ -6,7 +6,7 @@ ghost use Rattle.jvms_file.specs.declared.descriptor.MethodType.{MethodType as M
 ghost use Rattle.std.specs.Prelude.{◌≡◌, ◌+◌, ◌≤◌, false, length, MatchOption, Some, slice_get};
 ghost use Rattle.jvms_machine.specs.State.{result_length};
 ghost use Rattle.jvms_machine.specs.Activations.{has_depth};
-ghost use Rattle.jvms_machine.specs.Calls.{is_static_call as is_static, taken as takes_of, are_of_types as of_types, receiver_of, are_of_call as of_call};
+ghost use Rattle.jvms_machine.specs.Calls.{taken as takes_of, are_of_types as of_types, receiver_of, are_of_call as of_call};
 ghost use Rattle.invoke.specs.Calling.{Takes};
 
 use descriptor::parameter_units;
@@ -15,17 +15,8 @@ use frames::Frame;
 use jvms_file::descriptor::{FieldType, MethodType, ResultType};
 use jvms_file::insn::{Invoke, Kind};
 use jvms_machine::value::Value;
+use jvms_program::uses::is_static_call;
 use machine_parts::{kind_of_type, type_size};
-
-/// Decides whether a call instruction has no receiver.
-pub(crate) fn is_static_call(how: Invoke) -> bool
-    ensures { result ≡ is_static how }
-{
-    match how {
-        Invoke::Static => true,
-        Invoke::Virtual | Invoke::Special | Invoke::Interface => false,
-    }
-}
 
 /// Returns the number of operands that a call instruction takes, where its arguments take `arguments`.
 fn taken(how: Invoke, arguments: usize) -> usize

@@ -156,23 +156,23 @@ pub fn enter<'p>(
     Ok(())
 }
 
-/// Returns the frame of a call that takes `takes` operands of the top call.
+/// Pushes the frame of a call that takes `takes` operands of the top call. If there is no memory, nothing changes.
 #[inline(always)]
-fn called_frame<'p>(
+fn push_called<'p>(
     parts: &mut Parts<'p>,
     t: ThreadId,
     method: MethodNumber,
     code: &'p Body,
     takes: u16,
     lock: Lock,
-) -> Result<Frame<'p>, AllocError>
+) -> Result<(), AllocError>
     requires { IsReady parts.old.start parts.old.state t (action.Calls method code.now takes lock) }
-    ensures frame { IfOk result (λ frame. frame ≡ entered method code.now (reference_locked lock) (arguments_of takes (slice_get parts.old.state.threads t))) }
-    ensures kept { parts.new ≡ parts.old }
+    ensures ok { OnOk result (parts.new ≡ with_state parts.old (with_changed parts.old.state t (pushed (entered method code.now (reference_locked lock) (arguments_of takes (slice_get parts.old.state.threads t)))))) }
+    ensures err { OnErr result (parts.new ≡ parts.old) }
 {
     let alloc = parts.alloc;
     let monitor = locked_reference(lock);
-    parts.threads[t as usize].called_frame(alloc, method, code, monitor, usize::from(takes))
+    parts.threads[t as usize].call(alloc, method, code, monitor, usize::from(takes))
 }
 
 /// Calls a method with this code and the topmost `takes` operands of the top call. If there is no memory, nothing
@@ -194,8 +194,7 @@ pub fn call<'p>(
     ensures kept { OnErr result (parts.new ≡ parts.old) }
     ensures no_items { OnErr result (trace.new ≡ trace.old) }
 {
-    let frame = called_frame(parts, t, method, code, takes, lock)?;
-    push_call(parts, t, frame)?;
+    push_called(parts, t, method, code, takes, lock)?;
     if let Err(error) = lock_marked(parts, t, method, lock, trace) {
         pop_call(parts, t);
         return Err(error);

@@ -1,6 +1,6 @@
 use Rattle.std.proofs.Common.{◌≡◌, ◌+◌, ◌-◌, ◌*◌, ◌||◌, length, get_or, ap, refl, subst, sym, ◌∙◌, arith}
 use Rattle.classes.specs.Marks.{is_in, is_marked}
-use Rattle.classes.proofs.MarkingLaws.{AreMarkedFrom, with_marks, marked_first, marked_more, marked_past, row_fits, row_is, stands_at}
+use Rattle.classes.proofs.MarkingLaws.{AreMarkedFrom, all_marked, marked_first, marked_more, marked_past, row_fits, row_is, stands_at}
 use Rattle.classes.proofs.ancestors.mark_above.Goals as goal
 
 pub loop-left-init : goal.loop-left-init
@@ -53,5 +53,5 @@ pub returns : goal.returns
 returns c =
     let ranked = c.args.ranked.now in
     let done : c.loop-left.left ≡ 0 = omega arith in
-    with_marks ranked.classes.now ranked.supers.now ranked.ranks.now ranked.order.now ranked.is_hierarchy c.args.class c.loop-left.reached
+    all_marked ranked.classes.now ranked.supers.now ranked.ranks.now ranked.order.now ranked.is_hierarchy c.args.class c.loop-left.reached
     (subst (λ k. AreMarkedFrom ranked.classes.now ranked.supers.now ranked.ranks.now ranked.order.now ranked.is_hierarchy c.args.class k c.loop-left.reached) done c.loop-left.invariant.marked)

@@ -1,9 +1,9 @@
 -- Consecutive turns and then one more are the first of those that are left. At the end none is left.
-use Rattle.std.proofs.Common.{rules, ◌≡◌, ◌+◌, ◌<◌, ◌≤◌, None, sym, ◌∙◌}
-use Rattle.std.proofs.lemmas.Bool.{false≢true}
+use Rattle.std.proofs.Common.{rules, ◌≡◌, ◌+◌, ◌<◌, ◌≤◌, None, ◌∙◌}
 use Rattle.std.proofs.lemmas.Result.{err_from_is_err_and}
 use Rattle.runs.specs.Choices.{choice_of, chooser_after, IsTurnOf}
 use Rattle.runs.proofs.CountedTurns.{chooser_all_given, chooser_all_made, counted_all_given, counted_all_made, counted_broken, counted_next, counted_none, counted_on}
+use Rattle.runs.proofs.KeptThreads.{nothing_kept}
 use Rattle.runs.proofs.TurnsOn.{as_many, fewer}
 use Rattle.runs.proofs.counted.count_turns.Goals as goal
 
@@ -11,7 +11,7 @@ pub loop-made-init : goal.loop-made-init
 loop-made-init c =
     record {
       counted = counted_none c.args.machine.now c.args.chooser.now c.args.most c.args.recording.now;
-      enabled = λ current. absurd (false≢true (sym c.new-kept.ensures ∙ current));
+      enabled = nothing_kept _ _ c.new-kept.ensures.current c.new-kept.ensures.idle;
     }
 
 pub loop-made-preserved : goal.loop-made-preserved
@@ -78,7 +78,7 @@ returns-in_err-_taken-clause-broken c =
     let now = counted_on _ _ _ _ _ _ _ _ _ _ _ _ _ c.loop-made.invariant.counted c.take_consecutive_turns-on.ensures.most c.take_consecutive_turns-on.ensures.taken in
     let failed = err_from_is_err_and c.from_residual.result c.from_residual.ensures.1 in
     rw (failed.1, c.in_err-_taken.ensures.kept, c.in_err-_taken.ensures.no_items)
-    (counted_broken _ _ _ _ _ _ _ _ now)
+    (counted_broken _ _ _ _ _ _ _ _ _ now c.in_err-_taken.ensures.given)
 
 pub returns-clause-count : goal.returns-clause-count
 returns-clause-count c = (counted_all_made _ _ _ _ _ _ _ _ c.loop-made.invariant.counted c.loop-made-test.false).many

@@ -6,8 +6,8 @@ use Rattle.runs.proofs.turn.take_consecutive_turns.Goals as goal
 pub returns-in_default-clause-taken : goal.returns-in_default-clause-taken
 returns-in_default-clause-taken c = none_on c.args.machine.now c.args.chooser.now c.args.recording.now 0
 
-pub returns-then-suspects-clause-taken : goal.returns-then-suspects-clause-taken
-returns-then-suspects-clause-taken c = none_on c.args.machine.now c.args.chooser.now c.args.recording.now _
+pub returns-then-turns-eq1-clause-taken : goal.returns-then-turns-eq1-clause-taken
+returns-then-turns-eq1-clause-taken c = none_on c.args.machine.now c.args.chooser.now c.args.recording.now _
 
 pub returns-clause-taken : goal.returns-clause-taken
 returns-clause-taken c =

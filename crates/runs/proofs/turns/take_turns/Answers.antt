@@ -1,9 +1,9 @@
 -- Consecutive turns and then one more are the first of those that are left. At the end none is left.
-use Rattle.std.proofs.Common.{rules, ◌≡◌, ◌+◌, ◌<◌, ◌≤◌, None, sym, ◌∙◌}
-use Rattle.std.proofs.lemmas.Bool.{false≢true}
+use Rattle.std.proofs.Common.{rules, ◌≡◌, ◌+◌, ◌<◌, ◌≤◌, None, inl, refl, ◌∙◌}
 use Rattle.std.proofs.lemmas.Result.{err_from_is_err_and}
 use Rattle.runs.specs.Choices.{choice_of, chooser_after, IsTurnOf}
 use Rattle.runs.proofs.ChosenTurns.{all_given, all_made, behind_all_given, behind_all_made, broken_here, taken_next, taken_none, told}
+use Rattle.runs.proofs.KeptThreads.{nothing_kept}
 use Rattle.runs.proofs.TurnsOn.{as_many, fewer, noted_on, taken_on}
 use Rattle.runs.proofs.turns.take_turns.Goals as goal
 
@@ -11,7 +11,7 @@ pub loop-made-init : goal.loop-made-init
 loop-made-init c =
     record {
       taken = taken_none c.args.machine.now c.args.chooser.now c.args.most c.args.recording.now _ _ c.new-choices.ensures.items c.new-outcomes.ensures;
-      enabled = λ current. absurd (false≢true (sym c.new-kept.ensures ∙ current));
+      enabled = nothing_kept _ _ c.new-kept.ensures.current c.new-kept.ensures.idle;
     }
 
 pub loop-made-preserved : goal.loop-made-preserved
@@ -28,15 +28,15 @@ pub returns-in_err-put_choices-clause-broken : goal.returns-in_err-put_choices-c
 returns-in_err-put_choices-clause-broken c =
     let failed = err_from_is_err_and c.from_residual.result c.from_residual.ensures.1 in
     rw failed.1
-    (broken_here _ _ _ _ _ _ _ _ _ _
-    (taken_on _ _ _ _ _ _ _ _ _ _ _ _ _ _ _ c.loop-made.invariant.taken c.take_consecutive_turns-on.ensures.most c.take_consecutive_turns-on.ensures.taken))
+    (broken_here _ _ _ _ _ _ _ _ _ _ _
+    (taken_on _ _ _ _ _ _ _ _ _ _ _ _ _ _ _ c.loop-made.invariant.taken c.take_consecutive_turns-on.ensures.most c.take_consecutive_turns-on.ensures.taken) (inl refl))
 
 pub returns-in_err-push_ran-clause-broken : goal.returns-in_err-push_ran-clause-broken
 returns-in_err-push_ran-clause-broken c =
     let failed = err_from_is_err_and c.from_residual-in_err-push_ran.result c.from_residual-in_err-push_ran.ensures.1 in
     rw failed.1
-    (broken_here _ _ _ _ _ _ _ _ _ _
-    (taken_on _ _ _ _ _ _ _ _ _ _ _ _ _ _ _ c.loop-made.invariant.taken c.take_consecutive_turns-on.ensures.most c.take_consecutive_turns-on.ensures.taken))
+    (broken_here _ _ _ _ _ _ _ _ _ _ _
+    (taken_on _ _ _ _ _ _ _ _ _ _ _ _ _ _ _ c.loop-made.invariant.taken c.take_consecutive_turns-on.ensures.most c.take_consecutive_turns-on.ensures.taken) (inl refl))
 
 pub returns-then-made-most-clause-choices : goal.returns-then-made-most-clause-choices
 returns-then-made-most-clause-choices c =
@@ -73,7 +73,7 @@ returns-in_err-thread-clause-broken c =
     let now = noted_on _ _ _ _ _ _ _ _ _ _ _ _ _ _ _ _ _ c.loop-made.invariant.taken c.take_consecutive_turns-on.ensures.most c.take_consecutive_turns-on.ensures.taken c.in_ok-put_choices.ensures c.in_ok-push_ran.ensures.ok in
     let failed = err_from_is_err_and c.from_residual-in_err-thread.result c.from_residual-in_err-thread.ensures.1 in
     rw (failed.1, c.in_err-thread.ensures.kept, c.in_err-thread.ensures.no_items)
-    (broken_here _ _ _ _ _ _ _ _ _ _ now)
+    (broken_here _ _ _ _ _ _ _ _ _ _ _ now c.in_err-thread.ensures.given)
 
 pub returns-in_default-clause-choices : goal.returns-in_default-clause-choices
 returns-in_default-clause-choices c =
@@ -116,8 +116,8 @@ returns-in_err-push-clause-broken c =
     let is : IsTurnOf c.take_consecutive_turns-on.new.machine c.take_consecutive_turns-on.new.chooser c.take_consecutive_turns-on.new.recording (c.in-Some.thread, c.in-Some.outcome) c.take_turn.new.machine c.take_turn.new.chooser c.take_turn.new.recording = search rules in
     let failed = err_from_is_err_and c.from_residual-in_err-push.result c.from_residual-in_err-push.ensures.1 in
     rw failed.1
-    (broken_here _ _ _ _ _ _ _ _ _ _
-    (taken_next _ _ _ _ _ _ _ _ _ _ _ _ _ _ now below is))
+    (broken_here _ _ _ _ _ _ _ _ _ _ _
+    (taken_next _ _ _ _ _ _ _ _ _ _ _ _ _ _ now below is) (inl refl))
 
 pub returns-in_err-push-2-clause-broken : goal.returns-in_err-push-2-clause-broken
 returns-in_err-push-2-clause-broken c =
@@ -126,8 +126,8 @@ returns-in_err-push-2-clause-broken c =
     let is : IsTurnOf c.take_consecutive_turns-on.new.machine c.take_consecutive_turns-on.new.chooser c.take_consecutive_turns-on.new.recording (c.in-Some.thread, c.in-Some.outcome) c.take_turn.new.machine c.take_turn.new.chooser c.take_turn.new.recording = search rules in
     let failed = err_from_is_err_and c.from_residual-in_err-push-2.result c.from_residual-in_err-push-2.ensures.1 in
     rw failed.1
-    (broken_here _ _ _ _ _ _ _ _ _ _
-    (taken_next _ _ _ _ _ _ _ _ _ _ _ _ _ _ now below is))
+    (broken_here _ _ _ _ _ _ _ _ _ _ _
+    (taken_next _ _ _ _ _ _ _ _ _ _ _ _ _ _ now below is) (inl refl))
 
 pub returns-clause-choices : goal.returns-clause-choices
 returns-clause-choices c =

@@ -17,7 +17,7 @@ returns-in-3 c =
     IfOk-weaker c.instance_of.result (IsReadAs (IsVariableWith 3) variable_text c.args.text.now) (IsReadAs IsVariable variable_text c.args.text.now)
     (λ o read. of_so_many 3 c.args.text.now o (sym c.dots_in.ensures ∙ c.in-3.is) read) c.instance_of.ensures
 
-pub returns-in_default : goal.returns-in_default
-returns-in_default c =
+pub returns-in_default-dots_in : goal.returns-in_default-dots_in
+returns-in_default-dots_in c =
     let same = c.dots_in.ensures in
     of_no_sort c.args.text.now (λ e. omega arith) (λ e. omega arith) (λ e. omega arith)

@@ -1,5 +1,5 @@
 -- One more thread is inspected.
-use Rattle.std.proofs.Common.{ap, arith, ◌++◌, ◌∙◌}
+use Rattle.std.proofs.Common.{ap, arith, rules, ◌++◌, ◌∙◌}
 use Rattle.runs.proofs.KeptThreads.{enabled_left, fit_next, inspected_all, inspected_next, left_first}
 use Rattle.runs.proofs.kept.Kept.inspect_all.Goals as goal
 
@@ -9,6 +9,7 @@ loop-thread-init c =
       end = c.thread_count-thread-end.ensures;
       listed = ap (λ l. l ++ enabled_left c.args.machine.now 0) c.clear.ensures.items ∙ left_first c.args.machine.now;
       fit = λ _ u less. absurd (omega (arith, less));
+      idle = search rules;
     }
 
 pub loop-thread-preserved : goal.loop-thread-preserved
@@ -18,6 +19,7 @@ loop-thread-preserved c =
       end = now.end;
       listed = inspected_next c.args.machine.now c.loop-thread.thread _ _ (omega arith) c.in_ok-inspect.ensures.threads now.listed;
       fit = fit_next c.args.machine.now c.loop-thread.thread _ _ c.in_ok-inspect.ensures.fit now.fit;
+      idle = c.in_ok-inspect.ensures.idle ∙ now.idle;
     }
 
 pub returns-clause-threads : goal.returns-clause-threads

@@ -10,4 +10,5 @@ invariant-loop-thread l =
       end : l.thread-end ≡ length l.machine.state.threads;
       listed : l.self.threads.items ++ enabled_left l.machine l.thread ≡ enabled_threads l.machine;
       fit : l.self.is_current ≡ true → AreFitBelow l.machine l.thread;
+      idle : l.self.idle.items ≡ l.fn.self.idle.items;
     }

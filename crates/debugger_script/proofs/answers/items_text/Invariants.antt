@@ -1,8 +1,0 @@
--- The lines so far.
-use Rattle.std.proofs.Common.{◌≡◌, take}
-use Rattle.std.specs.String.{string_bytes}
-use Rattle.trace_text.specs.Traces.{trace_text}
-use Rattle.debugger_script.proofs.answers.items_text.Given as goal
-
-abbrev pub invariant-loop-item : goal.invariant-loop-item
-invariant-loop-item l = string_bytes l.text ≡ trace_text (take l.item-index l.items)

@@ -1,6 +1,0 @@
-use Rattle.std.proofs.Common.{◌≡◌, take}
-use Rattle.jasmin_reader.proofs.text.text.Given as goal
-
--- The units are the bytes so far.
-abbrev pub invariant-loop-byte : goal.invariant-loop-byte
-invariant-loop-byte l = l.units.items ≡ take l.byte-index l.byte-items
