@@ -1,6 +1,6 @@
 import re,collections
 from pathlib import Path
-R=Path('/work/house/crates')
+R=Path('/work/sweep/crates')
 done=collections.Counter(); skipped=[]
 def regions(t):
     """Yields (start, end) of the braces of clauses and ghost items."""

@@ -4,7 +4,7 @@ ghost use Rattle.std.specs.Prelude.{◌≡◌, IfOk};
 ghost use Rattle.velodrome.specs.Conflicts.{thread_of};
 ghost use Rattle.accesses.specs.Accesses.{accesses_beside, OfMonitor, OfThread, beside_at, main_at};
 ghost use Rattle.accesses.specs.Places.{place_of};
-ghost use Rattle.accesses.specs.Touches.{access_of, touches, touches_at, has_main_touch as is_main_touch};
+ghost use Rattle.accesses.specs.Touches.{access_of, touches, touches_at, has_main_touch};
 
 use crate::place::{Place, is_monitor, is_thread, is_variable, share_variable};
 use jvms_machine::machine::ThreadId;
@@ -75,7 +75,7 @@ pub fn is_touched(item: &Item, place: &Place) -> bool
 
 /// Decides whether the access to what an item touches is a main one.
 pub fn has_main_touch(item: &Item) -> bool
-    ensures { result ≡ is_main_touch item.now }
+    ensures { result ≡ has_main_touch item.now }
 {
     match item {
         Item::Write { .. } => true,

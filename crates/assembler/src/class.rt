@@ -2,7 +2,7 @@
 
 ghost use Rattle.std.specs.Prelude.{◌≡◌, nat_lt, ◌||◌, length, IfOk};
 ghost use Rattle.std.specs.List.{list_any};
-ghost use Rattle.jasmin.specs.Assembling.{is_too_many as are_too_many, has_too_many as has_too_many_of};
+ghost use Rattle.jasmin.specs.Assembling.{is_too_many, has_too_many};
 ghost use Rattle.pool_entries.specs.Entries.{AreProper};
 ghost use Rattle.assembly.specs.Faults.{Answers};
 ghost use Rattle.assembly.specs.Assembled.{assembled};
@@ -32,21 +32,21 @@ fn is_too_many(count: usize) -> bool
 
 /// Decides whether a method has too many catches, or throws too many classes.
 fn method_has_too_many(method: &MethodLines) -> bool
-    ensures { result ≡ (are_too_many method.now.catches || are_too_many method.now.throws) }
+    ensures { result ≡ (is_too_many method.now.catches || is_too_many method.now.throws) }
 {
     is_too_many(method.catches.len()) || is_too_many(method.throws.len())
 }
 
 /// Decides whether a method among these has too many catches, or throws too many classes.
 fn any_has_too_many(methods: &[MethodLines]) -> bool
-    ensures { result ≡ list_any (λ m. are_too_many m.catches || are_too_many m.throws) methods.now }
+    ensures { result ≡ list_any (λ m. is_too_many m.catches || is_too_many m.throws) methods.now }
 {
     methods.iter().any(|method| method_has_too_many(method))
 }
 
 /// Decides whether the interfaces, fields, methods, catches or thrown names are more than a count of two bytes allows.
 fn has_too_many(source: &Source) -> bool
-    ensures { result ≡ has_too_many_of source.now }
+    ensures { result ≡ has_too_many source.now }
 {
     is_too_many(source.interfaces.len())
         || is_too_many(source.fields.len())

@@ -5,7 +5,7 @@ ghost use Rattle.velodrome.specs.Conflicts.{thread_of};
 ghost use Rattle.velodrome.specs.Cycles.{AreAtomic, IsCycle};
 ghost use Rattle.velodrome.specs.Reach.{AreReached};
 ghost use Rattle.velodrome.specs.Rearrangements.{IsRearrangement, IsSerial};
-ghost use Rattle.velodrome.specs.Specification.{is_atomic as atomic_by};
+ghost use Rattle.velodrome.specs.Specification.{is_atomic};
 ghost use Rattle.velodrome.specs.Transactions.{is_event};
 ghost use Rattle.velodrome.specs.Verdicts.{IsVerdict};
 ghost use Rattle.jvms_machine.specs.declared.trace.Item.TheVariants.{Enter, Exit};
@@ -154,7 +154,7 @@ impl Checker {
 
     /// Decides whether the specification calls a method atomic.
     pub fn is_atomic(&self, method: &MethodKey) -> bool
-        ensures { result ≡ atomic_by self.now.lines method.now }
+        ensures { result ≡ is_atomic self.now.lines method.now }
     {
         self.walked.courses.is_atomic(method)
     }

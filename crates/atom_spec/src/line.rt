@@ -2,7 +2,7 @@
 
 ghost use Rattle.std.specs.Prelude.{◌≡◌, IfOk};
 ghost use Rattle.escapes.specs.Readings.{IsReadAs};
-ghost use Rattle.atom_spec.specs.Lines.{IsLine, line_text, word_text, is_skipped as line_is_skipped};
+ghost use Rattle.atom_spec.specs.Lines.{IsLine, line_text, word_text, is_skipped};
 ghost use Rattle.atom_spec.specs.Parts.{IsWord, Adds};
 
 use crate::pattern::pattern_of;
@@ -42,7 +42,7 @@ fn line_of(alloc: Global, text: &[u8]) -> Result<Option<SpecificationLine>, Allo
 
 /// Decides whether a line is skipped.
 fn is_skipped(line: &[u8]) -> bool
-    ensures { result ≡ line_is_skipped line.now }
+    ensures { result ≡ is_skipped line.now }
 {
     matches!(line, [] | [b'#', ..])
 }

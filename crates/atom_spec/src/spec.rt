@@ -3,7 +3,7 @@
 ghost use Rattle.std.specs.Prelude.{◌≡◌, IfOk};
 ghost use Rattle.jvms_file.specs.Names.{begins_with};
 ghost use Rattle.jvms_program.specs.BuiltIn.{is_built_in};
-ghost use Rattle.velodrome.specs.Specification.{is_atomic as atomic_by};
+ghost use Rattle.velodrome.specs.Specification.{is_atomic};
 ghost use Rattle.atom_spec.specs.Said.{Says};
 ghost use Rattle.atom_spec.specs.Specs.{IsRead};
 
@@ -113,7 +113,7 @@ impl Spec {
     /// and the methods of built-in classes never are.
     #[tactic(auto, unfolding(velodrome::specs::Specification::is_atomic))]
     pub fn is_atomic(&self, method: &MethodKey) -> bool
-        ensures { result ≡ atomic_by self.now method.now }
+        ensures { result ≡ is_atomic self.now method.now }
     {
         self.parts.get().table.said(method)
             && !is_initializer_name(method.name.as_slice())

@@ -1,7 +1,7 @@
 //! Reads the text of a table.
 
 ghost use Rattle.std.specs.Prelude.{◌≡◌, IfOk};
-ghost use Rattle.campaign_text.specs.TableTexts.{table_text as text_of};
+ghost use Rattle.campaign_text.specs.TableTexts.{table_text};
 
 use crate::fault::TableFault;
 use crate::part::Part;
@@ -104,7 +104,7 @@ fn first_difference(one: &[u8], other: &[u8]) -> usize {
 /// line must count them.
 pub fn read_table(alloc: Global, text: &str) -> Result<Part, TableFault>
     // The text is the table's, byte for byte.
-    ensures { IfOk result (λ part. text.now ≡ text_of part.first part.table.results.items) }
+    ensures { IfOk result (λ part. text.now ≡ table_text part.first part.table.results.items) }
 {
     let part = part_of(alloc, text)?;
     let expected = table_text(alloc, part.first, &part.table)?;

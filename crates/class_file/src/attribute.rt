@@ -2,7 +2,7 @@
 
 ghost use Rattle.std.specs.Prelude.{◌≡◌};
 ghost use Rattle.jvms_file.specs.Reading.{Gives};
-ghost use Rattle.jvms_file.specs.Members.{kept_content_at, kept_at as kept_read, kept_attributes_at as kept_attributes_read, is_named as names_text};
+ghost use Rattle.jvms_file.specs.Members.{kept_content_at, kept_at, kept_attributes_at, is_named};
 
 use const_pool::Pool;
 use file_bytes::{Part, bytes_at, parts_of, u2_at, u4_at, want};
@@ -13,7 +13,7 @@ use std::alloc::Global;
 
 /// Decides whether an entry is this text.
 pub(crate) fn is_named(pool: &Pool, number: u16, name: &[u16]) -> bool
-    ensures { result ≡ names_text pool.now number name.now }
+    ensures { result ≡ is_named pool.now number name.now }
 {
     match pool.utf8(number) {
         None => false,
@@ -44,7 +44,7 @@ struct KeptAttributes<'p> {
 }
 
 impl Part<KeptAttribute> for KeptAttributes<'_> {
-    ghost at = { λ k _. kept_read k.pool.now k.cut };
+    ghost at = { λ k _. kept_at k.pool.now k.cut };
 
     fn part_at<'a>(
         &self,
@@ -65,7 +65,7 @@ pub(crate) fn kept_attributes_at<'a>(
     cut: ClassFault,
     bytes: &'a [u8],
 ) -> Result<(Items<KeptAttribute>, &'a [u8]), ReadError>
-    ensures { Gives (λ x. (x.0, x.1.now)) result (kept_attributes_read pool.now cut bytes.now) }
+    ensures { Gives (λ x. (x.0, x.1.now)) result (kept_attributes_at pool.now cut bytes.now) }
 {
     let (count, rest) = u2_at(cut, bytes)?;
     parts_of(

@@ -1,9 +1,9 @@
 //! Class files (JVMS 4.1).
 
 ghost use Rattle.std.specs.Prelude.{◌≡◌};
-ghost use Rattle.jvms_file.specs.ClassFile.{is_version, is_proper_class as is_proper_number, interface_at as interface_read, interfaces_at as interfaces_read, class_at as class_read, read as file_read};
+ghost use Rattle.jvms_file.specs.ClassFile.{is_version, is_proper_class, interface_at, interfaces_at, class_at, read};
 ghost use Rattle.jvms_file.specs.Reading.{Gives};
-ghost use Rattle.class_file.specs.Opening.{members_after_superclass as members_read, class_after_pool, class_after_versions as pool_read};
+ghost use Rattle.class_file.specs.Opening.{members_after_superclass, class_after_pool, class_after_versions};
 
 use crate::attribute::kept_attributes_at;
 use crate::field::fields_at;
@@ -31,7 +31,7 @@ pub(crate) struct Head {
 
 /// Decides whether a number is that of a class that is no array's.
 fn is_proper_class(pool: &Pool, number: u16) -> bool
-    ensures { result ≡ is_proper_number pool.now number }
+    ensures { result ≡ is_proper_class pool.now number }
 {
     match pool.class_name(number) {
         None => false,
@@ -47,7 +47,7 @@ struct Interfaces<'p> {
 }
 
 impl Part<u16> for Interfaces<'_> {
-    ghost at = { λ i _. interface_read i.pool.now i.cut };
+    ghost at = { λ i _. interface_at i.pool.now i.cut };
 
     fn part_at<'a>(
         &self,
@@ -68,7 +68,7 @@ fn interfaces_at<'a>(
     cut: ClassFault,
     bytes: &'a [u8],
 ) -> Result<(Items<u16>, &'a [u8]), ReadError>
-    ensures { Gives (λ x. (x.0, x.1.now)) result (interfaces_read pool.now cut bytes.now) }
+    ensures { Gives (λ x. (x.0, x.1.now)) result (interfaces_at pool.now cut bytes.now) }
 {
     let (count, rest) = u2_at(cut, bytes)?;
     parts_of(alloc, &Interfaces { pool, cut }, usize::from(count), rest)
@@ -82,7 +82,7 @@ fn members_after_superclass(
     head: Head,
     bytes: &[u8],
 ) -> Result<ClassFile, ReadError>
-    ensures { Gives (λ c. c) result (members_read cut pool head bytes.now) }
+    ensures { Gives (λ c. c) result (members_after_superclass cut pool head bytes.now) }
 {
     let (interfaces, rest) = interfaces_at(alloc, pool.pool(), cut, bytes)?;
     let (fields, rest) = fields_at(alloc, &pool, cut, rest)?;
@@ -140,7 +140,7 @@ fn class_after_versions(
     major: u16,
     bytes: &[u8],
 ) -> Result<ClassFile, ReadError>
-    ensures { Gives (λ c. c) result (pool_read cut minor major bytes.now) }
+    ensures { Gives (λ c. c) result (class_after_versions cut minor major bytes.now) }
 {
     let (pool, rest) = ScannedPool::read(alloc, cut, bytes)?;
     class_after_pool(alloc, cut, minor, major, pool, rest)
@@ -156,7 +156,7 @@ fn is_version(major: u16) -> bool
 /// Reads a class from bytes, or returns their first fault. `cut` is the fault of missing bytes.
 #[tactic(auto, unfolding(jvms_file::specs::ClassFile::class_at))]
 fn class_at(alloc: Global, cut: ClassFault, bytes: &[u8]) -> Result<ClassFile, ReadError>
-    ensures { Gives (λ c. c) result (class_read cut bytes.now) }
+    ensures { Gives (λ c. c) result (class_at cut bytes.now) }
 {
     let (magic, rest) = u4_at(cut, bytes)?;
     want(magic == MAGIC, ClassFault::Magic)?;
@@ -168,7 +168,7 @@ fn class_at(alloc: Global, cut: ClassFault, bytes: &[u8]) -> Result<ClassFile, R
 
 /// Reads a class from bytes, or returns their first fault. Truncated bytes have their length as the place of the fault.
 pub(crate) fn read_class(alloc: Global, bytes: &[u8]) -> Result<ClassFile, ReadError>
-    ensures exact { Gives (λ c. c) result (file_read bytes.now) }
+    ensures exact { Gives (λ c. c) result (read bytes.now) }
 {
     class_at(alloc, ClassFault::Truncated { at: bytes.len() }, bytes)
 }

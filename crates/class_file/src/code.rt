@@ -2,11 +2,11 @@
 
 ghost use Rattle.std.specs.Prelude.{◌≡◌, ◌≤◌, length, IfOk};
 ghost use Rattle.jvms_file.specs.Code.{handlers_of};
-ghost use Rattle.jvms_file.specs.Members.{handler_at as handler_read, code_at as code_read, class_number_at as class_number_read, exceptions_at as exceptions_read};
+ghost use Rattle.jvms_file.specs.Members.{handler_at, code_at, class_number_at, exceptions_at};
 ghost use Rattle.jvms_file.specs.Reading.{Gives};
 ghost use Rattle.file_bytes.specs.Reading.{Finds};
 ghost use Rattle.class_file.specs.Contents.{framed_by};
-ghost use Rattle.class_file.specs.Wanted.{code_bytes_at, exception_table_at, handler_placed, classes_at as classes_read};
+ghost use Rattle.class_file.specs.Wanted.{code_bytes_at, exception_table_at, handler_placed, classes_at};
 
 use crate::attribute::kept_attributes_at;
 use crate::content::{Content, want_all};
@@ -30,7 +30,7 @@ struct Handlers<'p> {
 }
 
 impl Part<Handler> for Handlers<'_> {
-    ghost at = { λ h _. handler_read h.pool.now h.cut };
+    ghost at = { λ h _. handler_at h.pool.now h.cut };
 
     fn part_at<'a>(
         &self,
@@ -125,7 +125,7 @@ pub(crate) fn code_at<'a>(
     major: u16,
     content: Content<'a>,
 ) -> Result<(Code, &'a [u8]), ReadError>
-    ensures { Gives (λ x. (x.0, x.1.now)) result (code_read pool.now major (framed_by content.entry)) }
+    ensures { Gives (λ x. (x.0, x.1.now)) result (code_at pool.now major (framed_by content.entry)) }
 {
     let (max_stack, rest) = u2_at(content.cut, content.bytes)?;
     let (max_locals, rest) = u2_at(content.cut, rest)?;
@@ -161,7 +161,7 @@ struct ClassNumbers<'p> {
 }
 
 impl Part<u16> for ClassNumbers<'_> {
-    ghost at = { λ n _. class_number_read n.pool.now n.cut };
+    ghost at = { λ n _. class_number_at n.pool.now n.cut };
 
     fn part_at<'a>(
         &self,
@@ -182,7 +182,7 @@ fn classes_at<'a>(
     cut: ClassFault,
     bytes: &'a [u8],
 ) -> Result<(Items<u16>, &'a [u8]), ReadError>
-    ensures { Gives (λ x. (x.0, x.1.now)) result (classes_read pool.now cut bytes.now) }
+    ensures { Gives (λ x. (x.0, x.1.now)) result (classes_at pool.now cut bytes.now) }
 {
     let (count, rest) = u2_at(cut, bytes)?;
     parts_of(alloc, &ClassNumbers { pool, cut }, usize::from(count), rest)
@@ -194,7 +194,7 @@ pub(crate) fn exceptions_at<'a>(
     pool: &Pool,
     content: Content<'a>,
 ) -> Result<(Items<u16>, &'a [u8]), ReadError>
-    ensures { Gives (λ x. (x.0, x.1.now)) result (exceptions_read pool.now (framed_by content.entry)) }
+    ensures { Gives (λ x. (x.0, x.1.now)) result (exceptions_at pool.now (framed_by content.entry)) }
 {
     let (classes, rest) = classes_at(alloc, pool, content.cut, content.bytes)?;
     want_all(content, rest)?;

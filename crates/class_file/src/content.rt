@@ -2,7 +2,7 @@
 
 ghost use Rattle.std.specs.Prelude.{◌≡◌};
 ghost use Rattle.file_bytes.specs.Reading.{Finds};
-ghost use Rattle.jvms_file.specs.Members.{framed, frame_at as frame_read, want_all as all_wanted};
+ghost use Rattle.jvms_file.specs.Members.{framed, frame_at, want_all};
 ghost use Rattle.class_file.specs.Contents.{framed_by};
 
 use file_bytes::{u4_at, want};
@@ -44,7 +44,7 @@ fn content_of(cut: ClassFault, count: usize, bytes: &[u8]) -> Content<'_>
 
 /// Reads the length of an attribute's content, and returns the content.
 pub(crate) fn content_at(cut: ClassFault, bytes: &[u8]) -> Result<Content<'_>, ClassFault>
-    ensures { Finds framed_by result (frame_read cut bytes.now) }
+    ensures { Finds framed_by result (frame_at cut bytes.now) }
 {
     let (count, rest) = u4_at(cut, bytes)?;
     Ok(content_of(cut, count as usize, rest))
@@ -52,7 +52,7 @@ pub(crate) fn content_at(cut: ClassFault, bytes: &[u8]) -> Result<Content<'_>, C
 
 /// Tests that an attribute's content was read to its end. `rest` is what is left of it.
 pub(crate) fn want_all(content: Content<'_>, rest: &[u8]) -> Result<(), ClassFault>
-    ensures { Finds (λ x. x) result (all_wanted (framed_by content.entry) rest.now) }
+    ensures { Finds (λ x. x) result (want_all (framed_by content.entry) rest.now) }
 {
     match rest {
         [] => want(content.whole, content.cut),

@@ -7,12 +7,12 @@ ghost use Rattle.jvms_file.specs.Reading.{Gives};
 ghost use Rattle.file_bytes.specs.Reading.{Finds};
 ghost use Rattle.jvms_file.specs.Results.{part_list_onto};
 ghost use Rattle.jvms_file.specs.Descriptors.{field_type_of};
-ghost use Rattle.jvms_file.specs.Members.{takes_constant, is_constant_of, constant_value_at, is_constant_value, field_attribute_at, is_text_with, is_same_field, field_at as field_read, fields_at as fields_read};
+ghost use Rattle.jvms_file.specs.Members.{takes_constant, is_constant_of, constant_value_at, is_constant_value, field_attribute_at, is_text_with, is_same_field, field_at, fields_at};
 ghost use Rattle.jvms_file.specs.ConstantPool.{utf8_at, entry};
-ghost use Rattle.jvms_file.specs.Names.{is_name as is_name_text};
+ghost use Rattle.jvms_file.specs.Names.{is_name};
 ghost use Rattle.class_file.specs.Contents.{framed_by};
 ghost use Rattle.class_file.specs.Seen.{AreFields};
-ghost use Rattle.class_file.specs.Wanted.{text_wanted, field_attributes_at as attributes_read};
+ghost use Rattle.class_file.specs.Wanted.{text_wanted, field_attributes_at};
 
 use crate::attribute::{is_named, kept_content};
 use crate::content::{Content, content_at, want_all};
@@ -107,7 +107,7 @@ impl Part<FieldAttribute> for Attributes<'_> {
 
 /// Tests that a number is that of a field's name.
 fn want_name(pool: &ScannedPool, number: u16) -> Result<(), ClassFault>
-    ensures { Finds (λ x. x) result (text_wanted is_name_text pool.now number) }
+    ensures { Finds (λ x. x) result (text_wanted is_name pool.now number) }
 {
     match pool.forms(number) {
         None => Err(ClassFault::Index),
@@ -133,7 +133,7 @@ fn attributes_at<'a>(
     descriptor: u16,
     bytes: &'a [u8],
 ) -> Result<(Items<FieldAttribute>, &'a [u8]), ReadError>
-    ensures { Gives (λ x. (x.0, x.1.now)) result (attributes_read pool.now cut descriptor bytes.now) }
+    ensures { Gives (λ x. (x.0, x.1.now)) result (field_attributes_at pool.now cut descriptor bytes.now) }
 {
     let (count, rest) = u2_at(cut, bytes)?;
     let attributes = Attributes {
@@ -194,7 +194,7 @@ fn field_at<'a>(
     bytes: &'a [u8],
 ) -> Result<(FieldInfo, &'a [u8]), ReadError>
     requires { AreFields pool.now before.now.seen before.now.items }
-    ensures { Gives (λ x. (x.0, x.1.now)) result (field_read pool.now cut before.now.items bytes.now) }
+    ensures { Gives (λ x. (x.0, x.1.now)) result (field_at pool.now cut before.now.items bytes.now) }
 {
     let (access, rest) = u2_at(cut, bytes)?;
     let (name, rest) = u2_at(cut, rest)?;
@@ -223,7 +223,7 @@ fn fields_of<'a>(
     count: usize,
     bytes: &'a [u8],
 ) -> Result<(Items<FieldInfo>, &'a [u8]), ReadError>
-    ensures { Gives (λ x. (x.0, x.1.now)) result (part_list_onto (field_read pool.now cut) [] count bytes.now) }
+    ensures { Gives (λ x. (x.0, x.1.now)) result (part_list_onto (field_at pool.now cut) [] count bytes.now) }
 {
     let mut fields = Fields::new(alloc, pool);
     let mut rest = bytes;
@@ -247,7 +247,7 @@ pub(crate) fn fields_at<'a>(
     cut: ClassFault,
     bytes: &'a [u8],
 ) -> Result<(Items<FieldInfo>, &'a [u8]), ReadError>
-    ensures { Gives (λ x. (x.0, x.1.now)) result (fields_read pool.now cut bytes.now) }
+    ensures { Gives (λ x. (x.0, x.1.now)) result (fields_at pool.now cut bytes.now) }
 {
     let (count, rest) = u2_at(cut, bytes)?;
     fields_of(alloc, pool, cut, usize::from(count), rest)

@@ -2,8 +2,8 @@
 
 ghost use Rattle.std.specs.Prelude.{◌≡◌, [], ◌∷◌, ◌++◌, List, ◌||◌, not, OnOk};
 ghost use Rattle.std.specs.List.{list_any};
-ghost use Rattle.jvms_file.specs.Names.{is_method_name as is_method_name_text};
-ghost use Rattle.jvms_file.specs.Members.{needs_code, is_code, is_exceptions, is_initializer, is_method_descriptor_for, is_same_method, method_attribute_at, method_at as method_read, methods_at as methods_read};
+ghost use Rattle.jvms_file.specs.Names.{is_method_name};
+ghost use Rattle.jvms_file.specs.Members.{needs_code, is_code, is_exceptions, is_initializer, is_method_descriptor_for, is_same_method, method_attribute_at, method_at, methods_at};
 ghost use Rattle.jvms_file.specs.Reading.{Gives};
 ghost use Rattle.file_bytes.specs.Reading.{Finds};
 ghost use Rattle.jvms_file.specs.Results.{part_list_onto};
@@ -182,7 +182,7 @@ fn may_have(class_access: u16, initializer: bool, access: u16) -> bool
 
 /// Tests that a number is that of a method's name.
 fn want_name(pool: &ScannedPool, number: u16) -> Result<(), ClassFault>
-    ensures { Finds (λ x. x) result (text_wanted is_method_name_text pool.now number) }
+    ensures { Finds (λ x. x) result (text_wanted is_method_name pool.now number) }
 {
     match pool.forms(number) {
         None => Err(ClassFault::Index),
@@ -298,7 +298,7 @@ fn method_at<'a>(
     bytes: &'a [u8],
 ) -> Result<(MethodInfo, &'a [u8]), ReadError>
     requires { AreMethods pool.now before.now.seen before.now.items }
-    ensures { Gives (λ x. (x.0, x.1.now)) result (method_read pool.now major cut class_access before.now.items bytes.now) }
+    ensures { Gives (λ x. (x.0, x.1.now)) result (method_at pool.now major cut class_access before.now.items bytes.now) }
 {
     let (access, rest) = u2_at(cut, bytes)?;
     let (name, rest) = u2_at(cut, rest)?;
@@ -320,7 +320,7 @@ fn methods_of<'a>(
     count: usize,
     bytes: &'a [u8],
 ) -> Result<(Items<MethodInfo>, &'a [u8]), ReadError>
-    ensures { Gives (λ x. (x.0, x.1.now)) result (part_list_onto (method_read pool.now major cut class_access) [] count bytes.now) }
+    ensures { Gives (λ x. (x.0, x.1.now)) result (part_list_onto (method_at pool.now major cut class_access) [] count bytes.now) }
 {
     let mut methods = Methods::new(alloc, pool);
     let mut rest = bytes;
@@ -354,7 +354,7 @@ pub(crate) fn methods_at<'a>(
     class_access: u16,
     bytes: &'a [u8],
 ) -> Result<(Items<MethodInfo>, &'a [u8]), ReadError>
-    ensures { Gives (λ x. (x.0, x.1.now)) result (methods_read pool.now major cut class_access bytes.now) }
+    ensures { Gives (λ x. (x.0, x.1.now)) result (methods_at pool.now major cut class_access bytes.now) }
 {
     let (count, rest) = u2_at(cut, bytes)?;
     methods_of(

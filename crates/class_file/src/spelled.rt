@@ -2,7 +2,7 @@
 
 ghost use Rattle.std.specs.Prelude.{◌≡◌, IfOk, Ok};
 ghost use Rattle.jvms_file.specs.declared.class_file.ClassFile.{ClassFile as Class};
-ghost use Rattle.jvms_file.specs.ClassFile.{read as file_read};
+ghost use Rattle.jvms_file.specs.ClassFile.{read};
 ghost use Rattle.jvms_file.specs.Reading.{Gives};
 ghost use Rattle.jvms_file.specs.Spelling.{Spells};
 ghost use Rattle.class_file.specs.Spelled.{HasSpelling};
@@ -64,7 +64,7 @@ impl ClassFile {
 /// the fault.
 pub fn read(alloc: Global, bytes: &[u8]) -> Result<ClassFile, ReadError>
     // The class that the definition reads, or its first fault.
-    ensures exact { Gives (λ c. c) result (file_read bytes.now) }
+    ensures exact { Gives (λ c. c) result (read bytes.now) }
     // A class that is returned is spelled by the bytes.
     ensures found { IfOk result (λ c. Spells bytes.now c) }
     // A class that the bytes spell is returned, unless memory runs out.

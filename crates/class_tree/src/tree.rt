@@ -2,7 +2,7 @@
 
 ghost use Rattle.std.specs.Prelude.{◌≡◌};
 ghost use Rattle.listing_spec.specs.Faults.{Lists};
-ghost use Rattle.listing_spec.specs.TreeOf.{class_flags, tree_of as tree_of_class};
+ghost use Rattle.listing_spec.specs.TreeOf.{class_flags, tree_of};
 
 use crate::fields::field_lines;
 use crate::methods::all_method_lines;
@@ -47,7 +47,7 @@ fn class_flags(access: u16) -> u16
 /// `Memory` if memory ran out.
 #[tactic(auto, unfolding(listing_spec::specs::TreeOf::tree_of))]
 pub fn tree_of(alloc: Global, class: &ClassFile) -> Result<Source, ListFault>
-    ensures exact { Lists result (tree_of_class class.now) }
+    ensures exact { Lists result (tree_of class.now) }
 {
     if class.super_class == 0 {
         return Err(ListFault::Name);

@@ -1,7 +1,7 @@
 //! Selection of methods (JVMS 6.5 invokevirtual, invokeinterface, invokespecial).
 
 ghost use Rattle.std.specs.Prelude.{◌≡◌};
-ghost use Rattle.jvms_program.specs.Resolution.{ResolvedMethod, chain, first_in, is_superclass, members_class as class_of_members, names_class, selectable_in, selected_from, selected_special};
+ghost use Rattle.jvms_program.specs.Resolution.{ResolvedMethod, chain, first_in, is_superclass, members_class, names_class, selectable_in, selected_from, selected_special};
 ghost use Rattle.classes.specs.Places.{IsMethodAt, LocatesItem};
 
 use crate::chain::superclass_name;
@@ -60,7 +60,7 @@ impl Classes {
         name: &[u16],
         descriptor: &[u16],
     ) -> Option<(usize, usize)>
-        ensures { LocatesItem (IsMethodAt self.now) (first_in (selectable_in name.now descriptor.now) (chain self.now (class_of_members class.now))) result }
+        ensures { LocatesItem (IsMethodAt self.now) (first_in (selectable_in name.now descriptor.now) (chain self.now (members_class class.now))) result }
     {
         first_up(self, members_class(class), &Selectable { name, descriptor })
     }

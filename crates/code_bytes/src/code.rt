@@ -2,7 +2,7 @@
 
 ghost use Rattle.std.specs.Prelude.{◌≡◌, length};
 ghost use Rattle.jasmin.specs.Denote.{has_code, operations};
-ghost use Rattle.assembly.specs.CodeOf.{code_within as code_within_of};
+ghost use Rattle.assembly.specs.CodeOf.{code_within};
 ghost use Rattle.assembly.specs.Faults.{Answers};
 
 use crate::bytes::bytes_of;
@@ -41,7 +41,7 @@ pub fn code_within(
 ) -> Result<Code, AsmFault>
     requires labels { labels.now ≡ method.now.code }
     requires numbers { length operands.now ≡ length (operations method.now.code) }
-    ensures exact { Answers result (code_within_of operands.now caught.now method.now) }
+    ensures exact { Answers result (code_within operands.now caught.now method.now) }
 {
     let items = method.code.as_slice();
     let starts = starts_of(alloc, operands, items)?;

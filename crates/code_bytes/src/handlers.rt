@@ -2,7 +2,7 @@
 
 ghost use Rattle.std.specs.Prelude.{◌≡◌, ◌≤◌, length, IfOk};
 ghost use Rattle.jasmin.specs.Denote.{operations};
-ghost use Rattle.assembly.specs.CodeOf.{handler_of as handler_at, handlers_from};
+ghost use Rattle.assembly.specs.CodeOf.{handler_of, handlers_from};
 
 use crate::targets::target_of;
 use jasmin::source::CatchLine;
@@ -14,7 +14,7 @@ use std::alloc::{AllocError, Global};
 /// Returns the handler of a catch whose class is this pool entry, or 0 for all.
 fn handler_of(labels: &Labels<'_>, number: u16, catch: &CatchLine) -> Handler
     requires { length (operations labels.now) ≤ 65535 }
-    ensures { result ≡ handler_at labels.now number catch.now }
+    ensures { result ≡ handler_of labels.now number catch.now }
 {
     Handler {
         start: target_of(labels, &catch.from),

@@ -4,8 +4,8 @@ ghost use Rattle.std.specs.Prelude.{◌≡◌, ◌≤◌, length, map, IfOk};
 ghost use Rattle.jvms_file.specs.declared.insn.Insn.TheVariants as insn;
 ghost use Rattle.jvms_file.specs.declared.insn.Simple.TheVariants as simple;
 ghost use Rattle.jvms_file.specs.declared.insn.Push.TheVariants as push;
-ghost use Rattle.jasmin.specs.Denote.{target, operations, simple_of as simple_at, switch_case};
-ghost use Rattle.assembly.specs.CodeOf.{insn_of as insn_at, insns_from};
+ghost use Rattle.jasmin.specs.Denote.{target, operations, simple_of, switch_case};
+ghost use Rattle.assembly.specs.CodeOf.{insn_of, insns_from};
 
 use crate::steps::next_operation;
 use crate::targets::target_of;
@@ -22,7 +22,7 @@ use std::alloc::{AllocError, Global};
 
 /// Returns the instruction of an opcode without operands.
 fn simple_of(code: u8) -> Simple
-    ensures { result ≡ simple_at code }
+    ensures { result ≡ simple_of code }
 {
     match form_of(code) {
         Some(Opcode::Alone(simple)) => simple,
@@ -118,7 +118,7 @@ fn insn_of(
     operation: &Operation,
 ) -> Result<Insn, AllocError>
     requires { length (operations labels.now) ≤ 65535 }
-    ensures { IfOk result (λ i. i ≡ insn_at labels.now number operation.now) }
+    ensures { IfOk result (λ i. i ≡ insn_of labels.now number operation.now) }
 {
     match operation {
         Operation::Alone(code) => Ok(Insn::Simple(simple_of(*code))),

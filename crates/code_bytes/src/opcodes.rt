@@ -1,13 +1,13 @@
 //! Maps instructions with operands to their opcodes (JVMS 7).
 
 ghost use Rattle.std.specs.Prelude.{◌≡◌, ◌≤◌};
-ghost use Rattle.assembly.specs.Opcodes.{kind_number as number_of_kind, local_opcode as local_code, comparison_number as number_of_comparison, branch_opcode as branch_code, wide_branch_opcode as wide_branch_code, field_opcode as field_code, invoke_opcode as invoke_code, class_opcode as class_code, array_type_number as number_of_type};
+ghost use Rattle.assembly.specs.Opcodes.{kind_number, local_opcode, comparison_number, branch_opcode, wide_branch_opcode, field_opcode, invoke_opcode, class_opcode, array_type_number};
 
 use jvms_file::insn::{ArrayType, Branch, ClassUse, Comparison, FieldUse, Invoke, Kind, LocalUse};
 
 /// Returns the position of a kind among the opcodes of loads, and among those of stores.
 fn kind_number(kind: Kind) -> u8
-    ensures exact { result ≡ number_of_kind kind }
+    ensures exact { result ≡ kind_number kind }
     ensures few { result ≤ 4 }
 {
     match kind {
@@ -21,7 +21,7 @@ fn kind_number(kind: Kind) -> u8
 
 /// Returns the opcode of iload to aload, of istore to astore, or of ret.
 pub fn local_opcode(how: LocalUse) -> u8
-    ensures { result ≡ local_code how }
+    ensures { result ≡ local_opcode how }
 {
     match how {
         LocalUse::Load(kind) => 21 + kind_number(kind),
@@ -32,7 +32,7 @@ pub fn local_opcode(how: LocalUse) -> u8
 
 /// Returns the position of a comparison among the opcodes of branches that compare.
 fn comparison_number(comparison: Comparison) -> u8
-    ensures exact { result ≡ number_of_comparison comparison }
+    ensures exact { result ≡ comparison_number comparison }
     ensures few { result ≤ 5 }
 {
     match comparison {
@@ -47,7 +47,7 @@ fn comparison_number(comparison: Comparison) -> u8
 
 /// Returns the opcode of a branch with an offset of two bytes.
 pub fn branch_opcode(how: Branch) -> u8
-    ensures { result ≡ branch_code how }
+    ensures { result ≡ branch_opcode how }
 {
     match how {
         Branch::IfZero(comparison) => 153 + comparison_number(comparison),
@@ -64,7 +64,7 @@ pub fn branch_opcode(how: Branch) -> u8
 /// Returns the opcode of a branch with an offset of four bytes: goto_w or jsr_w. The value for any other branch isn't
 /// used.
 pub fn wide_branch_opcode(how: Branch) -> u8
-    ensures { result ≡ wide_branch_code how }
+    ensures { result ≡ wide_branch_opcode how }
 {
     match how {
         Branch::Goto => 200,
@@ -80,7 +80,7 @@ pub fn wide_branch_opcode(how: Branch) -> u8
 
 /// Returns the opcode of getstatic to putfield.
 pub fn field_opcode(how: FieldUse) -> u8
-    ensures { result ≡ field_code how }
+    ensures { result ≡ field_opcode how }
 {
     match how {
         FieldUse::GetStatic => 178,
@@ -92,7 +92,7 @@ pub fn field_opcode(how: FieldUse) -> u8
 
 /// Returns the opcode of invokevirtual to invokeinterface.
 pub fn invoke_opcode(how: Invoke) -> u8
-    ensures { result ≡ invoke_code how }
+    ensures { result ≡ invoke_opcode how }
 {
     match how {
         Invoke::Virtual => 182,
@@ -104,7 +104,7 @@ pub fn invoke_opcode(how: Invoke) -> u8
 
 /// Returns the opcode of new, anewarray, checkcast or instanceof.
 pub fn class_opcode(how: ClassUse) -> u8
-    ensures { result ≡ class_code how }
+    ensures { result ≡ class_opcode how }
 {
     match how {
         ClassUse::New => 187,
@@ -116,7 +116,7 @@ pub fn class_opcode(how: ClassUse) -> u8
 
 /// Returns the number of a component type (JVMS table 6.5.newarray-A).
 pub(crate) fn array_type_number(component: ArrayType) -> u8
-    ensures { result ≡ number_of_type component }
+    ensures { result ≡ array_type_number component }
 {
     match component {
         ArrayType::Boolean => 4,

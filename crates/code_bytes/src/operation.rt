@@ -5,8 +5,8 @@ ghost use Rattle.std.specs.Option.{unwrap_or};
 ghost use Rattle.jvms_file.specs.Instructions.{interface_count};
 ghost use Rattle.jvms_file.specs.Spelling.{u2};
 ghost use Rattle.assembly.specs.Sizes.{is_between, is_too_far};
-ghost use Rattle.assembly.specs.Opcodes.{branch_opcode as branch_code, wide_branch_opcode as wide_branch_code, invoke_opcode as invoke_code};
-ghost use Rattle.assembly.specs.Bytes.{s1, s2, s4, constant_bytes, local_bytes, increment_bytes, after_invoke as bytes_behind, operation_bytes};
+ghost use Rattle.assembly.specs.Opcodes.{branch_opcode, wide_branch_opcode, invoke_opcode};
+ghost use Rattle.assembly.specs.Bytes.{s1, s2, s4, constant_bytes, local_bytes, increment_bytes, after_invoke, operation_bytes};
 ghost use Rattle.code_bytes.specs.Few.{IsFew};
 ghost use Rattle.code_bytes.specs.Writing.{Writes};
 
@@ -127,7 +127,7 @@ fn near(offset: i32) -> Option<i16>
 ///
 /// Returns `BranchTooFar` if the offset doesn't fit, or `Memory` if memory ran out.
 fn write_near(out: &mut Vec<u8>, how: Branch, offset: i32) -> Result<(), AsmFault>
-    ensures { Writes (not (is_between (neg_ℤ (pos (2 ^ 15))) (pos (2 ^ 15 - 1)) offset)) (branch_code how ∷ s2 offset) result out.old.items out.new.items }
+    ensures { Writes (not (is_between (neg_ℤ (pos (2 ^ 15))) (pos (2 ^ 15 - 1)) offset)) (branch_opcode how ∷ s2 offset) result out.old.items out.new.items }
 {
     let Some(short) = near(offset) else {
         return Err(AsmFault::BranchTooFar);
@@ -139,7 +139,7 @@ fn write_near(out: &mut Vec<u8>, how: Branch, offset: i32) -> Result<(), AsmFaul
 
 /// Appends a branch with an offset of four bytes.
 fn write_far(out: &mut Vec<u8>, how: Branch, offset: i32) -> Result<(), AllocError>
-    ensures { OnOk result (out.new.items ≡ out.old.items ++ wide_branch_code how ∷ s4 offset) }
+    ensures { OnOk result (out.new.items ≡ out.old.items ++ wide_branch_opcode how ∷ s4 offset) }
 {
     write_u1(out, wide_branch_opcode(how))?;
     write_s4(out, offset)
@@ -157,7 +157,7 @@ fn interface_units(descriptor: &[u16]) -> u8
 
 /// Appends the bytes after the index of an invoke instruction.
 fn write_after_invoke(out: &mut Vec<u8>, how: Invoke, descriptor: &[u16]) -> Result<(), AllocError>
-    ensures { OnOk result (out.new.items ≡ out.old.items ++ bytes_behind how descriptor.now) }
+    ensures { OnOk result (out.new.items ≡ out.old.items ++ after_invoke how descriptor.now) }
 {
     match how {
         Invoke::Interface => write_two(out, interface_units(descriptor), 0),
@@ -172,7 +172,7 @@ fn write_invoke(
     number: u16,
     descriptor: &[u16],
 ) -> Result<(), AllocError>
-    ensures { OnOk result (out.new.items ≡ out.old.items ++ (invoke_code how ∷ u2 number ++ bytes_behind how descriptor.now)) }
+    ensures { OnOk result (out.new.items ≡ out.old.items ++ (invoke_opcode how ∷ u2 number ++ after_invoke how descriptor.now)) }
 {
     write_numbered(out, invoke_opcode(how), number)?;
     write_after_invoke(out, how, descriptor)

@@ -1,8 +1,8 @@
 //! Computes the sizes of instructions in bytes (JVMS 6.5).
 
 ghost use Rattle.std.specs.Prelude.{◌≡◌, ◌+◌, ◌*◌, ◌≤◌, min, length, nat_le, if◌then◌else◌};
-ghost use Rattle.jvms_file.specs.Instructions.{pad_length as pads_at};
-ghost use Rattle.assembly.specs.Sizes.{is_byte_step as steps_by_byte, invoke_size as size_of_invoke, size as size_of};
+ghost use Rattle.jvms_file.specs.Instructions.{pad_length};
+ghost use Rattle.assembly.specs.Sizes.{is_byte_step, invoke_size, size};
 
 use insn::pad_length;
 use jasmin::source::{BranchWidth, ConstantWidth, LookupLines, Operation, TableLines};
@@ -13,7 +13,7 @@ const TOO_MANY: usize = 65536;
 
 /// Decides whether an `iinc` has one byte for the local variable and one for the increment.
 pub(crate) fn is_byte_step(local: u16, by: i16) -> bool
-    ensures { result ≡ steps_by_byte local by }
+    ensures { result ≡ is_byte_step local by }
 {
     local <= 255 && -128 <= by && by <= 127
 }
@@ -43,7 +43,7 @@ fn local_size(local: u16) -> usize
 
 /// Returns the size of an `iinc`, which may need `wide`.
 fn increment_size(local: u16, by: i16) -> usize
-    ensures exact { result ≡ (if steps_by_byte local by then 3 else 6) }
+    ensures exact { result ≡ (if is_byte_step local by then 3 else 6) }
     ensures few { result ≤ 6 }
 {
     if is_byte_step(local, by) { 3 } else { 6 }
@@ -51,7 +51,7 @@ fn increment_size(local: u16, by: i16) -> usize
 
 /// Returns the size of an invoke instruction. An `invokeinterface` has two bytes more than any other.
 fn invoke_size(how: Invoke) -> usize
-    ensures exact { result ≡ size_of_invoke how }
+    ensures exact { result ≡ invoke_size how }
     ensures few { result ≤ 5 }
 {
     match how {
@@ -63,7 +63,7 @@ fn invoke_size(how: Invoke) -> usize
 /// Returns the size of a tableswitch, or 65536 if it is greater. The default, low, high and the offsets follow its
 /// padding.
 fn table_size(pc: usize, lines: &TableLines) -> usize
-    ensures { result ≡ min (1 + pads_at pc + 12 + 4 * length lines.now.labels) 65536 }
+    ensures { result ≡ min (1 + pad_length pc + 12 + 4 * length lines.now.labels) 65536 }
 {
     capped(1 + pad_length(pc) + 12 + 4 * capped(lines.labels.len()))
 }
@@ -71,7 +71,7 @@ fn table_size(pc: usize, lines: &TableLines) -> usize
 /// Returns the size of a lookupswitch, or 65536 if it is greater. The default, the count and the pairs follow its
 /// padding.
 fn lookup_size(pc: usize, lines: &LookupLines) -> usize
-    ensures { result ≡ min (1 + pads_at pc + 8 + 8 * length lines.now.matches) 65536 }
+    ensures { result ≡ min (1 + pad_length pc + 8 + 8 * length lines.now.matches) 65536 }
 {
     capped(1 + pad_length(pc) + 8 + 8 * capped(lines.matches.len()))
 }
@@ -80,7 +80,7 @@ fn lookup_size(pc: usize, lines: &LookupLines) -> usize
 /// greater.
 #[tactic(auto, unfolding(assembly::specs::Sizes::size))]
 pub(crate) fn capped_size(number: u16, pc: usize, operation: &Operation) -> usize
-    ensures { result ≡ min (size_of number pc operation.now) 65536 }
+    ensures { result ≡ min (size number pc operation.now) 65536 }
 {
     match operation {
         Operation::Alone(_) => 1,

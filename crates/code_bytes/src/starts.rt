@@ -2,7 +2,7 @@
 
 ghost use Rattle.std.specs.Prelude.{◌≡◌, ◌+◌, ◌≤◌, [], length, IfSome, IfOk, OnOk};
 ghost use Rattle.jasmin.specs.Denote.{operations};
-ghost use Rattle.assembly.specs.Sizes.{size as size_of};
+ghost use Rattle.assembly.specs.Sizes.{size};
 ghost use Rattle.assembly.specs.Faults.{Answers};
 ghost use Rattle.code_bytes.specs.Starting.{end_within, some_starts, starts_onto, starts_within};
 ghost use Rattle.code_bytes.specs.Few.{AreFew};
@@ -20,7 +20,7 @@ const MOST_BYTES: usize = 65535;
 /// Returns the byte after an instruction that starts at byte `pc`, if code may be this long.
 fn end_of(number: u16, pc: usize, operation: &Operation) -> Option<usize>
     requires { pc ≤ 65535 }
-    ensures exact { result ≡ end_within (pc + size_of number pc operation.now) }
+    ensures exact { result ≡ end_within (pc + size number pc operation.now) }
     ensures few { IfSome result (λ end. end ≤ 65535) }
 {
     let end = pc + capped_size(number, pc, operation);

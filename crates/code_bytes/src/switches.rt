@@ -3,7 +3,7 @@
 ghost use Rattle.std.specs.Prelude.{◌≡◌, ◌++◌, ◌∷◌, ◌≤◌, ◌-◌, ◌^◌, ◌+ℤ◌, ◌<ℤ◌, ◌≤ℤ◌, length, pos, neg_ℤ, OnOk};
 ghost use Rattle.std.specs.List.{flat_map};
 ghost use Rattle.assembly.specs.Sizes.{offset};
-ghost use Rattle.assembly.specs.Bytes.{s4, pads as pads_at, table_bytes, lookup_bytes};
+ghost use Rattle.assembly.specs.Bytes.{s4, pads, table_bytes, lookup_bytes};
 ghost use Rattle.code_bytes.specs.Writing.{pair_bytes};
 
 use crate::numbers::{word_of, write_s4, write_u1};
@@ -23,7 +23,7 @@ const LOOKUP: u8 = 171;
 
 /// Appends zeros up to the next multiple of 4, from the byte after an opcode at byte `pc`.
 fn write_pads(out: &mut Vec<u8>, pc: u16) -> Result<(), AllocError>
-    ensures { OnOk result (out.new.items ≡ out.old.items ++ pads_at pc) }
+    ensures { OnOk result (out.new.items ≡ out.old.items ++ pads pc) }
 {
     for _ in 0..pad_length(usize::from(pc)) {
         write_u1(out, 0)?;
@@ -33,7 +33,7 @@ fn write_pads(out: &mut Vec<u8>, pc: u16) -> Result<(), AllocError>
 
 /// Appends the opcode of a switch at byte `pc`, and its padding.
 fn write_head(out: &mut Vec<u8>, code: u8, pc: u16) -> Result<(), AllocError>
-    ensures { OnOk result (out.new.items ≡ out.old.items ++ code ∷ pads_at pc) }
+    ensures { OnOk result (out.new.items ≡ out.old.items ++ code ∷ pads pc) }
 {
     write_u1(out, code)?;
     write_pads(out, pc)

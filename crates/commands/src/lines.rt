@@ -1,7 +1,7 @@
 //! Makes the lines that report how a run ended.
 
 ghost use Rattle.std.specs.Prelude.{◌≡◌, ◌++◌, IfOk, OnOk};
-ghost use Rattle.commands.specs.Lines.{ending_lines as lines_of, status_line, uncaught_line};
+ghost use Rattle.commands.specs.Lines.{ending_lines, status_line, uncaught_line};
 
 use escapes::put_name;
 use jvms_machine::machine::Status;
@@ -39,7 +39,7 @@ fn put_status(
 /// Returns the lines of an ending: a line for each thread that ended with an exception, in ascending order, then the
 /// status and the number of turns.
 pub(crate) fn ending_lines(alloc: Global, ending: &Ending) -> Result<Vec<u8>, AllocError>
-    ensures { IfOk result (λ lines. lines.items ≡ lines_of ending.now) }
+    ensures { IfOk result (λ lines. lines.items ≡ ending_lines ending.now) }
 {
     let mut lines = Vec::new(alloc);
     for thread in ending.uncaught.as_slice() {

@@ -5,7 +5,7 @@ ghost use Rattle.std.specs.Io.KnownBytes.{Appends};
 ghost use Rattle.trace.specs.Bytes.{AppendsBeginning};
 ghost use Rattle.judge.specs.Shown.{run_judged};
 ghost use Rattle.program_runs.specs.Shown.{view_of_traced};
-ghost use Rattle.commands.specs.Choices.{text_of as trace_text_of};
+ghost use Rattle.commands.specs.Choices.{text_of};
 ghost use Rattle.commands.specs.Faults.{IsFault, NamesFile, WroteBeginning};
 ghost use Rattle.commands.specs.Limits.{default_limits};
 
@@ -29,10 +29,10 @@ fn write_text<W: ByteOut>(
     output: &mut W,
 ) -> Result<(), RunFault>
     ensures written { OnOk result
-        (Appends (W.written output.old) (W.written output.new) (trace_text_of kind (view_of_traced run.now))) }
+        (Appends (W.written output.old) (W.written output.new) (text_of kind (view_of_traced run.now))) }
     ensures count { OnOk result (W.failures output.new ≡ W.failures output.old) }
     ensures beginning { IsErrOf result RunFault.Output
-        → AppendsBeginning (W.written output.old) (W.written output.new) (trace_text_of kind (view_of_traced run.now)) }
+        → AppendsBeginning (W.written output.old) (W.written output.new) (text_of kind (view_of_traced run.now)) }
     ensures failed { IsErrOf result RunFault.Output
         → W.failures output.new ≡ W.failures output.old + 1 }
     ensures named { IfErr result (λ fault. NamesFile 0 fault) }
@@ -59,7 +59,7 @@ pub fn write_trace<W: ByteOut>(
     ensures exact { IfOk result (λ j.
         run_judged most chooser.old default_limits inputs.now entry.now ≡ Ok (view_of_traced j.run)) }
     // Exactly the text of the items, or of the choices, was written.
-    ensures written { IfOk result (λ j. Appends (W.written output.old) (W.written output.new) (trace_text_of kind (view_of_traced j.run))) }
+    ensures written { IfOk result (λ j. Appends (W.written output.old) (W.written output.new) (text_of kind (view_of_traced j.run))) }
     ensures count { OnOk result (W.failures output.new ≡ W.failures output.old) }
     // A fault is returned only if its condition holds. A fault of a file names one of these.
     ensures fault { IfErr result (λ fault. IsFault fault (run_judged most chooser.old default_limits inputs.now entry.now)) }
@@ -67,7 +67,7 @@ pub fn write_trace<W: ByteOut>(
     ensures untouched { IfErr result (λ fault. fault ≢ RunFault.Output → output.new ≡ output.old) }
     // The fault is `Output` only if the writer failed. Then a prefix of the text was written.
     ensures failed { IsErrOf result RunFault.Output → W.failures output.new ≡ W.failures output.old + 1 }
-    ensures beginning { IsErrOf result RunFault.Output → WroteBeginning (run_judged most chooser.old default_limits inputs.now entry.now) (trace_text_of kind) (W.written output.old) (W.written output.new) }
+    ensures beginning { IsErrOf result RunFault.Output → WroteBeginning (run_judged most chooser.old default_limits inputs.now entry.now) (text_of kind) (W.written output.old) (W.written output.new) }
 {
     let judged = judge(alloc, inputs, DEFAULT_LIMITS, entry, chooser, most, None)?;
     match write_text(alloc, kind, &judged.run, output) {

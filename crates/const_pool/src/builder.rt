@@ -5,7 +5,7 @@ ghost use Rattle.jvms_file.specs.declared.class_file.Constant.{Constant};
 ghost use Rattle.jvms_file.specs.ConstantPool.{entry as entry_at};
 ghost use Rattle.jvms_file.specs.Spelling.{IsNumbered};
 ghost use Rattle.const_pool.specs.declared.builder.PoolFault.TheVariants.{Memory};
-ghost use Rattle.const_pool.specs.Interning.{constant_of, width as width_of, constants_of, number_from, Interns, pool_of};
+ghost use Rattle.const_pool.specs.Interning.{constant_of, width, constants_of, number_from, Interns, pool_of};
 
 use crate::entry::Entry;
 use crate::pool::Pool;
@@ -63,7 +63,7 @@ impl Model for PoolBuilder {
 
 /// Returns the count of numbers that an entry takes (JVMS 4.4.5).
 fn width(entry: &Entry) -> u16
-    ensures { result ≡ width_of entry.now }
+    ensures { result ≡ width entry.now }
 {
     if entry.takes_two() { 2 } else { 1 }
 }

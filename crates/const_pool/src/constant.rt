@@ -1,7 +1,7 @@
 //! One entry as its tag determines it, whatever its numbers name.
 
 ghost use Rattle.std.specs.Prelude.{◌≡◌, ◌≤◌};
-ghost use Rattle.jvms_file.specs.ConstantPool.{utf8_constant_at, tagged_at, constant_at as entry_read};
+ghost use Rattle.jvms_file.specs.ConstantPool.{utf8_constant_at, tagged_at, constant_at};
 ghost use Rattle.jvms_file.specs.Reading.{Gives};
 ghost use Rattle.file_bytes.specs.Reading.{Finds};
 
@@ -130,7 +130,7 @@ pub(crate) fn constant_at(
     cut: ClassFault,
     bytes: &[u8],
 ) -> Result<(Constant, &[u8]), ReadError>
-    ensures { Gives (λ x. (x.0, x.1.now)) result (entry_read cut bytes.now) }
+    ensures { Gives (λ x. (x.0, x.1.now)) result (constant_at cut bytes.now) }
 {
     let (tag, rest) = u1_at(cut, bytes)?;
     entry_after_tag(alloc, tag, cut, rest)

@@ -2,8 +2,8 @@
 //! names it.
 
 ghost use Rattle.std.specs.Prelude.{◌≡◌};
-ghost use Rattle.jvms_file.specs.ConstantPool.{begins_as_method as is_method_sort};
-ghost use Rattle.const_pool.specs.Texts.{forms_of as forms_of_text, method_units_of};
+ghost use Rattle.jvms_file.specs.ConstantPool.{begins_as_method};
+ghost use Rattle.const_pool.specs.Texts.{forms_of, method_units_of};
 
 use descriptor::{is_class_entry_name, is_field_descriptor, is_method_name, is_name, method_units};
 
@@ -29,7 +29,7 @@ const PARENTHESIS: u16 = b'(' as u16;
 
 /// Decides whether a text begins as a method's descriptor does.
 pub(crate) fn begins_as_method(text: &[u16]) -> bool
-    ensures { result ≡ is_method_sort text.now }
+    ensures { result ≡ begins_as_method text.now }
 {
     matches!(text, [PARENTHESIS, ..])
 }
@@ -44,7 +44,7 @@ fn units_of(text: &[u16]) -> Option<u8>
 
 /// Returns the forms of a text.
 pub(crate) fn forms_of(text: &[u16]) -> Forms
-    ensures { result ≡ forms_of_text text.now }
+    ensures { result ≡ forms_of text.now }
 {
     Forms {
         name: is_name(text),

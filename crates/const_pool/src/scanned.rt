@@ -5,7 +5,7 @@ ghost use Rattle.std.specs.Option.{option_copied, option_map, option_and_then, u
 ghost use Rattle.jvms_file.specs.ConstantPool.{entry, utf8_at, utf8_of, name_and_type_at};
 ghost use Rattle.jvms_file.specs.Members.{same_entry_text};
 ghost use Rattle.const_pool.specs.Firsts.{number_at};
-ghost use Rattle.const_pool.specs.Texts.{forms_of as forms_of_text, text_of as text_of_entry, text_with, known_after, canonical as canonical_number, is_one_number};
+ghost use Rattle.const_pool.specs.Texts.{forms_of, text_of as text_of_entry, text_with, known_after, canonical, is_one_number};
 
 use crate::firsts::Firsts;
 use crate::forms::{Forms, forms_of};
@@ -129,14 +129,14 @@ impl ScannedPool {
 
     /// Returns the forms of the text of a number, if it is a Utf8 entry's.
     pub fn forms(&self, number: u16) -> Option<Forms>
-        ensures { result ≡ option_map forms_of_text (utf8_at self.now number) }
+        ensures { result ≡ option_map forms_of (utf8_at self.now number) }
     {
         self.text(number).map(|text| text.forms)
     }
 
     /// Returns the forms of the descriptor of a NameAndType entry whose numbers are those of texts (JVMS 4.4.6).
     pub fn descriptor_forms(&self, number: u16) -> Option<Forms>
-        ensures { result ≡ option_map (λ x. forms_of_text x.1) (name_and_type_at self.now number) }
+        ensures { result ≡ option_map (λ x. forms_of x.1) (name_and_type_at self.now number) }
     {
         match self.pool.entry(number) {
             Some(Constant::NameAndType { name, descriptor }) if self.pool.is_utf8(*name) => {
@@ -149,8 +149,8 @@ impl ScannedPool {
     /// Returns the least number of a Utf8 entry whose text is equal to that of this number, if it is one's. Two entries
     /// share such a number exactly if their texts are equal.
     pub fn canonical(&self, number: u16) -> Option<usize>
-        ensures exact { result ≡ canonical_number self.now number }
-        ensures same { (other : ℕ) → is_one_number result (canonical_number self.now other) ≡ same_entry_text self.now number other }
+        ensures exact { result ≡ canonical self.now number }
+        ensures same { (other : ℕ) → is_one_number result (canonical self.now other) ≡ same_entry_text self.now number other }
     {
         self.text(number).map(|text| text.canonical)
     }

@@ -2,7 +2,7 @@
 
 ghost use Rattle.std.specs.Prelude.{◌≡◌, [], ◌∷◌, is_some};
 ghost use Rattle.jvms_file.specs.Names.{same_text};
-ghost use Rattle.debugger_commands.specs.Commands.{command_of, with_number as command_with};
+ghost use Rattle.debugger_commands.specs.Commands.{command_of, with_number};
 ghost use Rattle.debugger_commands.specs.Readings.{AreRead, IsBreakRead, words_of};
 
 use crate::command::{Command, Place};
@@ -41,7 +41,7 @@ fn named(name: &str) -> Option<Command>
 
 /// Returns the command that a name and a number spell, if they spell one.
 fn with_number(name: &str, number: u32) -> Option<Command>
-    ensures { result ≡ command_with name.now number }
+    ensures { result ≡ with_number name.now number }
 {
     if is(name, b"step") {
         Some(Command::Step(number))
@@ -64,7 +64,7 @@ fn with_number(name: &str, number: u32) -> Option<Command>
 
 /// Decides whether the command of this name has a number.
 fn has_number(name: &str) -> bool
-    ensures { result ≡ is_some (command_with name.now 0) }
+    ensures { result ≡ is_some (with_number name.now 0) }
 {
     with_number(name, 0).is_some()
 }

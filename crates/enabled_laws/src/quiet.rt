@@ -1,21 +1,21 @@
 //! Tests of decisions: whether a turn keeps, takes or gives what other threads wait for. Meets `specs/Quiet.antt`.
 
 ghost use Rattle.std.specs.Prelude.{◌≡◌};
-ghost use Rattle.enabled_laws.specs.Quiet.{is_inner as inner, is_quiet as quiet, is_quiet_decision as quiet_decision, is_quiet_effect as quiet_effect, is_quiet_lock as quiet_lock, is_quiet_unlock as quiet_unlock, is_taking as taking, is_taking_decision as taking_decision, is_taking_effect as taking_effect, is_giving as giving, is_giving_decision as giving_decision, is_giving_effect as giving_effect};
+ghost use Rattle.enabled_laws.specs.Quiet.{is_inner, is_quiet, is_quiet_decision, is_quiet_effect, is_quiet_lock, is_quiet_unlock, is_taking, is_taking_decision, is_taking_effect, is_giving, is_giving_decision, is_giving_effect};
 
 use jvms_machine::action::{Action, Decision, Effect, Lock, MonitorUse};
 
 /// Decides whether a thread enters a monitor that it already holds, or still holds the one that it leaves.
 #[inline]
 fn is_inner(monitor: MonitorUse) -> bool
-    ensures { result ≡ inner monitor }
+    ensures { result ≡ is_inner monitor }
 {
     !monitor.outermost
 }
 
 #[inline]
 fn is_quiet_effect<T>(effect: &Effect<T>) -> bool
-    ensures { result ≡ quiet_effect effect.now }
+    ensures { result ≡ is_quiet_effect effect.now }
 {
     match effect {
         Effect::Locks(monitor) | Effect::Unlocks(monitor) => is_inner(*monitor),
@@ -26,7 +26,7 @@ fn is_quiet_effect<T>(effect: &Effect<T>) -> bool
 
 #[inline]
 fn is_quiet_lock(lock: Lock) -> bool
-    ensures { result ≡ quiet_lock lock }
+    ensures { result ≡ is_quiet_lock lock }
 {
     match lock {
         Lock::Nothing => true,
@@ -37,7 +37,7 @@ fn is_quiet_lock(lock: Lock) -> bool
 
 #[inline]
 fn is_quiet_unlock(unlock: Option<MonitorUse>) -> bool
-    ensures { result ≡ quiet_unlock unlock }
+    ensures { result ≡ is_quiet_unlock unlock }
 {
     match unlock {
         None => true,
@@ -49,7 +49,7 @@ fn is_quiet_unlock(unlock: Option<MonitorUse>) -> bool
 /// ends no thread.
 #[inline]
 fn is_quiet_action<C, T>(action: &Action<C, T>) -> bool
-    ensures { result ≡ quiet action.now }
+    ensures { result ≡ is_quiet action.now }
 {
     match action {
         Action::Goes(_)
@@ -75,7 +75,7 @@ fn is_quiet_action<C, T>(action: &Action<C, T>) -> bool
 /// Decides whether a turn of this decision keeps which other threads are enabled (`laws`).
 #[inline]
 pub fn is_quiet<C, T>(decision: &Decision<C, T>) -> bool
-    ensures { result ≡ quiet_decision decision.now }
+    ensures { result ≡ is_quiet_decision decision.now }
 {
     match decision {
         Decision::Unmade(_) => true,
@@ -85,7 +85,7 @@ pub fn is_quiet<C, T>(decision: &Decision<C, T>) -> bool
 
 #[inline]
 fn is_taking_effect<T>(effect: &Effect<T>) -> bool
-    ensures { result ≡ taking_effect effect.now }
+    ensures { result ≡ is_taking_effect effect.now }
 {
     match effect {
         Effect::Unlocks(monitor) => is_inner(*monitor),
@@ -96,7 +96,7 @@ fn is_taking_effect<T>(effect: &Effect<T>) -> bool
 /// Decides whether an action frees no monitor, and ends no initialisation and no thread.
 #[inline]
 fn is_taking_action<C, T>(action: &Action<C, T>) -> bool
-    ensures { result ≡ taking action.now }
+    ensures { result ≡ is_taking action.now }
 {
     match action {
         Action::Reaches(effect, _) => is_taking_effect(effect),
@@ -115,7 +115,7 @@ fn is_taking_action<C, T>(action: &Action<C, T>) -> bool
 /// Decides whether a turn of this decision enables no other thread that was started before (`laws`).
 #[inline]
 pub fn is_taking<C, T>(decision: &Decision<C, T>) -> bool
-    ensures { result ≡ taking_decision decision.now }
+    ensures { result ≡ is_taking_decision decision.now }
 {
     match decision {
         Decision::Unmade(_) => true,
@@ -125,7 +125,7 @@ pub fn is_taking<C, T>(decision: &Decision<C, T>) -> bool
 
 #[inline]
 fn is_giving_effect<T>(effect: &Effect<T>) -> bool
-    ensures { result ≡ giving_effect effect.now }
+    ensures { result ≡ is_giving_effect effect.now }
 {
     match effect {
         Effect::Locks(monitor) => is_inner(*monitor),
@@ -137,7 +137,7 @@ fn is_giving_effect<T>(effect: &Effect<T>) -> bool
 /// Decides whether an action enters no free monitor, begins and ends no initialisation, and starts no thread.
 #[inline]
 fn is_giving_action<C, T>(action: &Action<C, T>) -> bool
-    ensures { result ≡ giving action.now }
+    ensures { result ≡ is_giving action.now }
 {
     match action {
         Action::Reaches(effect, _) => is_giving_effect(effect),
@@ -153,7 +153,7 @@ fn is_giving_action<C, T>(action: &Action<C, T>) -> bool
 /// Decides whether a turn of this decision disables no other thread (`laws`).
 #[inline]
 pub fn is_giving<C, T>(decision: &Decision<C, T>) -> bool
-    ensures { result ≡ giving_decision decision.now }
+    ensures { result ≡ is_giving_decision decision.now }
 {
     match decision {
         Decision::Unmade(_) => true,

@@ -2,7 +2,7 @@
 
 ghost use Rattle.std.specs.Prelude.{◌≡◌, ◌==◌, ◌<◌, length, IfSome, position};
 ghost use Rattle.std.specs.Option.{option_map};
-ghost use Rattle.escapes.specs.Cuts.{IsCut, IsCutTwice, dots_in as dots_of_text};
+ghost use Rattle.escapes.specs.Cuts.{IsCut, IsCutTwice, dots_in};
 
 /// Returns the place of the first such byte.
 fn place_of(text: &[u8], byte: u8) -> Option<usize>
@@ -31,7 +31,7 @@ pub fn cut_twice(text: &[u8], byte: u8) -> Option<(&[u8], &[u8], &[u8])>
 
 /// Returns the number of dots in a text.
 pub fn dots_in(text: &[u8]) -> usize
-    ensures { result ≡ dots_of_text text.now }
+    ensures { result ≡ dots_in text.now }
 {
     text.iter().filter(|byte| **byte == b'.').count()
 }

@@ -4,7 +4,7 @@ ghost use Rattle.std.specs.Prelude.{◌≡◌, ◌≢◌, ℕ, ◌<◌, ◌++◌
 ghost use Rattle.std.specs.List.{AllByRecursion};
 ghost use Rattle.std.specs.Option.{option_map};
 ghost use Rattle.std.specs.String.{string_bytes};
-ghost use Rattle.escapes.specs.Escapes.{is_plain as unit_is_plain, hexadecimal as hexadecimal_digit, four_digits, escaped};
+ghost use Rattle.escapes.specs.Escapes.{is_plain, hexadecimal, four_digits, escaped};
 ghost use Rattle.escapes.specs.Readings.{IsReadAs, IsUnit, IsUnitAt};
 
 use std::alloc::AllocError;
@@ -13,7 +13,7 @@ const BACKSLASH: u8 = b'\\';
 
 /// Decides whether a unit is written as itself.
 fn is_plain(unit: u16) -> bool
-    ensures { result ≡ unit_is_plain unit }
+    ensures { result ≡ is_plain unit }
 {
     33 <= unit && unit <= 126 && unit != 92
 }
@@ -21,7 +21,7 @@ fn is_plain(unit: u16) -> bool
 /// Returns a hexadecimal digit, in lower case.
 fn hexadecimal(digit: u16) -> u8
     requires { digit < 16 }
-    ensures exact { result ≡ hexadecimal_digit digit }
+    ensures exact { result ≡ hexadecimal digit }
     ensures ascii { result < 128 }
 {
     if digit < 10 {
@@ -73,7 +73,7 @@ pub(crate) fn put_unit(out: &mut String, unit: u16) -> Result<(), AllocError>
 
 /// Returns the value of a hexadecimal digit in lower case.
 fn digit_of(byte: u8) -> Option<u16>
-    ensures { MatchOption result ((d : ℕ) → d < 16 → byte ≢ hexadecimal_digit d) (λ d. (d < 16) × (byte ≡ hexadecimal_digit d)) }
+    ensures { MatchOption result ((d : ℕ) → d < 16 → byte ≢ hexadecimal d) (λ d. (d < 16) × (byte ≡ hexadecimal d)) }
 {
     match byte {
         b'0'..=b'9' => Some(u16::from(byte - b'0')),

@@ -3,7 +3,7 @@
 ghost use Rattle.std.specs.Prelude.{◌≡◌, ◌≤◌, ◌<◌, ◌^◌, ◌+◌, length};
 ghost use Rattle.jvms_file.specs.declared.insn.Branch.TheVariants as branches;
 ghost use Rattle.jvms_machine.specs.Activations.{HasRoom, IfDoes, reference_in};
-ghost use Rattle.jvms_machine.specs.Branches.{branch_decision, compares as comparison_holds, is_same_reference as same_reference, is_null as null_reference, jumps_if};
+ghost use Rattle.jvms_machine.specs.Branches.{branch_decision, compares, is_same_reference, is_null, jumps_if};
 
 use crate::decisions::jumps;
 use frames::SeenFrame;
@@ -14,7 +14,7 @@ use jvms_machine::value::Value;
 
 #[inline(always)]
 fn compares(how: Comparison, m: i32, n: i32) -> bool
-    ensures { result ≡ comparison_holds how m n }
+    ensures { result ≡ compares how m n }
 {
     match how {
         Comparison::Equal => m == n,
@@ -41,7 +41,7 @@ fn reference_of(value: Value) -> Option<Option<u32>>
 
 #[inline(always)]
 fn is_same(r: Option<u32>, q: Option<u32>) -> bool
-    ensures { result ≡ same_reference r q }
+    ensures { result ≡ is_same_reference r q }
 {
     match (r, q) {
         (None, None) => true,
@@ -52,7 +52,7 @@ fn is_same(r: Option<u32>, q: Option<u32>) -> bool
 
 #[inline(always)]
 fn is_null(r: Option<u32>) -> bool
-    ensures { result ≡ null_reference r }
+    ensures { result ≡ is_null r }
 {
     r.is_none()
 }

@@ -1,7 +1,7 @@
 //! Helpers of the decisions: the test of depth, and the commonest decisions (JVMS 4.10.1.4, 6.5).
 
 ghost use Rattle.std.specs.Prelude.{◌≡◌, ◌+◌, ◌-◌, ◌&&◌, nat_le, length};
-ghost use Rattle.jvms_machine.specs.Activations.{pushes as pushing, jumps as jumping};
+ghost use Rattle.jvms_machine.specs.Activations.{pushes, jumps};
 
 use frames::Frame;
 use jvms_machine::action::{FrameAction, FrameDecision};
@@ -19,7 +19,7 @@ pub fn has_depth(frame: &Frame, takes: u8, gives: u8) -> bool
 /// Returns the decision to replace the topmost `takes` operands by a value.
 #[inline(always)]
 pub(crate) fn pushes(takes: u8, value: Value) -> FrameDecision
-    ensures { result ≡ pushing takes value }
+    ensures { result ≡ pushes takes value }
 {
     FrameDecision::Does(FrameAction::Push { takes, value })
 }
@@ -27,7 +27,7 @@ pub(crate) fn pushes(takes: u8, value: Value) -> FrameDecision
 /// Returns the decision to remove the topmost `takes` operands and to set the pc.
 #[inline(always)]
 pub(crate) fn jumps(takes: u16, target: usize) -> FrameDecision
-    ensures { result ≡ jumping takes target }
+    ensures { result ≡ jumps takes target }
 {
     FrameDecision::Does(FrameAction::Jump { takes, target })
 }

@@ -1,8 +1,8 @@
 //! The sizes of values in slots (JVMS 2.6.1, 2.6.2): a long takes two.
 
 ghost use Rattle.std.specs.Prelude.{◌≡◌, ◌≤◌};
-ghost use Rattle.jvms_machine.specs.Arrays.{element_size as size_of_elements, kind_of_elements as element_kind};
-ghost use Rattle.jvms_machine.specs.Places.{is_of_kind as of_kind, kind_size as size_of_kind, top_value as value_on_top, value_size as size_of_value};
+ghost use Rattle.jvms_machine.specs.Arrays.{element_size, kind_of_elements};
+ghost use Rattle.jvms_machine.specs.Places.{is_of_kind, kind_size, top_value, value_size};
 
 use frames::Frame;
 use jvms_file::insn::{ArrayKind, Kind};
@@ -11,7 +11,7 @@ use jvms_machine::value::Value;
 /// Returns the number of slots that a value takes.
 #[inline(always)]
 pub fn value_size(value: Value) -> u8
-    ensures { result ≡ size_of_value value }
+    ensures { result ≡ value_size value }
 {
     match value {
         Value::Long(_) => 2,
@@ -27,7 +27,7 @@ pub fn value_size(value: Value) -> u8
 /// Returns the number of slots that a value of a kind takes.
 #[inline(always)]
 pub fn kind_size(kind: Kind) -> u8
-    ensures exact { result ≡ size_of_kind kind }
+    ensures exact { result ≡ kind_size kind }
     ensures few { result ≤ 2 }
 {
     match kind {
@@ -39,7 +39,7 @@ pub fn kind_size(kind: Kind) -> u8
 /// Returns the kind of value that an instruction on arrays of a kind loads or stores.
 #[inline(always)]
 pub fn kind_of_elements(kind: ArrayKind) -> Kind
-    ensures { result ≡ element_kind kind }
+    ensures { result ≡ kind_of_elements kind }
 {
     match kind {
         ArrayKind::Reference => Kind::Reference,
@@ -53,7 +53,7 @@ pub fn kind_of_elements(kind: ArrayKind) -> Kind
 /// Returns the number of operand slots of an element that an array instruction of a kind loads or stores.
 #[inline(always)]
 pub fn element_size(kind: ArrayKind) -> u8
-    ensures exact { result ≡ size_of_elements kind }
+    ensures exact { result ≡ element_size kind }
     ensures few { result ≤ 2 }
 {
     kind_size(kind_of_elements(kind))
@@ -62,7 +62,7 @@ pub fn element_size(kind: ArrayKind) -> u8
 /// Decides whether a value is of a kind. Null is of the kind of references.
 #[inline(always)]
 pub fn is_of_kind(kind: Kind, value: Value) -> bool
-    ensures { result ≡ of_kind kind value }
+    ensures { result ≡ is_of_kind kind value }
 {
     match value {
         Value::Int(_) => kind == Kind::Int,
@@ -75,7 +75,7 @@ pub fn is_of_kind(kind: Kind, value: Value) -> bool
 /// Returns the long on top of the operands, if there is one.
 #[inline(always)]
 fn top_long(frame: &Frame) -> Option<Value>
-    ensures { result ≡ value_on_top Kind.Long frame.now.activation.operands }
+    ensures { result ≡ top_value Kind.Long frame.now.activation.operands }
 {
     if frame.height() < 2 {
         return None;
@@ -89,7 +89,7 @@ fn top_long(frame: &Frame) -> Option<Value>
 /// Returns the value of a kind on top of the operands, if there is one.
 #[inline(always)]
 pub fn top_value(kind: Kind, frame: &Frame) -> Option<Value>
-    ensures { result ≡ value_on_top kind frame.now.activation.operands }
+    ensures { result ≡ top_value kind frame.now.activation.operands }
 {
     if kind == Kind::Long {
         return top_long(frame);

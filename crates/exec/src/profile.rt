@@ -4,7 +4,7 @@ ghost use Rattle.std.specs.Prelude.{◌≡◌};
 ghost use Rattle.std.specs.List.{list_any};
 ghost use Rattle.jvms_file.specs.declared.descriptor.Element.TheVariants as element;
 ghost use Rattle.descriptor.specs.Scanning.{element_of};
-ghost use Rattle.jvms_machine.specs.Profile.{is_outside_element as outside_element, is_outside_result as outside_result, is_outside_method as outside_method, is_outside_class as outside_class, is_outside_kind as outside_kind, is_outside_component as outside_component, is_outside_array as outside_array, is_never_new as never_new, is_outside_use as outside_use};
+ghost use Rattle.jvms_machine.specs.Profile.{is_outside_element, is_outside_result, is_outside_method, is_outside_class, is_outside_kind, is_outside_component, is_outside_array, is_never_new, is_outside_use};
 
 use descriptor::{ParsedElement, field_in, is_array_name, same_text};
 use jvms_file::descriptor::{Element, FieldType, MethodType, Primitive, ResultType};
@@ -32,7 +32,7 @@ const PRINT_STREAM: [u16; 19] = [
 
 #[inline(always)]
 fn is_outside_primitive(primitive: Primitive) -> bool
-    ensures { result ≡ outside_element (element.Primitive primitive) }
+    ensures { result ≡ is_outside_element (element.Primitive primitive) }
 {
     matches!(primitive, Primitive::Float | Primitive::Double)
 }
@@ -40,7 +40,7 @@ fn is_outside_primitive(primitive: Primitive) -> bool
 /// Decides whether a type is a float or a double, or an array of them.
 #[inline(always)]
 pub fn is_outside_type(t: &FieldType) -> bool
-    ensures { result ≡ outside_element t.now.element }
+    ensures { result ≡ is_outside_element t.now.element }
 {
     match &t.element {
         Element::Primitive(primitive) => is_outside_primitive(*primitive),
@@ -49,7 +49,7 @@ pub fn is_outside_type(t: &FieldType) -> bool
 }
 
 fn is_outside_result(given: &ResultType) -> bool
-    ensures { result ≡ outside_result given.now }
+    ensures { result ≡ is_outside_result given.now }
 {
     match given {
         ResultType::Void => false,
@@ -58,7 +58,7 @@ fn is_outside_result(given: &ResultType) -> bool
 }
 
 fn has_outside_parameter(parameters: &[FieldType]) -> bool
-    ensures { result ≡ list_any (λ p. outside_element p.element) parameters.now }
+    ensures { result ≡ list_any (λ p. is_outside_element p.element) parameters.now }
 {
     parameters
         .iter()
@@ -67,13 +67,13 @@ fn has_outside_parameter(parameters: &[FieldType]) -> bool
 
 /// Decides whether a method's descriptor names a float or a double anywhere.
 pub fn is_outside_method(t: &MethodType) -> bool
-    ensures { result ≡ outside_method t.now }
+    ensures { result ≡ is_outside_method t.now }
 {
     has_outside_parameter(t.parameters.as_slice()) || is_outside_result(&t.result)
 }
 
 fn is_outside_innermost(innermost: ParsedElement) -> bool
-    ensures { result ≡ outside_element (element_of innermost.entry) }
+    ensures { result ≡ is_outside_element (element_of innermost.entry) }
 {
     match innermost {
         ParsedElement::Primitive(primitive) => is_outside_primitive(primitive),
@@ -83,7 +83,7 @@ fn is_outside_innermost(innermost: ParsedElement) -> bool
 
 /// Decides whether a class name is that of an array of floats or doubles.
 pub fn is_outside_class(name: &[u16]) -> bool
-    ensures { result ≡ outside_class name.now }
+    ensures { result ≡ is_outside_class name.now }
 {
     if !is_array_name(name) {
         return false;
@@ -96,13 +96,13 @@ pub fn is_outside_class(name: &[u16]) -> bool
 
 #[inline(always)]
 fn is_outside_kind(kind: ArrayKind) -> bool
-    ensures { result ≡ outside_kind kind }
+    ensures { result ≡ is_outside_kind kind }
 {
     matches!(kind, ArrayKind::Float | ArrayKind::Double)
 }
 
 fn is_outside_component(component: ArrayType) -> bool
-    ensures { result ≡ outside_component component }
+    ensures { result ≡ is_outside_component component }
 {
     matches!(component, ArrayType::Float | ArrayType::Double)
 }
@@ -110,7 +110,7 @@ fn is_outside_component(component: ArrayType) -> bool
 /// Decides whether an array instruction is a load, a store or `newarray` of float or double.
 #[inline(always)]
 pub fn is_outside_array(what: ArrayInsn) -> bool
-    ensures { result ≡ outside_array what }
+    ensures { result ≡ is_outside_array what }
 {
     match what {
         ArrayInsn::Load(kind) | ArrayInsn::Store(kind) => is_outside_kind(kind),
@@ -122,7 +122,7 @@ pub fn is_outside_array(what: ArrayInsn) -> bool
 /// Decides whether `new` of this class is outside the profile.
 #[tactic(auto, unfolding(jvms_machine::specs::Profile::is_never_new))]
 fn is_never_new(name: &[u16]) -> bool
-    ensures { result ≡ never_new name.now }
+    ensures { result ≡ is_never_new name.now }
 {
     same_text(name, &STRING)
         || same_text(name, &CLASS)
@@ -132,7 +132,7 @@ fn is_never_new(name: &[u16]) -> bool
 
 /// Decides whether an instruction on the class of a name is outside the profile.
 pub fn is_outside_use(how: ClassUse, name: &[u16]) -> bool
-    ensures { result ≡ outside_use how name.now }
+    ensures { result ≡ is_outside_use how name.now }
 {
     match how {
         ClassUse::New => is_never_new(name),

@@ -3,7 +3,7 @@
 ghost use Rattle.std.specs.Prelude.{◌≡◌, ◌≤◌, ◌+◌, ◌-◌, length, Some};
 ghost use Rattle.jvms_file.specs.declared.insn.StackForm.TheVariants as form;
 ghost use Rattle.jvms_machine.specs.Activations.{form_takes, form_gives, rearranged, HasRoom, IfDoes};
-ghost use Rattle.jvms_machine.specs.Stack.{stack_decision, is_second as second_value, is_set as set_value, are_set as set_values, parts_a_long as parts_long};
+ghost use Rattle.jvms_machine.specs.Stack.{stack_decision, is_second, is_set, are_set, parts_a_long};
 ghost use Rattle.frames.specs.Frame.{with_operands};
 ghost use Rattle.frames.specs.Open.{open_frame, IsOpen};
 
@@ -43,7 +43,7 @@ fn gives(form: StackForm) -> u8
 
 #[inline(always)]
 fn is_set(value: Value) -> bool
-    ensures { result ≡ set_value value }
+    ensures { result ≡ is_set value }
 {
     match value {
         Value::Unset => false,
@@ -62,7 +62,7 @@ fn are_set(frame: &SeenFrame, count: u8) -> bool
     requires least { 1 ≤ count }
     requires most { count ≤ 4 }
     requires there { count ≤ length frame.now.activation.operands }
-    ensures { result ≡ set_values count frame.now.activation.operands }
+    ensures { result ≡ are_set count frame.now.activation.operands }
 {
     match count {
         1 => is_set(frame.top()),
@@ -84,7 +84,7 @@ fn are_set(frame: &SeenFrame, count: u8) -> bool
 /// Decides whether a value is the second slot of a long.
 #[inline(always)]
 fn is_second(value: Value) -> bool
-    ensures { result ≡ second_value (Some value) }
+    ensures { result ≡ is_second (Some value) }
 {
     matches!(value, Value::Second)
 }
@@ -93,7 +93,7 @@ fn is_second(value: Value) -> bool
 fn parts_of_two(form: StackForm, frame: &SeenFrame) -> bool
     requires there { 2 ≤ length frame.now.activation.operands }
     requires few { form_takes form ≡ 2 }
-    ensures { result ≡ parts_long form frame.now.activation.operands }
+    ensures { result ≡ parts_a_long form frame.now.activation.operands }
 {
     let (a, b) = frame.top_two();
     match form {
@@ -106,7 +106,7 @@ fn parts_of_two(form: StackForm, frame: &SeenFrame) -> bool
 #[inline(never)]
 fn parts_a_long(form: StackForm, frame: &SeenFrame) -> bool
     requires { form_takes form ≤ length frame.now.activation.operands }
-    ensures { result ≡ parts_long form frame.now.activation.operands }
+    ensures { result ≡ parts_a_long form frame.now.activation.operands }
 {
     match form {
         StackForm::Pop | StackForm::Dup => is_second(frame.top()),

@@ -1,8 +1,8 @@
 //! Arrays (JVMS 6.5 newarray, anewarray, multianewarray, arraylength, and the loads and stores of arrays).
 
 ghost use Rattle.std.specs.Prelude.{◌≡◌, ◌+◌, ◌<◌, ◌^◌, IsTrue, length};
-ghost use Rattle.jvms_machine.specs.Arrays.{if_deep, making as makes, length_decision as makes_of_length, new_array_decision as makes_array, new_class_array_decision as makes_class_array, array_length_decision as measures, array_decision as arrays};
-ghost use Rattle.jvms_machine.specs.Heap.{has_room_for_elements as room_for_elements};
+ghost use Rattle.jvms_machine.specs.Arrays.{if_deep, making, length_decision, new_array_decision, new_class_array_decision, array_length_decision, array_decision};
+ghost use Rattle.jvms_machine.specs.Heap.{has_room_for_elements};
 ghost use Rattle.exec_ref.specs.Asked.{told_length};
 ghost use Rattle.machine_parts.specs.Decided.{seen, object_value, text_of};
 
@@ -23,7 +23,7 @@ use shared_data::shared::Text;
 
 /// Decides whether the limits allow `objects` more objects and `elements` more array elements.
 pub(crate) fn has_room_for_elements(parts: &Parts, objects: usize, elements: usize) -> bool
-    ensures exact { result ≡ room_for_elements objects elements parts.now.limits parts.now.state }
+    ensures exact { result ≡ has_room_for_elements objects elements parts.now.limits parts.now.state }
     // Each of their references fits 32 bits.
     ensures number { IsTrue result → length parts.now.state.heap + objects < 2 ^ 32 }
 {
@@ -39,7 +39,7 @@ pub(crate) fn making<'p>(
     what: NewObject<ActionText<'p>>,
 ) -> Decided<'p>
     requires { length parts.now.state.heap + 1 < 2 ^ 32 }
-    ensures { seen result ≡ makes parts.now.state takes (object_value what.entry) }
+    ensures { seen result ≡ making parts.now.state takes (object_value what.entry) }
 {
     let value = Value::Reference(parts.heap.count() as u32 + 1);
     reaches(Effect::Makes(what), FrameAction::Push { takes, value })
@@ -53,7 +53,7 @@ fn length_decision<'p>(
     class: ActionText<'p>,
     n: i32,
 ) -> Decided<'p>
-    ensures { seen result ≡ makes_of_length parts.now.limits parts.now.state thread.now (text_of class.entry) n }
+    ensures { seen result ≡ length_decision parts.now.limits parts.now.state thread.now (text_of class.entry) n }
 {
     if n < 0 {
         return parts.throws(thread, Thrown::NegativeArraySizeException);
@@ -72,7 +72,7 @@ fn new_array_decision<'p>(
     frame: &Frame,
     t: ArrayType,
 ) -> Decided<'p>
-    ensures { seen result ≡ makes_array parts.now.limits parts.now.state thread.now frame.now t }
+    ensures { seen result ≡ new_array_decision parts.now.limits parts.now.state thread.now frame.now t }
 {
     if !has_depth(frame, 1, 1) {
         return bad(BadCause::Depth);
@@ -90,7 +90,7 @@ pub(crate) fn new_class_array_decision<'p>(
     frame: &Frame,
     name: &'p Text,
 ) -> Decided<'p>
-    ensures { seen result ≡ makes_class_array parts.now.program parts.now.limits parts.now.state thread.now frame.now name.now }
+    ensures { seen result ≡ new_class_array_decision parts.now.program parts.now.limits parts.now.state thread.now frame.now name.now }
 {
     if !has_depth(frame, 1, 1) {
         return bad(BadCause::Depth);
@@ -124,7 +124,7 @@ fn measured<'p>(parts: &Parts<'p>, thread: &Thread, reference: u32) -> Decided<'
 /// Decides JVMS 6.5 `arraylength`.
 #[inline(always)]
 fn array_length_decision<'p>(parts: &Parts<'p>, thread: &Thread, frame: &Frame) -> Decided<'p>
-    ensures { seen result ≡ if_deep frame.now 1 1 (measures parts.now.limits parts.now.state thread.now frame.now.activation.operands) }
+    ensures { seen result ≡ if_deep frame.now 1 1 (array_length_decision parts.now.limits parts.now.state thread.now frame.now.activation.operands) }
 {
     if !has_depth(frame, 1, 1) {
         return bad(BadCause::Depth);
@@ -147,7 +147,7 @@ pub fn array_decision<'p>(
     what: ArrayInsn,
 ) -> Decided<'p>
     requires { frame.now.activation.place + 1 < 2 ^ 64 }
-    ensures { seen result ≡ arrays parts.now.program parts.now.limits parts.now.state thread.now frame.now what }
+    ensures { seen result ≡ array_decision parts.now.program parts.now.limits parts.now.state thread.now frame.now what }
 {
     match what {
         ArrayInsn::New(t) => new_array_decision(parts, thread, frame, t),

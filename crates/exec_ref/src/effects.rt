@@ -3,7 +3,7 @@
 ghost use Rattle.std.specs.Prelude.{◌≡◌, [], IsOk, OnOk, OnErr, option_copied, slice_get};
 ghost use Rattle.jvms_machine.specs.declared.action.Action.TheVariants as action;
 ghost use Rattle.jvms_machine.specs.declared.action.Effect.TheVariants as effects;
-ghost use Rattle.jvms_machine.specs.Actions.{affected, put_field as field_put, put_static as static_put, operands_of, items_of, effect_items};
+ghost use Rattle.jvms_machine.specs.Actions.{affected, put_field, put_static, operands_of, items_of, effect_items};
 ghost use Rattle.jvms_machine.specs.Output.{line_bytes};
 ghost use Rattle.jvms_program.specs.Program.{field_key_at};
 ghost use Rattle.jvms_machine.specs.Turn.{CanBeMade, IsReady};
@@ -45,14 +45,14 @@ fn printed_text<'h>(heap: &'h Heap<'_>, what: Printed) -> Option<&'h [u16]>
 /// Stores a value in a field of an object.
 #[inline(always)]
 fn put_field(parts: &mut Parts, reference: u32, field: FieldNumber, value: Value)
-    ensures { parts.new ≡ with_state parts.old (field_put parts.old.state reference value (field_key_at parts.old.program field)) }
+    ensures { parts.new ≡ with_state parts.old (put_field parts.old.state reference value (field_key_at parts.old.program field)) }
 {
     parts.heap.put_field_numbered(reference, field, value);
 }
 
 /// Stores a value in a static field.
 fn put_static(parts: &mut Parts, field: FieldNumber, value: Value)
-    ensures { parts.new ≡ with_state parts.old (static_put parts.old.state value (field_key_at parts.old.program field)) }
+    ensures { parts.new ≡ with_state parts.old (put_static parts.old.state value (field_key_at parts.old.program field)) }
 {
     parts.statics.put_numbered(field, value);
 }

@@ -4,8 +4,8 @@ ghost use Rattle.std.specs.Prelude.{◌≡◌, ◌≤◌, IfOk, OnOk, OnErr, len
 ghost use Rattle.jvms_machine.specs.declared.action.NewObject.TheVariants as new_object;
 ghost use Rattle.jvms_machine.specs.declared.action.Effect.TheVariants as effects;
 ghost use Rattle.jvms_machine.specs.Actions.{operands_of, with_new};
-ghost use Rattle.jvms_machine.specs.Arrays.{counted_lengths, length_of_value as length_in};
-ghost use Rattle.jvms_machine.specs.Heap.{array_of_class as class_of_array};
+ghost use Rattle.jvms_machine.specs.Arrays.{counted_lengths, length_of_value};
+ghost use Rattle.jvms_machine.specs.Heap.{array_of_class};
 ghost use Rattle.jvms_machine.specs.Turn.{CanBeMade};
 ghost use Rattle.machine_parts.specs.Decided.{object_value, text_of};
 ghost use Rattle.machine_parts.specs.Machine.{with_state};
@@ -32,7 +32,7 @@ const SEMICOLON: u16 = 59;
 
 /// Returns the name of the class of arrays whose components are of the named class.
 fn array_of_class(alloc: Global, name: &[u16]) -> Result<Text, AllocError>
-    ensures { IfOk result (λ class. class ≡ class_of_array name.now) }
+    ensures { IfOk result (λ class. class ≡ array_of_class name.now) }
 {
     let mut units = Vec::new(alloc);
     units.push(BRACKET)?;
@@ -59,7 +59,7 @@ fn text(alloc: Global, heap: &Heap<'_>, text: ActionText<'_>) -> Result<Text, Al
 
 /// Returns the lengths of nested arrays, which are operands.
 fn lengths_of(alloc: Global, values: &[Value]) -> Result<Vec<u32>, AllocError>
-    ensures { IfOk result (λ lengths. lengths.items ≡ map length_in values.now) }
+    ensures { IfOk result (λ lengths. lengths.items ≡ map length_of_value values.now) }
 {
     let mut lengths = Vec::with_capacity(alloc, values.len())?;
     for value in values {

@@ -7,8 +7,8 @@ ghost use Rattle.jvms_program.specs.declared.program.Instruction.TheVariants as 
 ghost use Rattle.jvms_program.specs.Program.{class_named, class_number};
 ghost use Rattle.jvms_machine.specs.Decisions.{TurnDecision};
 ghost use Rattle.jvms_machine.specs.Arrays.{if_deep};
-ghost use Rattle.jvms_machine.specs.Objects.{is_instantiable as instantiable, creation_if_room as makes_if_room, instance_of_number as makes_instance, new_instance_decision as makes_new, with_class_of, cast as casts, instance_test_result as tells, existing_or_new as holds_or_makes, class_decision as classes, loadable_decision as loads};
-ghost use Rattle.jvms_machine.specs.Fields.{reaches as reaching, taking as takes_on};
+ghost use Rattle.jvms_machine.specs.Objects.{is_instantiable, creation_if_room, instance_of_number, new_instance_decision, with_class_of, cast, instance_test_result, existing_or_new, class_decision, loadable_decision};
+ghost use Rattle.jvms_machine.specs.Fields.{reaches, taking};
 ghost use Rattle.jvms_machine.specs.declared.value.Value.TheVariants as value;
 ghost use Rattle.jvms_machine.specs.declared.action.Effect.TheVariants as effect;
 ghost use Rattle.jvms_machine.specs.declared.action.NewObject.TheVariants as new_object;
@@ -42,7 +42,7 @@ pub(crate) enum Told<'p> {
 }
 
 fn is_instantiable(kind: ClassKind) -> bool
-    ensures { result ≡ instantiable kind }
+    ensures { result ≡ is_instantiable kind }
 {
     match kind {
         ClassKind::Neither => true,
@@ -52,7 +52,7 @@ fn is_instantiable(kind: ClassKind) -> bool
 
 /// Returns the decision of JVMS 6.5 `instanceof` to replace the object by the result of the test.
 fn instance_test_result<'p>(is_instance: bool) -> Decided<'p>
-    ensures { seen result ≡ tells is_instance }
+    ensures { seen result ≡ instance_test_result is_instance }
 {
     let value = Value::Int(i32::from(is_instance));
     reaches(Effect::Nothing, FrameAction::Push { takes: 1, value })
@@ -65,7 +65,7 @@ fn creation_if_room<'p>(
     takes: u8,
     what: NewObject<ActionText<'p>>,
 ) -> Decided<'p>
-    ensures { seen result ≡ makes_if_room parts.now.limits parts.now.state thread.now takes (object_value what.entry) }
+    ensures { seen result ≡ creation_if_room parts.now.limits parts.now.state thread.now takes (object_value what.entry) }
 {
     if parts.has_room() {
         making(parts, takes, what)
@@ -76,7 +76,7 @@ fn creation_if_room<'p>(
 
 /// Decides the creation of an instance of a class by its number, once the class is initialised.
 fn instance_of_number<'p>(parts: &Parts<'p>, t: usize, thread: &Thread, class: usize) -> Decided<'p>
-    ensures { seen result ≡ makes_instance parts.now.program parts.now.limits parts.now.state t thread.now (Some class) }
+    ensures { seen result ≡ instance_of_number parts.now.program parts.now.limits parts.now.state t thread.now (Some class) }
 {
     match parts.asking(t, thread, class) {
         Some(decision) => decision,
@@ -110,7 +110,7 @@ fn new_instance_decision<'p>(
     name: &[u16],
 ) -> Decided<'p>
     requires { IsSite parts.now.program frame.now (instruction.Class class_use.New name.now) }
-    ensures { seen result ≡ makes_new parts.now.program parts.now.limits parts.now.state t thread.now name.now (class_named parts.now.program name.now) }
+    ensures { seen result ≡ new_instance_decision parts.now.program parts.now.limits parts.now.state t thread.now name.now (class_named parts.now.program name.now) }
 {
     match class_of_site(parts, frame, ClassUse::New, name) {
         None => parts.throws(thread, Thrown::NoClassDefFoundError),
@@ -155,7 +155,7 @@ fn top_told<'p>(parts: &Parts<'p>, thread: &Thread, frame: &Frame, name: &[u16])
 /// Decides JVMS 6.5 `checkcast`. The object stays on the operand stack.
 fn cast_decision<'p>(parts: &Parts<'p>, thread: &Thread, frame: &Frame, name: &[u16]) -> Decided<'p>
     requires { frame.now.activation.place + 1 < 2 ^ 64 }
-    ensures { seen result ≡ if_deep frame.now 1 1 (with_class_of parts.now.program parts.now.limits parts.now.state thread.now name.now frame.now.activation.operands (reaching effect.Nothing (takes_on 0 frame.now.activation)) (casts parts.now.limits parts.now.state thread.now frame.now)) }
+    ensures { seen result ≡ if_deep frame.now 1 1 (with_class_of parts.now.program parts.now.limits parts.now.state thread.now name.now frame.now.activation.operands (reaches effect.Nothing (taking 0 frame.now.activation)) (cast parts.now.limits parts.now.state thread.now frame.now)) }
 {
     if !has_depth(frame, 1, 1) {
         return bad(BadCause::Depth);
@@ -174,7 +174,7 @@ fn instance_test_decision<'p>(
     frame: &Frame,
     name: &[u16],
 ) -> Decided<'p>
-    ensures { seen result ≡ if_deep frame.now 1 1 (with_class_of parts.now.program parts.now.limits parts.now.state thread.now name.now frame.now.activation.operands (tells false) tells) }
+    ensures { seen result ≡ if_deep frame.now 1 1 (with_class_of parts.now.program parts.now.limits parts.now.state thread.now name.now frame.now.activation.operands (instance_test_result false) instance_test_result) }
 {
     if !has_depth(frame, 1, 1) {
         return bad(BadCause::Depth);
@@ -198,7 +198,7 @@ pub fn class_decision<'p>(
 ) -> Decided<'p>
     requires place { frame.now.activation.place + 1 < 2 ^ 64 }
     requires site { IsSite parts.now.program frame.now (instruction.Class how name.now) }
-    ensures { seen result ≡ classes parts.now.program parts.now.limits parts.now.state t thread.now frame.now how name.now }
+    ensures { seen result ≡ class_decision parts.now.program parts.now.limits parts.now.state t thread.now frame.now how name.now }
 {
     match how {
         ClassUse::New => {
@@ -221,7 +221,7 @@ fn existing_or_new<'p>(
     held: Option<u32>,
     what: NewObject<ActionText<'p>>,
 ) -> Decided<'p>
-    ensures { seen result ≡ holds_or_makes parts.now.limits parts.now.state thread.now held (object_value what.entry) }
+    ensures { seen result ≡ existing_or_new parts.now.limits parts.now.state thread.now held (object_value what.entry) }
 {
     match held {
         None => creation_if_room(parts, thread, 0, what),
@@ -239,7 +239,7 @@ fn string_decision<'p>(
     frame: &Frame,
     units: &'p Text,
 ) -> Decided<'p>
-    ensures { seen result ≡ if_deep frame.now 0 1 (holds_or_makes parts.now.limits parts.now.state thread.now (text_reference parts.now.state.heap units.now) (new_object.Text units.now)) }
+    ensures { seen result ≡ if_deep frame.now 0 1 (existing_or_new parts.now.limits parts.now.state thread.now (text_reference parts.now.state.heap units.now) (new_object.Text units.now)) }
 {
     if !has_depth(frame, 0, 1) {
         return bad(BadCause::Depth);
@@ -251,7 +251,7 @@ fn string_decision<'p>(
 
 /// Decides to push the object of an existing class.
 fn class_object_decision<'p>(parts: &Parts<'p>, thread: &Thread, name: &'p Text) -> Decided<'p>
-    ensures { seen result ≡ holds_or_makes parts.now.limits parts.now.state thread.now (class_reference parts.now.state.heap name.now) (new_object.ClassObject name.now) }
+    ensures { seen result ≡ existing_or_new parts.now.limits parts.now.state thread.now (class_reference parts.now.state.heap name.now) (new_object.ClassObject name.now) }
 {
     let held = parts.heap.class_reference(name.as_slice());
     let name = ActionText::Of(name);
@@ -266,7 +266,7 @@ fn named_class_decision<'p>(
     frame: &Frame,
     name: &'p Text,
 ) -> Decided<'p>
-    ensures { seen result ≡ loads parts.now.program parts.now.limits parts.now.state thread.now frame.now (loadable.Class name.now) }
+    ensures { seen result ≡ loadable_decision parts.now.program parts.now.limits parts.now.state thread.now frame.now (loadable.Class name.now) }
 {
     if !has_depth(frame, 0, 1) {
         return bad(BadCause::Depth);
@@ -286,7 +286,7 @@ pub fn loadable_decision<'p>(
     frame: &Frame,
     what: &'p Loadable,
 ) -> Decided<'p>
-    ensures { seen result ≡ loads parts.now.program parts.now.limits parts.now.state thread.now frame.now what.now }
+    ensures { seen result ≡ loadable_decision parts.now.program parts.now.limits parts.now.state thread.now frame.now what.now }
 {
     match what {
         Loadable::String(units) => string_decision(parts, thread, frame, units),

@@ -6,7 +6,7 @@ ghost use Rattle.std.specs.Option.{option_map};
 ghost use Rattle.machine.specs.Machine.{transition_of, with_state};
 ghost use Rattle.machine.specs.Runs.{run_of};
 ghost use Rattle.runs.specs.Choices.{after_turn};
-ghost use Rattle.velodrome.specs.Transactions.{is_event as is_event_item};
+ghost use Rattle.velodrome.specs.Transactions.{is_event};
 ghost use Rattle.machine.specs.Views.{shown};
 ghost use Rattle.explaining.specs.EventTurns.{call_place, event_turns, turn_at};
 
@@ -55,7 +55,7 @@ fn push_events(
     items: &[Item],
 ) -> Result<(), AllocError>
     ensures { OnOk result (events.new.items
-        ≡ events.old.items ++ map (λ i. event) (filter is_event_item items.now)) }
+        ≡ events.old.items ++ map (λ i. event) (filter is_event items.now)) }
 {
     for item in items {
         if is_event(item) {
@@ -78,7 +78,7 @@ fn take_turn(
     ensures trace { OnOk result (trace.new ≡ []) }
     ensures machine { OnOk result (machine.new ≡ after_turn machine.old thread) }
     ensures events { OnOk result (events.new.items ≡ events.old.items
-        ++ map (λ i. turn_at turn machine.old thread) (filter is_event_item (transition_of machine.old thread).items)) }
+        ++ map (λ i. turn_at turn machine.old thread) (filter is_event (transition_of machine.old thread).items)) }
 {
     let event = turn_at(turn, machine, thread);
     machine.step(thread, trace)?;

@@ -2,8 +2,8 @@
 //! fails with no other. None allocates memory.
 
 ghost use Rattle.std.specs.Prelude.{◌≡◌};
-ghost use Rattle.jvms_file.specs.Bytes.{u1_at as one_byte, u2_at as two_bytes, u4_at as four_bytes, u8_at as eight_bytes, bytes_at as some_bytes};
-ghost use Rattle.jvms_file.specs.Results.{want as wanted};
+ghost use Rattle.jvms_file.specs.Bytes.{u1_at, u2_at, u4_at, u8_at, bytes_at};
+ghost use Rattle.jvms_file.specs.Results.{want};
 ghost use Rattle.file_bytes.specs.Reading.{Finds};
 
 use byteorder::{BigEndian, ByteOrder};
@@ -11,7 +11,7 @@ use jvms_file::fault::ClassFault;
 
 /// Returns the fault if the test is false.
 pub fn want(test: bool, fault: ClassFault) -> Result<(), ClassFault>
-    ensures { Finds (λ x. x) result (wanted test fault) }
+    ensures { Finds (λ x. x) result (want test fault) }
 {
     if test { Ok(()) } else { Err(fault) }
 }
@@ -19,7 +19,7 @@ pub fn want(test: bool, fault: ClassFault) -> Result<(), ClassFault>
 /// Reads the first byte and returns it with the bytes after it.
 #[tactic(auto, unfolding(jvms_file::specs::Bytes::number))]
 pub fn u1_at(cut: ClassFault, bytes: &[u8]) -> Result<(u8, &[u8]), ClassFault>
-    ensures { Finds (λ x. (x.0, x.1.now)) result (one_byte cut bytes.now) }
+    ensures { Finds (λ x. (x.0, x.1.now)) result (u1_at cut bytes.now) }
 {
     if bytes.is_empty() {
         return Err(cut);
@@ -30,7 +30,7 @@ pub fn u1_at(cut: ClassFault, bytes: &[u8]) -> Result<(u8, &[u8]), ClassFault>
 /// Reads a number of two bytes and returns it with the bytes after it.
 #[tactic(auto, unfolding(jvms_file::specs::Bytes::number))]
 pub fn u2_at(cut: ClassFault, bytes: &[u8]) -> Result<(u16, &[u8]), ClassFault>
-    ensures { Finds (λ x. (x.0, x.1.now)) result (two_bytes cut bytes.now) }
+    ensures { Finds (λ x. (x.0, x.1.now)) result (u2_at cut bytes.now) }
 {
     if bytes.len() < 2 {
         return Err(cut);
@@ -41,7 +41,7 @@ pub fn u2_at(cut: ClassFault, bytes: &[u8]) -> Result<(u16, &[u8]), ClassFault>
 /// Reads a number of four bytes and returns it with the bytes after it.
 #[tactic(auto, unfolding(jvms_file::specs::Bytes::number))]
 pub fn u4_at(cut: ClassFault, bytes: &[u8]) -> Result<(u32, &[u8]), ClassFault>
-    ensures { Finds (λ x. (x.0, x.1.now)) result (four_bytes cut bytes.now) }
+    ensures { Finds (λ x. (x.0, x.1.now)) result (u4_at cut bytes.now) }
 {
     if bytes.len() < 4 {
         return Err(cut);
@@ -52,7 +52,7 @@ pub fn u4_at(cut: ClassFault, bytes: &[u8]) -> Result<(u32, &[u8]), ClassFault>
 /// Reads a number of eight bytes and returns it with the bytes after it.
 #[tactic(auto, unfolding(jvms_file::specs::Bytes::number))]
 pub fn u8_at(cut: ClassFault, bytes: &[u8]) -> Result<(u64, &[u8]), ClassFault>
-    ensures { Finds (λ x. (x.0, x.1.now)) result (eight_bytes cut bytes.now) }
+    ensures { Finds (λ x. (x.0, x.1.now)) result (u8_at cut bytes.now) }
 {
     if bytes.len() < 8 {
         return Err(cut);
@@ -62,7 +62,7 @@ pub fn u8_at(cut: ClassFault, bytes: &[u8]) -> Result<(u64, &[u8]), ClassFault>
 
 /// Splits off the first `count` bytes and returns them with the bytes after them.
 pub fn bytes_at(cut: ClassFault, count: usize, bytes: &[u8]) -> Result<(&[u8], &[u8]), ClassFault>
-    ensures { Finds (λ x. (x.0.now, x.1.now)) result (some_bytes cut count bytes.now) }
+    ensures { Finds (λ x. (x.0.now, x.1.now)) result (bytes_at cut count bytes.now) }
 {
     if bytes.len() < count {
         return Err(cut);

@@ -1,7 +1,7 @@
 //! Reads a class file or a source as a class.
 
 ghost use Rattle.std.specs.Prelude.{◌≡◌, IfErr};
-ghost use Rattle.jvms_file.specs.ClassFile.{read as file_read};
+ghost use Rattle.jvms_file.specs.ClassFile.{read};
 ghost use Rattle.inputs.specs.Inputs.{Becomes, IsOfBytes, IsOfText, IsOfSort, class_in, class_of_bytes, class_of_text};
 
 use crate::fault::InputFault;

@@ -2,7 +2,7 @@
 
 ghost use Rattle.std.specs.Prelude.{◌≡◌};
 ghost use Rattle.std.specs.Option.{option_map};
-ghost use Rattle.jvms_file.specs.Instructions.{array_type_of as type_of_code, new_array_insn, is_dimensions as dimensions_fit, multi_new_array_insn};
+ghost use Rattle.jvms_file.specs.Instructions.{array_type_of, new_array_insn, is_dimensions, multi_new_array_insn};
 ghost use Rattle.jvms_file.specs.Reading.{Gives};
 
 use const_pool::Pool;
@@ -13,7 +13,7 @@ use jvms_file::insn::{ArrayInsn, ArrayType, Insn, Simple};
 
 /// Returns the component type of a code (JVMS table 6.5.newarray-A).
 fn array_type_of(code: u8) -> Option<ArrayType>
-    ensures { result ≡ type_of_code code }
+    ensures { result ≡ array_type_of code }
 {
     match code {
         4 => Some(ArrayType::Boolean),
@@ -41,7 +41,7 @@ pub(crate) fn new_array(cut: ClassFault, bytes: &[u8]) -> Result<(Insn, &[u8]), 
 
 /// Decides whether a class has at least `count` dimensions, and `count` isn't 0 (JVMS 6.5 multianewarray).
 fn is_dimensions(count: u8, class: Option<&[u16]>) -> bool
-    ensures { result ≡ dimensions_fit count (option_map (λ t. t.now) class.entry) }
+    ensures { result ≡ is_dimensions count (option_map (λ t. t.now) class.entry) }
 {
     match class {
         Some(name) => count > 0 && usize::from(count) <= dimensions_of(name),

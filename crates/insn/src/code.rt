@@ -4,7 +4,7 @@
 ghost use Rattle.std.specs.Prelude.{◌≡◌, ◌≤◌, ◌<◌, length, map, IfOk, Err};
 ghost use Rattle.jvms_file.specs.declared.fault.ClassFault.TheVariants.{CodeLength};
 ghost use Rattle.jvms_file.specs.declared.fault.ReadError.TheVariants.{Fault};
-ghost use Rattle.jvms_file.specs.Code.{placed as placed_bytes, starts, resolved as all_resolved, insns_of};
+ghost use Rattle.jvms_file.specs.Code.{placed, starts, resolved, insns_of};
 ghost use Rattle.jvms_file.specs.Reading.{Gives};
 ghost use Rattle.insn.specs.Places.{IsStarts};
 ghost use Rattle.insn.specs.Locating.{placed_of, all_placed, resolved_one};
@@ -36,7 +36,7 @@ fn placed(
     bytes: &[u8],
 ) -> Result<Vec<InsnAt>, ReadError>
     requires { length bytes.now ≤ 65535 }
-    ensures { Gives (λ v. all_placed v.items) result (placed_bytes pool.now major bytes.now) }
+    ensures { Gives (λ v. all_placed v.items) result (placed pool.now major bytes.now) }
 {
     let mut found = Vec::new(alloc);
     let mut rest = bytes;
@@ -85,7 +85,7 @@ fn resolved_insn(alloc: Global, starts: &Starts, one: &InsnAt) -> Result<Insn, R
 
 /// Returns the instructions with places for targets. The list is kept, so it gets no more capacity than it needs.
 fn resolved(alloc: Global, starts: &Starts, located: &[InsnAt]) -> Result<Items<Insn>, ReadError>
-    ensures { Gives (λ x. x) result (all_resolved starts.now (all_placed located.now)) }
+    ensures { Gives (λ x. x) result (resolved starts.now (all_placed located.now)) }
 {
     let mut insns = Items::with_capacity(alloc, located.len())?;
     for one in located {

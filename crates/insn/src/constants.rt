@@ -2,7 +2,7 @@
 
 ghost use Rattle.std.specs.Prelude.{◌≡◌};
 ghost use Rattle.std.specs.Option.{option_copied};
-ghost use Rattle.jvms_file.specs.Instructions.{passes, is_loadable as loadable, is_wide_loadable as wide_loadable};
+ghost use Rattle.jvms_file.specs.Instructions.{passes, is_loadable, is_wide_loadable};
 ghost use Rattle.jvms_file.specs.Reading.{Gives};
 ghost use Rattle.insn.specs.Operands.{push_byte_insn, push_short_insn, narrow_constant_insn, wide_constant_insn, long_constant_insn};
 
@@ -35,7 +35,7 @@ pub(crate) fn push_short(cut: ClassFault, bytes: &[u8]) -> Result<(Insn, &[u8]),
 
 /// Decides whether `ldc` may push an entry (JVMS 6.5 ldc).
 fn is_loadable(major: u16, found: Option<&Constant>) -> bool
-    ensures { result ≡ passes (loadable major) (option_copied found.entry) }
+    ensures { result ≡ passes (is_loadable major) (option_copied found.entry) }
 {
     match found {
         Some(Constant::Integer(_) | Constant::Float(_) | Constant::String { text: _ }) => true,
@@ -46,7 +46,7 @@ fn is_loadable(major: u16, found: Option<&Constant>) -> bool
 
 /// Decides whether `ldc2_w` may push an entry (JVMS 6.5 ldc2_w).
 fn is_wide_loadable(found: Option<&Constant>) -> bool
-    ensures { result ≡ passes wide_loadable (option_copied found.entry) }
+    ensures { result ≡ passes is_wide_loadable (option_copied found.entry) }
 {
     matches!(found, Some(Constant::Long(_) | Constant::Double(_)))
 }

@@ -1,14 +1,14 @@
 //! Exception handlers (JVMS 4.7.3).
 
 ghost use Rattle.std.specs.Prelude.{◌≡◌};
-ghost use Rattle.jvms_file.specs.Code.{end_place_of as end_place, handler_places};
+ghost use Rattle.jvms_file.specs.Code.{end_place_of, handler_places};
 
 use crate::starts::Starts;
 use jvms_file::class_file::Handler;
 
 /// Returns the place of a range's end: that of an instruction, or the place after the last.
 fn end_place_of(starts: &Starts, code_length: usize, pc: u32) -> Option<u32>
-    ensures { result ≡ end_place starts.now code_length pc }
+    ensures { result ≡ end_place_of starts.now code_length pc }
 {
     if pc as usize == code_length {
         Some(starts.count())

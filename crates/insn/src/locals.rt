@@ -1,7 +1,7 @@
 //! The instructions that name a local variable (JVMS 6.5 iload, istore, ret, iinc, wide).
 
 ghost use Rattle.std.specs.Prelude.{◌≡◌};
-ghost use Rattle.jvms_file.specs.Instructions.{wide_form as wide_form_at, wide_insn};
+ghost use Rattle.jvms_file.specs.Instructions.{wide_form, wide_insn};
 ghost use Rattle.jvms_file.specs.Reading.{Gives};
 ghost use Rattle.insn.specs.Operands.{local_insn, increment_insn};
 
@@ -41,7 +41,7 @@ fn wide_form(
     form: Option<Opcode>,
     bytes: &[u8],
 ) -> Result<(Insn, &[u8]), ReadError>
-    ensures { Gives (λ x. (x.0, x.1.now)) result (wide_form_at cut form bytes.now) }
+    ensures { Gives (λ x. (x.0, x.1.now)) result (wide_form cut form bytes.now) }
 {
     match form {
         Some(Opcode::Local(how)) => {

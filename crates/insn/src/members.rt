@@ -2,7 +2,7 @@
 
 ghost use Rattle.std.specs.Prelude.{◌≡◌};
 ghost use Rattle.std.specs.Option.{option_copied, option_map, option_and_then};
-ghost use Rattle.jvms_file.specs.Instructions.{passes, is_field as field_entry, field_insn, method_numbers as numbers_of, invoked as method_of, is_invocable as invocable, interface_count as units_with_object, interface_operands as interface_rest, after_invoke as rest_behind, invoke_insn, is_usable_class as usable_class, names_usable as usable_name, class_insn};
+ghost use Rattle.jvms_file.specs.Instructions.{passes, is_field, field_insn, method_numbers, invoked, is_invocable, interface_count, interface_operands, after_invoke, invoke_insn, is_usable_class, names_usable, class_insn};
 ghost use Rattle.jvms_file.specs.declared.insn.Invoke.TheVariants.{Interface};
 ghost use Rattle.jvms_file.specs.Reading.{Gives};
 
@@ -15,7 +15,7 @@ use jvms_file::insn::{ClassUse, FieldUse, Insn, Invoke};
 
 /// Decides whether an entry is a field's.
 fn is_field(found: Option<&Constant>) -> bool
-    ensures { result ≡ passes field_entry (option_copied found.entry) }
+    ensures { result ≡ passes is_field (option_copied found.entry) }
 {
     matches!(
         found,
@@ -43,7 +43,7 @@ pub(crate) fn field<'a>(
 
 /// Decides whether an instruction may use a class of this name.
 fn is_usable_class(how: ClassUse, name: &[u16]) -> bool
-    ensures { result ≡ usable_class how name.now }
+    ensures { result ≡ is_usable_class how name.now }
 {
     match how {
         ClassUse::New => !is_array_name(name),
@@ -54,7 +54,7 @@ fn is_usable_class(how: ClassUse, name: &[u16]) -> bool
 
 /// Decides whether there is a class and an instruction may use it.
 fn names_usable(how: ClassUse, class: Option<&[u16]>) -> bool
-    ensures { result ≡ usable_name how (option_map (λ t. t.now) class.entry) }
+    ensures { result ≡ names_usable how (option_map (λ t. t.now) class.entry) }
 {
     match class {
         Some(name) => is_usable_class(how, name),
@@ -79,7 +79,7 @@ pub(crate) fn class<'a>(
 
 /// Returns the numbers in a method's entry of the kind that the instruction accepts (JVMS 4.9.1).
 fn method_numbers(how: Invoke, found: Option<&Constant>) -> Option<(u16, u16)>
-    ensures { result ≡ option_and_then (numbers_of how) (option_copied found.entry) }
+    ensures { result ≡ option_and_then (method_numbers how) (option_copied found.entry) }
 {
     match found {
         Some(
@@ -106,7 +106,7 @@ fn method_numbers(how: Invoke, found: Option<&Constant>) -> Option<(u16, u16)>
 
 /// Returns the name and the descriptor of the method that an instruction calls.
 fn invoked(pool: &Pool, how: Invoke, number: u16) -> Option<(&[u16], &[u16])>
-    ensures { option_map (λ x. (x.0.now, x.1.now)) result ≡ method_of pool.now how number }
+    ensures { option_map (λ x. (x.0.now, x.1.now)) result ≡ invoked pool.now how number }
 {
     match method_numbers(how, pool.entry(number)) {
         Some((_, name_and_type)) => pool.name_and_type(name_and_type),
@@ -116,7 +116,7 @@ fn invoked(pool: &Pool, how: Invoke, number: u16) -> Option<(&[u16], &[u16])>
 
 /// Decides whether there is a method and an instruction may call it.
 fn is_invocable(how: Invoke, method: Option<(&[u16], &[u16])>) -> bool
-    ensures { result ≡ invocable how (option_map (λ x. (x.0.now, x.1.now)) method.entry) }
+    ensures { result ≡ is_invocable how (option_map (λ x. (x.0.now, x.1.now)) method.entry) }
 {
     match method {
         Some((name, _)) => is_invocable_name(how, name),
@@ -126,7 +126,7 @@ fn is_invocable(how: Invoke, method: Option<(&[u16], &[u16])>) -> bool
 
 /// Returns the units of the arguments of an interface's method, including the object.
 fn interface_units(pool: &ScannedPool, number: u16) -> Option<usize>
-    ensures { result ≡ units_with_object (method_of pool.now Interface number) }
+    ensures { result ≡ interface_count (invoked pool.now Interface number) }
 {
     let (_, name_and_type) = method_numbers(Invoke::Interface, pool.pool().entry(number))?;
     let forms = pool.descriptor_forms(name_and_type)?;
@@ -140,7 +140,7 @@ fn interface_operands(
     count: Option<usize>,
     bytes: &[u8],
 ) -> Result<&[u8], ReadError>
-    ensures { Gives (λ x. x.now) result (interface_rest cut count bytes.now) }
+    ensures { Gives (λ x. x.now) result (interface_operands cut count bytes.now) }
 {
     match count {
         Some(units) => {
@@ -161,7 +161,7 @@ fn after_invoke<'a>(
     number: u16,
     bytes: &'a [u8],
 ) -> Result<&'a [u8], ReadError>
-    ensures { Gives (λ x. x.now) result (rest_behind cut how (method_of pool.now how number) bytes.now) }
+    ensures { Gives (λ x. x.now) result (after_invoke cut how (invoked pool.now how number) bytes.now) }
 {
     match how {
         Invoke::Interface => interface_operands(cut, interface_units(pool, number), bytes),

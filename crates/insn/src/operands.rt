@@ -1,7 +1,7 @@
 //! Reads one instruction from bytes.
 
 ghost use Rattle.std.specs.Prelude.{◌≡◌};
-ghost use Rattle.jvms_file.specs.Instructions.{operands_at as operands_read, insn_at as insn_read};
+ghost use Rattle.jvms_file.specs.Instructions.{operands_at, insn_at};
 ghost use Rattle.jvms_file.specs.Reading.{Gives};
 
 use crate::arrays::{multi_new_array, new_array};
@@ -27,7 +27,7 @@ fn operands_at<'a>(
     form: Opcode,
     bytes: &'a [u8],
 ) -> Result<(Insn, &'a [u8]), ReadError>
-    ensures { Gives (λ x. (x.0, x.1.now)) result (operands_read pool.now major pc form bytes.now) }
+    ensures { Gives (λ x. (x.0, x.1.now)) result (operands_at pool.now major pc form bytes.now) }
 {
     let cut = ClassFault::Operand { pc };
     match form {
@@ -63,7 +63,7 @@ pub fn insn_at<'a>(
     pc: usize,
     bytes: &'a [u8],
 ) -> Result<(Insn, &'a [u8]), ReadError>
-    ensures { Gives (λ x. (x.0, x.1.now)) result (insn_read pool.now major pc bytes.now) }
+    ensures { Gives (λ x. (x.0, x.1.now)) result (insn_at pool.now major pc bytes.now) }
 {
     let (code, rest) = u1_at(ClassFault::Operand { pc }, bytes)?;
     match form_of(code) {

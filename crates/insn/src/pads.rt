@@ -2,8 +2,8 @@
 //! starts.
 
 ghost use Rattle.std.specs.Prelude.{◌≡◌, ◌+◌, ◌≤◌, IfOk, slice_set, suc, if◌then◌else◌};
-ghost use Rattle.jvms_file.specs.Code.{is_switch as is_switch_insn, zeroed, with_zero_pads, layout_of};
-ghost use Rattle.jvms_file.specs.Instructions.{pad_length as pads_at};
+ghost use Rattle.jvms_file.specs.Code.{is_switch, zeroed, with_zero_pads, layout_of};
+ghost use Rattle.jvms_file.specs.Instructions.{pad_length};
 
 use crate::starts::Starts;
 use crate::switches::pad_length;
@@ -38,14 +38,14 @@ fn zero(bytes: &mut [u8], count: usize, place: usize)
 
 /// Decides whether an instruction has pads (JVMS 6.5 tableswitch, lookupswitch).
 fn is_switch(insn: &Insn) -> bool
-    ensures { result ≡ is_switch_insn insn.now }
+    ensures { result ≡ is_switch insn.now }
 {
     matches!(insn, Insn::Table(_) | Insn::Lookup(_))
 }
 
 /// Sets the pads of the instruction that starts at byte `pc` to 0, if it has any.
 fn zero_pads_of(bytes: &mut [u8], pc: u32, insn: &Insn)
-    ensures { bytes.new ≡ (if is_switch_insn insn.now then zeroed (pads_at pc) (suc pc) bytes.old else bytes.old) }
+    ensures { bytes.new ≡ (if is_switch insn.now then zeroed (pad_length pc) (suc pc) bytes.old else bytes.old) }
 {
     if is_switch(insn) {
         let start = pc as usize;

@@ -1,7 +1,7 @@
 //! The bytes at which instructions start.
 
 ghost use Rattle.std.specs.Prelude.{◌≡◌, length};
-ghost use Rattle.jvms_file.specs.Code.{place_of as place_in};
+ghost use Rattle.jvms_file.specs.Code.{place_of};
 ghost use Rattle.insn.specs.Places.{IsStarts};
 
 use shared_data::items::Items;
@@ -28,7 +28,7 @@ impl Model for Starts {
 /// 65,535 bytes.
 fn place_among(pcs: &[u32], pc: u32) -> Option<usize>
     requires { IsStarts pcs.now }
-    ensures { result ≡ place_in pcs.now pc }
+    ensures { result ≡ place_of pcs.now pc }
 {
     match pcs.binary_search(&pc) {
         Ok(place) => Some(place),
@@ -69,7 +69,7 @@ impl Starts {
 
     /// Returns the place of the instruction that starts at a byte, if one does.
     pub fn place_of(&self, pc: u32) -> Option<u32>
-        ensures { result ≡ place_in self.now pc }
+        ensures { result ≡ place_of self.now pc }
     {
         match place_among(self.as_slice(), pc) {
             Some(place) => Some(place as u32),

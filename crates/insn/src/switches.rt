@@ -1,9 +1,9 @@
 //! The instructions with many targets (JVMS 6.5 tableswitch, lookupswitch).
 
 ghost use Rattle.std.specs.Prelude.{◌≡◌, ◌+◌, ◌≤◌, ◌≤ℤ◌, ◌-ℤ◌, unsigned_abs, None, Some};
-ghost use Rattle.jvms_file.specs.Instructions.{pad_length as pads_at, targets_at as targets_from, cases_at as cases_from, is_above as lies_above, table_switch_insn, lookup_switch_insn};
+ghost use Rattle.jvms_file.specs.Instructions.{pad_length, targets_at, cases_at, is_above, table_switch_insn, lookup_switch_insn};
 ghost use Rattle.jvms_file.specs.Reading.{Gives};
-ghost use Rattle.insn.specs.Operands.{target_at as target_from, case_at as case_from};
+ghost use Rattle.insn.specs.Operands.{target_at, case_at};
 
 use crate::targets::target_of;
 use file_bytes::{Part, bytes_at, parts_of, u4_at, want};
@@ -15,7 +15,7 @@ use std::alloc::Global;
 
 /// Returns the number of pads of a switch whose opcode is at byte `pc`: the bytes up to the next multiple of 4.
 pub fn pad_length(pc: usize) -> usize
-    ensures exact { result ≡ pads_at pc }
+    ensures exact { result ≡ pad_length pc }
     ensures few { result ≤ 3 }
 {
     3 - pc % 4
@@ -30,7 +30,7 @@ struct Targets {
 
 #[tactic(auto, unfolding(crate::specs::Operands::target_at))]
 impl Part<u32> for Targets {
-    ghost at = { λ t _. target_from t.cut t.pc };
+    ghost at = { λ t _. target_at t.cut t.pc };
 
     fn part_at<'a>(
         &self,
@@ -52,7 +52,7 @@ fn targets_at(
     count: usize,
     bytes: &[u8],
 ) -> Result<(Items<u32>, &[u8]), ReadError>
-    ensures { Gives (λ x. (x.0, x.1.now)) result (targets_from cut pc count bytes.now) }
+    ensures { Gives (λ x. (x.0, x.1.now)) result (targets_at cut pc count bytes.now) }
 {
     parts_of(alloc, &Targets { cut, pc }, count, bytes)
 }
@@ -96,7 +96,7 @@ pub(crate) fn table_switch(
 
 /// Decides whether a value is above the one before it, if there is one.
 fn is_above(last: Option<i32>, value: i32) -> bool
-    ensures { result ≡ lies_above last value }
+    ensures { result ≡ is_above last value }
 {
     match last {
         Some(before) => before < value,
@@ -112,7 +112,7 @@ fn case_at(
     last: Option<i32>,
     bytes: &[u8],
 ) -> Result<(SwitchCase, &[u8]), ReadError>
-    ensures { Gives (λ x. (x.0, x.1.now)) result (case_from cut pc last bytes.now) }
+    ensures { Gives (λ x. (x.0, x.1.now)) result (case_at cut pc last bytes.now) }
 {
     let (value_bits, behind_value) = u4_at(cut, bytes)?;
     let (offset, rest) = u4_at(cut, behind_value)?;
@@ -138,7 +138,7 @@ fn cases_at(
     count: u32,
     bytes: &[u8],
 ) -> Result<(Items<SwitchCase>, &[u8]), ReadError>
-    ensures { Gives (λ x. (x.0, x.1.now)) result (cases_from cut pc count None bytes.now) }
+    ensures { Gives (λ x. (x.0, x.1.now)) result (cases_at cut pc count None bytes.now) }
 {
     let mut cases = Items::new(alloc);
     let mut rest = bytes;

@@ -5,7 +5,7 @@ ghost use Rattle.std.specs.Prelude.{◌≡◌, Some};
 ghost use Rattle.jvms_program.specs.declared.program.Body.{Body as Code};
 ghost use Rattle.jvms_machine.specs.declared.action.Lock.{Lock as Locked};
 ghost use Rattle.jvms_machine.specs.Decisions.{TurnDecision};
-ghost use Rattle.jvms_machine.specs.Calls.{enter_decision as enters, called_decision as calls, entry_decision as enters_entry, first_call as calls_first, first_call_decision as calls_at_first};
+ghost use Rattle.jvms_machine.specs.Calls.{enter_decision, called_decision, entry_decision, first_call, first_call_decision};
 ghost use Rattle.machine_parts.specs.Decided.{seen};
 ghost use Rattle.invoke.specs.Calling.{made_of};
 
@@ -53,7 +53,7 @@ fn enter_decision<'p>(
     given: Given,
     code: &'p Body,
 ) -> Called<'p>
-    ensures { (native : TurnDecision) → (make : Code → Locked → TurnDecision) → made_of native make result ≡ enters parts.now.program parts.now.limits parts.now.state t thread.now n method.now given.receiver given.arguments code.now (make code.now) }
+    ensures { (native : TurnDecision) → (make : Code → Locked → TurnDecision) → made_of native make result ≡ enter_decision parts.now.program parts.now.limits parts.now.state t thread.now n method.now given.receiver given.arguments code.now (make code.now) }
 {
     if parts.limits.frames as usize <= thread.height() {
         return Called::Stops(parts.throws(thread, Thrown::StackOverflowError));
@@ -76,7 +76,7 @@ fn called_decision<'p>(
     method: &'p Method,
     given: Given,
 ) -> Called<'p>
-    ensures { (native : TurnDecision) → (make : Code → Locked → TurnDecision) → made_of native make result ≡ calls parts.now.program parts.now.limits parts.now.state t thread.now n method.now given.receiver given.arguments native make }
+    ensures { (native : TurnDecision) → (make : Code → Locked → TurnDecision) → made_of native make result ≡ called_decision parts.now.program parts.now.limits parts.now.state t thread.now n method.now given.receiver given.arguments native make }
 {
     if method.flags.is_abstract {
         return Called::Stops(parts.throws(thread, Thrown::AbstractMethodError));
@@ -99,7 +99,7 @@ fn first_call<'p>(
     method: &'p Method,
     given: Given,
 ) -> Decided<'p>
-    ensures { seen result ≡ calls_first parts.now.program parts.now.limits parts.now.state t thread.now given.receiver given.arguments n method.now }
+    ensures { seen result ≡ first_call parts.now.program parts.now.limits parts.now.state t thread.now given.receiver given.arguments n method.now }
 {
     match called_decision(parts, t, thread, n, method, given) {
         Called::Stops(decision) => decision,
@@ -119,7 +119,7 @@ fn entry_decision<'p>(
     thread: &Thread,
     method: &'p Method,
 ) -> Decided<'p>
-    ensures { seen result ≡ enters_entry parts.now.program parts.now.limits parts.now.start parts.now.state t thread.now (Some method.now) }
+    ensures { seen result ≡ entry_decision parts.now.program parts.now.limits parts.now.start parts.now.state t thread.now (Some method.now) }
 {
     if is_outside_method(method.method_type.get()) {
         return bad(BadCause::OutOfProfile);
@@ -136,7 +136,7 @@ fn entry_decision<'p>(
 
 /// Decides the first call of a thread.
 pub fn first_call_decision<'p>(parts: &Parts<'p>, t: usize, thread: &Thread) -> Decided<'p>
-    ensures { seen result ≡ calls_at_first parts.now.program parts.now.limits parts.now.start parts.now.state t thread.now }
+    ensures { seen result ≡ first_call_decision parts.now.program parts.now.limits parts.now.start parts.now.state t thread.now }
 {
     if t != 0 {
         return run_decision(parts, t, thread);

@@ -2,7 +2,7 @@
 
 ghost use Rattle.std.specs.Prelude.{◌≡◌, Some, slice_get};
 ghost use Rattle.jvms_machine.specs.Decisions.{TurnDecision};
-ghost use Rattle.jvms_machine.specs.Initialisation.{initializer_of as initializer, asked_superclass as asked, initializer_decision as initialises_itself, superclass_decision as superclass_first, initialisation_decision as initialises};
+ghost use Rattle.jvms_machine.specs.Initialisation.{initializer_of, asked_superclass, initializer_decision, superclass_decision, initialisation_decision};
 ghost use Rattle.machine_parts.specs.Before.{first_or};
 ghost use Rattle.machine_parts.specs.Decided.{seen};
 
@@ -23,14 +23,14 @@ const INITIALIZER_DESCRIPTOR: [u16; 3] = [40, 41, 86];
 
 /// Returns the index of a class's `<clinit>()V` among its methods.
 fn initializer_of(class: &Class) -> Option<usize>
-    ensures { result ≡ initializer class.now }
+    ensures { result ≡ initializer_of class.now }
 {
     declared_number(class, &INITIALIZER, &INITIALIZER_DESCRIPTOR)
 }
 
 /// Returns the number of the superclass that initialisation requires. An interface requires none.
 fn asked_superclass(program: &Program, class: &Class) -> Option<usize>
-    ensures { result ≡ asked program.now class.now }
+    ensures { result ≡ asked_superclass program.now class.now }
 {
     if matches!(class.kind, ClassKind::Interface) {
         return None;
@@ -47,7 +47,7 @@ fn initializer_call<'p>(
     class: usize,
     number: usize,
 ) -> Decided<'p>
-    ensures { seen result ≡ initialises_itself parts.now.limits parts.now.state thread.now c.now class (Some number) }
+    ensures { seen result ≡ initializer_decision parts.now.limits parts.now.state thread.now c.now class (Some number) }
 {
     let Some(method) = c.methods.as_slice().get(number) else {
         return never_seen();
@@ -75,7 +75,7 @@ fn initializer_decision<'p>(
     c: &'p Class,
     class: usize,
 ) -> Decided<'p>
-    ensures { seen result ≡ initialises_itself parts.now.limits parts.now.state thread.now c.now class (initializer c.now) }
+    ensures { seen result ≡ initializer_decision parts.now.limits parts.now.state thread.now c.now class (initializer_of c.now) }
 {
     match initializer_of(c) {
         None => Decision::Makes(Action::Finishes { class }),
@@ -90,7 +90,7 @@ fn superclass_decision<'p>(
     thread: &Thread,
     superclass: Option<usize>,
 ) -> Option<Decided<'p>>
-    ensures { (go_on : TurnDecision) → first_or go_on result ≡ superclass_first parts.now.program parts.now.limits parts.now.state t thread.now superclass go_on }
+    ensures { (go_on : TurnDecision) → first_or go_on result ≡ superclass_decision parts.now.program parts.now.limits parts.now.state t thread.now superclass go_on }
 {
     match superclass {
         None => None,
@@ -106,7 +106,7 @@ pub fn initialisation_decision<'p>(
     class: usize,
     called: bool,
 ) -> Decided<'p>
-    ensures { seen result ≡ initialises parts.now.program parts.now.limits parts.now.state t thread.now class called (slice_get parts.now.program class) }
+    ensures { seen result ≡ initialisation_decision parts.now.program parts.now.limits parts.now.state t thread.now class called (slice_get parts.now.program class) }
 {
     let Some(c) = parts.program().class(class) else {
         return never_seen();

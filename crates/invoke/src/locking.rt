@@ -3,7 +3,7 @@
 ghost use Rattle.std.specs.Prelude.{◌≡◌, ◌+◌, ◌<◌, ◌^◌};
 ghost use Rattle.jvms_machine.specs.declared.value.Value.TheVariants as value;
 ghost use Rattle.jvms_machine.specs.Arrays.{with_object_of};
-ghost use Rattle.jvms_machine.specs.Locking.{enter_object, exit_object, monitor_enter_decision as enters_monitor, monitor_exit_decision as exits_monitor};
+ghost use Rattle.jvms_machine.specs.Locking.{enter_object, exit_object, monitor_enter_decision, monitor_exit_decision};
 ghost use Rattle.machine_parts.specs.Decided.{seen};
 
 pub(crate) mod fast;
@@ -65,7 +65,7 @@ pub fn monitor_enter_decision<'p>(
     frame: &Frame,
 ) -> Decided<'p>
     requires { frame.now.activation.place + 1 < 2 ^ 64 }
-    ensures { seen result ≡ enters_monitor parts.now.limits parts.now.state t thread.now frame.now }
+    ensures { seen result ≡ monitor_enter_decision parts.now.limits parts.now.state t thread.now frame.now }
 {
     if !has_depth(frame, 1, 0) {
         return bad(BadCause::Depth);
@@ -87,7 +87,7 @@ pub fn monitor_exit_decision<'p>(
     frame: &Frame,
 ) -> Decided<'p>
     requires { frame.now.activation.place + 1 < 2 ^ 64 }
-    ensures { seen result ≡ exits_monitor parts.now.limits parts.now.state t thread.now frame.now }
+    ensures { seen result ≡ monitor_exit_decision parts.now.limits parts.now.state t thread.now frame.now }
 {
     if !has_depth(frame, 1, 0) {
         return bad(BadCause::Depth);

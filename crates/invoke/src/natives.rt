@@ -2,8 +2,8 @@
 //! notifications. Each completes in the turn of its call.
 
 ghost use Rattle.std.specs.Prelude.{◌≡◌, ◌+◌, ◌<◌, ◌^◌, slice_get};
-ghost use Rattle.jvms_machine.specs.Natives.{prints as printing, object_printed as prints_object, value_printed as prints_value, print_decision as prints_as, native_of_class};
-ghost use Rattle.jvms_machine.specs.Places.{whole_top as whole_on_top};
+ghost use Rattle.jvms_machine.specs.Natives.{prints, object_printed, value_printed, print_decision, native_of_class};
+ghost use Rattle.jvms_machine.specs.Places.{whole_top};
 ghost use Rattle.jvms_machine.specs.State.{object_at};
 ghost use Rattle.machine_parts.specs.Decided.{seen};
 ghost use Rattle.machine_parts.specs.Ready.{AreNumbered};
@@ -45,7 +45,7 @@ const NOTHING: [u16; 3] = [40, 41, 86];
 /// one.
 fn prints<'p>(frame: &Frame, takes: u16, what: Printed, ends_line: bool) -> Decided<'p>
     requires { frame.now.activation.place + 1 < 2 ^ 64 }
-    ensures { seen result ≡ printing frame.now.activation takes what ends_line }
+    ensures { seen result ≡ prints frame.now.activation takes what ends_line }
 {
     reaches(Effect::Prints { what, ends_line }, taking(takes, frame))
 }
@@ -60,7 +60,7 @@ fn object_printed<'p>(
     reference: u32,
 ) -> Decided<'p>
     requires { frame.now.activation.place + 1 < 2 ^ 64 }
-    ensures { seen result ≡ prints_object frame.now.activation takes ends_line reference (object_at parts.now.state.heap reference) }
+    ensures { seen result ≡ object_printed frame.now.activation takes ends_line reference (object_at parts.now.state.heap reference) }
 {
     match parts.heap.units_of(reference) {
         Some(_) => prints(frame, takes, Printed::Text { reference }, ends_line),
@@ -71,7 +71,7 @@ fn object_printed<'p>(
 /// Returns the topmost value, where a long has two slots. Returns `None` if the operands are empty, or end in one half
 /// of a long.
 fn whole_top(frame: &Frame) -> Option<Value>
-    ensures { result ≡ whole_on_top frame.now.activation.operands }
+    ensures { result ≡ whole_top frame.now.activation.operands }
 {
     match frame.height() {
         0 => None,
@@ -90,7 +90,7 @@ fn whole_top(frame: &Frame) -> Option<Value>
 /// Decides the print of the topmost value.
 fn value_printed<'p>(parts: &Parts<'p>, frame: &Frame, takes: u16, ends_line: bool) -> Decided<'p>
     requires { frame.now.activation.place + 1 < 2 ^ 64 }
-    ensures { seen result ≡ prints_value parts.now.state frame.now.activation takes ends_line (whole_on_top frame.now.activation.operands) }
+    ensures { seen result ≡ value_printed parts.now.state frame.now.activation takes ends_line (whole_top frame.now.activation.operands) }
 {
     match whole_top(frame) {
         Some(Value::Int(n)) => prints(frame, takes, Printed::Int(n), ends_line),
@@ -106,7 +106,7 @@ fn value_printed<'p>(parts: &Parts<'p>, frame: &Frame, takes: u16, ends_line: bo
 /// Decides a call of `print` or `println`.
 fn print_decision<'p>(parts: &Parts<'p>, frame: &Frame, takes: u16, method: &Method) -> Decided<'p>
     requires { frame.now.activation.place + 1 < 2 ^ 64 }
-    ensures { seen result ≡ prints_as parts.now.state frame.now.activation takes method.now }
+    ensures { seen result ≡ print_decision parts.now.state frame.now.activation takes method.now }
 {
     let ends_line = same_text(method.name.as_slice(), &PRINTLN);
     if ends_line && same_text(method.descriptor.as_slice(), &NOTHING) {

@@ -2,7 +2,7 @@
 
 ghost use Rattle.std.specs.Prelude.{◌≡◌, drop};
 ghost use Rattle.jvms_program.specs.Program.{method_at};
-ghost use Rattle.jvms_machine.specs.Returns.{gives_kind as gives, gives_nothing as nothing, returns_to, returned_decision as returned, return_top_decision as returns_top, return_decision as returns, method_return_decision as method_returns};
+ghost use Rattle.jvms_machine.specs.Returns.{gives_kind, gives_nothing, returns_to, returned_decision, return_top_decision, return_decision, method_return_decision};
 ghost use Rattle.machine_parts.specs.Decided.{seen};
 
 pub(crate) mod fast;
@@ -20,7 +20,7 @@ use machine_thread::Thread;
 /// Decides whether a method has a result of this kind.
 #[inline(always)]
 pub(super) fn gives_kind(given: &ResultType, kind: Kind) -> bool
-    ensures { result ≡ gives given.now kind }
+    ensures { result ≡ gives_kind given.now kind }
 {
     match given {
         ResultType::Void => false,
@@ -31,7 +31,7 @@ pub(super) fn gives_kind(given: &ResultType, kind: Kind) -> bool
 /// Decides whether a method has no result.
 #[inline(always)]
 pub(super) fn gives_nothing(given: &ResultType) -> bool
-    ensures { result ≡ nothing given.now }
+    ensures { result ≡ gives_nothing given.now }
 {
     matches!(given, ResultType::Void)
 }
@@ -71,7 +71,7 @@ fn returned_decision<'p>(
     frame: &Frame,
     value: Option<Value>,
 ) -> Decided<'p>
-    ensures { seen result ≡ returned parts.now.limits parts.now.state t frame.now (drop 1 thread.now.frames) value }
+    ensures { seen result ≡ returned_decision parts.now.limits parts.now.state t frame.now (drop 1 thread.now.frames) value }
 {
     match parts.unlocking(t, frame) {
         Unlocking::Leaves(unlock) => returns_to(thread, frame, value, unlock),
@@ -88,7 +88,7 @@ fn return_top_decision<'p>(
     given: &ResultType,
     kind: Kind,
 ) -> Decided<'p>
-    ensures { seen result ≡ returns_top parts.now.limits parts.now.state t frame.now (drop 1 thread.now.frames) given.now kind }
+    ensures { seen result ≡ return_top_decision parts.now.limits parts.now.state t frame.now (drop 1 thread.now.frames) given.now kind }
 {
     if frame.height() < u16::from(kind_size(kind)) {
         return bad(BadCause::Depth);
@@ -110,7 +110,7 @@ fn return_decision<'p>(
     given: &ResultType,
     how: ReturnInsn,
 ) -> Decided<'p>
-    ensures { seen result ≡ returns parts.now.limits parts.now.state t frame.now (drop 1 thread.now.frames) given.now how }
+    ensures { seen result ≡ return_decision parts.now.limits parts.now.state t frame.now (drop 1 thread.now.frames) given.now how }
 {
     match how {
         ReturnInsn::Void => {
@@ -135,7 +135,7 @@ pub fn method_return_decision<'p>(
     frame: &Frame,
     how: ReturnInsn,
 ) -> Decided<'p>
-    ensures { seen result ≡ method_returns parts.now.limits parts.now.state t frame.now (drop 1 thread.now.frames) how (method_at parts.now.program frame.now.method) }
+    ensures { seen result ≡ method_return_decision parts.now.limits parts.now.state t frame.now (drop 1 thread.now.frames) how (method_at parts.now.program frame.now.method) }
 {
     let Some(method) = parts.program().method(frame.method()) else {
         return never_seen();

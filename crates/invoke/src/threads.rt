@@ -1,7 +1,7 @@
 //! The threads that a program starts (Java SE API, `Thread.start` and `Thread.join`).
 
 ghost use Rattle.std.specs.Prelude.{◌≡◌, ◌+◌, ◌<◌, ◌^◌};
-ghost use Rattle.jvms_machine.specs.Threads.{thread_of, start_decision as starts, join_decision as joins, thread_native_decision as threads_native};
+ghost use Rattle.jvms_machine.specs.Threads.{thread_of, start_decision, join_decision, thread_native_decision};
 ghost use Rattle.std.specs.Prelude.{Some};
 ghost use Rattle.machine_parts.specs.Decided.{seen};
 ghost use Rattle.machine_parts.specs.Ready.{AreNumbered};
@@ -28,7 +28,7 @@ fn start_decision<'p>(
     reference: u32,
 ) -> Decided<'p>
     requires { frame.now.activation.place + 1 < 2 ^ 64 }
-    ensures { seen result ≡ starts parts.now.limits parts.now.state thread.now frame.now.activation reference (thread_of parts.now.state.threads reference) }
+    ensures { seen result ≡ start_decision parts.now.limits parts.now.state thread.now frame.now.activation reference (thread_of parts.now.state.threads reference) }
 {
     if parts.thread_of(reference).is_some() {
         return parts.throws(thread, Thrown::IllegalThreadStateException);
@@ -49,7 +49,7 @@ fn start_decision<'p>(
 fn join_decision<'p>(parts: &Parts<'p>, frame: &Frame, joined: Option<usize>) -> Decided<'p>
     requires place { frame.now.activation.place + 1 < 2 ^ 64 }
     requires numbered { AreNumbered parts.now.state }
-    ensures { seen result ≡ joins parts.now.state frame.now.activation joined }
+    ensures { seen result ≡ join_decision parts.now.state frame.now.activation joined }
 {
     let Some(u) = joined else {
         return reaches(Effect::Nothing, taking(1, frame));
@@ -75,7 +75,7 @@ pub(crate) fn thread_native_decision<'p>(
 ) -> Decided<'p>
     requires place { frame.now.activation.place + 1 < 2 ^ 64 }
     requires numbered { AreNumbered parts.now.state }
-    ensures { seen result ≡ threads_native parts.now.limits parts.now.state thread.now frame.now.activation method.now frame.now.activation.operands }
+    ensures { seen result ≡ thread_native_decision parts.now.limits parts.now.state thread.now frame.now.activation method.now frame.now.activation.operands }
 {
     if frame.height() == 0 {
         return never_seen();

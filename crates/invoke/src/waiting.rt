@@ -4,7 +4,7 @@ ghost use Rattle.std.specs.Prelude.{◌≡◌, ◌+◌, ◌<◌, ◌^◌, OnErr,
 ghost use Rattle.jvms_machine.specs.declared.action.Action.TheVariants as action;
 ghost use Rattle.jvms_machine.specs.Actions.{items_of};
 ghost use Rattle.jvms_machine.specs.Turn.{IsReady};
-ghost use Rattle.jvms_machine.specs.Waiting.{object_native_decision as objects_native, owned as owns, retaking as retakes, waits_or_notifies as waits, waiting_decision as waits_on};
+ghost use Rattle.jvms_machine.specs.Waiting.{object_native_decision, owned, retaking, waits_or_notifies, waiting_decision};
 ghost use Rattle.machine_parts.specs.Decided.{seen};
 ghost use Rattle.machine_parts.specs.Machine.{after};
 ghost use Rattle.machine_parts.specs.Ready.{AreNumbered, HasCaller};
@@ -32,7 +32,7 @@ const NOTIFY_ALL: [u16; 9] = [110, 111, 116, 105, 102, 121, 65, 108, 108];
 /// Decides the wait of the monitor's owner, with its entry count, or a notification.
 fn waits_or_notifies<'p>(frame: &Frame, method: &Method, wait: Wait) -> Decided<'p>
     requires { frame.now.activation.place + 1 < 2 ^ 64 }
-    ensures { seen result ≡ waits frame.now.activation method.now wait.reference wait.count }
+    ensures { seen result ≡ waits_or_notifies frame.now.activation method.now wait.reference wait.count }
 {
     if same_text(method.name.as_slice(), &WAIT) {
         return Decision::Makes(Action::Waits(wait));
@@ -56,7 +56,7 @@ fn owned_decision<'p>(
     hold: Option<Hold>,
 ) -> Decided<'p>
     requires { frame.now.activation.place + 1 < 2 ^ 64 }
-    ensures { seen result ≡ owns parts.now.limits parts.now.state t thread.now hold (waits frame.now.activation method.now reference) }
+    ensures { seen result ≡ owned parts.now.limits parts.now.state t thread.now hold (waits_or_notifies frame.now.activation method.now reference) }
 {
     let Some(hold) = hold else {
         return parts.throws(thread, Thrown::IllegalMonitorStateException);
@@ -80,7 +80,7 @@ pub(crate) fn object_native_decision<'p>(
     method: &Method,
 ) -> Decided<'p>
     requires { frame.now.activation.place + 1 < 2 ^ 64 }
-    ensures { seen result ≡ objects_native parts.now.limits parts.now.state t thread.now frame.now.activation method.now frame.now.activation.operands }
+    ensures { seen result ≡ object_native_decision parts.now.limits parts.now.state t thread.now frame.now.activation method.now frame.now.activation.operands }
 {
     if frame.height() == 0 {
         return never_seen();
@@ -94,7 +94,7 @@ pub(crate) fn object_native_decision<'p>(
 
 /// Decides that a notified thread retakes the monitor. The turn is blocked until the monitor is free.
 fn retaking<'p>(wait: Wait, hold: Option<Hold>) -> Decided<'p>
-    ensures { seen result ≡ retakes wait hold }
+    ensures { seen result ≡ retaking wait hold }
 {
     match hold {
         None => Decision::Makes(Action::Retakes(wait)),
@@ -111,7 +111,7 @@ fn retaking<'p>(wait: Wait, hold: Option<Hold>) -> Decided<'p>
 /// Decides the turn of a waiting thread. The turn is blocked until the thread is notified and the monitor is free.
 #[tactic(auto, unfolding(jvms_machine::specs::Waiting::waiting_decision))]
 pub fn waiting_decision<'p>(parts: &Parts<'p>, t: usize, wait: Wait) -> Decided<'p>
-    ensures { seen result ≡ waits_on parts.now.state t wait }
+    ensures { seen result ≡ waiting_decision parts.now.state t wait }
 {
     if parts.is_waiter(t) {
         let on = BlockedOn::Wait {

@@ -1,13 +1,13 @@
 //! White space and comments.
 
 ghost use Rattle.std.specs.Prelude.{◌≡◌};
-ghost use Rattle.jasmin.specs.Lexing.{is_space as is_space_unit, begin_from};
+ghost use Rattle.jasmin.specs.Lexing.{is_space, begin_from};
 
 const SEMICOLON: u16 = 59;
 
 /// Decides whether a unit is white space.
 pub(crate) fn is_space(unit: u16) -> bool
-    ensures { result ≡ is_space_unit unit }
+    ensures { result ≡ is_space unit }
 {
     unit == 32 || unit == 9 || unit == 12 || unit == 13
 }

@@ -2,7 +2,7 @@
 
 ghost use Rattle.std.specs.Prelude.{◌≡◌, ◌<◌, length, IfOk, IfSome};
 ghost use Rattle.std.specs.Option.{option_map};
-ghost use Rattle.jasmin.specs.Lexing.{digit, four_digits as four_digit_unit, escaped, digits_from, escape_from, unit_from, units_from, text_from};
+ghost use Rattle.jasmin.specs.Lexing.{digit, four_digits, escaped, digits_from, escape_from, unit_from, units_from, text_from};
 ghost use Rattle.jasmin_lex.specs.Lexed.{IsLexed};
 
 use crate::fault::LexFault;
@@ -32,7 +32,7 @@ fn digit_of(unit: u16) -> Option<u16>
 
 /// Returns the unit of four hexadecimal digits.
 fn four_digits(a: u16, b: u16, c: u16, d: u16) -> Option<u16>
-    ensures { result ≡ four_digit_unit a b c d }
+    ensures { result ≡ four_digits a b c d }
 {
     let first = digit_of(a)?;
     let second = first * 16 + digit_of(b)?;

@@ -3,7 +3,7 @@
 ghost use Rattle.std.specs.Prelude.{◌≡◌, ◌≤◌, List, length, true, Some, IfOk};
 ghost use Rattle.jasmin.specs.declared.token.Lexeme.{Lexeme as LexemeValue};
 ghost use Rattle.jasmin.specs.declared.token.Token.{Token as TokenValue};
-ghost use Rattle.jasmin.specs.Sources.{units_of as line_units};
+ghost use Rattle.jasmin.specs.Sources.{units_of};
 ghost use Rattle.jasmin.specs.Lexing.{lexeme_from, token_from, tokens_of, Lexes};
 ghost use Rattle.jasmin_lex.specs.Lexed.{IsLexed};
 
@@ -76,7 +76,7 @@ fn tokens_in(alloc: Global, line: &[u16]) -> Result<Vec<Token>, LexFault>
 
 /// Returns the tokens of a line in UTF-8.
 fn tokens_of_text(alloc: Global, line: &str) -> Result<Vec<Token>, LexFault>
-    ensures { IsLexed (λ v. v.items) result (tokens_of (line_units line.now)) }
+    ensures { IsLexed (λ v. v.items) result (tokens_of (units_of line.now)) }
 {
     let units = units_of(alloc, line)?;
     tokens_in(alloc, &units)
@@ -85,11 +85,11 @@ fn tokens_of_text(alloc: Global, line: &str) -> Result<Vec<Token>, LexFault>
 /// Returns the tokens of a line. The line is given without its line end.
 pub fn tokens(alloc: Global, line: &str) -> Result<Vec<Token>, LexFault>
     // The result is the only list of tokens that spells the line, or `Lexeme` if there is none.
-    ensures exact { IsLexed (λ v. v.items) result (tokens_of (line_units line.now)) }
+    ensures exact { IsLexed (λ v. v.items) result (tokens_of (units_of line.now)) }
     // The tokens that are read spell the line, each at its place.
-    ensures found { IfOk result (λ v. Lexes true 0 (line_units line.now) v.items) }
+    ensures found { IfOk result (λ v. Lexes true 0 (units_of line.now) v.items) }
     // Tokens that spell the line are read, unless memory runs out.
-    ensures only { (ts : List TokenValue) → Lexes true 0 (line_units line.now) ts → IsLexed (λ v. v.items) result (Some ts) }
+    ensures only { (ts : List TokenValue) → Lexes true 0 (units_of line.now) ts → IsLexed (λ v. v.items) result (Some ts) }
 {
     tokens_of_text(alloc, line)
 }

@@ -1,7 +1,7 @@
 //! Reads words.
 
 ghost use Rattle.std.specs.Prelude.{◌≡◌, position};
-ghost use Rattle.jasmin.specs.Lexing.{ends_word as ends_word_unit, word_from};
+ghost use Rattle.jasmin.specs.Lexing.{ends_word, word_from};
 
 use crate::space::is_space;
 
@@ -13,14 +13,14 @@ pub(crate) const EQUALS: u16 = 61;
 
 /// Decides whether no word contains a unit.
 fn ends_word(unit: u16) -> bool
-    ensures { result ≡ ends_word_unit unit }
+    ensures { result ≡ ends_word unit }
 {
     is_space(unit) || unit == QUOTE || unit == COLON || unit == EQUALS
 }
 
 /// Returns the place of the first unit after the word at the front, if there is one.
 fn end_in(units: &[u16]) -> Option<usize>
-    ensures { result ≡ position ends_word_unit units.now }
+    ensures { result ≡ position ends_word units.now }
 {
     units.iter().position(|unit| ends_word(*unit))
 }

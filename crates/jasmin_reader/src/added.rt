@@ -1,7 +1,7 @@
 //! Adds a statement to the state of the reader.
 
 ghost use Rattle.std.specs.Prelude.{◌≡◌, OnOk, Some, ◌++◌, ◌∷◌, []};
-ghost use Rattle.jasmin.specs.Reading.{ended as ended_method, with_method as reading_with_method, with_statement as reading_with_statement, opened as opened_method};
+ghost use Rattle.jasmin.specs.Reading.{ended, with_method, with_statement, opened};
 
 use crate::in_method::{
     with_catch, with_default, with_instruction, with_label, with_labelled_instruction, with_match,
@@ -16,7 +16,7 @@ use std::alloc::{AllocError, Global};
 
 /// Returns a method after its head.
 fn opened(alloc: Global, access: u16, name: Text, descriptor: Text) -> OpenMethod
-    ensures { result ≡ opened_method access name descriptor }
+    ensures { result ≡ opened access name descriptor }
 {
     OpenMethod {
         access,
@@ -33,7 +33,7 @@ fn opened(alloc: Global, access: u16, name: Text, descriptor: Text) -> OpenMetho
 
 /// Returns the closed method. A limit that no line gives is 1.
 fn ended(method: OpenMethod) -> MethodLines
-    ensures { result ≡ ended_method method }
+    ensures { result ≡ ended method }
 {
     MethodLines {
         access: method.access,
@@ -49,7 +49,7 @@ fn ended(method: OpenMethod) -> MethodLines
 
 /// Closes the open method, if there is one.
 fn with_end(reading: &mut Reading) -> Result<(), AllocError>
-    ensures { OnOk result (reading.new ≡ reading_with_method reading.old.method reading.old) }
+    ensures { OnOk result (reading.new ≡ with_method reading.old.method reading.old) }
 {
     match reading.method.take() {
         Some(method) => reading.methods.push(ended(method)),
@@ -68,7 +68,7 @@ pub(crate) fn with_statement(
     reading: &mut Reading,
     statement: Statement,
 ) -> Result<(), AllocError>
-    ensures { OnOk result (reading.new ≡ reading_with_statement reading.old statement) }
+    ensures { OnOk result (reading.new ≡ with_statement reading.old statement) }
 {
     match statement {
         Statement::Blank | Statement::Dropped => {}

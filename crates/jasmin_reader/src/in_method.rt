@@ -4,7 +4,7 @@ ghost use Rattle.std.specs.Prelude.{◌≡◌, OnOk, Some};
 ghost use Rattle.std.specs.Option.{option_map};
 ghost use Rattle.jasmin.specs.declared.reading.OpenMethod.{OpenMethod as MethodValue};
 ghost use Rattle.jasmin.specs.declared.source.CodeItem.TheVariants as item;
-ghost use Rattle.jasmin.specs.Reading.{with_throws as method_with_throws, with_catch as method_with_catch, with_item as method_with_item, with_instruction as method_with_instruction, with_table_label as switch_with_label, with_match as switch_with_match, closed_switch};
+ghost use Rattle.jasmin.specs.Reading.{with_throws, with_catch, with_item, with_instruction, with_table_label, with_match, closed_switch};
 
 use jasmin::reading::{OpenMethod, SwitchLines};
 use jasmin::source::{CatchLine, CodeItem, LookupLines, MatchLine, Operation, TableLines};
@@ -34,7 +34,7 @@ pub(crate) fn with_max_locals(method: &mut Option<OpenMethod>, limit: u16)
 
 /// Appends a class that the method throws.
 pub(crate) fn with_throws(method: &mut Option<OpenMethod>, name: Text) -> Result<(), AllocError>
-    ensures { OnOk result (method.new ≡ option_map (method_with_throws name) method.old) }
+    ensures { OnOk result (method.new ≡ option_map (with_throws name) method.old) }
 {
     match method {
         Some(method) => method.throws.push(name),
@@ -44,7 +44,7 @@ pub(crate) fn with_throws(method: &mut Option<OpenMethod>, name: Text) -> Result
 
 /// Appends a catch.
 pub(crate) fn with_catch(method: &mut Option<OpenMethod>, line: CatchLine) -> Result<(), AllocError>
-    ensures { OnOk result (method.new ≡ option_map (method_with_catch line) method.old) }
+    ensures { OnOk result (method.new ≡ option_map (with_catch line) method.old) }
 {
     match method {
         Some(method) => method.catches.push(line),
@@ -54,7 +54,7 @@ pub(crate) fn with_catch(method: &mut Option<OpenMethod>, line: CatchLine) -> Re
 
 /// Appends a label to the code.
 pub(crate) fn with_label(method: &mut Option<OpenMethod>, label: Text) -> Result<(), AllocError>
-    ensures { OnOk result (method.new ≡ option_map (method_with_item (item.Label label)) method.old) }
+    ensures { OnOk result (method.new ≡ option_map (with_item (item.Label label)) method.old) }
 {
     match method {
         Some(method) => method.code.push(CodeItem::Label(label)),
@@ -64,7 +64,7 @@ pub(crate) fn with_label(method: &mut Option<OpenMethod>, label: Text) -> Result
 
 /// Appends an item to the method's code.
 fn with_item(method: &mut OpenMethod, item: CodeItem) -> Result<(), AllocError>
-    ensures { OnOk result (method.new ≡ method_with_item item method.old) }
+    ensures { OnOk result (method.new ≡ with_item item method.old) }
 {
     method.code.push(item)
 }
@@ -75,7 +75,7 @@ fn with_instruction_in(
     method: &mut OpenMethod,
     instruction: Instruction,
 ) -> Result<(), AllocError>
-    ensures { OnOk result (method.new ≡ method_with_instruction instruction method.old) }
+    ensures { OnOk result (method.new ≡ with_instruction instruction method.old) }
 {
     match instruction {
         Instruction::Whole(operation) => with_item(method, CodeItem::Operation(operation)),
@@ -97,7 +97,7 @@ fn with_instruction_in(
 
 /// Appends a label to an open `tableswitch`.
 fn with_table_label_in(switch: &mut Option<SwitchLines>, label: Text) -> Result<(), AllocError>
-    ensures { OnOk result (switch.new ≡ switch_with_label label switch.old) }
+    ensures { OnOk result (switch.new ≡ with_table_label label switch.old) }
 {
     match switch {
         Some(SwitchLines::Table { low: _, labels }) => labels.push(label),
@@ -107,7 +107,7 @@ fn with_table_label_in(switch: &mut Option<SwitchLines>, label: Text) -> Result<
 
 /// Appends a match to an open `lookupswitch`.
 fn with_match_in(switch: &mut Option<SwitchLines>, line: MatchLine) -> Result<(), AllocError>
-    ensures { OnOk result (switch.new ≡ switch_with_match line switch.old) }
+    ensures { OnOk result (switch.new ≡ with_match line switch.old) }
 {
     match switch {
         Some(SwitchLines::Lookup { matches }) => matches.push(line),
@@ -144,7 +144,7 @@ pub(crate) fn with_instruction(
     method: &mut Option<OpenMethod>,
     instruction: Instruction,
 ) -> Result<(), AllocError>
-    ensures { OnOk result (method.new ≡ option_map (method_with_instruction instruction) method.old) }
+    ensures { OnOk result (method.new ≡ option_map (with_instruction instruction) method.old) }
 {
     match method {
         Some(method) => with_instruction_in(alloc, method, instruction),
@@ -159,7 +159,7 @@ pub(crate) fn with_labelled_instruction(
     label: Text,
     instruction: Instruction,
 ) -> Result<(), AllocError>
-    ensures { OnOk result (method.new ≡ option_map (λ (m : MethodValue). method_with_instruction instruction (method_with_item (item.Label label) m)) method.old) }
+    ensures { OnOk result (method.new ≡ option_map (λ (m : MethodValue). with_instruction instruction (with_item (item.Label label) m)) method.old) }
 {
     match method {
         Some(method) => {
@@ -175,7 +175,7 @@ pub(crate) fn with_table_label(
     method: &mut Option<OpenMethod>,
     label: Text,
 ) -> Result<(), AllocError>
-    ensures { OnOk result (method.new ≡ option_map (λ (m : MethodValue). record m { switch = switch_with_label label m.switch }) method.old) }
+    ensures { OnOk result (method.new ≡ option_map (λ (m : MethodValue). record m { switch = with_table_label label m.switch }) method.old) }
 {
     match method {
         Some(method) => with_table_label_in(&mut method.switch, label),
@@ -185,7 +185,7 @@ pub(crate) fn with_table_label(
 
 /// Appends a match to an open `lookupswitch`.
 pub(crate) fn with_match(method: &mut Option<OpenMethod>, line: MatchLine) -> Result<(), AllocError>
-    ensures { OnOk result (method.new ≡ option_map (λ (m : MethodValue). record m { switch = switch_with_match line m.switch }) method.old) }
+    ensures { OnOk result (method.new ≡ option_map (λ (m : MethodValue). record m { switch = with_match line m.switch }) method.old) }
 {
     match method {
         Some(method) => with_match_in(&mut method.switch, line),

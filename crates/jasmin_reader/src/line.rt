@@ -2,7 +2,7 @@
 
 ghost use Rattle.jasmin.specs.Sources.{units_of};
 ghost use Rattle.jasmin.specs.Lexing.{lexemes};
-ghost use Rattle.jasmin.specs.Reading.{added as statement_added, placed as line_placed, with_lexemes, with_line as line_read};
+ghost use Rattle.jasmin.specs.Reading.{added, placed, with_lexemes, with_line};
 ghost use Rattle.jasmin_instructions.specs.Saying.{Says};
 
 use crate::open::Open;
@@ -21,7 +21,7 @@ use std::alloc::Global;
 ///
 /// Returns `Repeated` for any other, or `Memory` if memory ran out.
 fn added(alloc: Global, before: Open, statement: Statement) -> Result<Open, LineFault>
-    ensures { Says result (statement_added before statement) }
+    ensures { Says result (added before statement) }
 {
     if before.is_repeated(&statement)? {
         return Err(LineFault::Flaw(Flaw::Repeated));
@@ -35,7 +35,7 @@ fn added(alloc: Global, before: Open, statement: Statement) -> Result<Open, Line
 ///
 /// Returns the line's fault, or `Memory` if memory ran out.
 fn placed(alloc: Global, before: Open, kind: LineKind, tokens: &[Token]) -> Result<Open, LineFault>
-    ensures { Says result (line_placed before kind (lexemes tokens.now)) }
+    ensures { Says result (placed before kind (lexemes tokens.now)) }
 {
     let reading = before.reading();
     if !is_in_place(reading, kind) {
@@ -61,7 +61,7 @@ fn with_tokens(alloc: Global, before: Open, tokens: &[Token]) -> Result<Open, Li
 /// Returns the line's fault, or `Memory` if memory ran out.
 #[tactic(auto, unfolding(jasmin::specs::Reading::with_line))]
 pub(crate) fn with_line(alloc: Global, before: Open, line: &str) -> Result<Open, LineFault>
-    ensures { Says result (line_read before (units_of line.now)) }
+    ensures { Says result (with_line before (units_of line.now)) }
 {
     match tokens(alloc, line) {
         Ok(tokens) => with_tokens(alloc, before, &tokens),

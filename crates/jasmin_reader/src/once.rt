@@ -1,13 +1,13 @@
 //! Decides whether a method has its limits.
 
 ghost use Rattle.std.specs.Prelude.{◌≡◌};
-ghost use Rattle.jasmin.specs.Reading.{has_stack as method_has_stack, has_locals as method_has_locals};
+ghost use Rattle.jasmin.specs.Reading.{has_stack, has_locals};
 
 use jasmin::reading::OpenMethod;
 
 /// Decides whether the open method has `.limit stack`.
 pub(crate) fn has_stack(method: &Option<OpenMethod>) -> bool
-    ensures { result ≡ method_has_stack method.now }
+    ensures { result ≡ has_stack method.now }
 {
     match method {
         Some(method) => method.max_stack.is_some(),
@@ -17,7 +17,7 @@ pub(crate) fn has_stack(method: &Option<OpenMethod>) -> bool
 
 /// Decides whether the open method has `.limit locals`.
 pub(crate) fn has_locals(method: &Option<OpenMethod>) -> bool
-    ensures { result ≡ method_has_locals method.now }
+    ensures { result ≡ has_locals method.now }
 {
     match method {
         Some(method) => method.max_locals.is_some(),

@@ -1,7 +1,7 @@
 //! The state of the reader of a source.
 
 ghost use Rattle.std.specs.Prelude.{◌≡◌, IfOk, OnOk};
-ghost use Rattle.jasmin.specs.Reading.{empty_reading, is_repeated as statement_repeated, with_statement as reading_with_statement};
+ghost use Rattle.jasmin.specs.Reading.{empty_reading, is_repeated, with_statement};
 ghost use Rattle.jasmin_reader.specs.Members.{FollowsFields, FollowsMethods};
 
 use crate::added::with_statement;
@@ -60,7 +60,7 @@ fn nothing(alloc: Global) -> Reading
 impl Parts {
     /// Adds a statement.
     fn add(&mut self, alloc: Global, statement: Statement) -> Result<(), AllocError>
-        ensures reading { OnOk result (self.new.reading ≡ reading_with_statement self.old.reading statement) }
+        ensures reading { OnOk result (self.new.reading ≡ with_statement self.old.reading statement) }
         ensures fields { OnOk result (FollowsFields self.old.fields self.new.fields statement) }
         ensures methods { OnOk result (FollowsMethods self.old.methods self.new.methods self.old.reading.method statement) }
     {
@@ -107,7 +107,7 @@ impl Open {
     /// Decides whether a statement that is allowed once is repeated, or a member with this name and descriptor exists.
     #[tactic(auto, unfolding(jasmin::specs::Reading::is_repeated))]
     pub(crate) fn is_repeated(&self, statement: &Statement) -> Result<bool, AllocError>
-        ensures { IfOk result (λ repeated. repeated ≡ statement_repeated self.now statement.now) }
+        ensures { IfOk result (λ repeated. repeated ≡ is_repeated self.now statement.now) }
     {
         match statement {
             Statement::Bytecode => Ok(self.parts.reading.has_bytecode),
@@ -143,7 +143,7 @@ impl Open {
         alloc: Global,
         statement: Statement,
     ) -> Result<Self, AllocError>
-        ensures { IfOk result (λ o. o ≡ reading_with_statement self statement) }
+        ensures { IfOk result (λ o. o ≡ with_statement self statement) }
     {
         let Open { mut parts } = self;
         parts.add(alloc, statement)?;

@@ -1,7 +1,7 @@
 //! Decides which lines are allowed at a place.
 
 ghost use Rattle.std.specs.Prelude.{◌≡◌};
-ghost use Rattle.jasmin.specs.Reading.{rank as part_rank, part_of as directive_part, is_in_order as part_in_order, is_placed as part_placed, may_have_instructions as method_takes_instructions, has_no_switch as is_no_switch, has_labels as method_has_labels, is_in_place as line_in_place};
+ghost use Rattle.jasmin.specs.Reading.{rank, part_of, is_in_order, is_placed, may_have_instructions, has_no_switch, has_labels, is_in_place};
 
 use crate::switch::switch_of;
 use descriptor::{Flags, is_initializer_name};
@@ -10,7 +10,7 @@ use jasmin::statement::{Directive, LineKind, OpenSwitch};
 
 /// Returns the position of a part among the others.
 fn rank(part: Part) -> u8
-    ensures { result ≡ part_rank part }
+    ensures { result ≡ rank part }
 {
     match part {
         Part::Beginning => 0,
@@ -23,7 +23,7 @@ fn rank(part: Part) -> u8
 
 /// Returns the part that a directive outside of methods belongs to.
 fn part_of(directive: Directive) -> Option<Part>
-    ensures { result ≡ directive_part directive }
+    ensures { result ≡ part_of directive }
 {
     match directive {
         Directive::Bytecode | Directive::Source => Some(Part::Beginning),
@@ -43,14 +43,14 @@ fn part_of(directive: Directive) -> Option<Part>
 /// Decides whether a statement of a part is allowed: no later part has a statement, and all parts after the class
 /// follow the class.
 fn is_in_order(latest: Part, part: Part) -> bool
-    ensures { result ≡ part_in_order latest part }
+    ensures { result ≡ is_in_order latest part }
 {
     rank(latest) <= rank(part) && (rank(part) <= 1 || 1 <= rank(latest))
 }
 
 /// Decides whether a directive is allowed at this place: one of a part outside of methods, any other inside a method.
 fn is_placed(latest: Part, in_method: bool, part: Option<Part>) -> bool
-    ensures { result ≡ part_placed latest in_method part }
+    ensures { result ≡ is_placed latest in_method part }
 {
     match part {
         Some(part) => !in_method && is_in_order(latest, part),
@@ -60,7 +60,7 @@ fn is_placed(latest: Part, in_method: bool, part: Option<Part>) -> bool
 
 /// Decides whether the open method may have instructions: it is neither native nor abstract, or is `<clinit>`.
 fn may_have_instructions(method: &Option<OpenMethod>) -> bool
-    ensures { result ≡ method_takes_instructions method.now }
+    ensures { result ≡ may_have_instructions method.now }
 {
     match method {
         Some(method) => {
@@ -73,14 +73,14 @@ fn may_have_instructions(method: &Option<OpenMethod>) -> bool
 }
 
 fn has_no_switch(switch: OpenSwitch) -> bool
-    ensures { result ≡ is_no_switch switch }
+    ensures { result ≡ has_no_switch switch }
 {
     matches!(switch, OpenSwitch::None)
 }
 
 /// Decides whether the open switch may have its default. That of a `tableswitch` follows at least one label.
 fn has_labels(method: &Option<OpenMethod>) -> bool
-    ensures { result ≡ method_has_labels method.now }
+    ensures { result ≡ has_labels method.now }
 {
     match method {
         Some(method) => match &method.switch {
@@ -94,7 +94,7 @@ fn has_labels(method: &Option<OpenMethod>) -> bool
 /// Decides whether a line of a kind is allowed at this place.
 #[tactic(auto, unfolding(jasmin::specs::Reading::is_in_place))]
 pub(crate) fn is_in_place(reading: &Reading, kind: LineKind) -> bool
-    ensures { result ≡ line_in_place reading.now kind }
+    ensures { result ≡ is_in_place reading.now kind }
 {
     match kind {
         LineKind::Blank | LineKind::Case => true,

@@ -3,7 +3,7 @@
 ghost use Rattle.std.specs.Prelude.{◌≡◌, ℕ, List, length, IfOk, codes};
 ghost use Rattle.std.specs.Option.{unwrap_or};
 ghost use Rattle.std.specs.Str.Lines.{lines};
-ghost use Rattle.jasmin.specs.Reading.{empty_reading, with_lines as lines_read, last_line as last_of_lines, finished as reading_finished, source_of};
+ghost use Rattle.jasmin.specs.Reading.{empty_reading, with_lines, last_line, finished, source_of};
 ghost use Rattle.jasmin_reader.specs.Readings.{Reads, IsRead};
 
 use crate::fault::SourceFault;
@@ -18,7 +18,7 @@ use std::alloc::{AllocError, Global};
 
 /// Returns the state of the reader after the lines of a text and the number of lines, or the first faulty line.
 fn with_lines(alloc: Global, text: &str) -> Result<(Open, usize), SourceFault>
-    ensures read { Reads (λ x. x.0) result (lines_read 0 empty_reading (lines text.now)) }
+    ensures read { Reads (λ x. x.0) result (with_lines 0 empty_reading (lines text.now)) }
     ensures count { IfOk result (λ x. x.1 ≡ length (lines text.now)) }
 {
     let mut read = Open::new(alloc)?;
@@ -36,7 +36,7 @@ fn with_lines(alloc: Global, text: &str) -> Result<(Open, usize), SourceFault>
 /// Returns the number of the last line, and 1 for a text without lines. It is reported if something is missing.
 #[tactic(auto, using(crate::proofs::LinesRead::last_of_none, crate::proofs::LinesRead::last_of_some))]
 fn last_line(count: usize) -> usize
-    ensures { (ls : List (List ℕ)) → count ≡ length ls → result ≡ last_of_lines ls }
+    ensures { (ls : List (List ℕ)) → count ≡ length ls → result ≡ last_line ls }
 {
     if count == 0 { 1 } else { count }
 }
@@ -57,7 +57,7 @@ fn superclass_of(alloc: Global, superclass: Option<Text>) -> Result<Text, AllocE
 ///
 /// Returns `Missing` for any other, or `Memory` if memory ran out.
 fn finished(alloc: Global, last: usize, reading: Reading) -> Result<Source, SourceFault>
-    ensures { IsRead result (reading_finished last reading) }
+    ensures { IsRead result (finished last reading) }
 {
     match (reading.name, reading.method) {
         (Some(name), None) => Ok(Source {

@@ -1,7 +1,7 @@
 //! Finds the open switch, as far as the operands of a line depend on it.
 
 ghost use Rattle.std.specs.Prelude.{◌≡◌};
-ghost use Rattle.jasmin.specs.Reading.{last_value as last_match_value, switch_of_lines as lines_switch, switch_of_method as method_switch, switch_of as reading_switch, sort_of as access_sort};
+ghost use Rattle.jasmin.specs.Reading.{last_value, switch_of_lines, switch_of_method, switch_of, sort_of};
 
 use descriptor::Flags;
 use jasmin::reading::{OpenMethod, Reading, SwitchLines};
@@ -11,7 +11,7 @@ use jasmin::statement::{ClassSort, OpenSwitch};
 /// Returns the last value of a `lookupswitch`, if it has one.
 #[tactic(auto, using(crate::proofs::LastValues::last_value_of))]
 fn last_value(matches: &[MatchLine]) -> Option<i32>
-    ensures { result ≡ last_match_value matches.now }
+    ensures { result ≡ last_value matches.now }
 {
     match matches.last() {
         Some(line) => Some(line.value),
@@ -21,7 +21,7 @@ fn last_value(matches: &[MatchLine]) -> Option<i32>
 
 /// Returns the open switch of these lines.
 fn switch_of_lines(lines: &SwitchLines) -> OpenSwitch
-    ensures { result ≡ lines_switch (Some lines.now) }
+    ensures { result ≡ switch_of_lines (Some lines.now) }
 {
     match lines {
         SwitchLines::Table { low, labels } => OpenSwitch::Table {
@@ -35,7 +35,7 @@ fn switch_of_lines(lines: &SwitchLines) -> OpenSwitch
 
 /// Returns the open switch of a method.
 fn switch_of_method(method: &OpenMethod) -> OpenSwitch
-    ensures { result ≡ method_switch (Some method.now) }
+    ensures { result ≡ switch_of_method (Some method.now) }
 {
     match &method.switch {
         Some(lines) => switch_of_lines(lines),
@@ -45,7 +45,7 @@ fn switch_of_method(method: &OpenMethod) -> OpenSwitch
 
 /// Returns the open switch of the lines so far.
 pub(crate) fn switch_of(reading: &Reading) -> OpenSwitch
-    ensures { result ≡ reading_switch reading.now }
+    ensures { result ≡ switch_of reading.now }
 {
     match &reading.method {
         Some(method) => switch_of_method(method),
@@ -55,7 +55,7 @@ pub(crate) fn switch_of(reading: &Reading) -> OpenSwitch
 
 /// Returns the sort of class that has these flags.
 pub(crate) fn sort_of(access: u16) -> ClassSort
-    ensures { result ≡ access_sort access }
+    ensures { result ≡ sort_of access }
 {
     if Flags::of_access(access).is_interface() {
         ClassSort::Interface

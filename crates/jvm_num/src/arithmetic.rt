@@ -1,11 +1,11 @@
 //! Sums, differences, products and quotients of ints.
 
 ghost use Rattle.std.specs.Prelude.{◌≡◌};
-ghost use Rattle.jvms_file.specs.Numbers.{wrap as wrapped, sum, difference, product, negation, quotient, remainder};
+ghost use Rattle.jvms_file.specs.Numbers.{wrap, sum, difference, product, negation, quotient, remainder};
 
 /// Returns the one int that is congruent to `n` modulo 2^32 (JVMS 2.11.3).
 pub fn wrap(n: i64) -> i32
-    ensures { result ≡ wrapped n }
+    ensures { result ≡ wrap n }
 {
     (n.rem_euclid(1 << 32) as u32).cast_signed()
 }

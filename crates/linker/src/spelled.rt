@@ -5,7 +5,7 @@ ghost use Rattle.std.specs.Prelude.{◌≡◌, [], map, IfOk};
 ghost use Rattle.std.specs.Option.{option_map};
 ghost use Rattle.jvms_file.specs.ConstantPool.{utf8_of};
 ghost use Rattle.jvms_file.specs.Descriptors.{field_type as field_type_or_int, method_type as method_type_or_none};
-ghost use Rattle.linker.specs.Spelled.{spelled, typed_text_of as spelled_of_entry};
+ghost use Rattle.linker.specs.Spelled.{spelled, typed_text_of};
 
 use const_pool::Constant;
 use descriptor::{DescriptorFault, field_type, method_type, parse_field, parse_method};
@@ -91,7 +91,7 @@ fn typed_text_of(
     nothing: &TypedText,
 ) -> Result<Option<TypedText>, AllocError>
     requires { nothing.now ≡ spelled [] }
-    ensures { IfOk result (λ s. s ≡ spelled_of_entry entry.now) }
+    ensures { IfOk result (λ s. s ≡ typed_text_of entry.now) }
 {
     match entry {
         Constant::Utf8(text) => Ok(Some(typed_text_by(alloc, text.as_slice(), nothing)?)),
@@ -106,7 +106,7 @@ pub(crate) fn all_typed_texts(
     nothing: &TypedText,
 ) -> Result<Vec<Option<TypedText>>, AllocError>
     requires { nothing.now ≡ spelled [] }
-    ensures { IfOk result (λ v. v.items ≡ map spelled_of_entry entries.now) }
+    ensures { IfOk result (λ v. v.items ≡ map typed_text_of entries.now) }
 {
     let mut all = Vec::with_capacity(alloc, entries.len())?;
     for entry in entries {

@@ -1,7 +1,7 @@
 //! The ranges of a run's limits.
 
 ghost use Rattle.std.specs.Prelude.{◌≡◌};
-ghost use Rattle.jvms_machine.specs.Limits.{are_limits as in_range};
+ghost use Rattle.jvms_machine.specs.Limits.{are_limits};
 
 use jvms_machine::machine::Limits;
 
@@ -15,7 +15,7 @@ const MOST: Limits = Limits {
 
 /// Decides whether each limit is in its range.
 pub(crate) fn are_limits(limits: Limits) -> bool
-    ensures { result ≡ in_range limits }
+    ensures { result ≡ are_limits limits }
 {
     4 <= limits.objects
         && limits.objects <= MOST.objects

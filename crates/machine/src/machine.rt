@@ -1,7 +1,7 @@
 //! The machine.
 
 ghost use Rattle.std.specs.Prelude.{◌≡◌, ◌≤◌, ◌++◌, length, IsOk, IsTrue, IfOk, OnOk, OnErr, is_ok};
-ghost use Rattle.jvms_machine.specs.Opening.{made as made_by};
+ghost use Rattle.jvms_machine.specs.Opening.{made};
 ghost use Rattle.jvms_machine.specs.State.{Sound};
 ghost use Rattle.machine_parts.specs.Machine.{transition_of, with_state, TakesNone};
 ghost use Rattle.machine.specs.Others.{LeavesOthers};
@@ -27,7 +27,7 @@ use trace::{Recording, Trace};
 /// Decides whether a machine can be made of this program with these limits and this entry. The entry's method must
 /// exist, be static, not be `<clinit>`, and take the arguments. Each limit must be in its range. Takes no memory.
 pub fn admits(program: &Program, limits: Limits, entry: &Entry) -> bool
-    ensures { result ≡ is_ok (made_by program.now limits entry.now) }
+    ensures { result ≡ is_ok (made program.now limits entry.now) }
 {
     start_of(program, entry).is_some() && are_limits(limits)
 }

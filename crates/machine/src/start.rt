@@ -2,7 +2,7 @@
 
 ghost use Rattle.std.specs.Prelude.{◌≡◌};
 ghost use Rattle.std.specs.Option.{option_map};
-ghost use Rattle.jvms_machine.specs.Start.{start_of, takes_arguments as takes, entry_reference, resolved_entry as resolved};
+ghost use Rattle.jvms_machine.specs.Start.{start_of, takes_arguments, entry_reference, resolved_entry};
 ghost use Rattle.classes.specs.MethodNames.{reference};
 ghost use Rattle.machine.specs.Entries.{is_letter_of, has_letters, takes_all};
 ghost use Rattle.machine.specs.Started.{with_arguments};
@@ -61,7 +61,7 @@ fn takes_all(descriptor: &[u16], arguments: &[Argument]) -> bool
 
 /// Decides whether the method that an entry names takes its arguments.
 fn takes_arguments(entry: &Entry) -> bool
-    ensures { result ≡ takes entry.now }
+    ensures { result ≡ takes_arguments entry.now }
 {
     match entry {
         Entry::Main { .. } => true,

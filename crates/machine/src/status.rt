@@ -2,7 +2,7 @@
 
 ghost use Rattle.std.specs.Prelude.{◌≡◌, drop};
 ghost use Rattle.std.specs.List.{list_all};
-ghost use Rattle.jvms_machine.specs.Status.{is_enabled as enabled, is_bad as bad, status_of};
+ghost use Rattle.jvms_machine.specs.Status.{is_enabled, is_bad, status_of};
 ghost use Rattle.machine_parts.specs.Ready.{AreNumbered};
 ghost use Rattle.machine.specs.CanTurn.{HaveTheirCode};
 ghost use Rattle.machine.specs.Statuses.{any_thread};
@@ -15,7 +15,7 @@ use machine_parts::Parts;
 /// Decides whether a thread whose next turn has this outcome is enabled: the turn can be taken.
 #[inline]
 pub fn is_enabled(outcome: Outcome) -> bool
-    ensures { result ≡ enabled outcome }
+    ensures { result ≡ is_enabled outcome }
 {
     match outcome {
         Outcome::Ran | Outcome::Raised => true,
@@ -27,7 +27,7 @@ pub fn is_enabled(outcome: Outcome) -> bool
 /// Decides whether a thread whose next turn has this outcome is stuck, because the turn is Bad.
 #[inline]
 pub fn is_bad(outcome: Outcome) -> bool
-    ensures { result ≡ bad outcome }
+    ensures { result ≡ is_bad outcome }
 {
     matches!(outcome, Outcome::Bad { .. })
 }
@@ -47,7 +47,7 @@ fn have_all_ended(parts: &Parts) -> bool
 fn any_enabled(parts: &Parts, t: usize) -> bool
     requires numbered { AreNumbered parts.now.state }
     requires code { HaveTheirCode parts.now }
-    ensures { result ≡ any_thread enabled parts.now t (drop t parts.now.state.threads) }
+    ensures { result ≡ any_thread is_enabled parts.now t (drop t parts.now.state.threads) }
 {
     if t >= parts.threads.len() {
         return false;
@@ -59,7 +59,7 @@ fn any_enabled(parts: &Parts, t: usize) -> bool
 fn any_bad(parts: &Parts, t: usize) -> bool
     requires numbered { AreNumbered parts.now.state }
     requires code { HaveTheirCode parts.now }
-    ensures { result ≡ any_thread bad parts.now t (drop t parts.now.state.threads) }
+    ensures { result ≡ any_thread is_bad parts.now t (drop t parts.now.state.threads) }
 {
     if t >= parts.threads.len() {
         return false;

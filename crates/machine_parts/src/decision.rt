@@ -1,9 +1,9 @@
 //! Types and helpers of decisions: what a turn will do, before it is applied.
 
 ghost use Rattle.std.specs.Prelude.{◌≡◌, ◌+◌, ◌<◌, ◌^◌, Some};
-ghost use Rattle.jvms_machine.specs.Activations.{has_depth as is_deep};
-ghost use Rattle.jvms_machine.specs.Decisions.{bad as bad_turn, never_seen as no_turn, outcome_of};
-ghost use Rattle.jvms_machine.specs.Fields.{reaches as reaching, read as reads, taking as takes_on};
+ghost use Rattle.jvms_machine.specs.Activations.{has_depth};
+ghost use Rattle.jvms_machine.specs.Decisions.{bad, never_seen, outcome_of};
+ghost use Rattle.jvms_machine.specs.Fields.{reaches, read, taking};
 ghost use Rattle.machine_parts.specs.Decided.{seen, effect_value};
 
 use frames::Frame;
@@ -40,7 +40,7 @@ pub type Decided<'p> = Decision<&'p Body, ActionText<'p>>;
 /// Returns the decision that the turn can't be taken, with its cause.
 #[inline(always)]
 pub fn bad<'p>(cause: BadCause) -> Decided<'p>
-    ensures { seen result ≡ bad_turn cause }
+    ensures { seen result ≡ bad cause }
 {
     Decision::Unmade(Outcome::Bad { cause })
 }
@@ -48,7 +48,7 @@ pub fn bad<'p>(cause: BadCause) -> Decided<'p>
 /// Returns the decision for cases that a sound state excludes, such as a missing class or method.
 #[inline(always)]
 pub fn never_seen<'p>() -> Decided<'p>
-    ensures { seen result ≡ no_turn }
+    ensures { seen result ≡ never_seen }
 {
     bad(BadCause::OutOfProfile)
 }
@@ -56,7 +56,7 @@ pub fn never_seen<'p>() -> Decided<'p>
 /// Decides whether there are `takes` operands, and whether `gives` in their place fit `max_stack`.
 #[inline(always)]
 pub fn has_depth(frame: &Frame, takes: u8, gives: u8) -> bool
-    ensures { result ≡ is_deep frame.now.body takes gives frame.now.activation }
+    ensures { result ≡ has_depth frame.now.body takes gives frame.now.activation }
 {
     exec::has_depth(frame, takes, gives)
 }
@@ -64,7 +64,7 @@ pub fn has_depth(frame: &Frame, takes: u8, gives: u8) -> bool
 /// Returns the decision that the top call continues, with this effect.
 #[inline(always)]
 pub fn reaches<'p>(effect: Effect<ActionText<'p>>, action: FrameAction) -> Decided<'p>
-    ensures { seen result ≡ reaching (effect_value effect.entry) action }
+    ensures { seen result ≡ reaches (effect_value effect.entry) action }
 {
     Decision::Makes(Action::Reaches(effect, action))
 }
@@ -78,7 +78,7 @@ pub fn read<'p>(
     takes: u8,
     value: Value,
 ) -> Decided<'p>
-    ensures { seen result ≡ reads frame.now (effect_value effect.entry) takes (Some value) }
+    ensures { seen result ≡ read frame.now (effect_value effect.entry) takes (Some value) }
 {
     if has_depth(frame, takes, exec::value_size(value)) {
         reaches(effect, FrameAction::Push { takes, value })
@@ -91,7 +91,7 @@ pub fn read<'p>(
 #[inline(always)]
 pub fn taking(takes: u16, frame: &Frame) -> FrameAction
     requires { frame.now.activation.place + 1 < 2 ^ 64 }
-    ensures { result ≡ takes_on takes frame.now.activation }
+    ensures { result ≡ taking takes frame.now.activation }
 {
     FrameAction::Jump {
         takes,

@@ -3,7 +3,7 @@
 ghost use Rattle.std.specs.Prelude.{◌≡◌, ◌+◌, ◌<◌, ◌^◌, IsTrue, Some, length, slice_get};
 ghost use Rattle.std.specs.Option.{option_map};
 ghost use Rattle.jvms_program.specs.BuiltIn.{built_in_classes};
-ghost use Rattle.jvms_machine.specs.Exceptions.{thrown_class, has_room_for, exception_of as thrown_as, throws as throwing};
+ghost use Rattle.jvms_machine.specs.Exceptions.{thrown_class, has_room_for, exception_of, throws};
 ghost use Rattle.machine_parts.specs.Decided.{seen};
 
 use crate::decision::Decided;
@@ -79,7 +79,7 @@ impl<'p> Parts<'p> {
     /// Returns the object to throw for an exception's class. Without room for a new object it is the
     /// `OutOfMemoryError`.
     pub fn exception_of(&self, class: Thrown) -> Exception
-        ensures { result ≡ thrown_as self.now.limits self.now.state class }
+        ensures { result ≡ exception_of self.now.limits self.now.state class }
     {
         match class {
             Thrown::OutOfMemoryError => OUT_OF_MEMORY,
@@ -97,7 +97,7 @@ impl<'p> Parts<'p> {
     /// Returns the decision that a thread's turn throws an exception of this class.
     #[tactic(auto, unfolding(jvms_machine::specs::Exceptions::throws))]
     pub fn throws(&self, thread: &Thread, class: Thrown) -> Decided<'p>
-        ensures { seen result ≡ throwing self.now.limits self.now.state thread.now class }
+        ensures { seen result ≡ throws self.now.limits self.now.state thread.now class }
     {
         let exception = self.exception_of(class);
         let action = if thread.height() == 0 {

@@ -2,7 +2,7 @@
 
 ghost use Rattle.std.specs.Prelude.{◌≡◌, ◌≤◌};
 ghost use Rattle.jvms_file.specs.Descriptors.{units_of};
-ghost use Rattle.jvms_machine.specs.Places.{kind_of_element as element_kind, kind_of_type as type_kind};
+ghost use Rattle.jvms_machine.specs.Places.{kind_of_element, kind_of_type};
 
 use exec::kind_size;
 use jvms_file::descriptor::{Element, FieldType, Primitive};
@@ -10,7 +10,7 @@ use jvms_file::insn::Kind;
 
 #[inline(always)]
 fn kind_of_element(element: &Element) -> Kind
-    ensures { result ≡ element_kind element.now }
+    ensures { result ≡ kind_of_element element.now }
 {
     match element {
         Element::Object(_) => Kind::Reference,
@@ -24,7 +24,7 @@ fn kind_of_element(element: &Element) -> Kind
 /// Returns the kind of the values of a type on the operand stack.
 #[inline(always)]
 pub fn kind_of_type(t: &FieldType) -> Kind
-    ensures { result ≡ type_kind t.now }
+    ensures { result ≡ kind_of_type t.now }
 {
     if t.dimensions == 0 {
         kind_of_element(&t.element)

@@ -6,7 +6,7 @@ ghost use Rattle.jvms_machine.specs.declared.action.Lock.TheVariants as lock;
 ghost use Rattle.jvms_machine.specs.declared.action.MonitorUse.{MonitorUse as Used};
 ghost use Rattle.jvms_machine.specs.Decisions.{TurnDecision};
 ghost use Rattle.jvms_machine.specs.Heap.{class_name_at};
-ghost use Rattle.jvms_machine.specs.Monitors.{entering as enters, entering_held as enters_held, leaving as leaves, class_locking as locks_class, locking as locks, object_locking as locks_object, unlocking as unlocks, fails_to_unlock as fails};
+ghost use Rattle.jvms_machine.specs.Monitors.{entering, entering_held, leaving, class_locking, locking, object_locking, unlocking, fails_to_unlock as fails};
 ghost use Rattle.jvms_machine.specs.State.{class_reference};
 ghost use Rattle.machine_parts.specs.Before.{turn_by_entry, turn_by_exit, turn_by_lock};
 ghost use Rattle.machine_parts.specs.Decided.{seen};
@@ -50,7 +50,7 @@ impl<'p> Parts<'p> {
     /// Decides the entry of a held monitor. Its owner enters it again, and any other thread blocks. Throws
     /// `OutOfMemoryError` if the entry count is at its maximum.
     fn entering_held(&self, t: usize, thread: &Thread, reference: u32, hold: Hold) -> Entering<'p>
-        ensures { (make : Used → TurnDecision) → turn_by_entry make result ≡ enters_held self.now.limits self.now.state t thread.now reference (Some hold) make }
+        ensures { (make : Used → TurnDecision) → turn_by_entry make result ≡ entering_held self.now.limits self.now.state t thread.now reference (Some hold) make }
     {
         if hold.owner as usize != t {
             let on = BlockedOn::Monitor {
@@ -70,7 +70,7 @@ impl<'p> Parts<'p> {
 
     /// Decides the entry of an object's monitor.
     pub fn entering(&self, t: usize, thread: &Thread, reference: u32) -> Entering<'p>
-        ensures { (make : Used → TurnDecision) → turn_by_entry make result ≡ enters self.now.limits self.now.state t thread.now reference make }
+        ensures { (make : Used → TurnDecision) → turn_by_entry make result ≡ entering self.now.limits self.now.state t thread.now reference make }
     {
         match self.monitor(reference) {
             None => Entering::Enters(MonitorUse {
@@ -83,7 +83,7 @@ impl<'p> Parts<'p> {
 
     /// Returns how a thread leaves a monitor, or `None` if it isn't the owner.
     pub fn leaving(&self, t: usize, reference: u32) -> Option<MonitorUse>
-        ensures { result ≡ leaves self.now.state t reference }
+        ensures { result ≡ leaving self.now.state t reference }
     {
         let hold = self.monitor(reference)?;
         if hold.owner as usize != t {
@@ -97,7 +97,7 @@ impl<'p> Parts<'p> {
 
     /// Decides the locking of an existing object by a call.
     fn object_locking(&self, t: usize, thread: &Thread, reference: u32) -> Locking<'p>
-        ensures { (make : Locked → TurnDecision) → turn_by_lock make result ≡ locks_object self.now.limits self.now.state t thread.now (Some reference) make }
+        ensures { (make : Locked → TurnDecision) → turn_by_lock make result ≡ object_locking self.now.limits self.now.state t thread.now (Some reference) make }
     {
         match self.entering(t, thread, reference) {
             Entering::Enters(monitor) => Locking::Locks(Lock::Monitor(monitor)),
@@ -113,7 +113,7 @@ impl<'p> Parts<'p> {
         class: usize,
         held: Option<u32>,
     ) -> Locking<'p>
-        ensures { (make : Locked → TurnDecision) → turn_by_lock make result ≡ locks_class self.now.limits self.now.state t thread.now class held make }
+        ensures { (make : Locked → TurnDecision) → turn_by_lock make result ≡ class_locking self.now.limits self.now.state t thread.now class held make }
     {
         match held {
             Some(reference) => self.object_locking(t, thread, reference),
@@ -147,7 +147,7 @@ impl<'p> Parts<'p> {
         method: &Method,
         receiver: Option<u32>,
     ) -> Locking<'p>
-        ensures { (make : Locked → TurnDecision) → turn_by_lock make result ≡ locks self.now.program self.now.limits self.now.state t thread.now n method.now receiver make }
+        ensures { (make : Locked → TurnDecision) → turn_by_lock make result ≡ locking self.now.program self.now.limits self.now.state t thread.now n method.now receiver make }
     {
         if !method.flags.is_synchronized {
             return Locking::Locks(Lock::Nothing);
@@ -163,7 +163,7 @@ impl<'p> Parts<'p> {
 
     /// Decides how a call leaves the monitor of its frame, if it has one.
     pub fn unlocking(&self, t: usize, frame: &Frame) -> Unlocking
-        ensures { (fails : TurnDecision) (make : Option Used → TurnDecision) → turn_by_exit fails make result ≡ unlocks self.now.state t frame.now.monitor fails make }
+        ensures { (fails : TurnDecision) (make : Option Used → TurnDecision) → turn_by_exit fails make result ≡ unlocking self.now.state t frame.now.monitor fails make }
     {
         match frame.monitor() {
             None => Unlocking::Leaves(None),

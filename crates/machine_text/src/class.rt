@@ -3,7 +3,7 @@
 ghost use Rattle.std.specs.Prelude.{◌≡◌, ◌++◌, IfOk, OnOk, Some};
 ghost use Rattle.std.specs.String.{string_bytes};
 ghost use Rattle.machine_text.specs.Objects.{class_lines, initialisation_text};
-ghost use Rattle.machine_text.specs.Objects.{class_text as text_of_class};
+ghost use Rattle.machine_text.specs.Objects.{class_text};
 
 use crate::fields::{Keeper, put_fields};
 use crate::value::put_counted;
@@ -48,7 +48,7 @@ fn put_class(
 
 /// Returns the lines of the class of a number, or an empty text if there is no such class.
 pub fn class_text(alloc: Global, machine: &Machine, class: usize) -> Result<String, AllocError>
-    ensures { IfOk result (λ s. string_bytes s ≡ text_of_class machine.now class) }
+    ensures { IfOk result (λ s. string_bytes s ≡ class_text machine.now class) }
 {
     let mut text = String::new(alloc);
     if let Some(found) = machine.program().class(class) {

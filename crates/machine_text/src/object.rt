@@ -7,7 +7,7 @@ ghost use Rattle.jvms_machine.specs.State.{instance, array, text, class_object};
 ghost use Rattle.jvms_machine.specs.State.{monitor_at, object_at};
 ghost use Rattle.jvms_machine.specs.Waiting.{waiters_of};
 ghost use Rattle.machine_text.specs.Objects.{element_line, hold_line, object_lines, waiter_text, waiting_line};
-ghost use Rattle.machine_text.specs.Objects.{object_text as text_of_object};
+ghost use Rattle.machine_text.specs.Objects.{object_text};
 ghost use Rattle.machine_text.specs.Parts.{Shows, elements_at, fields_at, fields_text, if_there};
 
 use crate::chain::classes_from_top;
@@ -236,7 +236,7 @@ fn put_lines(
 ) -> Result<(), AllocError>
     requires { Shows (Some view) (object_at machine.now.state.heap reference) }
     ensures { OnOk result (string_bytes out.new ≡ string_bytes out.old
-        ++ text_of_object machine.now reference) }
+        ++ object_text machine.now reference) }
 {
     put_counted(out, "R:", u64::from(reference))?;
     out.push_str(" ")?;
@@ -247,7 +247,7 @@ fn put_lines(
 
 /// Returns the lines of the object of a reference, or an empty text if there is none.
 pub fn object_text(alloc: Global, machine: &Machine, reference: u32) -> Result<String, AllocError>
-    ensures { IfOk result (λ s. string_bytes s ≡ text_of_object machine.now reference) }
+    ensures { IfOk result (λ s. string_bytes s ≡ object_text machine.now reference) }
 {
     let mut text = String::new(alloc);
     if let Some(view) = view_of(machine, reference) {

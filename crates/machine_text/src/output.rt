@@ -3,8 +3,8 @@
 ghost use Rattle.std.specs.Prelude.{◌≡◌, ◌<◌, ◌++◌, ◌∷◌, [], IfOk, OnOk};
 ghost use Rattle.std.specs.List.{flat_map};
 ghost use Rattle.std.specs.String.{string_bytes};
-ghost use Rattle.escapes.specs.Escapes.{hexadecimal as hexadecimal_digit};
-ghost use Rattle.machine_text.specs.Objects.{byte_text, bytes_text, output_text as text_of_output};
+ghost use Rattle.escapes.specs.Escapes.{hexadecimal};
+ghost use Rattle.machine_text.specs.Objects.{byte_text, bytes_text, output_text};
 
 use crate::value::put_counted;
 use machine::Machine;
@@ -13,7 +13,7 @@ use std::alloc::{AllocError, Global};
 /// Returns a hexadecimal digit, in lower case.
 fn hexadecimal(digit: u8) -> u8
     requires { digit < 16 }
-    ensures exact { result ≡ hexadecimal_digit digit }
+    ensures exact { result ≡ hexadecimal digit }
     ensures ascii { result < 128 }
 {
     if digit < 10 { 48 + digit } else { 87 + digit }
@@ -59,7 +59,7 @@ fn put_bytes(out: &mut String, bytes: &[u8]) -> Result<(), AllocError>
 
 /// Returns the line of the printed bytes: their number and their hexadecimal digits.
 pub fn output_text(alloc: Global, machine: &Machine) -> Result<String, AllocError>
-    ensures { IfOk result (λ s. string_bytes s ≡ text_of_output machine.now) }
+    ensures { IfOk result (λ s. string_bytes s ≡ output_text machine.now) }
 {
     let bytes = machine.output();
     let mut text = String::new(alloc);

@@ -5,7 +5,7 @@ ghost use Rattle.std.specs.String.{string_bytes};
 ghost use Rattle.jvms_machine.specs.declared.state.StackFrame.TheVariants as stack_frame;
 ghost use Rattle.machine.specs.Views.{frame_at, shown};
 ghost use Rattle.machine_text.specs.Parts.{if_there};
-ghost use Rattle.machine_text.specs.Threads.{frame_line, frame_text, frames_text as text_of_frames};
+ghost use Rattle.machine_text.specs.Threads.{frame_line, frame_text, frames_text};
 
 use crate::place::{put_initialisation, put_place};
 use crate::value::put_values;
@@ -75,7 +75,7 @@ fn put_frame_at(
 
 /// Returns the lines of a thread's frames, from the top.
 pub fn frames_text(alloc: Global, machine: &Machine, t: ThreadId) -> Result<String, AllocError>
-    ensures { IfOk result (λ s. string_bytes s ≡ text_of_frames machine.now t) }
+    ensures { IfOk result (λ s. string_bytes s ≡ frames_text machine.now t) }
 {
     let mut text = String::new(alloc);
     let count = machine.frame_count(t).unwrap_or(0);

@@ -6,7 +6,7 @@ ghost use Rattle.std.specs.String.{string_bytes};
 ghost use Rattle.machine.specs.Views.{frame_at, thread_at};
 ghost use Rattle.machine_text.specs.Parts.{line_of_thread};
 ghost use Rattle.machine_text.specs.Threads.{pending_text, top_text};
-ghost use Rattle.machine_text.specs.Threads.{threads_text as text_of_threads};
+ghost use Rattle.machine_text.specs.Threads.{threads_text};
 
 use crate::outcome::put_outcome;
 use crate::thread_frames::put_frame;
@@ -66,7 +66,7 @@ fn put_thread(out: &mut String, machine: &Machine, t: ThreadId) -> Result<(), Al
 
 /// Returns the lines of all threads.
 pub fn threads_text(alloc: Global, machine: &Machine) -> Result<String, AllocError>
-    ensures { IfOk result (λ s. string_bytes s ≡ text_of_threads machine.now) }
+    ensures { IfOk result (λ s. string_bytes s ≡ threads_text machine.now) }
 {
     let mut text = String::new(alloc);
     for t in 0..thread_count(machine) {

@@ -2,7 +2,7 @@
 
 ghost use Rattle.std.specs.Prelude.{◌≡◌, ◌==◌};
 ghost use Rattle.std.specs.List.{list_any};
-ghost use Rattle.needs.specs.Hints.{hint_of, is_absence as absence, is_assertion as assertion, is_box as box_class, is_boxing as boxing, is_text_builder as text_builder, unnamed_hint as said_unnamed};
+ghost use Rattle.needs.specs.Hints.{hint_of, is_absence, is_assertion, is_box, is_boxing, is_text_builder, unnamed_hint};
 
 use crate::lack::Lack;
 use descriptor::is_named;
@@ -13,14 +13,14 @@ const DOLLAR: u16 = 36;
 
 /// Returns whether the reason is a missing class.
 pub(crate) fn is_absence(lack: Lack) -> bool
-    ensures { result ≡ absence lack }
+    ensures { result ≡ is_absence lack }
 {
     matches!(lack, Lack::Unresolved(Thrown::NoClassDefFoundError))
 }
 
 /// Returns the hint for an instruction that names neither a class nor a member.
 pub(crate) fn unnamed_hint(lack: Lack) -> &'static str
-    ensures { result.now ≡ said_unnamed lack }
+    ensures { result.now ≡ unnamed_hint lack }
 {
     match lack {
         Lack::OutOfProfile => " (float or double)",
@@ -30,14 +30,14 @@ pub(crate) fn unnamed_hint(lack: Lack) -> &'static str
 
 /// Returns whether a compiler uses this class for `+` on strings.
 fn is_text_builder(class: &[u16]) -> bool
-    ensures { result ≡ text_builder class.now }
+    ensures { result ≡ is_text_builder class.now }
 {
     is_named(class, "java/lang/StringBuilder") || is_named(class, "java/lang/StringBuffer")
 }
 
 /// Returns whether a compiler uses this class, or this member of it, for `assert`.
 fn is_assertion(class: &[u16], member: &[u16]) -> bool
-    ensures { result ≡ assertion class.now member.now }
+    ensures { result ≡ is_assertion class.now member.now }
 {
     is_named(class, "java/lang/AssertionError")
         || is_named(class, "java/lang/Class") && is_named(member, "desiredAssertionStatus")
@@ -45,7 +45,7 @@ fn is_assertion(class: &[u16], member: &[u16]) -> bool
 
 /// Returns whether a class boxes numbers, characters or truth values.
 fn is_box(class: &[u16]) -> bool
-    ensures { result ≡ box_class class.now }
+    ensures { result ≡ is_box class.now }
 {
     is_named(class, "java/lang/Integer")
         || is_named(class, "java/lang/Long")
@@ -57,7 +57,7 @@ fn is_box(class: &[u16]) -> bool
 
 /// Returns whether a method of this name boxes or unboxes a value.
 fn is_boxing(member: &[u16]) -> bool
-    ensures { result ≡ boxing member.now }
+    ensures { result ≡ is_boxing member.now }
 {
     is_named(member, "valueOf")
         || is_named(member, "intValue")

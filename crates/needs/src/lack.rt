@@ -2,7 +2,7 @@
 
 ghost use Rattle.std.specs.Prelude.{◌≡◌};
 ghost use Rattle.std.specs.Result.{result_err};
-ghost use Rattle.jvms_program.specs.Resolution.{is_static_call as static_call, is_static_use as static_use, resolved_field, resolved_method};
+ghost use Rattle.jvms_program.specs.Resolution.{is_static_call, is_static_use, resolved_field, resolved_method};
 ghost use Rattle.needs.specs.Lacks.{absence, constant_error, first_lack, lack_of, resolution_error};
 
 use crate::outside::is_outside;
@@ -54,14 +54,14 @@ fn error_of(resolved: Result<(usize, usize), Thrown>) -> Option<Thrown>
 
 /// Returns the error that is thrown if a field can't be resolved.
 fn field_error(program: &Program, how: FieldUse, field: &FieldReference) -> Option<Thrown>
-    ensures { result ≡ result_err (resolved_field program.now (static_use how) field.now) }
+    ensures { result ≡ result_err (resolved_field program.now (is_static_use how) field.now) }
 {
     error_of(program.resolve_field(is_static_use(how), field))
 }
 
 /// Returns the error that is thrown if a method can't be resolved.
 fn method_error(program: &Program, how: Invoke, method: &MethodReference) -> Option<Thrown>
-    ensures { result ≡ result_err (resolved_method program.now (static_call how) method.now) }
+    ensures { result ≡ result_err (resolved_method program.now (is_static_call how) method.now) }
 {
     error_of(program.resolve_method(is_static_call(how), method))
 }

@@ -4,7 +4,7 @@ ghost use Rattle.std.specs.Prelude.{◌≡◌, ◌++◌, IfOk, OnOk};
 ghost use Rattle.std.specs.List.{enumerate_from, flat_map};
 ghost use Rattle.std.specs.String.{string_bytes};
 ghost use Rattle.jvms_program.specs.Program.{key_in};
-ghost use Rattle.needs.specs.Lacks.{lack_of as lack_at};
+ghost use Rattle.needs.specs.Lacks.{lack_of};
 ghost use Rattle.needs.specs.Lines.{body_lines, class_lines, instruction_line, line_if, method_lines, needs_text, place_text};
 
 use crate::lack::lack_of;
@@ -39,7 +39,7 @@ fn put_instruction(
 ) -> Result<(), AllocError>
     ensures { OnOk result (string_bytes out.new ≡ string_bytes out.old
         ++ line_if (place_text sources.now.first sources.now.files.now method.now.number method.now.key place)
-        instruction.now (lack_at program.now instruction.now)) }
+        instruction.now (lack_of program.now instruction.now)) }
 {
     match lack_of(program, instruction) {
         None => Ok(()),

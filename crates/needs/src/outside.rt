@@ -3,7 +3,7 @@
 
 ghost use Rattle.std.specs.Prelude.{◌≡◌, not};
 ghost use Rattle.jvms_machine.specs.Locals.{is_profile_kind};
-ghost use Rattle.needs.specs.Outside.{is_outside as outside, is_outside_constant as outside_constant, is_outside_local as outside_local, is_outside_push as outside_push, is_outside_return as outside_return, is_outside_simple as outside_simple};
+ghost use Rattle.needs.specs.Outside.{is_outside, is_outside_constant, is_outside_local, is_outside_push, is_outside_return, is_outside_simple};
 
 use exec::{
     is_outside_array, is_outside_class, is_outside_method, is_outside_type, is_outside_use,
@@ -20,14 +20,14 @@ fn is_floating(kind: Kind) -> bool
 
 /// Returns whether an instruction pushes a float or a double.
 fn is_outside_push(what: Push) -> bool
-    ensures { result ≡ outside_push what }
+    ensures { result ≡ is_outside_push what }
 {
     matches!(what, Push::Float(_) | Push::Double(_))
 }
 
 /// Returns whether an instruction loads or stores a float or a double in a local variable.
 fn is_outside_local(how: LocalUse) -> bool
-    ensures { result ≡ outside_local how }
+    ensures { result ≡ is_outside_local how }
 {
     match how {
         LocalUse::Load(kind) | LocalUse::Store(kind) => is_floating(kind),
@@ -37,7 +37,7 @@ fn is_outside_local(how: LocalUse) -> bool
 
 /// Returns whether an instruction returns a float or a double.
 fn is_outside_return(how: ReturnInsn) -> bool
-    ensures { result ≡ outside_return how }
+    ensures { result ≡ is_outside_return how }
 {
     match how {
         ReturnInsn::Void => false,
@@ -47,7 +47,7 @@ fn is_outside_return(how: ReturnInsn) -> bool
 
 /// Returns whether an instruction that names neither a class nor a member is outside of the profile.
 fn is_outside_simple(instruction: Simple) -> bool
-    ensures { result ≡ outside_simple instruction }
+    ensures { result ≡ is_outside_simple instruction }
 {
     match instruction {
         Simple::Push(what) => is_outside_push(what),
@@ -61,14 +61,14 @@ fn is_outside_simple(instruction: Simple) -> bool
 
 /// Returns whether a constant is a float or a double.
 fn is_outside_constant(constant: &Loadable) -> bool
-    ensures { result ≡ outside_constant constant.now }
+    ensures { result ≡ is_outside_constant constant.now }
 {
     matches!(constant, Loadable::Float(_) | Loadable::Double(_))
 }
 
 /// Returns whether an instruction is outside of the profile.
 pub(crate) fn is_outside(instruction: &Instruction) -> bool
-    ensures { result ≡ outside instruction.now }
+    ensures { result ≡ is_outside instruction.now }
 {
     match instruction {
         Instruction::Simple(simple) => is_outside_simple(*simple),

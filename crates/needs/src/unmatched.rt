@@ -5,9 +5,9 @@ ghost use Rattle.std.specs.List.{list_any};
 ghost use Rattle.std.specs.String.{string_bytes};
 ghost use Rattle.atom_spec.specs.Lines.{line_text, pattern_text, word_text};
 ghost use Rattle.jvms_program.specs.Program.{key_in};
-ghost use Rattle.velodrome.specs.Specification.{is_of as pattern_is_of};
+ghost use Rattle.velodrome.specs.Specification.{is_of};
 ghost use Rattle.velodrome.specs.declared.specification.Pattern.TheVariants as pattern_case;
-ghost use Rattle.needs.specs.Unmatched.{matches_in as pattern_matches_in, no_match_line, unmatched_line, unmatched_lines};
+ghost use Rattle.needs.specs.Unmatched.{matches_in, no_match_line, unmatched_line, unmatched_lines};
 
 use atom_spec::{Pattern, SpecificationLine};
 use built_in::is_built_in;
@@ -19,14 +19,14 @@ use std::alloc::AllocError;
 
 /// Returns whether a method is of the class `named` and has this name.
 fn has_name(class: &Class, method: &Method, named: &[u16], name: &[u16]) -> bool
-    ensures { result ≡ pattern_is_of (pattern_case.Named named.now name.now) (key_in class.now method.now) }
+    ensures { result ≡ is_of (pattern_case.Named named.now name.now) (key_in class.now method.now) }
 {
     same_text(class.name.as_slice(), named) && same_text(method.name.as_slice(), name)
 }
 
 /// Returns whether a pattern matches a method of a class.
 fn is_of(pattern: &Pattern, class: &Class, method: &Method) -> bool
-    ensures { result ≡ pattern_is_of pattern.now (key_in class.now method.now) }
+    ensures { result ≡ is_of pattern.now (key_in class.now method.now) }
 {
     match pattern {
         Pattern::All => true,
@@ -47,7 +47,7 @@ fn is_of(pattern: &Pattern, class: &Class, method: &Method) -> bool
 
 /// Returns whether a pattern matches one of a class's methods.
 fn is_of_one(pattern: &Pattern, class: &Class) -> bool
-    ensures { result ≡ list_any (λ m. pattern_is_of pattern.now (key_in class.now m)) class.now.methods }
+    ensures { result ≡ list_any (λ m. is_of pattern.now (key_in class.now m)) class.now.methods }
 {
     class
         .methods
@@ -58,14 +58,14 @@ fn is_of_one(pattern: &Pattern, class: &Class) -> bool
 
 /// Returns whether a pattern matches a method of a class that isn't built in.
 fn matches_in(pattern: &Pattern, class: &Class) -> bool
-    ensures { result ≡ pattern_matches_in pattern.now class.now }
+    ensures { result ≡ matches_in pattern.now class.now }
 {
     !is_built_in(class.name.as_slice()) && is_of_one(pattern, class)
 }
 
 /// Returns whether a pattern matches a method of one of these classes.
 fn is_matched(pattern: &Pattern, classes: &[Class]) -> bool
-    ensures { result ≡ list_any (pattern_matches_in pattern.now) classes.now }
+    ensures { result ≡ list_any (matches_in pattern.now) classes.now }
 {
     classes.iter().any(|class| matches_in(pattern, class))
 }

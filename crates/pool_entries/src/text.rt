@@ -2,7 +2,7 @@
 
 ghost use Rattle.std.specs.Prelude.{◌≡◌, length};
 ghost use Rattle.jvms_file.specs.Texts.{unit_bytes};
-ghost use Rattle.pool_entries.specs.Entries.{is_short as is_short_text};
+ghost use Rattle.pool_entries.specs.Entries.{is_short};
 
 /// The greatest number of bytes of a text in Modified UTF-8: its length has two bytes (JVMS 4.4.7).
 const MOST_BYTES: usize = 65535;
@@ -21,7 +21,7 @@ fn byte_count(unit: u16) -> usize
 /// Decides whether a text has at most 65535 bytes, without encoding it.
 #[tactic(auto, unfolding(jvms_file::specs::Texts::encoded))]
 pub(crate) fn is_short(text: &[u16]) -> bool
-    ensures { result ≡ is_short_text text.now }
+    ensures { result ≡ is_short text.now }
 {
     let mut left = MOST_BYTES;
     for unit in text {

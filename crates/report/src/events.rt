@@ -1,7 +1,7 @@
 //! Finds the events of a trace, by their numbers from 1.
 
 ghost use Rattle.std.specs.Prelude.{◌≡◌, IfOk, take};
-ghost use Rattle.velodrome.specs.Transactions.{is_event as is_event_item};
+ghost use Rattle.velodrome.specs.Transactions.{is_event};
 ghost use Rattle.report.specs.CycleTexts.{event_places, events_of_transaction};
 
 use jvms_machine::trace::Item;
@@ -10,7 +10,7 @@ use std::alloc::{AllocError, Global};
 
 /// Decides whether an item is an event, and not a mark.
 pub fn is_event(item: &Item) -> bool
-    ensures { result ≡ is_event_item item.now }
+    ensures { result ≡ is_event item.now }
 {
     !matches!(item, Item::Enter { .. } | Item::Exit { .. })
 }

@@ -3,7 +3,7 @@
 ghost use Rattle.std.specs.Prelude.{◌≡◌, ◌-◌, ◌++◌, IfOk, OnOk, map, slice_get};
 ghost use Rattle.std.specs.List.{flat_map};
 ghost use Rattle.std.specs.String.{string_bytes};
-ghost use Rattle.report.specs.SerialTexts.{event_line, events_of as events_in, serial_text};
+ghost use Rattle.report.specs.SerialTexts.{event_line, events_of, serial_text};
 
 use crate::events::is_event;
 use crate::number::put_number;
@@ -13,7 +13,7 @@ use trace_text::put_line;
 
 /// Returns the events of a trace, in order.
 fn events_of<'i>(alloc: Global, items: &'i [Item]) -> Result<Vec<&'i Item>, AllocError>
-    ensures { IfOk result (λ events. map (λ e. e.now) events.items ≡ events_in items.entry.now) }
+    ensures { IfOk result (λ events. map (λ e. e.now) events.items ≡ events_of items.entry.now) }
 {
     let mut events = Vec::new(alloc);
     for item in items {

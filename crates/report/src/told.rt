@@ -4,8 +4,8 @@ ghost use Rattle.std.specs.Prelude.{◌≡◌, ◌-◌, ◌++◌, IfOk, OnOk, So
 ghost use Rattle.std.specs.Fmt.{decimal};
 ghost use Rattle.std.specs.Option.{option_map};
 ghost use Rattle.std.specs.String.{string_bytes};
-ghost use Rattle.velodrome.specs.Conflicts.{thread_of as thread_of_item};
-ghost use Rattle.report.specs.CycleTexts.{actor_at, actor_text, event_line, event_name, events_of_transaction as numbers_of, in_method_text, item_at, item_part, open_methods, naming_method as method_named, place_of_event, transactions_of, turn_text};
+ghost use Rattle.velodrome.specs.Conflicts.{thread_of};
+ghost use Rattle.report.specs.CycleTexts.{actor_at, actor_text, event_line, event_name, events_of_transaction, in_method_text, item_at, item_part, open_methods, naming_method, place_of_event, transactions_of, turn_text};
 
 use crate::actor::naming_method;
 use crate::events::{event_places, events_of_transaction};
@@ -95,7 +95,7 @@ impl<'a> Told<'a> {
 
     /// Returns the numbers of a transaction's events.
     pub(crate) fn numbers_of(&self, alloc: Global, transaction: u64) -> Result<Vec<u64>, AllocError>
-        ensures { IfOk result (λ numbers. numbers.items ≡ numbers_of transaction (transactions_of self.now)) }
+        ensures { IfOk result (λ numbers. numbers.items ≡ events_of_transaction transaction (transactions_of self.now)) }
     {
         events_of_transaction(alloc, transaction, self.checker.transactions())
     }

@@ -1,7 +1,7 @@
 //! The enabled threads of a machine, kept from turn to turn of a run.
 
 ghost use Rattle.std.specs.Prelude.{◌≡◌, ◌++◌, ◌∷◌, [], ◌&&◌, ◌⊎◌, false, IsTrue, OnOk};
-ghost use Rattle.jvms_machine.specs.Status.{is_bad as bad};
+ghost use Rattle.jvms_machine.specs.Status.{is_bad};
 ghost use Rattle.runs.specs.Kept.{AreEnabled, IsKept, is_fit, one_enabled};
 ghost use Rattle.schedule.specs.Enabled.{enabled_threads};
 
@@ -56,7 +56,7 @@ impl Kept {
     pub(crate) fn note_idle(&mut self, thread: ThreadId, outcome: Outcome)
         ensures current { self.new.is_current ≡ self.old.is_current }
         ensures threads { self.new.threads ≡ self.old.threads }
-        ensures idle { (self.new.idle.items ≡ self.old.idle.items) ⊎ ((bad outcome ≡ false) × (self.new.idle.items ≡ self.old.idle.items ++ thread ∷ [])) }
+        ensures idle { (self.new.idle.items ≡ self.old.idle.items) ⊎ ((is_bad outcome ≡ false) × (self.new.idle.items ≡ self.old.idle.items ++ thread ∷ [])) }
     {
         if is_bad(outcome) {
             return;

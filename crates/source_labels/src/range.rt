@@ -2,14 +2,14 @@
 
 ghost use Rattle.std.specs.Prelude.{◌≡◌};
 ghost use Rattle.std.specs.List.{list_any};
-ghost use Rattle.jasmin.specs.Assembling.{has_bad_range as has_bad_range_of, is_bad_range as is_bad_range_in};
+ghost use Rattle.jasmin.specs.Assembling.{has_bad_range, is_bad_range};
 
 use crate::labels::Labels;
 use jasmin::source::{CatchLine, MethodLines};
 
 /// Decides whether both labels of a catch's range are defined, but the first isn't before the second.
 fn is_bad_range(labels: &Labels<'_>, catch: &CatchLine) -> bool
-    ensures { result ≡ is_bad_range_in labels.now catch.now }
+    ensures { result ≡ is_bad_range labels.now catch.now }
 {
     match (
         labels.place(catch.from.as_slice()),
@@ -22,7 +22,7 @@ fn is_bad_range(labels: &Labels<'_>, catch: &CatchLine) -> bool
 
 /// Decides whether a catch has a bad range.
 fn any_bad_range(labels: &Labels<'_>, catches: &[CatchLine]) -> bool
-    ensures { result ≡ list_any (is_bad_range_in labels.now) catches.now }
+    ensures { result ≡ list_any (is_bad_range labels.now) catches.now }
 {
     catches.iter().any(|catch| is_bad_range(labels, catch))
 }
@@ -31,7 +31,7 @@ fn any_bad_range(labels: &Labels<'_>, catches: &[CatchLine]) -> bool
 /// of the method's code.
 pub fn has_bad_range(method: &MethodLines, labels: &Labels<'_>) -> bool
     requires { labels.now ≡ method.now.code }
-    ensures { result ≡ has_bad_range_of method.now }
+    ensures { result ≡ has_bad_range method.now }
 {
     any_bad_range(labels, method.catches.as_slice())
 }

@@ -4,7 +4,7 @@ ghost use Rattle.std.specs.Prelude.{◌≡◌};
 ghost use Rattle.std.specs.Option.{option_copied, option_map};
 ghost use Rattle.jvms_file.specs.ConstantPool.{entry, utf8_at};
 ghost use Rattle.jvms_program.specs.Meaning.{text_of};
-ghost use Rattle.source_lines.specs.SourceLines.{is_named as attribute_is_named};
+ghost use Rattle.source_lines.specs.SourceLines.{is_named};
 
 use descriptor::is_named as is_text;
 use jvms_file::class_file::{Constant, KeptAttribute};
@@ -41,7 +41,7 @@ fn text_of(pool: &[Constant], number: u16) -> &[u16]
 
 /// Returns whether an attribute has this name.
 pub(crate) fn is_named(pool: &[Constant], name: &str, attribute: &KeptAttribute) -> bool
-    ensures { result ≡ attribute_is_named pool.now name.now attribute.now }
+    ensures { result ≡ is_named pool.now name.now attribute.now }
 {
     is_text(text_of(pool, attribute.name), name)
 }

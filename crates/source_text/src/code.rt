@@ -4,8 +4,8 @@ ghost use Rattle.std.specs.Prelude.{◌≡◌, ◌++◌, ◌∷◌, [], map, OnO
 ghost use Rattle.std.specs.Option.{unwrap_or};
 ghost use Rattle.std.specs.List.{flat_map};
 ghost use Rattle.std.specs.Fmt.{decimal, signed_decimal};
-ghost use Rattle.jvms_file.specs.Instructions.{interface_count as count_of};
-ghost use Rattle.listing_spec.specs.Printed.{opcode_of as code_of, mnemonic as name_of_code, loaded_word as word_loaded, joined, operand_words, count_words, switch_line, default_line, match_line, lines_after, item_lines, member_word};
+ghost use Rattle.jvms_file.specs.Instructions.{interface_count};
+ghost use Rattle.listing_spec.specs.Printed.{opcode_of, mnemonic, loaded_word, joined, operand_words, count_words, switch_line, default_line, match_line, lines_after, item_lines, member_word};
 ghost use Rattle.source_text.specs.Words.{units_in};
 ghost use Rattle.source_text.specs.Lines.{ended, text_of_lines};
 
@@ -116,7 +116,7 @@ fn put_behind(alloc: Global, out: &mut Vec<u16>, operation: &Operation) -> Resul
 
 /// Returns the word of a constant that `ldc` loads.
 fn loaded_word(constant: &LoadedConstant) -> Word<'_>
-    ensures { units_in result ≡ word_loaded constant.now }
+    ensures { units_in result ≡ loaded_word constant.now }
 {
     match constant {
         LoadedConstant::Integer(number) => Word::Number(i64::from(*number)),
@@ -128,7 +128,7 @@ fn loaded_word(constant: &LoadedConstant) -> Word<'_>
 /// Returns the number of units of the arguments of an `invokeinterface` with the object, or 0 for a malformed
 /// descriptor.
 fn interface_count(descriptor: &[u16]) -> u16
-    ensures { result ≡ unwrap_or (count_of (Some ([], descriptor.now))) 0 }
+    ensures { result ≡ unwrap_or (interface_count (Some ([], descriptor.now))) 0 }
 {
     match method_units(descriptor) {
         Some(units) => units as u16 + 1,
@@ -275,7 +275,7 @@ fn put_operation_lines(
     out: &mut Vec<u16>,
     operation: &Operation,
 ) -> Result<(), AllocError>
-    ensures { OnOk result (out.new.items ≡ out.old.items ++ (ended (codes "  " ++ joined (name_of_code (code_of operation.now) ∷ operand_words operation.now)) ++ text_of_lines (lines_after operation.now))) }
+    ensures { OnOk result (out.new.items ≡ out.old.items ++ (ended (codes "  " ++ joined (mnemonic (opcode_of operation.now) ∷ operand_words operation.now)) ++ text_of_lines (lines_after operation.now))) }
 {
     let name = Word::Ascii(mnemonic(opcode_of(operation)));
     put_operation(alloc, out, name, operation)?;

@@ -3,9 +3,9 @@
 ghost use Rattle.std.specs.Prelude.{◌≡◌, ◌++◌, ◌∷◌, [], map, OnOk, IfOk, true, codes};
 ghost use Rattle.std.specs.Fmt.{decimal};
 ghost use Rattle.std.specs.List.{flat_map};
-ghost use Rattle.jasmin.specs.Denote.{has_code as method_has_code};
+ghost use Rattle.jasmin.specs.Denote.{has_code};
 ghost use Rattle.jasmin.specs.Operands.{field_words, method_words};
-ghost use Rattle.listing_spec.specs.Printed.{joined, access_names, value_words, field_line, caught_word as word_caught, catch_line, throws_line, body_lines, method_text};
+ghost use Rattle.listing_spec.specs.Printed.{joined, access_names, value_words, field_line, caught_word, catch_line, throws_line, body_lines, method_text};
 ghost use Rattle.source_text.specs.Words.{units_in};
 ghost use Rattle.source_text.specs.Lines.{ended, text_of_lines};
 
@@ -105,7 +105,7 @@ fn put_throws(alloc: Global, out: &mut Vec<u16>, names: &[Text]) -> Result<(), A
 
 /// Returns the word of what a handler catches.
 fn caught_word(caught: &Caught) -> Word<'_>
-    ensures { units_in result ≡ word_caught caught.now }
+    ensures { units_in result ≡ caught_word caught.now }
 {
     match caught {
         Caught::All => Word::Ascii("all"),
@@ -169,7 +169,7 @@ fn put_limits(
 /// Appends the limits, the handlers and the code of a method.
 #[tactic(auto, using(crate::proofs::Methods::body_pieces))]
 fn put_body(alloc: Global, out: &mut Vec<u16>, method: &MethodLines) -> Result<(), AllocError>
-    requires { method_has_code method.now.name method.now.access ≡ true }
+    requires { has_code method.now.name method.now.access ≡ true }
     ensures { OnOk result (out.new.items ≡ out.old.items ++ text_of_lines (body_lines method.now)) }
 {
     put_limits(alloc, out, method.max_stack, method.max_locals)?;

@@ -2,7 +2,7 @@
 
 ghost use Rattle.std.specs.Prelude.{◌≡◌, [], map, slice_get};
 ghost use Rattle.std.specs.Option.{unwrap_or};
-ghost use Rattle.listing_spec.specs.Printed.{mnemonic as name_of_code, array_type_name as name_of_type};
+ghost use Rattle.listing_spec.specs.Printed.{mnemonic, array_type_name};
 
 use jasmin::mnemonic::MNEMONICS;
 use jvms_file::insn::ArrayType;
@@ -19,14 +19,14 @@ fn name_at<'a>(names: &[&'a str], place: usize) -> &'a str
 
 /// Returns the mnemonic of an opcode (JVMS 6.5).
 pub(crate) fn mnemonic(code: u8) -> &'static str
-    ensures { result.now ≡ name_of_code code }
+    ensures { result.now ≡ mnemonic code }
 {
     name_at(&MNEMONICS, usize::from(code))
 }
 
 /// Returns the name of an array's component type (JVMS 6.5 `newarray`).
 pub(crate) fn array_type_name(component: ArrayType) -> &'static str
-    ensures { result.now ≡ name_of_type component }
+    ensures { result.now ≡ array_type_name component }
 {
     match component {
         ArrayType::Boolean => "boolean",

@@ -2,8 +2,8 @@
 
 ghost use Rattle.std.specs.Prelude.{◌≡◌, ◌≢◌, ◌<◌, [], length, true, false, not, ◌&&◌, ◌||◌, ◌==◌, IfSome, MatchOption};
 ghost use Rattle.std.specs.List.{list_all, list_any};
-ghost use Rattle.jasmin.specs.Lexing.{ends_word as unit_ends_word};
-ghost use Rattle.listing_spec.specs.Printable.{is_paired as halves_paired, is_word_unit as unit_of_word, is_word as name_is_word, is_before_descriptor as name_before_descriptor};
+ghost use Rattle.jasmin.specs.Lexing.{ends_word};
+ghost use Rattle.listing_spec.specs.Printable.{is_paired, is_word_unit, is_word, is_before_descriptor};
 
 use shared_data::surrogates::{is_high, is_low};
 
@@ -11,7 +11,7 @@ use shared_data::surrogates::{is_high, is_low};
 #[tactic(auto, unfolding(listing_spec::specs::Printable::is_paired))]
 fn behind_character(units: &[u16]) -> Option<&[u16]>
     requires { units.now ≢ [] }
-    ensures exact { MatchOption result (halves_paired units.now ≡ false) (λ behind. halves_paired units.now ≡ halves_paired behind.now) }
+    ensures exact { MatchOption result (is_paired units.now ≡ false) (λ behind. is_paired units.now ≡ is_paired behind.now) }
     ensures shorter { IfSome result (λ behind. length behind.now < length units.now) }
 {
     match units {
@@ -32,7 +32,7 @@ fn behind_character(units: &[u16]) -> Option<&[u16]>
 /// Decides whether each surrogate has its other half.
 #[tactic(auto, using(crate::proofs::Halves::none_left))]
 fn is_paired(units: &[u16]) -> bool
-    ensures { result ≡ halves_paired units.now }
+    ensures { result ≡ is_paired units.now }
 {
     let mut rest = units;
     while !rest.is_empty() {
@@ -46,14 +46,14 @@ fn is_paired(units: &[u16]) -> bool
 
 /// Decides whether a word may contain a unit: it is no white space, quote, colon, equals sign or line end.
 fn is_word_unit(unit: u16) -> bool
-    ensures { result ≡ unit_of_word unit }
+    ensures { result ≡ is_word_unit unit }
 {
     !matches!(unit, 32 | 9 | 12 | 13 | 34 | 58 | 61 | 10)
 }
 
 /// Decides whether a word may contain all units of a name.
 fn are_word_units(name: &[u16]) -> bool
-    ensures { result ≡ list_all unit_of_word name.now }
+    ensures { result ≡ list_all is_word_unit name.now }
 {
     name.iter().all(|unit| is_word_unit(*unit))
 }
@@ -61,7 +61,7 @@ fn are_word_units(name: &[u16]) -> bool
 /// Decides whether a name can be spelled as a word.
 #[tactic(auto, unfolding(listing_spec::specs::Printable::is_word))]
 pub(crate) fn is_word(name: &[u16]) -> bool
-    ensures { result ≡ name_is_word name.now }
+    ensures { result ≡ is_word name.now }
 {
     are_word_units(name) && is_paired(name)
 }
@@ -75,7 +75,7 @@ fn has_parenthesis(name: &[u16]) -> bool
 
 /// Decides whether a name can be spelled before a method's descriptor.
 pub(crate) fn is_before_descriptor(name: &[u16]) -> bool
-    ensures { result ≡ name_before_descriptor name.now }
+    ensures { result ≡ is_before_descriptor name.now }
 {
     is_word(name) && !has_parenthesis(name)
 }

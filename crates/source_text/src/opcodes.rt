@@ -1,7 +1,7 @@
 //! Maps operations to their opcodes (JVMS 7).
 
 ghost use Rattle.std.specs.Prelude.{◌≡◌};
-ghost use Rattle.listing_spec.specs.Printed.{opcode_of as code_of};
+ghost use Rattle.listing_spec.specs.Printed.{opcode_of};
 
 use code_bytes::{
     branch_opcode, class_opcode, field_opcode, invoke_opcode, local_opcode, wide_branch_opcode,
@@ -10,7 +10,7 @@ use jasmin::source::{BranchWidth, ConstantWidth, Operation};
 
 /// Returns the opcode of an operation, without `wide`.
 pub(crate) fn opcode_of(operation: &Operation) -> u8
-    ensures { result ≡ code_of operation.now }
+    ensures { result ≡ opcode_of operation.now }
 {
     match operation {
         Operation::Alone(code) => *code,

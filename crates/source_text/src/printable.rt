@@ -2,7 +2,7 @@
 
 ghost use Rattle.std.specs.Prelude.{◌≡◌};
 ghost use Rattle.std.specs.List.{list_all};
-ghost use Rattle.listing_spec.specs.Printable.{is_word as name_is_word, is_loadable_word as constant_is_loadable, is_printable_operation as operation_is_printable, is_printable_item as item_is_printable, is_printable_caught as caught_is_printable, is_printable_field as field_is_printable, is_printable_method as method_is_printable, is_printable as is_printable_source};
+ghost use Rattle.listing_spec.specs.Printable.{is_word, is_loadable_word, is_printable_operation, is_printable_item, is_printable_caught, is_printable_field, is_printable_method, is_printable};
 
 use crate::names::{is_before_descriptor, is_word};
 use descriptor::is_text;
@@ -14,14 +14,14 @@ use shared_data::shared::Text;
 
 /// Decides whether all names of a list can be spelled as words.
 fn are_words(names: &[Text]) -> bool
-    ensures { result ≡ list_all name_is_word names.now }
+    ensures { result ≡ list_all is_word names.now }
 {
     names.iter().all(|name| is_word(name.as_slice()))
 }
 
 /// Decides whether a constant of `ldc` can be spelled. The name of a class must not spell a number.
 fn is_loadable(constant: &LoadedConstant) -> bool
-    ensures { result ≡ constant_is_loadable constant.now }
+    ensures { result ≡ is_loadable_word constant.now }
 {
     match constant {
         LoadedConstant::Class(name) => is_word(name.as_slice()) && !spells_number(name.as_slice()),
@@ -32,7 +32,7 @@ fn is_loadable(constant: &LoadedConstant) -> bool
 /// Decides whether the names of an instruction can be spelled as words.
 #[tactic(auto, unfolding(listing_spec::specs::Printable::is_printable_operation))]
 fn is_printable_operation(operation: &Operation) -> bool
-    ensures { result ≡ operation_is_printable operation.now }
+    ensures { result ≡ is_printable_operation operation.now }
 {
     match operation {
         Operation::Constant(_, constant) => is_loadable(constant.get()),
@@ -55,7 +55,7 @@ fn is_printable_operation(operation: &Operation) -> bool
 
 /// Decides whether the names of an item of code can be spelled as words. A label can always be.
 fn is_printable_item(item: &CodeItem) -> bool
-    ensures { result ≡ item_is_printable item.now }
+    ensures { result ≡ is_printable_item item.now }
 {
     match item {
         CodeItem::Label(_) => true,
@@ -65,14 +65,14 @@ fn is_printable_item(item: &CodeItem) -> bool
 
 /// Decides whether all names of a method's code can be spelled as words.
 fn is_printable_code(code: &[CodeItem]) -> bool
-    ensures { result ≡ list_all item_is_printable code.now }
+    ensures { result ≡ list_all is_printable_item code.now }
 {
     code.iter().all(|item| is_printable_item(item))
 }
 
 /// Decides whether a caught class can be spelled. Its name must not be `all`.
 fn is_printable_caught(caught: &Caught) -> bool
-    ensures { result ≡ caught_is_printable caught.now }
+    ensures { result ≡ is_printable_caught caught.now }
 {
     match caught {
         Caught::All => true,
@@ -82,21 +82,21 @@ fn is_printable_caught(caught: &Caught) -> bool
 
 /// Decides whether all caught classes can be spelled.
 fn are_printable_catches(catches: &[CatchLine]) -> bool
-    ensures { result ≡ list_all (λ c. caught_is_printable c.caught) catches.now }
+    ensures { result ≡ list_all (λ c. is_printable_caught c.caught) catches.now }
 {
     catches.iter().all(|line| is_printable_caught(&line.caught))
 }
 
 /// Decides whether the name and the descriptor of a field can be spelled as words.
 fn is_printable_field(field: &FieldLine) -> bool
-    ensures { result ≡ field_is_printable field.now }
+    ensures { result ≡ is_printable_field field.now }
 {
     is_word(field.name.as_slice()) && is_word(field.descriptor.as_slice())
 }
 
 /// Decides whether the names of all fields can be spelled as words.
 fn are_printable_fields(fields: &[FieldLine]) -> bool
-    ensures { result ≡ list_all field_is_printable fields.now }
+    ensures { result ≡ list_all is_printable_field fields.now }
 {
     fields.iter().all(|field| is_printable_field(field))
 }
@@ -104,7 +104,7 @@ fn are_printable_fields(fields: &[FieldLine]) -> bool
 /// Decides whether all names of a method can be spelled as words.
 #[tactic(auto, unfolding(listing_spec::specs::Printable::is_printable_method))]
 fn is_printable_method(method: &MethodLines) -> bool
-    ensures { result ≡ method_is_printable method.now }
+    ensures { result ≡ is_printable_method method.now }
 {
     is_before_descriptor(method.name.as_slice())
         && is_word(method.descriptor.as_slice())
@@ -115,7 +115,7 @@ fn is_printable_method(method: &MethodLines) -> bool
 
 /// Decides whether the names of all methods can be spelled as words.
 fn are_printable_methods(methods: &[MethodLines]) -> bool
-    ensures { result ≡ list_all method_is_printable methods.now }
+    ensures { result ≡ list_all is_printable_method methods.now }
 {
     methods.iter().all(|method| is_printable_method(method))
 }
@@ -123,7 +123,7 @@ fn are_printable_methods(methods: &[MethodLines]) -> bool
 /// Decides whether all names of a tree can be spelled as words.
 #[tactic(auto, unfolding(listing_spec::specs::Printable::is_printable))]
 pub fn is_printable(source: &Source) -> bool
-    ensures { result ≡ is_printable_source source.now }
+    ensures { result ≡ is_printable source.now }
 {
     is_word(source.name.as_slice())
         && is_word(source.superclass.as_slice())

@@ -5,7 +5,7 @@ ghost use Rattle.std.specs.String.{string_bytes};
 ghost use Rattle.std.specs.Str.Lines.{lines};
 ghost use Rattle.jasmin.specs.Sources.{units_of};
 ghost use Rattle.listing_spec.specs.Listable.{IsListable};
-ghost use Rattle.listing_spec.specs.Printable.{is_paired, is_printable as is_printable_source};
+ghost use Rattle.listing_spec.specs.Printable.{is_paired, is_printable};
 ghost use Rattle.listing_spec.specs.Printed.{printed};
 ghost use Rattle.source_text.specs.Lines.{text_of_lines};
 
@@ -34,7 +34,7 @@ fn units_of_lines(alloc: Global, source: &Source) -> Result<Vec<u16>, AllocError
 /// as words, and its labels are those of places. A method without code has nothing that isn't written.
 pub fn text_of(alloc: Global, source: &Source) -> Result<String, AllocError>
     requires listable { IsListable source.now }
-    requires printable { is_printable_source source.now ≡ true }
+    requires printable { is_printable source.now ≡ true }
     ensures exact { IfOk result (λ text. map units_of (lines (string_bytes text)) ≡ printed source.now) }
     // LF follows each line, the last one included, and nothing else separates them.
     ensures ended { IfOk result (λ text. units_of (string_bytes text) ≡ text_of_lines (printed source.now)) }

@@ -3,7 +3,7 @@
 ghost use Rattle.std.specs.Prelude.{◌≡◌, ◌++◌, ◌∷◌, ◌<◌, [], map, OnOk};
 ghost use Rattle.std.specs.List.{flat_map};
 ghost use Rattle.std.specs.Fmt.{signed_decimal};
-ghost use Rattle.listing_spec.specs.Printed.{hexadecimal as hexadecimal_digit, four_digits as four_digit_units, escaped as escaped_unit, quoted as quoted_text, member_word, joined};
+ghost use Rattle.listing_spec.specs.Printed.{hexadecimal, four_digits, escaped, quoted, member_word, joined};
 ghost use Rattle.source_text.specs.Words.{units_in};
 ghost use Rattle.source_text.specs.Lines.{ended};
 
@@ -56,14 +56,14 @@ fn put_number(alloc: Global, out: &mut Vec<u16>, number: i64) -> Result<(), Allo
 /// Returns a hexadecimal digit, in lower case.
 fn hexadecimal(digit: u16) -> u16
     requires { digit < 16 }
-    ensures { result ≡ hexadecimal_digit digit }
+    ensures { result ≡ hexadecimal digit }
 {
     if digit < 10 { 48 + digit } else { 87 + digit }
 }
 
 /// Appends a unit as `\u` and four hexadecimal digits.
 fn put_numbered(out: &mut Vec<u16>, unit: u16) -> Result<(), AllocError>
-    ensures { OnOk result (out.new.items ≡ out.old.items ++ 92 ∷ 117 ∷ four_digit_units unit) }
+    ensures { OnOk result (out.new.items ≡ out.old.items ++ 92 ∷ 117 ∷ four_digits unit) }
 {
     put_ascii(out, "\\u")?;
     out.push(hexadecimal(unit / 4096))?;
@@ -75,7 +75,7 @@ fn put_numbered(out: &mut Vec<u16>, unit: u16) -> Result<(), AllocError>
 
 /// Appends a unit of a text in quotes.
 fn put_escaped(out: &mut Vec<u16>, unit: u16) -> Result<(), AllocError>
-    ensures { OnOk result (out.new.items ≡ out.old.items ++ escaped_unit unit) }
+    ensures { OnOk result (out.new.items ≡ out.old.items ++ escaped unit) }
 {
     match unit {
         10 => put_ascii(out, "\\n"),
@@ -95,7 +95,7 @@ fn put_escaped(out: &mut Vec<u16>, unit: u16) -> Result<(), AllocError>
 
 /// Appends the units of a text in quotes.
 fn put_inside(out: &mut Vec<u16>, text: &[u16]) -> Result<(), AllocError>
-    ensures { OnOk result (out.new.items ≡ out.old.items ++ flat_map escaped_unit text.now) }
+    ensures { OnOk result (out.new.items ≡ out.old.items ++ flat_map escaped text.now) }
 {
     for unit in text {
         put_escaped(out, *unit)?;
@@ -106,7 +106,7 @@ fn put_inside(out: &mut Vec<u16>, text: &[u16]) -> Result<(), AllocError>
 /// Appends a text in quotes.
 #[tactic(auto, unfolding(listing_spec::specs::Printed::quoted))]
 fn put_quoted(out: &mut Vec<u16>, text: &[u16]) -> Result<(), AllocError>
-    ensures { OnOk result (out.new.items ≡ out.old.items ++ quoted_text text.now) }
+    ensures { OnOk result (out.new.items ≡ out.old.items ++ quoted text.now) }
 {
     out.push(QUOTE)?;
     put_inside(out, text)?;

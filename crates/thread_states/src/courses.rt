@@ -1,7 +1,7 @@
 //! The state of each thread: its open methods and its transaction.
 
 ghost use Rattle.std.specs.Prelude.{◌≡◌, ℕ, [], None, Some, drop, IfOk, IfSome, OnOk, if◌then◌else◌};
-ghost use Rattle.velodrome.specs.Specification.{is_atomic as atomic_by};
+ghost use Rattle.velodrome.specs.Specification.{is_atomic};
 ghost use Rattle.velodrome.specs.Transactions.{entered, exited, has_atomic, is_innermost};
 ghost use Rattle.thread_states.specs.ThreadStates.{thread_state_in, IsChanged};
 ghost use Rattle.thread_states.specs.Seen.{HasRoom};
@@ -52,7 +52,7 @@ impl ThreadStates {
 
     /// Decides whether the specification calls a method atomic.
     pub fn is_atomic(&self, method: &MethodKey) -> bool
-        ensures { result ≡ atomic_by self.now.lines method.now }
+        ensures { result ≡ is_atomic self.now.lines method.now }
     {
         self.spec.is_atomic(method)
     }

@@ -4,8 +4,8 @@ ghost use Rattle.std.specs.Prelude.{◌≡◌, ◌++◌, ◌∷◌, OnOk, IfOk};
 ghost use Rattle.std.specs.Fmt.{decimal};
 ghost use Rattle.std.specs.String.{string_bytes};
 ghost use Rattle.escapes.specs.Readings.{IsReadAs};
-ghost use Rattle.trace_text.specs.Items.{IsItem, item_text, touched_text, thread_of as thread_of_item};
-ghost use Rattle.trace_text.specs.Parts.{IsItemOf, word_text, kind_of as kind_of_item};
+ghost use Rattle.trace_text.specs.Items.{IsItem, item_text, touched_text, thread_of};
+ghost use Rattle.trace_text.specs.Parts.{IsItemOf, word_text, kind_of};
 
 use crate::members::Keys;
 use crate::number::{number_of, put_number};
@@ -20,7 +20,7 @@ const SPACE: u8 = b' ';
 
 /// Returns the word of an item.
 fn kind_of(item: &Item) -> Word
-    ensures { result ≡ kind_of_item item.now }
+    ensures { result ≡ kind_of item.now }
 {
     match item {
         Item::Read { .. } => Word::Read,
@@ -36,7 +36,7 @@ fn kind_of(item: &Item) -> Word
 
 /// Returns the thread of an item.
 fn thread_of(item: &Item) -> ThreadId
-    ensures { result ≡ thread_of_item item.now }
+    ensures { result ≡ thread_of item.now }
 {
     match item {
         Item::Read { thread, .. }

@@ -5,7 +5,7 @@ ghost use Rattle.std.specs.Prelude.{◌≡◌, option_copied, drop};
 ghost use Rattle.jvms_machine.specs.declared.value.Value.TheVariants as value;
 ghost use Rattle.jvms_machine.specs.Arrays.{with_object_of};
 ghost use Rattle.jvms_machine.specs.State.{Object, class_of};
-ghost use Rattle.jvms_machine.specs.Unwinding.{covers, takes_class, handles, handler_of, popped_decision as pops, handler_decision as handled, failed_with, top_decision as unwinds_top, unwinding_decision as unwinds, throwable_decision as throwable, throw_decision as throws_it};
+ghost use Rattle.jvms_machine.specs.Unwinding.{covers, takes_class, handles, handler_of, popped_decision, handler_decision, failed_with, top_decision, unwinding_decision, throwable_decision, throw_decision};
 ghost use Rattle.machine_parts.specs.Decided.{seen};
 ghost use Rattle.unwinding.specs.Replacing.{is_replaced};
 
@@ -72,7 +72,7 @@ fn handler_of<'p>(
 
 /// Decides that the call of this frame is popped, and leaves its monitor.
 fn popped_decision<'p>(parts: &Parts<'p>, t: usize, thread: &Thread, frame: &Frame) -> Decided<'p>
-    ensures { seen result ≡ pops parts.now.limits parts.now.state t frame.now (drop 1 thread.now.frames) }
+    ensures { seen result ≡ popped_decision parts.now.limits parts.now.state t frame.now (drop 1 thread.now.frames) }
 {
     match parts.unlocking(t, frame) {
         Unlocking::Fails => parts.fails_to_unlock(thread, frame),
@@ -94,7 +94,7 @@ fn handler_decision<'p>(
     reference: u32,
     class: &[u16],
 ) -> Decided<'p>
-    ensures { seen result ≡ handled parts.now.limits parts.now.state t frame.now (drop 1 thread.now.frames) reference (handler_of parts.now.program class.now frame.now) }
+    ensures { seen result ≡ handler_decision parts.now.limits parts.now.state t frame.now (drop 1 thread.now.frames) reference (handler_of parts.now.program class.now frame.now) }
 {
     match handler_of(parts.program(), class, frame) {
         None => popped_decision(parts, t, thread, frame),
@@ -138,7 +138,7 @@ fn unwound_by_top<'p>(
     reference: u32,
     class: &[u16],
 ) -> Decided<'p>
-    ensures { (o : Object) → class.now ≡ class_of o → seen result ≡ unwinds_top parts.now.program parts.now.limits parts.now.state t thread.now.frames reference o }
+    ensures { (o : Object) → class.now ≡ class_of o → seen result ≡ top_decision parts.now.program parts.now.limits parts.now.state t thread.now.frames reference o }
 {
     match thread.frame(0) {
         None => never_seen(),
@@ -168,7 +168,7 @@ pub fn unwinding_decision<'p>(
     thread: &Thread,
     reference: u32,
 ) -> Decided<'p>
-    ensures { seen result ≡ unwinds parts.now.program parts.now.limits parts.now.state t thread.now reference }
+    ensures { seen result ≡ unwinding_decision parts.now.program parts.now.limits parts.now.state t thread.now reference }
 {
     match parts.heap.class_of(reference) {
         None => never_seen(),
@@ -178,7 +178,7 @@ pub fn unwinding_decision<'p>(
 
 /// Decides the throw of the object of a reference. Stops with `Kind` if it is no Throwable.
 fn throwable_decision<'p>(parts: &Parts<'p>, thread: &Thread, reference: u32) -> Decided<'p>
-    ensures { seen result ≡ with_object_of parts.now.limits parts.now.state thread.now (value.Reference reference) (throwable parts.now.program) }
+    ensures { seen result ≡ with_object_of parts.now.limits parts.now.state thread.now (value.Reference reference) (throwable_decision parts.now.program) }
 {
     match parts.heap.class_of(reference) {
         None => never_seen(),
@@ -195,7 +195,7 @@ fn throwable_decision<'p>(parts: &Parts<'p>, thread: &Thread, reference: u32) ->
 /// Decides JVMS 6.5 `athrow`. It tests the depth and null, then that the object is a Throwable.
 #[tactic(auto, unfolding(jvms_machine::specs::Unwinding::throw_decision))]
 pub fn throw_decision<'p>(parts: &Parts<'p>, thread: &Thread, frame: &Frame) -> Decided<'p>
-    ensures { seen result ≡ throws_it parts.now.program parts.now.limits parts.now.state thread.now frame.now }
+    ensures { seen result ≡ throw_decision parts.now.program parts.now.limits parts.now.state thread.now frame.now }
 {
     if !has_depth(frame, 1, 0) {
         return bad(BadCause::Depth);

@@ -1,7 +1,7 @@
 //! The code of a method (JVMS 4.7.3).
 
 ghost use Rattle.std.specs.Prelude.{◌≡◌, ◌++◌, OnOk};
-ghost use Rattle.class_file.specs.Writing.{counted_bytes, code_bytes, handler_bytes, pc_of as pc_at};
+ghost use Rattle.class_file.specs.Writing.{counted_bytes, code_bytes, handler_bytes, pc_of};
 
 use crate::writing::attribute::write_kept_attributes;
 use file_bytes::{write_count, write_length, write_u2};
@@ -11,7 +11,7 @@ use std::alloc::AllocError;
 
 /// Returns the byte at which the instruction at a place starts, or the code's length for the place after the last.
 fn pc_of(layout: &Layout, place: u32) -> usize
-    ensures { result ≡ pc_at layout.now place }
+    ensures { result ≡ pc_of layout.now place }
 {
     match layout.starts.as_slice().get(place as usize).copied() {
         Some(start) => start as usize,

@@ -1,8 +1,8 @@
 //! The component types of arrays (JVMS 2.4), by the names of the arrays' classes.
 
 ghost use Rattle.std.specs.Prelude.{◌≡◌, drop};
-ghost use Rattle.jvms_machine.specs.Arrays.{serves as serving, is_reference_kind as is_references};
-ghost use Rattle.jvms_machine.specs.Heap.{component_class as class_of_components, component_type as type_of_components};
+ghost use Rattle.jvms_machine.specs.Arrays.{serves, is_reference_kind};
+ghost use Rattle.jvms_machine.specs.Heap.{component_class, component_type};
 ghost use Rattle.jvms_program.specs.Resolution.{class_exists};
 ghost use Rattle.jvms_file.specs.declared.descriptor.Element.TheVariants as element;
 ghost use Rattle.descriptor.specs.Scanning.{type_of};
@@ -26,7 +26,7 @@ pub(crate) fn behind_bracket(class: &[u16]) -> &[u16]
 /// Returns the component type of an array's class.
 #[inline(always)]
 pub(crate) fn component_type(class: &[u16]) -> ParsedType<'_>
-    ensures { type_of result ≡ type_of_components class.now }
+    ensures { type_of result ≡ component_type class.now }
 {
     match field_in(behind_bracket(class)) {
         Some(t) => t,
@@ -39,7 +39,7 @@ pub(crate) fn component_type(class: &[u16]) -> ParsedType<'_>
 
 /// Returns the name of the component class of an array of references.
 pub(crate) fn component_class(class: &[u16]) -> &[u16]
-    ensures { result.now ≡ class_of_components class.now }
+    ensures { result.now ≡ component_class class.now }
 {
     match component_type(class) {
         ParsedType {
@@ -53,7 +53,7 @@ pub(crate) fn component_class(class: &[u16]) -> &[u16]
 /// Decides whether an array instruction of a kind works on arrays of a primitive type.
 #[inline(always)]
 fn serves_primitive(kind: ArrayKind, primitive: Primitive) -> bool
-    ensures { result ≡ serving kind (of_element (element.Primitive primitive)) }
+    ensures { result ≡ serves kind (of_element (element.Primitive primitive)) }
 {
     match kind {
         ArrayKind::Int => primitive == Primitive::Int,
@@ -69,7 +69,7 @@ fn serves_primitive(kind: ArrayKind, primitive: Primitive) -> bool
 /// booleans too.
 #[inline(always)]
 pub(crate) fn serves(kind: ArrayKind, t: ParsedType<'_>) -> bool
-    ensures { result ≡ serving kind (type_of t.entry) }
+    ensures { result ≡ serves kind (type_of t.entry) }
 {
     match t.innermost {
         ParsedElement::Primitive(primitive) if t.dimensions == 0 => serves_primitive(
@@ -82,7 +82,7 @@ pub(crate) fn serves(kind: ArrayKind, t: ParsedType<'_>) -> bool
 /// Decides whether an array instruction of a kind loads or stores references.
 #[inline(always)]
 pub(crate) fn is_reference_kind(kind: ArrayKind) -> bool
-    ensures { result ≡ is_references kind }
+    ensures { result ≡ is_reference_kind kind }
 {
     matches!(kind, ArrayKind::Reference)
 }

@@ -2,8 +2,8 @@
 
 ghost use Rattle.std.specs.Prelude.{◌≡◌, ◌+◌, ◌<◌, ◌≤◌, ◌^◌, drop, length};
 ghost use Rattle.std.specs.Option.{option_and_then};
-ghost use Rattle.jvms_machine.specs.Arrays.{if_deep, element_size as size_of_elements, fits_component as fits_into, kind_of_elements as element_kind, load_operands, store_below as stores_below, store_operands};
-ghost use Rattle.jvms_machine.specs.Places.{top_value as value_on_top};
+ghost use Rattle.jvms_machine.specs.Arrays.{if_deep, element_size, fits_component, kind_of_elements, load_operands, store_below, store_operands};
+ghost use Rattle.jvms_machine.specs.Places.{top_value};
 ghost use Rattle.jvms_machine.specs.State.{object_at};
 ghost use Rattle.exec_ref.specs.Asked.{element_by, loads_from, stores_to};
 ghost use Rattle.machine_parts.specs.Decided.{seen};
@@ -70,7 +70,7 @@ pub(crate) fn load_decision<'p>(
     frame: &Frame,
     kind: ArrayKind,
 ) -> Decided<'p>
-    ensures { seen result ≡ if_deep frame.now 2 (size_of_elements kind) (load_operands parts.now.limits parts.now.state thread.now frame.now kind frame.now.activation.operands) }
+    ensures { seen result ≡ if_deep frame.now 2 (element_size kind) (load_operands parts.now.limits parts.now.state thread.now frame.now kind frame.now.activation.operands) }
 {
     if !has_depth(frame, 2, element_size(kind)) {
         return bad(BadCause::Depth);
@@ -88,7 +88,7 @@ pub(crate) fn load_decision<'p>(
 
 /// Decides the store check of JVMS 6.5 `aastore`: null passes, and so does an object whose class fits the component's.
 fn fits_component(parts: &Parts, class: &[u16], value: Value) -> bool
-    ensures { result ≡ fits_into parts.now.program parts.now.state class.now value }
+    ensures { result ≡ fits_component parts.now.program parts.now.state class.now value }
 {
     let Value::Reference(reference) = value else {
         return true;
@@ -148,8 +148,8 @@ fn store_below<'p>(
     value: Value,
 ) -> Decided<'p>
     requires place { frame.now.activation.place + 1 < 2 ^ 64 }
-    requires there { 2 + size_of_elements kind ≤ length frame.now.activation.operands }
-    ensures { seen result ≡ stores_below parts.now.program parts.now.limits parts.now.state thread.now frame.now.activation kind value (drop (size_of_elements kind) frame.now.activation.operands) }
+    requires there { 2 + element_size kind ≤ length frame.now.activation.operands }
+    ensures { seen result ≡ store_below parts.now.program parts.now.limits parts.now.state thread.now frame.now.activation kind value (drop (element_size kind) frame.now.activation.operands) }
 {
     let (array, Value::Int(n)) = frame.two_below(usize::from(element_size(kind))) else {
         return bad(BadCause::Kind);
@@ -171,7 +171,7 @@ pub(crate) fn store_decision<'p>(
     kind: ArrayKind,
 ) -> Decided<'p>
     requires { frame.now.activation.place + 1 < 2 ^ 64 }
-    ensures { seen result ≡ if_deep frame.now (2 + size_of_elements kind) 0 (store_operands parts.now.program parts.now.limits parts.now.state thread.now frame.now.activation kind (value_on_top (element_kind kind) frame.now.activation.operands)) }
+    ensures { seen result ≡ if_deep frame.now (2 + element_size kind) 0 (store_operands parts.now.program parts.now.limits parts.now.state thread.now frame.now.activation kind (top_value (kind_of_elements kind) frame.now.activation.operands)) }
 {
     if !has_depth(frame, 2 + element_size(kind), 0) {
         return bad(BadCause::Depth);

@@ -2,8 +2,8 @@
 
 ghost use Rattle.std.specs.Prelude.{◌≡◌, ℕ, ◌+◌, ◌*◌, ◌<◌, ◌≤◌, ◌^◌, IsTrue, length, map};
 ghost use Rattle.std.specs.List.{list_all, list_any};
-ghost use Rattle.jvms_machine.specs.Heap.{arrays_made, elements_made, has_dimensions, has_room_for_elements as room_for_elements};
-ghost use Rattle.jvms_machine.specs.Arrays.{is_int as int, is_negative as negative, length_of_value as length_in, new_arrays_room as room, new_arrays_decision as makes_arrays};
+ghost use Rattle.jvms_machine.specs.Heap.{arrays_made, elements_made, has_dimensions, has_room_for_elements};
+ghost use Rattle.jvms_machine.specs.Arrays.{is_int, is_negative, length_of_value, new_arrays_room, new_arrays_decision};
 ghost use Rattle.exec_ref.specs.Counting.{capped, lengths_decision};
 ghost use Rattle.machine_parts.specs.Decided.{seen};
 
@@ -22,13 +22,13 @@ use shared_data::shared::Text;
 const MOST: usize = 1 << 32;
 
 fn is_int(value: Value) -> bool
-    ensures { result ≡ int value }
+    ensures { result ≡ is_int value }
 {
     matches!(value, Value::Int(_))
 }
 
 fn is_negative(value: Value) -> bool
-    ensures { result ≡ negative value }
+    ensures { result ≡ is_negative value }
 {
     match value {
         Value::Int(n) => n < 0,
@@ -42,7 +42,7 @@ fn is_negative(value: Value) -> bool
 }
 
 pub(crate) fn length_of_value(value: Value) -> usize
-    ensures exact { result ≡ length_in value }
+    ensures exact { result ≡ length_of_value value }
     ensures few { result ≤ 0x80000000 }
 {
     match value {
@@ -85,8 +85,8 @@ fn grown(base: usize, times: usize, part: usize) -> usize
 /// first, and both counts are capped.
 #[tactic(auto, using(crate::proofs::CountLaws::arrays_grow, crate::proofs::CountLaws::elements_grow))]
 fn counted(lengths: &[Value]) -> (usize, usize)
-    ensures arrays { result.0 ≡ capped (arrays_made (map length_in lengths.now)) }
-    ensures elements { result.1 ≡ capped (elements_made (map length_in lengths.now)) }
+    ensures arrays { result.0 ≡ capped (arrays_made (map length_of_value lengths.now)) }
+    ensures elements { result.1 ≡ capped (elements_made (map length_of_value lengths.now)) }
 {
     match lengths {
         [] => (0, 0),
@@ -99,13 +99,13 @@ fn counted(lengths: &[Value]) -> (usize, usize)
 }
 
 fn are_ints(lengths: &[Value]) -> bool
-    ensures { result ≡ list_all int lengths.now }
+    ensures { result ≡ list_all is_int lengths.now }
 {
     lengths.iter().all(|length| is_int(*length))
 }
 
 fn any_is_negative(lengths: &[Value]) -> bool
-    ensures { result ≡ list_any negative lengths.now }
+    ensures { result ≡ list_any is_negative lengths.now }
 {
     lengths.iter().any(|length| is_negative(*length))
 }
@@ -114,7 +114,7 @@ fn any_is_negative(lengths: &[Value]) -> bool
 /// exact ones.
 #[tactic(auto, using(crate::proofs::CountLaws::room_counted))]
 fn has_room_for_counted(parts: &Parts, objects: usize, elements: usize) -> bool
-    ensures exact { (whole more : ℕ) → objects ≡ capped whole → elements ≡ capped more → result ≡ room_for_elements whole more parts.now.limits parts.now.state }
+    ensures exact { (whole more : ℕ) → objects ≡ capped whole → elements ≡ capped more → result ≡ has_room_for_elements whole more parts.now.limits parts.now.state }
     ensures number { IsTrue result → length parts.now.state.heap + objects < 2 ^ 32 }
 {
     let _objects = parts.limits.objects;
@@ -132,7 +132,7 @@ fn new_arrays_room<'p>(
     lengths: &[Value],
 ) -> Decided<'p>
     requires { length lengths.now ≡ dimensions }
-    ensures { seen result ≡ room parts.now.limits parts.now.state thread.now class.now dimensions (map length_in lengths.now) }
+    ensures { seen result ≡ new_arrays_room parts.now.limits parts.now.state thread.now class.now dimensions (map length_of_value lengths.now) }
 {
     if !has_dimensions(class.as_slice(), dimensions) {
         return never_seen();
@@ -178,7 +178,7 @@ pub fn new_arrays_decision<'p>(
     class: &'p Text,
     dimensions: u8,
 ) -> Decided<'p>
-    ensures { seen result ≡ makes_arrays parts.now.program parts.now.limits parts.now.state thread.now frame.now class.now dimensions }
+    ensures { seen result ≡ new_arrays_decision parts.now.program parts.now.limits parts.now.state thread.now frame.now class.now dimensions }
 {
     if !has_depth(frame, dimensions, 1) {
         return bad(BadCause::Depth);

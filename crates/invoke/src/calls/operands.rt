@@ -6,7 +6,7 @@ ghost use Rattle.jvms_file.specs.declared.descriptor.MethodType.{MethodType as M
 ghost use Rattle.std.specs.Prelude.{◌≡◌, ◌+◌, ◌≤◌, false, length, MatchOption, Some, slice_get};
 ghost use Rattle.jvms_machine.specs.State.{result_length};
 ghost use Rattle.jvms_machine.specs.Activations.{has_depth};
-ghost use Rattle.jvms_machine.specs.Calls.{taken as takes_of, are_of_types as of_types, receiver_of, are_of_call as of_call};
+ghost use Rattle.jvms_machine.specs.Calls.{taken, are_of_types, receiver_of, are_of_call};
 ghost use Rattle.invoke.specs.Calling.{Takes};
 
 use descriptor::parameter_units;
@@ -21,7 +21,7 @@ use machine_parts::{kind_of_type, type_size};
 /// Returns the number of operands that a call instruction takes, where its arguments take `arguments`.
 fn taken(how: Invoke, arguments: usize) -> usize
     requires { arguments ≤ 65535 }
-    ensures { (t : MeantType) → arguments ≡ units t → result ≡ takes_of how t }
+    ensures { (t : MeantType) → arguments ≡ units t → result ≡ taken how t }
 {
     if is_static_call(how) {
         arguments
@@ -42,7 +42,7 @@ fn given(t: &ResultType) -> usize
 
 /// Returns the number of operands that a call takes, if they are present and the result fits `max_stack`.
 pub(crate) fn taken_from(frame: &Frame, how: Invoke, t: &MethodType) -> Option<u16>
-    ensures { MatchOption result (has_depth frame.now.body (takes_of how t.now) (result_length t.now.result) frame.now.activation ≡ false) (λ takes. Takes frame.now how t.now takes) }
+    ensures { MatchOption result (has_depth frame.now.body (taken how t.now) (result_length t.now.result) frame.now.activation ≡ false) (λ takes. Takes frame.now how t.now takes) }
 {
     let arguments = parameter_units(t);
     let height = usize::from(frame.height());
@@ -60,7 +60,7 @@ pub(crate) fn taken_from(frame: &Frame, how: Invoke, t: &MethodType) -> Option<u
 
 /// Decides whether the slots hold values of the types, one value for each type. A long takes two slots.
 fn are_of_types(types: &[FieldType], places: &[Value]) -> bool
-    ensures { result ≡ of_types types.now places.now }
+    ensures { result ≡ are_of_types types.now places.now }
 {
     let mut rest = places;
     for t in types {
@@ -91,7 +91,7 @@ pub(crate) fn receiver(t: &MethodType, frame: &Frame, takes: u16) -> Value
 /// or null.
 pub(crate) fn are_of_call(how: Invoke, t: &MethodType, frame: &Frame, takes: u16) -> bool
     requires takes { Takes frame.now how t.now takes }
-    ensures { result ≡ of_call how t.now frame.now.activation.operands }
+    ensures { result ≡ are_of_call how t.now frame.now.activation.operands }
 {
     let types = t.parameters.as_slice();
     if is_static_call(how) {

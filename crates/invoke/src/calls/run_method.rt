@@ -3,7 +3,7 @@
 ghost use Rattle.std.specs.Prelude.{◌≡◌, Some};
 ghost use Rattle.classes.specs.Places.{IsMethodAt, LocatesItem};
 ghost use Rattle.jvms_program.specs.Resolution.{ResolvedMethod};
-ghost use Rattle.jvms_machine.specs.Calls.{run_of_object as runs_object, run_decision as runs, selected_run as runs_selected};
+ghost use Rattle.jvms_machine.specs.Calls.{run_of_object, run_decision, selected_run};
 ghost use Rattle.jvms_machine.specs.State.{object_at};
 ghost use Rattle.std.specs.Prelude.{Option};
 ghost use Rattle.machine_parts.specs.Decided.{seen};
@@ -28,7 +28,7 @@ fn selected_run<'p>(
     receiver: u32,
     selected: Option<(usize, usize)>,
 ) -> Decided<'p>
-    ensures { (what : Option ResolvedMethod) → LocatesItem (IsMethodAt parts.now.program) what selected → seen result ≡ runs_selected parts.now.program parts.now.limits parts.now.state t thread.now receiver what }
+    ensures { (what : Option ResolvedMethod) → LocatesItem (IsMethodAt parts.now.program) what selected → seen result ≡ selected_run parts.now.program parts.now.limits parts.now.state t thread.now receiver what }
 {
     let Some(place) = selected else {
         return parts.throws(thread, Thrown::AbstractMethodError);
@@ -46,7 +46,7 @@ fn selected_run<'p>(
 
 /// Decides the call of `run` for the object of a reference.
 fn run_of_object<'p>(parts: &Parts<'p>, t: usize, thread: &Thread, reference: u32) -> Decided<'p>
-    ensures { seen result ≡ runs_object parts.now.program parts.now.limits parts.now.state t thread.now reference (object_at parts.now.state.heap reference) }
+    ensures { seen result ≡ run_of_object parts.now.program parts.now.limits parts.now.state t thread.now reference (object_at parts.now.state.heap reference) }
 {
     match parts.heap.class_of(reference) {
         None => never_seen(),
@@ -62,7 +62,7 @@ fn run_of_object<'p>(parts: &Parts<'p>, t: usize, thread: &Thread, reference: u3
 
 /// Decides the call of `run` for the thread's object.
 pub(crate) fn run_decision<'p>(parts: &Parts<'p>, t: usize, thread: &Thread) -> Decided<'p>
-    ensures { seen result ≡ runs parts.now.program parts.now.limits parts.now.state t thread.now thread.now.object }
+    ensures { seen result ≡ run_decision parts.now.program parts.now.limits parts.now.state t thread.now thread.now.object }
 {
     match thread.object() {
         None => never_seen(),

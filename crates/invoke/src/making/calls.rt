@@ -3,8 +3,8 @@
 ghost use Rattle.std.specs.Prelude.{◌≡◌, ◌<◌, ◌≤◌, ◌++◌, [], drop, length, IsOk, IfOk, IfSome, OnOk, OnErr, slice_get};
 ghost use Rattle.jvms_machine.specs.declared.action.Action.TheVariants as action;
 ghost use Rattle.jvms_machine.specs.Calls.{entered};
-ghost use Rattle.jvms_machine.specs.Monitors.{locked_reference as reference_locked};
-ghost use Rattle.jvms_machine.specs.Actions.{arguments_of, enter_items, first_arguments, items_of, lock_items, popped, top_operands, with_changed, with_lock, with_result as resulting};
+ghost use Rattle.jvms_machine.specs.Monitors.{locked_reference};
+ghost use Rattle.jvms_machine.specs.Actions.{arguments_of, enter_items, first_arguments, items_of, lock_items, popped, top_operands, with_changed, with_lock, with_result};
 ghost use Rattle.jvms_machine.specs.Turn.{CanBeLocked, IsReady};
 ghost use Rattle.machine_parts.specs.Machine.{with_state, after};
 ghost use Rattle.machine_parts.specs.Ready.{HasCaller};
@@ -24,7 +24,7 @@ use trace::Recording;
 /// Returns the object whose monitor a call holds with its frame.
 #[inline(always)]
 fn locked_reference(lock: Lock) -> Option<u32>
-    ensures { result ≡ reference_locked lock }
+    ensures { result ≡ locked_reference lock }
 {
     match lock {
         Lock::Nothing => None,
@@ -107,7 +107,7 @@ fn first_frame<'p>(
     lock: Lock,
 ) -> Result<Frame<'p>, AllocError>
     requires { IsReady parts.now.start parts.now.state t (action.Enters method code.now lock) }
-    ensures { IfOk result (λ frame. IfSome (slice_get parts.now.state.threads t) (λ thread. frame ≡ entered method code.now (reference_locked lock) (first_arguments parts.now.start thread))) }
+    ensures { IfOk result (λ frame. IfSome (slice_get parts.now.state.threads t) (λ thread. frame ≡ entered method code.now (locked_reference lock) (first_arguments parts.now.start thread))) }
 {
     let monitor = locked_reference(lock);
     match parts.threads[t as usize].object() {
@@ -167,7 +167,7 @@ fn push_called<'p>(
     lock: Lock,
 ) -> Result<(), AllocError>
     requires { IsReady parts.old.start parts.old.state t (action.Calls method code.now takes lock) }
-    ensures ok { OnOk result (parts.new ≡ with_state parts.old (with_changed parts.old.state t (pushed (entered method code.now (reference_locked lock) (arguments_of takes (slice_get parts.old.state.threads t)))))) }
+    ensures ok { OnOk result (parts.new ≡ with_state parts.old (with_changed parts.old.state t (pushed (entered method code.now (locked_reference lock) (arguments_of takes (slice_get parts.old.state.threads t)))))) }
     ensures err { OnErr result (parts.new ≡ parts.old) }
 {
     let alloc = parts.alloc;
@@ -230,7 +230,7 @@ pub fn return_below(
 
 /// Records the result of the entry's method, which is that of thread 0.
 fn set_result(parts: &mut Parts, t: ThreadId, value: Option<Value>)
-    ensures { parts.new ≡ with_state parts.old (resulting parts.old.state t value) }
+    ensures { parts.new ≡ with_state parts.old (with_result parts.old.state t value) }
 {
     if t == 0 {
         parts.result = value;

@@ -2,7 +2,7 @@
 
 ghost use Rattle.std.specs.Prelude.{◌≡◌, ◌+◌, ◌<◌, ◌^◌, OnOk, OnErr, length, map};
 ghost use Rattle.jvms_machine.specs.declared.action.Action.TheVariants as action;
-ghost use Rattle.jvms_machine.specs.Actions.{begun, initialising, items_of, with_changed, with_initialisation as marked, with_texts};
+ghost use Rattle.jvms_machine.specs.Actions.{begun, initialising, items_of, with_changed, with_initialisation, with_texts};
 ghost use Rattle.jvms_machine.specs.State.{text};
 ghost use Rattle.jvms_machine.specs.Turn.{IsReady};
 ghost use Rattle.heap.specs.Objects.{with_new};
@@ -47,7 +47,7 @@ fn begin_with_texts(
 
 /// Sets the state of the initialisation of a class.
 pub fn mark(parts: &mut Parts, class: usize, how: Initialisation)
-    ensures { parts.new ≡ with_state parts.old (marked parts.old.state class how) }
+    ensures { parts.new ≡ with_state parts.old (with_initialisation parts.old.state class how) }
 {
     if let Some(slot) = parts.initialisations.get_mut(class) {
         *slot = how;
