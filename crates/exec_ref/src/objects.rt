@@ -22,7 +22,7 @@ use crate::arrays::{making, new_class_array_decision};
 use frames::Frame;
 use jvms_file::insn::ClassUse;
 use jvms_machine::action::{Effect, FrameAction, NewObject};
-use jvms_machine::machine::BadCause;
+use jvms_machine::machine::{BadCause, ThreadId};
 use jvms_machine::value::Value;
 use jvms_program::program::{Class, ClassKind, Loadable};
 use jvms_program::thrown::Thrown;
@@ -75,7 +75,12 @@ fn creation_if_room<'p>(
 }
 
 /// Decides the creation of an instance of a class by its number, once the class is initialised.
-fn instance_of_number<'p>(parts: &Parts<'p>, t: usize, thread: &Thread, class: usize) -> Decided<'p>
+fn instance_of_number<'p>(
+    parts: &Parts<'p>,
+    t: ThreadId,
+    thread: &Thread,
+    class: usize,
+) -> Decided<'p>
     ensures { seen result ≡ instance_of_number parts.now.program parts.now.limits parts.now.state t thread.now (Some class) }
 {
     match parts.asking(t, thread, class) {
@@ -104,7 +109,7 @@ fn class_of_site<'p>(
 /// initialisation, then the room.
 fn new_instance_decision<'p>(
     parts: &Parts<'p>,
-    t: usize,
+    t: ThreadId,
     thread: &Thread,
     frame: &Frame,
     name: &[u16],
@@ -190,7 +195,7 @@ fn instance_test_decision<'p>(
 #[tactic(auto, unfolding(jvms_machine::specs::Objects::class_decision))]
 pub fn class_decision<'p>(
     parts: &Parts<'p>,
-    t: usize,
+    t: ThreadId,
     thread: &Thread,
     frame: &Frame,
     how: ClassUse,

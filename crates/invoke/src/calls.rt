@@ -17,7 +17,7 @@ mod run_method;
 use crate::calls::run_method::run_decision;
 use exec::is_outside_method;
 use jvms_machine::action::{Action, Decision, Lock};
-use jvms_machine::machine::BadCause;
+use jvms_machine::machine::{BadCause, ThreadId};
 use jvms_program::number::MethodNumber;
 use jvms_program::program::{Body, Method};
 use jvms_program::thrown::Thrown;
@@ -46,7 +46,7 @@ pub(crate) struct Given {
 /// arguments, then the monitor of a synchronized method.
 fn enter_decision<'p>(
     parts: &Parts<'p>,
-    t: usize,
+    t: ThreadId,
     thread: &Thread,
     n: MethodNumber,
     method: &Method,
@@ -70,7 +70,7 @@ fn enter_decision<'p>(
 /// Decides the call of a selected method.
 fn called_decision<'p>(
     parts: &Parts<'p>,
-    t: usize,
+    t: ThreadId,
     thread: &Thread,
     n: MethodNumber,
     method: &'p Method,
@@ -93,7 +93,7 @@ fn called_decision<'p>(
 /// Decides the first call of a thread, of this method.
 fn first_call<'p>(
     parts: &Parts<'p>,
-    t: usize,
+    t: ThreadId,
     thread: &Thread,
     n: MethodNumber,
     method: &'p Method,
@@ -115,7 +115,7 @@ fn first_call<'p>(
 /// Decides the call of the entry's method, once its class is initialised.
 fn entry_decision<'p>(
     parts: &Parts<'p>,
-    t: usize,
+    t: ThreadId,
     thread: &Thread,
     method: &'p Method,
 ) -> Decided<'p>
@@ -135,7 +135,7 @@ fn entry_decision<'p>(
 }
 
 /// Decides the first call of a thread.
-pub fn first_call_decision<'p>(parts: &Parts<'p>, t: usize, thread: &Thread) -> Decided<'p>
+pub fn first_call_decision<'p>(parts: &Parts<'p>, t: ThreadId, thread: &Thread) -> Decided<'p>
     ensures { seen result ≡ first_call_decision parts.now.program parts.now.limits parts.now.start parts.now.state t thread.now }
 {
     if t != 0 {

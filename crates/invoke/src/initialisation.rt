@@ -8,6 +8,7 @@ ghost use Rattle.machine_parts.specs.Decided.{seen};
 
 use classes::declared_number;
 use jvms_machine::action::{Action, Decision};
+use jvms_machine::machine::ThreadId;
 use jvms_program::number::MethodNumber;
 use jvms_program::program::{Class, ClassKind};
 use jvms_program::thrown::Thrown;
@@ -86,7 +87,7 @@ fn initializer_decision<'p>(
 /// Decides the initialisation of the superclass, if there is one. Returns `None` if the subclass continues.
 fn superclass_decision<'p>(
     parts: &Parts<'p>,
-    t: usize,
+    t: ThreadId,
     thread: &Thread,
     superclass: Option<usize>,
 ) -> Option<Decided<'p>>
@@ -101,7 +102,7 @@ fn superclass_decision<'p>(
 /// Decides a turn with an initialisation on top.
 pub fn initialisation_decision<'p>(
     parts: &Parts<'p>,
-    t: usize,
+    t: ThreadId,
     thread: &Thread,
     class: usize,
     called: bool,

@@ -10,7 +10,7 @@ pub(crate) mod fast;
 
 use frames::Frame;
 use jvms_machine::action::Effect;
-use jvms_machine::machine::BadCause;
+use jvms_machine::machine::{BadCause, ThreadId};
 use jvms_machine::value::Value;
 use jvms_program::thrown::Thrown;
 use machine_parts::{Decided, Entering, Parts, bad, has_depth, never_seen, reaches, taking};
@@ -19,7 +19,7 @@ use machine_thread::Thread;
 /// Decides the entry of an object's monitor.
 fn enter_object<'p>(
     parts: &Parts<'p>,
-    t: usize,
+    t: ThreadId,
     thread: &Thread,
     frame: &Frame,
     reference: u32,
@@ -39,7 +39,7 @@ fn enter_object<'p>(
 /// Decides the exit from an object's monitor.
 fn exit_object<'p>(
     parts: &Parts<'p>,
-    t: usize,
+    t: ThreadId,
     thread: &Thread,
     frame: &Frame,
     reference: u32,
@@ -60,7 +60,7 @@ fn exit_object<'p>(
 #[tactic(auto, unfolding(jvms_machine::specs::Locking::monitor_enter_decision))]
 pub fn monitor_enter_decision<'p>(
     parts: &Parts<'p>,
-    t: usize,
+    t: ThreadId,
     thread: &Thread,
     frame: &Frame,
 ) -> Decided<'p>
@@ -82,7 +82,7 @@ pub fn monitor_enter_decision<'p>(
 #[tactic(auto, unfolding(jvms_machine::specs::Locking::monitor_exit_decision))]
 pub fn monitor_exit_decision<'p>(
     parts: &Parts<'p>,
-    t: usize,
+    t: ThreadId,
     thread: &Thread,
     frame: &Frame,
 ) -> Decided<'p>

@@ -13,7 +13,7 @@ use crate::waiting::object_native_decision;
 use descriptor::same_text;
 use frames::Frame;
 use jvms_machine::action::{Effect, Printed};
-use jvms_machine::machine::BadCause;
+use jvms_machine::machine::{BadCause, ThreadId};
 use jvms_machine::value::Value;
 use jvms_program::program::Method;
 use jvms_program::thrown::Thrown;
@@ -120,7 +120,7 @@ fn print_decision<'p>(parts: &Parts<'p>, frame: &Frame, takes: u16, method: &Met
 /// `UnsatisfiedLinkError` for any other class.
 pub(crate) fn native_decision<'p>(
     parts: &Parts<'p>,
-    t: usize,
+    t: ThreadId,
     thread: &Thread,
     frame: &Frame,
     takes: u16,

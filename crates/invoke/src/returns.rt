@@ -12,7 +12,7 @@ use frames::Frame;
 use jvms_file::descriptor::ResultType;
 use jvms_file::insn::{Kind, ReturnInsn};
 use jvms_machine::action::{Action, Decision, MonitorUse};
-use jvms_machine::machine::BadCause;
+use jvms_machine::machine::{BadCause, ThreadId};
 use jvms_machine::value::Value;
 use machine_parts::{Decided, Parts, Unlocking, bad, kind_of_type, never_seen};
 use machine_thread::Thread;
@@ -66,7 +66,7 @@ fn returns_to<'p>(
 /// Decides that the top call, of this frame, returns and leaves its monitor.
 fn returned_decision<'p>(
     parts: &Parts<'p>,
-    t: usize,
+    t: ThreadId,
     thread: &Thread,
     frame: &Frame,
     value: Option<Value>,
@@ -82,7 +82,7 @@ fn returned_decision<'p>(
 /// Decides a return of the topmost value, of this kind.
 fn return_top_decision<'p>(
     parts: &Parts<'p>,
-    t: usize,
+    t: ThreadId,
     thread: &Thread,
     frame: &Frame,
     given: &ResultType,
@@ -104,7 +104,7 @@ fn return_top_decision<'p>(
 /// Decides a return from a method with this result.
 fn return_decision<'p>(
     parts: &Parts<'p>,
-    t: usize,
+    t: ThreadId,
     thread: &Thread,
     frame: &Frame,
     given: &ResultType,
@@ -130,7 +130,7 @@ fn return_decision<'p>(
 /// Decides that the top call, of this frame, returns.
 pub fn method_return_decision<'p>(
     parts: &Parts<'p>,
-    t: usize,
+    t: ThreadId,
     thread: &Thread,
     frame: &Frame,
     how: ReturnInsn,

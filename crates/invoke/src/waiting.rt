@@ -48,7 +48,7 @@ fn waits_or_notifies<'p>(frame: &Frame, method: &Method, wait: Wait) -> Decided<
 /// monitor.
 fn owned_decision<'p>(
     parts: &Parts<'p>,
-    t: usize,
+    t: ThreadId,
     thread: &Thread,
     frame: &Frame,
     method: &Method,
@@ -61,7 +61,7 @@ fn owned_decision<'p>(
     let Some(hold) = hold else {
         return parts.throws(thread, Thrown::IllegalMonitorStateException);
     };
-    if hold.owner as usize != t {
+    if hold.owner != t {
         return parts.throws(thread, Thrown::IllegalMonitorStateException);
     }
     let wait = Wait {
@@ -74,7 +74,7 @@ fn owned_decision<'p>(
 /// Decides a call of `wait`, `notify` or `notifyAll` for the object on top.
 pub(crate) fn object_native_decision<'p>(
     parts: &Parts<'p>,
-    t: usize,
+    t: ThreadId,
     thread: &Thread,
     frame: &Frame,
     method: &Method,
@@ -110,7 +110,7 @@ fn retaking<'p>(wait: Wait, hold: Option<Hold>) -> Decided<'p>
 
 /// Decides the turn of a waiting thread. The turn is blocked until the thread is notified and the monitor is free.
 #[tactic(auto, unfolding(jvms_machine::specs::Waiting::waiting_decision))]
-pub fn waiting_decision<'p>(parts: &Parts<'p>, t: usize, wait: Wait) -> Decided<'p>
+pub fn waiting_decision<'p>(parts: &Parts<'p>, t: ThreadId, wait: Wait) -> Decided<'p>
     ensures { seen result ≡ waiting_decision parts.now.state t wait }
 {
     if parts.is_waiter(t) {

@@ -149,7 +149,7 @@ impl<'p> Machine<'p> {
     pub fn peek(&self, t: ThreadId) -> Outcome
         ensures { result ≡ (transition_of self.now t).outcome }
     {
-        peek(&self.parts, t as usize)
+        peek(&self.parts, t)
     }
 
     /// Proves that the state of every machine is sound. Does nothing.

@@ -9,7 +9,7 @@ ghost use Rattle.machine.specs.Statuses.{any_thread};
 
 use crate::machine::Machine;
 use crate::peek::peek;
-use jvms_machine::machine::{Outcome, Status};
+use jvms_machine::machine::{Outcome, Status, ThreadId};
 use machine_parts::Parts;
 
 /// Decides whether a thread whose next turn has this outcome is enabled: the turn can be taken.
@@ -44,24 +44,24 @@ fn have_all_ended(parts: &Parts) -> bool
 }
 
 /// Decides whether a thread from number `t` on is enabled.
-fn any_enabled(parts: &Parts, t: usize) -> bool
+fn any_enabled(parts: &Parts, t: ThreadId) -> bool
     requires numbered { AreNumbered parts.now.state }
     requires code { HaveTheirCode parts.now }
     ensures { result ≡ any_thread is_enabled parts.now t (drop t parts.now.state.threads) }
 {
-    if t >= parts.threads.len() {
+    if t as usize >= parts.threads.len() {
         return false;
     }
     is_enabled(peek(parts, t)) || any_enabled(parts, t + 1)
 }
 
 /// Decides whether the next turn of a thread from number `t` on is Bad.
-fn any_bad(parts: &Parts, t: usize) -> bool
+fn any_bad(parts: &Parts, t: ThreadId) -> bool
     requires numbered { AreNumbered parts.now.state }
     requires code { HaveTheirCode parts.now }
     ensures { result ≡ any_thread is_bad parts.now t (drop t parts.now.state.threads) }
 {
-    if t >= parts.threads.len() {
+    if t as usize >= parts.threads.len() {
         return false;
     }
     is_bad(peek(parts, t)) || any_bad(parts, t + 1)

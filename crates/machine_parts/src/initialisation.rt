@@ -10,7 +10,7 @@ ghost use Rattle.machine_parts.specs.Decided.{seen};
 use crate::decision::{Decided, never_seen};
 use crate::parts::Parts;
 use jvms_machine::action::{Action, Decision};
-use jvms_machine::machine::{BlockedOn, Outcome};
+use jvms_machine::machine::{BlockedOn, Outcome, ThreadId};
 use jvms_machine::state::Initialisation;
 use jvms_program::thrown::Thrown;
 use machine_thread::Thread;
@@ -25,12 +25,12 @@ impl<'p> Parts<'p> {
 
     /// Fast path of `asking`: reports that a turn which requires the initialisation of a class continues.
     #[inline(always)]
-    pub fn goes_on(&self, t: usize, class: usize) -> bool
+    pub fn goes_on(&self, t: ThreadId, class: usize) -> bool
         ensures { (thread : SeenThread) (go_on : TurnDecision) → IsTrue result → asking self.now.program self.now.limits self.now.state t thread class go_on ≡ go_on }
     {
         match self.initialisation(class) {
             Some(Initialisation::Done) => true,
-            Some(Initialisation::InProgress { thread }) => thread as usize == t,
+            Some(Initialisation::InProgress { thread }) => thread == t,
             Some(Initialisation::NotBegun | Initialisation::Erroneous) | None => false,
         }
     }
@@ -54,7 +54,7 @@ impl<'p> Parts<'p> {
 
     /// Decides a turn that requires the initialisation of a class. Returns `None` if the turn continues, else the
     /// decision instead of it.
-    pub fn asking(&self, t: usize, thread: &Thread, class: usize) -> Option<Decided<'p>>
+    pub fn asking(&self, t: ThreadId, thread: &Thread, class: usize) -> Option<Decided<'p>>
         ensures { (go_on : TurnDecision) → first_or go_on result ≡ asking self.now.program self.now.limits self.now.state t thread.now class go_on }
     {
         match self.initialisation(class) {
@@ -65,7 +65,7 @@ impl<'p> Parts<'p> {
             Some(Initialisation::NotBegun) => Some(self.begin_decision(thread, class)),
             Some(Initialisation::Done) => None,
             Some(Initialisation::InProgress { thread: owner }) => {
-                if owner as usize == t {
+                if owner == t {
                     return None;
                 }
                 Some(Decision::Unmade(Outcome::Blocked {

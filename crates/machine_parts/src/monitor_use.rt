@@ -15,7 +15,7 @@ use crate::decision::{Decided, never_seen};
 use crate::parts::Parts;
 use frames::Frame;
 use jvms_machine::action::{Action, Decision, Lock, MonitorUse};
-use jvms_machine::machine::{BlockedOn, Outcome};
+use jvms_machine::machine::{BlockedOn, Outcome, ThreadId};
 use jvms_machine::state::Hold;
 use jvms_program::number::MethodNumber;
 use jvms_program::program::Method;
@@ -49,10 +49,16 @@ pub enum Unlocking {
 impl<'p> Parts<'p> {
     /// Decides the entry of a held monitor. Its owner enters it again, and any other thread blocks. Throws
     /// `OutOfMemoryError` if the entry count is at its maximum.
-    fn entering_held(&self, t: usize, thread: &Thread, reference: u32, hold: Hold) -> Entering<'p>
+    fn entering_held(
+        &self,
+        t: ThreadId,
+        thread: &Thread,
+        reference: u32,
+        hold: Hold,
+    ) -> Entering<'p>
         ensures { (make : Used → TurnDecision) → turn_by_entry make result ≡ entering_held self.now.limits self.now.state t thread.now reference (Some hold) make }
     {
-        if hold.owner as usize != t {
+        if hold.owner != t {
             let on = BlockedOn::Monitor {
                 reference,
                 owner: hold.owner,
@@ -69,7 +75,7 @@ impl<'p> Parts<'p> {
     }
 
     /// Decides the entry of an object's monitor.
-    pub fn entering(&self, t: usize, thread: &Thread, reference: u32) -> Entering<'p>
+    pub fn entering(&self, t: ThreadId, thread: &Thread, reference: u32) -> Entering<'p>
         ensures { (make : Used → TurnDecision) → turn_by_entry make result ≡ entering self.now.limits self.now.state t thread.now reference make }
     {
         match self.monitor(reference) {
@@ -82,11 +88,11 @@ impl<'p> Parts<'p> {
     }
 
     /// Returns how a thread leaves a monitor, or `None` if it isn't the owner.
-    pub fn leaving(&self, t: usize, reference: u32) -> Option<MonitorUse>
+    pub fn leaving(&self, t: ThreadId, reference: u32) -> Option<MonitorUse>
         ensures { result ≡ leaving self.now.state t reference }
     {
         let hold = self.monitor(reference)?;
-        if hold.owner as usize != t {
+        if hold.owner != t {
             return None;
         }
         Some(MonitorUse {
@@ -96,7 +102,7 @@ impl<'p> Parts<'p> {
     }
 
     /// Decides the locking of an existing object by a call.
-    fn object_locking(&self, t: usize, thread: &Thread, reference: u32) -> Locking<'p>
+    fn object_locking(&self, t: ThreadId, thread: &Thread, reference: u32) -> Locking<'p>
         ensures { (make : Locked → TurnDecision) → turn_by_lock make result ≡ object_locking self.now.limits self.now.state t thread.now (Some reference) make }
     {
         match self.entering(t, thread, reference) {
@@ -108,7 +114,7 @@ impl<'p> Parts<'p> {
     /// Decides the locking of a class's object by a call. The object is created at its first use.
     fn class_locking(
         &self,
-        t: usize,
+        t: ThreadId,
         thread: &Thread,
         class: usize,
         held: Option<u32>,
@@ -141,7 +147,7 @@ impl<'p> Parts<'p> {
     /// Decides what a call of a method locks: the receiver or the class object of a synchronized method, else nothing.
     pub fn locking(
         &self,
-        t: usize,
+        t: ThreadId,
         thread: &Thread,
         n: MethodNumber,
         method: &Method,
@@ -162,7 +168,7 @@ impl<'p> Parts<'p> {
     }
 
     /// Decides how a call leaves the monitor of its frame, if it has one.
-    pub fn unlocking(&self, t: usize, frame: &Frame) -> Unlocking
+    pub fn unlocking(&self, t: ThreadId, frame: &Frame) -> Unlocking
         ensures { (fails : TurnDecision) (make : Option Used → TurnDecision) → turn_by_exit fails make result ≡ unlocking self.now.state t frame.now.monitor fails make }
     {
         match frame.monitor() {

@@ -7,7 +7,7 @@ ghost use Rattle.jvms_machine.specs.Waiting.{is_waiter};
 ghost use Rattle.machine_parts.specs.Saved.{empty_heap, without_objects};
 
 use heap::{Heap, Statics};
-use jvms_machine::machine::Limits;
+use jvms_machine::machine::{Limits, ThreadId};
 use jvms_machine::state::{Hold, Initialisation};
 use jvms_machine::value::Value;
 use jvms_program::number::MethodNumber;
@@ -152,7 +152,7 @@ impl<'p> Parts<'p> {
     }
 
     /// Decides whether a thread waits and wasn't notified.
-    pub fn is_waiter(&self, t: usize) -> bool
+    pub fn is_waiter(&self, t: ThreadId) -> bool
         ensures { result ≡ is_waiter t self.now.state.waiters }
     {
         self.waiters.contains(t)

@@ -44,13 +44,13 @@ impl Waiters {
     }
 
     /// Decides whether a thread waits and wasn't notified.
-    pub fn contains(&self, thread: usize) -> bool
+    pub fn contains(&self, thread: ThreadId) -> bool
         ensures { result ≡ is_waiter thread self.now }
     {
         self.waiters
             .as_slice()
             .iter()
-            .any(|waiter| waiter.1 as usize == thread)
+            .any(|waiter| waiter.1 == thread)
     }
 
     /// Returns the threads that wait for an object, the longest wait first.

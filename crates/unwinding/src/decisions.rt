@@ -11,7 +11,7 @@ ghost use Rattle.unwinding.specs.Replacing.{is_replaced};
 
 use frames::Frame;
 use jvms_machine::action::{Action, Decision, Exception};
-use jvms_machine::machine::BadCause;
+use jvms_machine::machine::{BadCause, ThreadId};
 use jvms_machine::state::StackFrame;
 use jvms_machine::value::Value;
 use jvms_program::program::{Catch, ExceptionHandler};
@@ -71,7 +71,12 @@ fn handler_of<'p>(
 }
 
 /// Decides that the call of this frame is popped, and leaves its monitor.
-fn popped_decision<'p>(parts: &Parts<'p>, t: usize, thread: &Thread, frame: &Frame) -> Decided<'p>
+fn popped_decision<'p>(
+    parts: &Parts<'p>,
+    t: ThreadId,
+    thread: &Thread,
+    frame: &Frame,
+) -> Decided<'p>
     ensures { seen result ≡ popped_decision parts.now.limits parts.now.state t frame.now (drop 1 thread.now.frames) }
 {
     match parts.unlocking(t, frame) {
@@ -88,7 +93,7 @@ fn popped_decision<'p>(parts: &Parts<'p>, t: usize, thread: &Thread, frame: &Fra
 /// `max_stack` has room for it, else the call is popped.
 fn handler_decision<'p>(
     parts: &Parts<'p>,
-    t: usize,
+    t: ThreadId,
     thread: &Thread,
     frame: &Frame,
     reference: u32,
@@ -133,7 +138,7 @@ fn failed_with(parts: &Parts, called: bool, reference: u32, class: &[u16]) -> Ex
 /// Decides the turn of a thread with a pending object of a class.
 fn unwound_by_top<'p>(
     parts: &Parts<'p>,
-    t: usize,
+    t: ThreadId,
     thread: &Thread,
     reference: u32,
     class: &[u16],
@@ -164,7 +169,7 @@ fn unwound_by_top<'p>(
 #[tactic(auto, unfolding(jvms_machine::specs::Unwinding::unwinding_decision))]
 pub fn unwinding_decision<'p>(
     parts: &Parts<'p>,
-    t: usize,
+    t: ThreadId,
     thread: &Thread,
     reference: u32,
 ) -> Decided<'p>

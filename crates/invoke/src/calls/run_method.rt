@@ -10,6 +10,7 @@ ghost use Rattle.machine_parts.specs.Decided.{seen};
 
 use super::invoke::number_at;
 use super::{Given, first_call};
+use jvms_machine::machine::ThreadId;
 use jvms_program::thrown::Thrown;
 use machine_parts::{Decided, Parts, never_seen};
 use machine_thread::Thread;
@@ -23,7 +24,7 @@ const NOTHING: [u16; 3] = [40, 41, 86];
 /// Decides the call of the selected `run` for a Thread object. Throws `AbstractMethodError` if there is none.
 fn selected_run<'p>(
     parts: &Parts<'p>,
-    t: usize,
+    t: ThreadId,
     thread: &Thread,
     receiver: u32,
     selected: Option<(usize, usize)>,
@@ -45,7 +46,7 @@ fn selected_run<'p>(
 }
 
 /// Decides the call of `run` for the object of a reference.
-fn run_of_object<'p>(parts: &Parts<'p>, t: usize, thread: &Thread, reference: u32) -> Decided<'p>
+fn run_of_object<'p>(parts: &Parts<'p>, t: ThreadId, thread: &Thread, reference: u32) -> Decided<'p>
     ensures { seen result ≡ run_of_object parts.now.program parts.now.limits parts.now.state t thread.now reference (object_at parts.now.state.heap reference) }
 {
     match parts.heap.class_of(reference) {
@@ -61,7 +62,7 @@ fn run_of_object<'p>(parts: &Parts<'p>, t: usize, thread: &Thread, reference: u3
 }
 
 /// Decides the call of `run` for the thread's object.
-pub(crate) fn run_decision<'p>(parts: &Parts<'p>, t: usize, thread: &Thread) -> Decided<'p>
+pub(crate) fn run_decision<'p>(parts: &Parts<'p>, t: ThreadId, thread: &Thread) -> Decided<'p>
     ensures { seen result ≡ run_decision parts.now.program parts.now.limits parts.now.state t thread.now thread.now.object }
 {
     match thread.object() {
