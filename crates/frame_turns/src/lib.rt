@@ -2,6 +2,8 @@
 #![tactic(auto)]
 
 mod elements;
+mod one_turn;
 mod turns;
 
+pub use one_turn::step_once;
 pub use turns::step_consecutive;

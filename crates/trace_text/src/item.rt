@@ -1,7 +1,8 @@
 //! Writes and reads one item.
 
-ghost use Rattle.std.specs.Prelude.{◌≡◌, ◌++◌, ◌∷◌, OnOk, IfOk};
+ghost use Rattle.std.specs.Prelude.{◌≡◌, ◌++◌, ◌∷◌, OnOk, OnErr, IfOk};
 ghost use Rattle.std.specs.Fmt.{decimal};
+ghost use Rattle.std.specs.Io.{StartsWith};
 ghost use Rattle.std.specs.String.{string_bytes};
 ghost use Rattle.escapes.specs.Readings.{IsReadAs};
 ghost use Rattle.trace_text.specs.Items.{IsItem, item_text, touched_text, thread_of};
@@ -50,9 +51,10 @@ fn thread_of(item: &Item) -> ThreadId
     }
 }
 
-/// Appends what an item touches to a text.
+/// Appends what an item touches to a text. On an error a part of it may have been appended.
 fn put_touched(out: &mut String, item: &Item) -> Result<(), AllocError>
-    ensures { OnOk result (string_bytes out.new ≡ string_bytes out.old ++ touched_text item.now) }
+    ensures exact { OnOk result (string_bytes out.new ≡ string_bytes out.old ++ touched_text item.now) }
+    ensures behind { OnErr result (StartsWith (string_bytes out.new) (string_bytes out.old)) }
 {
     match item {
         Item::Read { variable, .. } | Item::Write { variable, .. } => put_variable(out, variable),
@@ -65,9 +67,10 @@ fn put_touched(out: &mut String, item: &Item) -> Result<(), AllocError>
     }
 }
 
-/// Appends an item to a text, without the LF that ends its line.
+/// Appends an item to a text, without the LF that ends its line. On an error a part of it may have been appended.
 pub(crate) fn put_item(out: &mut String, item: &Item) -> Result<(), AllocError>
-    ensures { OnOk result (string_bytes out.new ≡ string_bytes out.old ++ item_text item.now) }
+    ensures exact { OnOk result (string_bytes out.new ≡ string_bytes out.old ++ item_text item.now) }
+    ensures behind { OnErr result (StartsWith (string_bytes out.new) (string_bytes out.old)) }
 {
     out.push_str(kind_of(item).text())?;
     out.push_str(" ")?;

@@ -1,6 +1,7 @@
 //! Writes and reads the variables of items.
 
-ghost use Rattle.std.specs.Prelude.{◌≡◌, ◌++◌, OnOk, IfOk, MatchOption};
+ghost use Rattle.std.specs.Prelude.{◌≡◌, ◌++◌, OnOk, OnErr, IfOk, MatchOption};
+ghost use Rattle.std.specs.Io.{StartsWith};
 ghost use Rattle.std.specs.String.{string_bytes};
 ghost use Rattle.escapes.specs.Readings.{IsReadAs};
 ghost use Rattle.trace_text.specs.Items.{IsVariable, variable_text};
@@ -18,9 +19,10 @@ const OPEN: u8 = b'[';
 
 const CLOSE: u8 = b']';
 
-/// Appends an element to a text: `R[i]`.
+/// Appends an element to a text: `R[i]`. On an error a part of it may have been appended.
 fn put_element(out: &mut String, reference: u32, index: u32) -> Result<(), AllocError>
-    ensures { OnOk result (string_bytes out.new ≡ string_bytes out.old ++ variable_text (Variable.Element reference index)) }
+    ensures exact { OnOk result (string_bytes out.new ≡ string_bytes out.old ++ variable_text (Variable.Element reference index)) }
+    ensures behind { OnErr result (StartsWith (string_bytes out.new) (string_bytes out.old)) }
 {
     put_number(out, reference)?;
     out.push_str("[")?;
@@ -28,9 +30,10 @@ fn put_element(out: &mut String, reference: u32, index: u32) -> Result<(), Alloc
     out.push_str("]")
 }
 
-/// Appends a variable to a text: `R.C.x.D`, `C.x.D` or `R[i]`.
+/// Appends a variable to a text: `R.C.x.D`, `C.x.D` or `R[i]`. On an error a part of it may have been appended.
 pub(crate) fn put_variable(out: &mut String, variable: &Variable) -> Result<(), AllocError>
-    ensures { OnOk result (string_bytes out.new ≡ string_bytes out.old ++ variable_text variable.now) }
+    ensures exact { OnOk result (string_bytes out.new ≡ string_bytes out.old ++ variable_text variable.now) }
+    ensures behind { OnErr result (StartsWith (string_bytes out.new) (string_bytes out.old)) }
 {
     match variable {
         Variable::Instance { reference, field } => {
