@@ -102,6 +102,7 @@ fn take_either_candidate(
     ensures taken { IfOk result (λ taken. IsTurn machine.old chooser.old recording.old taken machine.new chooser.new recording.new) }
     ensures enabled { OnOk result (IsKept machine.new kept.new) }
     ensures kept { OnErr result (machine.new ≡ machine.old) }
+    ensures chooser { OnErr result (chooser.new ≡ chooser.old) }
     ensures no_items { OnErr result (recording.new ≡ recording.old) }
 {
     let taken = take_candidate(machine, chooser, kept, recording)?;
