@@ -1,6 +1,6 @@
 //! `run`: runs a program and writes its output.
 
-ghost use Rattle.std.specs.Prelude.{◌≡◌, ◌≢◌, ◌+◌, IfOk, IfErr, OnOk, IsErrOf, IsTrue, Ok, length};
+ghost use Rattle.std.specs.Prelude.{◌≡◌, ◌≢◌, ◌+◌, [], false, IfOk, IfErr, OnOk, IsErrOf, IsTrue, Ok, length};
 ghost use Rattle.std.specs.Io.KnownBytes.{Appends};
 ghost use Rattle.std.specs.String.{string_bytes};
 ghost use Rattle.explaining.specs.Explanations.{explanation_of_inputs};
@@ -41,6 +41,7 @@ fn run_and_explain(
     ensures explained { IfOk result (λ run. IsTrue explains →
         explanation_of_inputs spec run.judgement most chooser.old default_limits inputs.now entry.now
         ≡ Ok (string_bytes run.explanation)) }
+    ensures plain { IfOk result (λ run. explains ≡ false → string_bytes run.explanation ≡ []) }
     ensures fault { IfErr result (λ fault.
         IsJudgeFault fault (run_judged most chooser.old default_limits inputs.now entry.now)) }
     ensures named { IfErr result (λ fault. NamesInput (length inputs.now) fault) }
@@ -81,6 +82,8 @@ pub fn run<W: ByteOut>(
     ensures explained { IfOk result (λ run. IsTrue explains →
         explanation_of_inputs spec run.judgement most chooser.old default_limits inputs.now entry.now
         ≡ Ok (string_bytes run.explanation)) }
+    // Without `explains` the explanation is empty.
+    ensures plain { IfOk result (λ run. explains ≡ false → string_bytes run.explanation ≡ []) }
     // Exactly the output's bytes were written.
     ensures written { IfOk result (λ run.
         Appends (W.written output.old) (W.written output.new) run.ending.output) }

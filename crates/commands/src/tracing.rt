@@ -1,6 +1,6 @@
 //! `trace`: writes what the threads of a program did, or which of them took the turns.
 
-ghost use Rattle.std.specs.Prelude.{◌≡◌, ◌≢◌, ◌+◌, IfOk, IfErr, OnOk, IsErrOf, length};
+ghost use Rattle.std.specs.Prelude.{◌≡◌, ◌≢◌, ◌+◌, None, IfOk, IfErr, OnOk, IsErrOf, length};
 ghost use Rattle.std.specs.Io.KnownBytes.{Appends};
 ghost use Rattle.trace.specs.Bytes.{AppendsBeginning};
 ghost use Rattle.judge.specs.Shown.{run_judged};
@@ -58,6 +58,8 @@ pub fn write_trace<W: ByteOut>(
     // The turns, the status, the uncaught exceptions and the items are those of the run by the instruction table.
     ensures exact { IfOk result (λ j.
         run_judged most chooser.old default_limits inputs.now entry.now ≡ Ok (view_of_traced j.run)) }
+    // Nothing is judged.
+    ensures unjudged { IfOk result (λ j. j.judgement ≡ None) }
     // Exactly the text of the items, or of the choices, was written.
     ensures written { IfOk result (λ j. Appends (W.written output.old) (W.written output.new) (text_of kind (view_of_traced j.run))) }
     ensures count { OnOk result (W.failures output.new ≡ W.failures output.old) }

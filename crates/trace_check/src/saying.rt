@@ -132,6 +132,7 @@ pub(crate) fn say(
 pub fn fed_text(alloc: Global, spec: Spec, text: &str) -> Result<Checker, CheckFault>
     ensures fed { IfOk result (IsFedText spec text.now) }
     ensures fault { IfErr result (IsFault spec text.now) }
+    ensures quiet { IfErr result (λ fault. fault ≢ CheckFault.Output) }
 {
     let trace = trace_text::read(alloc, text)?;
     let checker = fed(alloc, spec, trace.items())?;
