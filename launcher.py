@@ -36,7 +36,7 @@ UNKNOWN_WORDS, FAILED = 2, 3
 
 # What is said before a build.
 QUICK_BUILD = (
-    "building the program without a new proof, in about three minutes: the gate proved these sources ({name}), and"
+    "building the program without a new proof, in two to three minutes: the gate proved these sources ({name}), and"
     " rt ci proves them here"
 )
 CHECKED_BUILD = (
