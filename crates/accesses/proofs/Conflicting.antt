@@ -5,7 +5,8 @@ use Rattle.std.proofs.lemmas.Option.{none-some, same_Some}
 use Rattle.jvms_machine.specs.declared.trace.Item.{Item}
 use Rattle.jvms_machine.specs.declared.trace.Item.TheVariants as item
 use Rattle.jvms_machine.specs.declared.trace.Variable.{Variable}
-use Rattle.velodrome.specs.Conflicts.{conflict, is_write, monitor_of, on_one_variable, same_number, thread_of, started_or_joined, variable_of}
+use Rattle.jvms_machine.specs.Events.{thread_of}
+use Rattle.velodrome.specs.Conflicts.{conflict, is_write, monitor_of, on_one_variable, same_number, started_or_joined, variable_of}
 use Rattle.velodrome.specs.Cycles.{IsIn}
 use Rattle.accesses.specs.Accesses.{Access, OfMonitor, OfThread, OfVariable, Place, accesses_beside, accesses_of, against, beside_at, main_at, same_place}
 

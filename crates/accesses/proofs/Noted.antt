@@ -1,7 +1,7 @@
 -- The accesses of an item are recorded at the reserved entries.
 use Rattle.std.proofs.Common.{◌≡◌, ℕ, Bool, true, false, List, [], ◌∷◌, Option, Some, None, MatchOption, refl, sym, ◌∙◌, subst, slice_get}
 use Rattle.jvms_machine.specs.declared.trace.Item.{Item}
-use Rattle.velodrome.specs.Conflicts.{thread_of}
+use Rattle.jvms_machine.specs.Events.{thread_of}
 use Rattle.accesses.specs.Accesses.{Access, IsNoted, Last, OfThread, accesses_beside, main_at}
 use Rattle.accesses.specs.Kept.{HasSpare, IsNotedIn, kept_in}
 use Rattle.accesses.specs.Places.{place_of}

@@ -4,7 +4,7 @@ use Rattle.std.proofs.lemmas.Bool.{eqb-true}
 use Rattle.std.proofs.lemmas.Option.{none-some, same_Some}
 use Rattle.jvms_machine.specs.declared.trace.Item.{Item}
 use Rattle.jvms_machine.specs.declared.trace.Item.TheVariants as item
-use Rattle.velodrome.specs.Conflicts.{thread_of}
+use Rattle.jvms_machine.specs.Events.{thread_of}
 use Rattle.velodrome.specs.Cycles.{IsIn}
 use Rattle.accesses.specs.Accesses.{Access, IsNoted, Last, OfThread, Place, TakesPlace, accesses_beside, accesses_of, beside_at, last_of, main_at, same_place}
 use Rattle.accesses.specs.Kept.{IsBesideNoted, IsMainNoted, IsNotedIn, beside_last, kept_at, kept_in, main_last, main_lasts, replaced}

@@ -3,7 +3,8 @@ use Rattle.std.specs.Prelude.{◌≡◌, ℕ, Bool, true, false, ◌==◌, ◌&&
 use Rattle.jvms_machine.specs.declared.trace.Item.{Item}
 use Rattle.jvms_machine.specs.declared.trace.Item.TheVariants as item
 use Rattle.jvms_machine.specs.declared.trace.Variable.{Variable}
-use Rattle.velodrome.specs.Conflicts.{same_variable, thread_of}
+use Rattle.jvms_machine.specs.Events.{thread_of}
+use Rattle.velodrome.specs.Conflicts.{same_variable}
 use Rattle.velodrome.specs.Cycles.{IsIn}
 use Rattle.atom_order.specs.declared.link.Link.{Link}
 

@@ -1,7 +1,7 @@
 -- Defines what contracts see of the remembered accesses, and of the memory reserved for an item (own).
 use Rattle.std.specs.Prelude.{◌≡◌, ℕ, zero, suc, false, List, [], ◌∷◌, Option, Some, None, slice_get, MatchOption}
 use Rattle.jvms_machine.specs.declared.trace.Item.{Item}
-use Rattle.velodrome.specs.Conflicts.{thread_of}
+use Rattle.jvms_machine.specs.Events.{thread_of}
 use Rattle.accesses.specs.Accesses.{Access, Last, OfThread, Place, main_at, accesses_beside}
 use Rattle.accesses.specs.Kept.{HasSpare, IsNotedIn, kept_at, kept_in}
 use Rattle.accesses.specs.Links.{AreAt}

@@ -1,7 +1,7 @@
 //! The last accesses of a trace.
 
 ghost use Rattle.std.specs.Prelude.{◌≡◌, ℕ, [], ◌∷◌, false, None, Some, IfOk, IfSome, OnOk, MatchOption, slice_get};
-ghost use Rattle.velodrome.specs.Conflicts.{thread_of};
+ghost use Rattle.jvms_machine.specs.Events.{thread_of};
 ghost use Rattle.accesses.specs.Accesses.{Access, AreLinks, IsNoted, OfThread, Place as Kind, accesses_beside, main_at};
 ghost use Rattle.accesses.specs.Kept.{HasSpare, kept_at, kept_in};
 ghost use Rattle.accesses.specs.Links.{AreAdded, AreAt};
@@ -86,7 +86,8 @@ impl Accesses {
         number: u64,
         links: &mut Vec<Link>,
     ) -> Result<(), AllocError>
-        ensures { OnOk result ((x : Access) → IsReady self.now.entries index x → is_main ≡ x.is_main → AreAdded (kept_of self.now) number (x ∷ []) links.old.items links.new.items) }
+        ensures { OnOk result ((x : Access) → IsReady self.now.entries index x → is_main ≡ x.is_main
+            → AreAdded (kept_of self.now) number (x ∷ []) links.old.items links.new.items) }
     {
         match self.lasts.get(index) {
             Some((_, lasts)) => lasts.push_links(is_main, number, links),
@@ -94,21 +95,22 @@ impl Accesses {
         }
     }
 
-    /// Reserves the memory that `ready_links` and `note` need for an item. The remembered accesses don't change. `sum` is
+    /// Reserves the memory that `ready_links` and `note` need for an item. The remembered accesses don't change. `hash` is
     /// the hash of what the item touches: with any other number it takes longer.
-    pub fn reserve(&mut self, sum: u32, item: &Item) -> Result<(), AllocError>
+    pub fn reserve(&mut self, hash: u32, item: &Item) -> Result<(), AllocError>
         ensures same { kept_of self.new ≡ kept_of self.old }
         ensures room { OnOk result (HasRoom self.new item.now) }
     {
         let entry = self.reserve_own(item)?;
         self.own = entry;
-        self.reserve_touched(sum, item)
+        self.reserve_touched(hash, item)
     }
 
     /// Returns the entry of an item's thread. Adds one if there is none.
     fn reserve_own(&mut self, item: &Item) -> Result<usize, AllocError>
         ensures same { kept_of self.new ≡ kept_of self.old }
-        ensures ready { IfOk result (λ n. IsEntryOf self.new.entries n (OfThread (thread_of item.now))) }
+        ensures ready { IfOk result
+            (λ n. IsEntryOf self.new.entries n (OfThread (thread_of item.now))) }
     {
         let thread = thread_of(item);
         let guess = self.threads.at(thread);
@@ -121,16 +123,18 @@ impl Accesses {
     }
 
     /// Reserves the entry of what an item touches.
-    fn reserve_touched(&mut self, sum: u32, item: &Item) -> Result<(), AllocError>
+    fn reserve_touched(&mut self, hash: u32, item: &Item) -> Result<(), AllocError>
         ensures same { kept_of self.new ≡ kept_of self.old }
         ensures own { self.new.own ≡ self.old.own }
-        ensures ready { OnOk result (AreReady self.new.entries self.new.touched (accesses_beside item.now)) }
-        ensures places { (n : ℕ) (p : Kind) → IsEntryOf self.old.entries n p → IsEntryOf self.new.entries n p }
+        ensures ready { OnOk result
+            (AreReady self.new.entries self.new.touched (accesses_beside item.now)) }
+        ensures places { (n : ℕ) (p : Kind) → IsEntryOf self.old.entries n p
+            → IsEntryOf self.new.entries n p }
     {
-        let guess = self.guesses.at(sum);
+        let guess = self.guesses.at(hash);
         match of_touched(&self.lasts, guess, item) {
             Some(_) => self.ready_guessed(guess, item),
-            None => self.ready_looked_up(sum, item),
+            None => self.ready_looked_up(hash, item),
         }
     }
 
@@ -139,8 +143,10 @@ impl Accesses {
         requires { (here : PlaceAccesses) × IsTouchedAt self.old.entries index item.now here }
         ensures same { kept_of self.new ≡ kept_of self.old }
         ensures own { self.new.own ≡ self.old.own }
-        ensures ready { OnOk result (AreReady self.new.entries self.new.touched (accesses_beside item.now)) }
-        ensures places { (n : ℕ) (p : Kind) → IsEntryOf self.old.entries n p → IsEntryOf self.new.entries n p }
+        ensures ready { OnOk result
+            (AreReady self.new.entries self.new.touched (accesses_beside item.now)) }
+        ensures places { (n : ℕ) (p : Kind) → IsEntryOf self.old.entries n p
+            → IsEntryOf self.new.entries n p }
     {
         let is_main = has_main_touch(item);
         if !is_main {
@@ -151,17 +157,19 @@ impl Accesses {
     }
 
     /// Looks up what an item touches, and reserves its entry.
-    fn ready_looked_up(&mut self, sum: u32, item: &Item) -> Result<(), AllocError>
+    fn ready_looked_up(&mut self, hash: u32, item: &Item) -> Result<(), AllocError>
         ensures same { kept_of self.new ≡ kept_of self.old }
         ensures own { self.new.own ≡ self.old.own }
-        ensures ready { OnOk result (AreReady self.new.entries self.new.touched (accesses_beside item.now)) }
-        ensures places { (n : ℕ) (p : Kind) → IsEntryOf self.old.entries n p → IsEntryOf self.new.entries n p }
+        ensures ready { OnOk result
+            (AreReady self.new.entries self.new.touched (accesses_beside item.now)) }
+        ensures places { (n : ℕ) (p : Kind) → IsEntryOf self.old.entries n p
+            → IsEntryOf self.new.entries n p }
     {
         match touched(item)? {
             Some(touch) => {
                 let found = self.ready(touch)?;
                 self.touched = Some(found);
-                self.guesses.note(sum, found.index)?;
+                self.guesses.note(hash, found.index)?;
             }
             None => self.touched = None,
         }
@@ -172,8 +180,10 @@ impl Accesses {
     fn ready(&mut self, touch: Touch) -> Result<Slot, AllocError>
         ensures same { kept_of self.new ≡ kept_of self.old }
         ensures own { self.new.own ≡ self.old.own }
-        ensures ready { IfOk result (λ s. IsReady self.new.entries s.index (access_of touch) × (s.is_main ≡ touch.is_main)) }
-        ensures places { (n : ℕ) (p : Kind) → IsEntryOf self.old.entries n p → IsEntryOf self.new.entries n p }
+        ensures ready { IfOk result (λ s. IsReady self.new.entries s.index (access_of touch)
+            × (s.is_main ≡ touch.is_main)) }
+        ensures places { (n : ℕ) (p : Kind) → IsEntryOf self.old.entries n p
+            → IsEntryOf self.new.entries n p }
     {
         let is_main = touch.is_main;
         let index = self.lasts.enter(touch.place)?;

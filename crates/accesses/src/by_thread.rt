@@ -47,7 +47,10 @@ impl Model for ByThread {
 
     ghost Value = { NotedRoom };
 
-    ghost view = { λ a. record { items = notes_of a.nodes.items; capacity = vec_capacity a.nodes } };
+    ghost view = { λ a. record {
+      items = notes_of a.nodes.items;
+      capacity = vec_capacity a.nodes;
+    } };
 
     ghost invariant = { λ a. AreFound a.nodes.items };
 }
@@ -88,7 +91,8 @@ impl ByThread {
 
     /// Appends the links from all accesses to event `number`.
     pub fn push_links(&self, number: u64, links: &mut Vec<Link>) -> Result<(), AllocError>
-        ensures { OnOk result (links.new.items ≡ links.old.items ++ map (link_from number) self.now.items) }
+        ensures { OnOk result
+            (links.new.items ≡ links.old.items ++ map (link_from number) self.now.items) }
     {
         push_links_from(self.nodes.as_slice(), number, links)
     }
@@ -166,7 +170,8 @@ fn note_in(nodes: &mut Vec<Node>, noted: Noted)
 
 /// Appends the links from the accesses of nodes to event `number`.
 fn push_links_from(nodes: &[Node], number: u64, links: &mut Vec<Link>) -> Result<(), AllocError>
-    ensures { OnOk result (links.new.items ≡ links.old.items ++ map (λ (n : Visited). link_from number n.noted) nodes.now) }
+    ensures { OnOk result (links.new.items
+        ≡ links.old.items ++ map (λ (n : Visited). link_from number n.noted) nodes.now) }
 {
     for node in nodes {
         links.push(node.noted.link(number))?;

@@ -26,13 +26,13 @@ impl Guesses {
     }
 
     /// Returns the slot of a hash.
-    fn slot_of(&self, sum: u32) -> usize {
-        sum as usize & self.entries.len().wrapping_sub(1)
+    fn slot_of(&self, hash: u32) -> usize {
+        hash as usize & self.entries.len().wrapping_sub(1)
     }
 
     /// Returns the guessed entry for a hash.
-    pub fn at(&self, sum: u32) -> usize {
-        let slot = self.slot_of(sum);
+    pub fn at(&self, hash: u32) -> usize {
+        let slot = self.slot_of(hash);
         if slot < self.entries.len() {
             self.entries[slot]
         } else {
@@ -41,12 +41,12 @@ impl Guesses {
     }
 
     /// Stores the entry that was looked up for a hash. The cache grows if it was wrong as often as it has slots.
-    pub fn note(&mut self, sum: u32, entry: usize) -> Result<(), AllocError> {
+    pub fn note(&mut self, hash: u32, entry: usize) -> Result<(), AllocError> {
         if self.wrong >= self.entries.len() {
             self.grow()?;
         }
         self.wrong = self.wrong.saturating_add(1);
-        let slot = self.slot_of(sum);
+        let slot = self.slot_of(hash);
         if slot < self.entries.len() {
             self.entries[slot] = entry;
         }

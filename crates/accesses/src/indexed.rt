@@ -16,7 +16,8 @@ use jvms_machine::trace::Item;
 /// Returns the accesses of an entry, if it is the thread's.
 pub fn of_thread<'m>(lasts: &'m Table, index: usize, thread: ThreadId) -> Option<&'m PlaceAccesses>
     ensures entry { IfSome result (λ l. IsEntryOf lasts.now.entries index (OfThread thread)) }
-    ensures kept { IfSome result (λ l. AreAt (kept_in lasts.now.entries) (OfThread thread) (kept_at (OfThread thread) l.now)) }
+    ensures kept { IfSome result (λ l. AreAt (kept_in lasts.now.entries)
+        (OfThread thread) (kept_at (OfThread thread) l.now)) }
 {
     let (place, found) = lasts.get(index)?;
     if is_thread(place, thread) {

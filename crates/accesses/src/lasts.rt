@@ -101,7 +101,8 @@ impl PlaceAccesses {
         number: u64,
         links: &mut Vec<Link>,
     ) -> Result<(), AllocError>
-        ensures { OnOk result (links.new.items ≡ links.old.items ++ links_of is_main number self.now) }
+        ensures { OnOk result
+            (links.new.items ≡ links.old.items ++ links_of is_main number self.now) }
     {
         self.push_main(number, links)?;
         if is_main {
@@ -112,7 +113,8 @@ impl PlaceAccesses {
 
     /// Appends the link from the main access.
     fn push_main(&self, number: u64, links: &mut Vec<Link>) -> Result<(), AllocError>
-        ensures { OnOk result (links.new.items ≡ links.old.items ++ main_links number self.now.main) }
+        ensures { OnOk result
+            (links.new.items ≡ links.old.items ++ main_links number self.now.main) }
     {
         if let Some(last) = self.main {
             links.push(last.link(number))?;

@@ -8,5 +8,6 @@ ghost use Rattle.velodrome.specs.Cycles.{IsIn};
 
 /// Proves that two items conflict if and only if two of their accesses conflict.
 pub fn conflicts_are_accesses_against_each_other()
-    ensures { (a b : Item) → (conflict a b ≡ true) ↔ ((x : Access) × (y : Access) × IsIn x (accesses_of a) × IsIn y (accesses_of b) × (against x y ≡ true)) }
+    ensures { (a b : Item) → (conflict a b ≡ true) ↔ ((x : Access) × (y : Access)
+        × IsIn x (accesses_of a) × IsIn y (accesses_of b) × (against x y ≡ true)) }
 {}

@@ -4,15 +4,15 @@
 mod accesses;
 mod by_thread;
 mod guesses;
+mod hashes;
 mod indexed;
 mod lasts;
 pub mod laws;
 mod place;
 mod slot;
-mod sums;
 mod table;
 mod touch;
 
 pub use accesses::Accesses;
-pub use sums::{hash_of_item, hash_of_touched};
+pub use hashes::{hash_of_item, hash_of_touched};
 pub use touch::thread_of;

@@ -48,7 +48,8 @@ impl Eq for Place {
 impl PartialOrd for Place {
     ghost partial_cmp = { as_partial_cmp place_cmp };
 
-    ghost laws = { partial_order_from_agreeing_total place_cmp place_total (λ x y. refl) cmp_is_same };
+    ghost laws = { partial_order_from_agreeing_total place_cmp place_total
+        (λ x y. refl) cmp_is_same };
 
     fn partial_cmp(&self, other: &Place) -> Option<Ordering> {
         Some(self.cmp(other))

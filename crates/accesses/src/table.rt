@@ -61,8 +61,10 @@ impl Table {
 
     /// Returns the place and the accesses of the entry at an index.
     pub fn get(&self, index: usize) -> Option<(&Place, &PlaceAccesses)>
-        ensures entry { MatchOption result (slice_get self.now.entries index ≡ None) (λ e. slice_get self.now.entries index ≡ Some (e.0.now, e.1.now)) }
-        ensures kept { IfSome result (λ e. AreAt (kept_in self.now.entries) (place_of e.0.now) (kept_at (place_of e.0.now) e.1.now)) }
+        ensures entry { MatchOption result (slice_get self.now.entries index ≡ None)
+            (λ e. slice_get self.now.entries index ≡ Some (e.0.now, e.1.now)) }
+        ensures kept { IfSome result (λ e. AreAt (kept_in self.now.entries)
+            (place_of e.0.now) (kept_at (place_of e.0.now) e.1.now)) }
     {
         if index >= self.entries.len() {
             return None;
@@ -75,7 +77,8 @@ impl Table {
     pub fn enter(&mut self, place: Place) -> Result<usize, AllocError>
         ensures same { kept_in self.new.entries ≡ kept_in self.old.entries }
         ensures at { IfOk result (λ n. IsEntryOf self.new.entries n (place_of place)) }
-        ensures places { (n : ℕ) (p : Kind) → IsEntryOf self.old.entries n p → IsEntryOf self.new.entries n p }
+        ensures places { (n : ℕ) (p : Kind) → IsEntryOf self.old.entries n p
+            → IsEntryOf self.new.entries n p }
     {
         match self.index_of(&place) {
             Some(index) => Ok(index),
@@ -88,7 +91,8 @@ impl Table {
         requires { lookup (same_keys place) self.old.entries ≡ None }
         ensures same { kept_in self.new.entries ≡ kept_in self.old.entries }
         ensures at { IfOk result (λ n. IsEntryOf self.new.entries n (place_of place)) }
-        ensures places { (n : ℕ) (p : Kind) → IsEntryOf self.old.entries n p → IsEntryOf self.new.entries n p }
+        ensures places { (n : ℕ) (p : Kind) → IsEntryOf self.old.entries n p
+            → IsEntryOf self.new.entries n p }
     {
         add_in(&mut self.index, &mut self.entries, place, self.alloc)
     }
@@ -97,14 +101,16 @@ impl Table {
     pub fn make_room(&mut self, index: usize) -> Result<(), AllocError>
         ensures same { kept_in self.new.entries ≡ kept_in self.old.entries }
         ensures room { OnOk result (HasRoomAt self.new.entries index) }
-        ensures places { (n : ℕ) (p : Kind) → IsEntryOf self.old.entries n p → IsEntryOf self.new.entries n p }
+        ensures places { (n : ℕ) (p : Kind) → IsEntryOf self.old.entries n p
+            → IsEntryOf self.new.entries n p }
     {
         make_room_in(&mut self.entries, index)
     }
 
     /// Records an access at its entry.
     pub fn note_at(&mut self, slot: Slot, noted: Noted)
-        requires { MatchOption (slice_get self.old.entries slot.index) ⊥ (λ e. slot.is_main ≡ false → HasSpare e.1) }
+        requires { MatchOption (slice_get self.old.entries slot.index) ⊥
+            (λ e. slot.is_main ≡ false → HasSpare e.1) }
         ensures { IsNotedAt slot noted self.old.entries self.new.entries }
     {
         note_in(&mut self.entries, slot, noted);
@@ -123,7 +129,8 @@ fn add_in(
     ensures indexed { IsIndexed index.new entries.new.items }
     ensures same { kept_in entries.new.items ≡ kept_in entries.old.items }
     ensures at { IfOk result (λ n. IsEntryOf entries.new.items n (place_of place)) }
-    ensures places { (n : ℕ) (p : Kind) → IsEntryOf entries.old.items n p → IsEntryOf entries.new.items n p }
+    ensures places { (n : ℕ) (p : Kind) → IsEntryOf entries.old.items n p
+        → IsEntryOf entries.new.items n p }
 {
     entries.reserve(1)?;
     let count = entries.len();
@@ -148,10 +155,12 @@ fn note_index(
 
 /// Reserves the memory for one more non-main access at an entry.
 fn make_room_in(entries: &mut Vec<(Place, PlaceAccesses)>, index: usize) -> Result<(), AllocError>
-    ensures indexed { (m : Map Key ℕ) → IsIndexed m entries.old.items → IsIndexed m entries.new.items }
+    ensures indexed { (m : Map Key ℕ) → IsIndexed m entries.old.items
+        → IsIndexed m entries.new.items }
     ensures same { kept_in entries.new.items ≡ kept_in entries.old.items }
     ensures room { OnOk result (HasRoomAt entries.new.items index) }
-    ensures places { (n : ℕ) (p : Kind) → IsEntryOf entries.old.items n p → IsEntryOf entries.new.items n p }
+    ensures places { (n : ℕ) (p : Kind) → IsEntryOf entries.old.items n p
+        → IsEntryOf entries.new.items n p }
 {
     if index >= entries.len() {
         return Ok(());
@@ -162,8 +171,10 @@ fn make_room_in(entries: &mut Vec<(Place, PlaceAccesses)>, index: usize) -> Resu
 
 /// Records an access at its entry.
 fn note_in(entries: &mut Vec<(Place, PlaceAccesses)>, slot: Slot, noted: Noted)
-    requires { MatchOption (slice_get entries.old.items slot.index) ⊥ (λ e. slot.is_main ≡ false → HasSpare e.1) }
-    ensures indexed { (m : Map Key ℕ) → IsIndexed m entries.old.items → IsIndexed m entries.new.items }
+    requires { MatchOption (slice_get entries.old.items slot.index) ⊥
+        (λ e. slot.is_main ≡ false → HasSpare e.1) }
+    ensures indexed { (m : Map Key ℕ) → IsIndexed m entries.old.items
+        → IsIndexed m entries.new.items }
     ensures noted { IsNotedAt slot noted entries.old.items entries.new.items }
 {
     if slot.index >= entries.len() {

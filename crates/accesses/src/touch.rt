@@ -1,7 +1,7 @@
 //! The accesses of an item.
 
 ghost use Rattle.std.specs.Prelude.{◌≡◌, IfOk};
-ghost use Rattle.velodrome.specs.Conflicts.{thread_of};
+ghost use Rattle.jvms_machine.specs.Events.{thread_of};
 ghost use Rattle.accesses.specs.Accesses.{accesses_beside, OfMonitor, OfThread, beside_at, main_at};
 ghost use Rattle.accesses.specs.Places.{place_of};
 ghost use Rattle.accesses.specs.Touches.{access_of, touches, touches_at, has_main_touch};

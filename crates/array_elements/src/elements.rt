@@ -115,7 +115,8 @@ fn put_byte(items: &mut Vec<i8>, index: usize, new: Value)
 #[tactic(auto, using(crate::proofs::ElementLaws::natural_put))]
 fn put_boolean(items: &mut Vec<u8>, index: usize, new: Value)
     requires { IsOfKind kind.Boolean new }
-    ensures { map (λ n. value.Int (pos n)) items.new.items ≡ slice_set (map (λ n. value.Int (pos n)) items.old.items) index new }
+    ensures { map (λ n. value.Int (pos n)) items.new.items
+        ≡ slice_set (map (λ n. value.Int (pos n)) items.old.items) index new }
 {
     if let Value::Int(n) = new {
         put(items, index, bit(n));
@@ -127,7 +128,8 @@ fn put_boolean(items: &mut Vec<u8>, index: usize, new: Value)
 #[tactic(auto, using(crate::proofs::ElementLaws::natural_put))]
 fn put_char(items: &mut Vec<u16>, index: usize, new: Value)
     requires { IsOfKind kind.Char new }
-    ensures { map (λ n. value.Int (pos n)) items.new.items ≡ slice_set (map (λ n. value.Int (pos n)) items.old.items) index new }
+    ensures { map (λ n. value.Int (pos n)) items.new.items
+        ≡ slice_set (map (λ n. value.Int (pos n)) items.old.items) index new }
 {
     if let Value::Int(n) = new {
         put(items, index, unsigned_short(n));
@@ -151,7 +153,8 @@ fn put_short(items: &mut Vec<i16>, index: usize, new: Value)
 #[tactic(auto, using(crate::proofs::ElementLaws::long_put))]
 fn put_long(items: &mut Vec<i64>, index: usize, new: Value)
     requires { IsOfKind kind.Long new }
-    ensures { map value.Long items.new.items ≡ slice_set (map value.Long items.old.items) index new }
+    ensures { map value.Long items.new.items
+        ≡ slice_set (map value.Long items.old.items) index new }
 {
     if let Value::Long(n) = new {
         put(items, index, n);
@@ -163,7 +166,8 @@ fn put_long(items: &mut Vec<i64>, index: usize, new: Value)
 #[tactic(auto, using(crate::proofs::ElementLaws::null_put, crate::proofs::ElementLaws::reference_put))]
 fn put_reference(items: &mut Vec<u32>, index: usize, new: Value)
     requires { IsOfKind kind.Reference new }
-    ensures { map reference_value items.new.items ≡ slice_set (map reference_value items.old.items) index new }
+    ensures { map reference_value items.new.items
+        ≡ slice_set (map reference_value items.old.items) index new }
 {
     match new {
         Value::Null => put(items, index, 0),
@@ -295,7 +299,8 @@ impl Elements {
     #[inline(always)]
     #[tactic(auto, using(crate::proofs::KindLaws::ints_are_served, crate::proofs::KindLaws::bytes_are_served, crate::proofs::KindLaws::booleans_are_served, crate::proofs::KindLaws::chars_are_served, crate::proofs::KindLaws::shorts_are_served, crate::proofs::KindLaws::longs_are_served, crate::proofs::KindLaws::references_are_served))]
     fn are_served(&self, kind: ArrayKind) -> bool
-        ensures { (t : FieldType) → elements_kind self.now ≡ kind_of t → IsTrue result → serves kind t ≡ true }
+        ensures { (t : FieldType) → elements_kind self.now ≡ kind_of t → IsTrue result
+            → serves kind t ≡ true }
     {
         match (self, kind) {
             (Elements::Ints(_), ArrayKind::Int)
@@ -313,7 +318,8 @@ impl Elements {
     #[inline(always)]
     #[tactic(auto, using(crate::proofs::KindLaws::int_is_kept, crate::proofs::KindLaws::byte_is_kept, crate::proofs::KindLaws::boolean_is_kept, crate::proofs::KindLaws::char_is_kept, crate::proofs::KindLaws::short_is_kept))]
     fn kept(&self, value: Value) -> Option<Value>
-        ensures { (t : FieldType) → elements_kind self.now ≡ kind_of t → IfSome result (λ kept. stored_as t value ≡ kept) }
+        ensures { (t : FieldType) → elements_kind self.now ≡ kind_of t
+            → IfSome result (λ kept. stored_as t value ≡ kept) }
     {
         match (self, value) {
             (Elements::Ints(_), Value::Int(n)) => Some(Value::Int(n)),
@@ -330,7 +336,8 @@ impl Elements {
     #[inline(always)]
     #[tactic(auto, using(crate::proofs::KindLaws::loads))]
     pub fn loaded(&self, kind: ArrayKind, index: usize) -> Option<Value>
-        ensures { (t : FieldType) → elements_kind self.now ≡ kind_of t → IfSome result (λ v. (serves kind t ≡ true) × (slice_get (values_of self.now) index ≡ Some v)) }
+        ensures { (t : FieldType) → elements_kind self.now ≡ kind_of t → IfSome result
+            (λ v. (serves kind t ≡ true) × (slice_get (values_of self.now) index ≡ Some v)) }
     {
         if !self.are_served(kind) {
             return None;
@@ -343,7 +350,9 @@ impl Elements {
     #[inline(always)]
     #[tactic(auto, using(crate::proofs::KindLaws::stores))]
     pub fn stored(&self, kind: ArrayKind, index: usize, value: Value) -> Option<Value>
-        ensures { (t : FieldType) → elements_kind self.now ≡ kind_of t → IfSome result (λ kept. (serves kind t ≡ true) × (IsSome (slice_get (values_of self.now) index) × (stored_as t value ≡ kept))) }
+        ensures { (t : FieldType) → elements_kind self.now ≡ kind_of t
+            → IfSome result (λ kept. (serves kind t ≡ true)
+            × (IsSome (slice_get (values_of self.now) index) × (stored_as t value ≡ kept))) }
     {
         if !self.are_served(kind) || self.get(index).is_none() {
             return None;

@@ -28,7 +28,8 @@ pub(crate) fn catches_of(
     entries: &mut Entries,
     catches: &[CatchLine],
 ) -> Result<Items<u16>, EntryFault>
-    ensures { Enters (λ numbers. numbers) (catches_onto [] (pool_of entries.old) catches.now) result (pool_of entries.new) }
+    ensures { Enters (λ numbers. numbers)
+        (catches_onto [] (pool_of entries.old) catches.now) result (pool_of entries.new) }
 {
     let mut numbers = Items::new(alloc);
     for catch in catches {

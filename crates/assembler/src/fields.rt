@@ -35,7 +35,8 @@ fn field_attributes(
     entries: &mut Entries,
     constant: &Option<FieldConstant>,
 ) -> Result<Items<FieldAttribute>, EntryFault>
-    ensures { Enters (λ attributes. attributes) (field_attributes (pool_of entries.old) constant.now) result (pool_of entries.new) }
+    ensures { Enters (λ attributes. attributes)
+        (field_attributes (pool_of entries.old) constant.now) result (pool_of entries.new) }
 {
     let mut attributes = Items::new(alloc);
     match constant {
@@ -56,7 +57,8 @@ fn field_info(
     entries: &mut Entries,
     field: &FieldLine,
 ) -> Result<FieldInfo, EntryFault>
-    ensures { Enters (λ info. info) (field_info (pool_of entries.old) field.now) result (pool_of entries.new) }
+    ensures { Enters (λ info. info)
+        (field_info (pool_of entries.old) field.now) result (pool_of entries.new) }
 {
     let name = entries.text(alloc, field.name.as_slice())?;
     let descriptor = entries.text(alloc, field.descriptor.as_slice())?;
@@ -75,7 +77,8 @@ pub(crate) fn fields_of(
     entries: &mut Entries,
     fields: &[FieldLine],
 ) -> Result<Items<FieldInfo>, EntryFault>
-    ensures { Enters (λ infos. infos) (fields_onto [] (pool_of entries.old) fields.now) result (pool_of entries.new) }
+    ensures { Enters (λ infos. infos)
+        (fields_onto [] (pool_of entries.old) fields.now) result (pool_of entries.new) }
 {
     let mut infos = Items::new(alloc);
     for field in fields {

@@ -30,7 +30,8 @@ use std::alloc::Global;
 /// Returns `RepeatedLabel` if a label is defined twice, or `Memory` if memory ran out.
 fn labels_of<'s>(alloc: Global, code: &'s [CodeItem]) -> Result<Labels<'s>, AsmFault>
     ensures same { IfOk result (λ labels. labels ≡ code.now) }
-    ensures once { MatchResult result (λ _. want (not (repeats_label code.now)) fault.RepeatedLabel ≡ Ok tt) (λ e. Answers (Err e) (want (not (repeats_label code.now)) fault.RepeatedLabel)) }
+    ensures once { MatchResult result (λ _. want (not (repeats_label code.now)) fault.RepeatedLabel
+        ≡ Ok tt) (λ e. Answers (Err e) (want (not (repeats_label code.now)) fault.RepeatedLabel)) }
 {
     match Labels::of(alloc, code) {
         Ok(labels) => Ok(labels),
@@ -48,7 +49,8 @@ fn labels_of<'s>(alloc: Global, code: &'s [CodeItem]) -> Result<Labels<'s>, AsmF
 #[tactic(auto, unfolding(assembly::specs::Assembled::labels_judged))]
 fn judged_labels<'s>(alloc: Global, method: &'s MethodLines) -> Result<Labels<'s>, AsmFault>
     ensures same { IfOk result (λ labels. labels ≡ method.now.code) }
-    ensures judged { MatchResult result (λ _. labels_judged method.now ≡ Ok tt) (λ e. Answers (Err e) (labels_judged method.now)) }
+    ensures judged { MatchResult result (λ _. labels_judged method.now ≡ Ok tt)
+        (λ e. Answers (Err e) (labels_judged method.now)) }
 {
     let labels = labels_of(alloc, method.code.as_slice())?;
     if has_undefined_label(method, &labels) {
@@ -69,7 +71,8 @@ fn code_attribute(
     labels: &Labels<'_>,
 ) -> Result<MethodAttribute, AsmFault>
     requires { labels.now ≡ method.now.code }
-    ensures { Assembles (λ attribute. attribute) (code_attribute (pool_of entries.old) method.now) result (pool_of entries.new) }
+    ensures { Assembles (λ attribute. attribute)
+        (code_attribute (pool_of entries.old) method.now) result (pool_of entries.new) }
 {
     let name = entries.text(alloc, &CODE)?;
     let operands = operands_of(alloc, entries, method.code.as_slice())?;
@@ -93,7 +96,8 @@ fn code_if_any(
     labels: &Labels<'_>,
 ) -> Result<Option<MethodAttribute>, AsmFault>
     requires { labels.now ≡ method.now.code }
-    ensures { Assembles listed (code_attributes (pool_of entries.old) method.now) result (pool_of entries.new) }
+    ensures { Assembles listed (code_attributes (pool_of entries.old) method.now) result
+        (pool_of entries.new) }
 {
     if !has_code(method) {
         return Ok(None);
@@ -109,7 +113,8 @@ fn method_info(
     entries: &mut Entries,
     method: &MethodLines,
 ) -> Result<MethodInfo, AsmFault>
-    ensures { Assembles (λ info. info) (method_info (pool_of entries.old) method.now) result (pool_of entries.new) }
+    ensures { Assembles (λ info. info)
+        (method_info (pool_of entries.old) method.now) result (pool_of entries.new) }
 {
     let labels = judged_labels(alloc, method)?;
     let name = entries.text(alloc, method.name.as_slice())?;
@@ -130,7 +135,8 @@ pub(crate) fn methods_of(
     entries: &mut Entries,
     methods: &[MethodLines],
 ) -> Result<Items<MethodInfo>, AsmFault>
-    ensures { Assembles (λ infos. infos) (methods_onto [] (pool_of entries.old) methods.now) result (pool_of entries.new) }
+    ensures { Assembles (λ infos. infos)
+        (methods_onto [] (pool_of entries.old) methods.now) result (pool_of entries.new) }
 {
     let mut infos = Items::new(alloc);
     for method in methods {

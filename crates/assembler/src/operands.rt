@@ -30,7 +30,8 @@ fn loaded_entry(
 
 /// Returns the index of a field (JVMS 4.4.2).
 fn field_entry(alloc: Global, entries: &mut Entries, field: &FieldName) -> Result<u16, EntryFault>
-    ensures { Gives (field_entry (pool_of entries.old) field.now.class field.now.name field.now.descriptor) result (pool_of entries.new) }
+    ensures { Gives (field_entry (pool_of entries.old) field.now.class
+        field.now.name field.now.descriptor) result (pool_of entries.new) }
 {
     entries.field(
         alloc,
@@ -58,7 +59,8 @@ fn method_entry(
     how: Invoke,
     method: &MethodName,
 ) -> Result<u16, EntryFault>
-    ensures { Gives (method_entry (kind_of how) (pool_of entries.old) method.now.class method.now.name method.now.descriptor) result (pool_of entries.new) }
+    ensures { Gives (method_entry (kind_of how) (pool_of entries.old) method.now.class
+        method.now.name method.now.descriptor) result (pool_of entries.new) }
 {
     entries.method(
         alloc,
@@ -76,7 +78,8 @@ fn operand_entry(
     entries: &mut Entries,
     operation: &Operation,
 ) -> Result<u16, EntryFault>
-    ensures { Gives (operand_entry (pool_of entries.old) operation.now) result (pool_of entries.new) }
+    ensures { Gives (operand_entry (pool_of entries.old) operation.now) result
+        (pool_of entries.new) }
 {
     match operation {
         Operation::Constant(_, constant) => loaded_entry(alloc, entries, constant.get()),
@@ -95,7 +98,8 @@ pub(crate) fn operands_of(
     entries: &mut Entries,
     code: &[CodeItem],
 ) -> Result<Items<u16>, EntryFault>
-    ensures exact { Enters (λ numbers. numbers) (operands_onto [] (pool_of entries.old) code.now) result (pool_of entries.new) }
+    ensures exact { Enters (λ numbers. numbers)
+        (operands_onto [] (pool_of entries.old) code.now) result (pool_of entries.new) }
     ensures one_each { IfOk result (λ numbers. length numbers ≡ length (operations code.now)) }
 {
     let mut numbers = Items::new(alloc);

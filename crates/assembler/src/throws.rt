@@ -19,7 +19,8 @@ pub(crate) fn classes_of(
     entries: &mut Entries,
     names: &[Text],
 ) -> Result<Items<u16>, EntryFault>
-    ensures { Enters (λ numbers. numbers) (classes_onto [] (pool_of entries.old) names.now) result (pool_of entries.new) }
+    ensures { Enters (λ numbers. numbers)
+        (classes_onto [] (pool_of entries.old) names.now) result (pool_of entries.new) }
 {
     let mut numbers = Items::new(alloc);
     for name in names {
@@ -36,7 +37,8 @@ pub(crate) fn throws_attribute(
     entries: &mut Entries,
     throws: &[Text],
 ) -> Result<Option<MethodAttribute>, EntryFault>
-    ensures { Enters listed (throws_attributes (pool_of entries.old) throws.now) result (pool_of entries.new) }
+    ensures { Enters listed (throws_attributes (pool_of entries.old) throws.now) result
+        (pool_of entries.new) }
 {
     if let [] = throws {
         return Ok(None);

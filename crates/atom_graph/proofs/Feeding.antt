@@ -3,7 +3,7 @@ use Rattle.std.proofs.Common.{◌≡◌, ℕ, ◌+◌, ◌<◌, true, [], ◌∷
 use Rattle.jvms_program.specs.declared.key.MethodKey.{MethodKey}
 use Rattle.jvms_machine.specs.declared.trace.Item.{Item}
 use Rattle.jvms_machine.specs.declared.trace.Item.TheVariants as item
-use Rattle.velodrome.specs.Conflicts.{thread_of}
+use Rattle.jvms_machine.specs.Events.{thread_of}
 use Rattle.velodrome.specs.Transactions.{has_atomic, is_event, next_transaction}
 use Rattle.thread_states.specs.ThreadStates.{thread_state_in}
 use Rattle.accesses.proofs.Conflicting.{conflict_is_against}

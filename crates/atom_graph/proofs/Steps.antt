@@ -7,7 +7,7 @@ use Rattle.std.proofs.lemmas.Option.{none-some}
 use Rattle.jvms_program.specs.declared.key.MethodKey.{MethodKey}
 use Rattle.jvms_machine.specs.declared.trace.Item.{Item}
 use Rattle.jvms_machine.specs.declared.trace.Item.TheVariants as item
-use Rattle.velodrome.specs.Conflicts.{thread_of}
+use Rattle.jvms_machine.specs.Events.{thread_of}
 use Rattle.velodrome.specs.Reach.{IsOpen}
 use Rattle.velodrome.specs.Specification.{Specification}
 use Rattle.velodrome.specs.Transactions.{ThreadState, Event, TraceState, transactions_after, entered, exited, happened, is_event, next_transaction, opening_trace_state, walk, state_after_item, with_thread_state}

@@ -2,7 +2,8 @@
 use Rattle.std.proofs.Common.{◌≡◌, ◌≢◌, ℕ, ◌+◌, ◌<◌, true, not, ◌&&◌, ◌==◌, ◌⊎◌, ◌↔◌, inl, inr, List, [], ◌∷◌, ◌++◌, length, refl, sym, ap, subst, ◌∙◌, arith}
 use Rattle.std.proofs.lemmas.Bool.{and_from, and_parts, both_ways, cases_eq, eq-eqb, not-true, ne_eqb}
 use Rattle.jvms_machine.specs.declared.trace.Item.{Item}
-use Rattle.velodrome.specs.Conflicts.{conflict, thread_of}
+use Rattle.jvms_machine.specs.Events.{thread_of}
+use Rattle.velodrome.specs.Conflicts.{conflict}
 use Rattle.velodrome.specs.Cycles.{IsIn}
 use Rattle.velodrome.specs.Transactions.{Event}
 use Rattle.velodrome.specs.Verdicts.{ArePairNumbers}

@@ -2,7 +2,7 @@
 use Rattle.std.proofs.Common.{◌≡◌, ◌≢◌, ℕ, ◌+◌, ◌<◌, Bool, true, false, if◌then◌else◌, ◌⊎◌, ◌↔◌, inl, inr, List, [], ◌∷◌, ◌++◌, length, drop, Option, Some, None, refl, sym, ap, subst, ◌∙◌, arith}
 use Rattle.std.proofs.lemmas.Option.{none-some, same_Some}
 use Rattle.jvms_machine.specs.declared.trace.Item.{Item}
-use Rattle.velodrome.specs.Conflicts.{thread_of}
+use Rattle.jvms_machine.specs.Events.{thread_of}
 use Rattle.velodrome.specs.Cycles.{IsIn}
 use Rattle.velodrome.specs.Reach.{IsOpen}
 use Rattle.velodrome.specs.Specification.{Specification}

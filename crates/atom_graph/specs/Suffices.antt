@@ -1,6 +1,6 @@
 -- The remembered accesses suffice to find each conflict of a new event (Velodrome, section 4).
 use Rattle.std.specs.Prelude.{◌≡◌, ℕ, true, List}
-use Rattle.velodrome.specs.Conflicts.{thread_of}
+use Rattle.jvms_machine.specs.Events.{thread_of}
 use Rattle.velodrome.specs.Cycles.{IsIn}
 use Rattle.velodrome.specs.Transactions.{Event}
 use Rattle.atom_order.specs.Keeping.{Leads, Order}

@@ -1,7 +1,7 @@
 //! The checker of atomicity, which is fed one item at a time.
 
 ghost use Rattle.std.specs.Prelude.{◌≡◌, ℕ, true, List, [], length, map, IfOk, MatchOption};
-ghost use Rattle.velodrome.specs.Conflicts.{thread_of};
+ghost use Rattle.jvms_machine.specs.Events.{thread_of};
 ghost use Rattle.velodrome.specs.Cycles.{AreAtomic, IsCycle};
 ghost use Rattle.velodrome.specs.Reach.{AreReached};
 ghost use Rattle.velodrome.specs.Rearrangements.{IsRearrangement, IsSerial};
@@ -180,8 +180,10 @@ impl Checker {
 
     /// Returns the events in a serial order, or `None` if there is a cycle.
     pub fn serial(&self) -> Result<Option<Vec<u64>>, AllocError>
-        ensures { IfOk result (λ o. MatchOption o (((ts : List ℕ) × IsCycle (walk_of self.now).events ts) × ((numbers : List ℕ) → IsRearrangement (walk_of self.now).events numbers → ⊥))
-            (λ v. AreAtomic (walk_of self.now).events × IsSerial (walk_of self.now).events v.items)) }
+        ensures { IfOk result
+            (λ o. MatchOption o (((ts : List ℕ) × IsCycle (walk_of self.now).events ts)
+            × ((numbers : List ℕ) → IsRearrangement (walk_of self.now).events numbers → ⊥)) (λ v.
+            AreAtomic (walk_of self.now).events × IsSerial (walk_of self.now).events v.items)) }
     {
         if self.watch.found.is_some() {
             return Ok(None);

@@ -45,7 +45,9 @@ impl Reduced {
         item: &Item,
     ) -> Result<Option<Found>, AllocError>
         requires { IsReady stay transaction self.old.graph }
-        ensures ok { IfOk result (λ o. MatchOption o (IsTaken number transaction stay item.now self.old self.new) (λ f. IsClosedBy number transaction item.now self.old f)) }
+        ensures ok { IfOk result
+            (λ o. MatchOption o (IsTaken number transaction stay item.now self.old self.new)
+            (λ f. IsClosedBy number transaction item.now self.old f)) }
         ensures err { OnErr result (IsLike self.old self.new) }
     {
         self.accesses.reserve(sum, item)?;
@@ -91,7 +93,9 @@ fn grow(
     links: Vec<Link>,
 ) -> Result<Option<Closing>, AllocError>
     requires { IsReady stay transaction graph.old }
-    ensures ok { IfOk result (λ o. MatchOption o (IsGrown stay transaction links.items graph.old graph.new) (λ c. (graph.new ≡ graph.old) × ClosesCycle transaction links.items graph.old c)) }
+    ensures ok { IfOk result
+        (λ o. MatchOption o (IsGrown stay transaction links.items graph.old graph.new)
+        (λ c. (graph.new ≡ graph.old) × ClosesCycle transaction links.items graph.old c)) }
     ensures err { OnErr result (graph.new ≡ graph.old) }
 {
     match stay {

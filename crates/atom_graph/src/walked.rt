@@ -63,7 +63,8 @@ impl StoredTrace {
     /// Reserves the memory that the exit of a method needs, and returns a shared item equal to it.
     pub(crate) fn prepare_exit(&mut self, sum: u32, item: &Item) -> Result<Shared<Item>, AllocError>
         ensures same { IsSame self.old self.new }
-        ensures room { IfOk result (λ i. (i ≡ item.now) × (vec_len self.new.items < vec_capacity self.new.items)) }
+        ensures room { IfOk result
+            (λ i. (i ≡ item.now) × (vec_len self.new.items < vec_capacity self.new.items)) }
     {
         self.items.reserve(1)?;
         self.repeats.once_more(sum, item)
@@ -79,7 +80,8 @@ impl StoredTrace {
     ) -> Result<(Standing, Shared<Item>), AllocError>
         ensures same { IsSame self.old self.new }
         ensures room { IfOk result (λ r. (r.1 ≡ item.now) × HasRoomFor thread self.new) }
-        ensures standing { IfOk result (λ r. IsStanding r.0 self.new.courses.lines (thread_state_in self.new.courses.table thread)) }
+        ensures standing { IfOk result (λ r. IsStanding r.0 self.new.courses.lines
+            (thread_state_in self.new.courses.table thread)) }
     {
         let standing = self.courses.ready(thread)?;
         self.items.reserve(1)?;
@@ -113,7 +115,8 @@ impl StoredTrace {
 
     /// Returns the transaction that ends with a thread's next exit.
     pub(crate) fn over(&self, thread: ThreadId) -> Option<u64>
-        ensures { result ≡ ending_transaction self.now.courses.lines (thread_state_in self.now.courses.table thread) }
+        ensures { result ≡ ending_transaction self.now.courses.lines
+            (thread_state_in self.now.courses.table thread) }
     {
         self.courses.over(thread)
     }
@@ -128,7 +131,8 @@ impl StoredTrace {
     )
         requires room { HasRoomFor thread self.old }
         requires begun { self.old.begun < 2 ^ 63 }
-        requires standing { IsStanding standing self.old.courses.lines (thread_state_in self.old.courses.table thread) }
+        requires standing { IsStanding standing self.old.courses.lines
+            (thread_state_in self.old.courses.table thread) }
         requires transaction { transaction ≡ next_transaction standing.transaction self.old.begun }
         ensures { IsHappened thread transaction item self.old self.new }
     {

@@ -23,7 +23,8 @@ pub(crate) struct Watch {
 impl Watch {
     /// Returns the state before any event.
     pub(crate) fn new(alloc: Global) -> Result<Self, AllocError>
-        ensures { IfOk result (λ v. (v.reduced.graph ≡ no_transactions) × (kept_of v.reduced.accesses ≡ []) × (v.found ≡ None)) }
+        ensures { IfOk result (λ v. (v.reduced.graph ≡ no_transactions)
+            × (kept_of v.reduced.accesses ≡ []) × (v.found ≡ None)) }
     {
         Ok(Watch {
             reduced: Reduced::new(alloc)?,

@@ -18,7 +18,8 @@ pub struct Near {
 
 /// Returns the link if its transaction is nearer than that of the best link so far, else the best one.
 fn nearer(best: Option<Near>, link: Link, distances: &BTreeMap<u64, usize>) -> Option<Near>
-    ensures { (links : List Link) → IsBest links distances.now.entries best → IsBest (links ++ link ∷ []) distances.now.entries result }
+    ensures { (links : List Link) → IsBest links distances.now.entries best
+        → IsBest (links ++ link ∷ []) distances.now.entries result }
 {
     match distances.get(&link.from).copied() {
         None => best,

@@ -41,7 +41,12 @@ impl Model for Graph {
 
     ghost Value = { Shape };
 
-    ghost view = { λ g. record { dropped = g.dropped.items; live = g.live.items; is_open = g.is_open.items; into = g.into.items } };
+    ghost view = { λ g. record {
+      dropped = g.dropped.items;
+      live = g.live.items;
+      is_open = g.is_open.items;
+      into = g.into.items;
+    } };
 
     ghost invariant = { λ g. ArePlaces g.live.items g.places.items g.is_open.items g.into.items };
 }
@@ -65,7 +70,8 @@ impl Graph {
 
     /// Returns the place of a transaction among the live ones, if it is live.
     fn place_of(&self, transaction: u64) -> Option<usize>
-        ensures { MatchOption result (is_among transaction self.now.live ≡ false) (λ i. (i < length self.now.live) × (get_or self.now.live i 0 ≡ transaction)) }
+        ensures { MatchOption result (is_among transaction self.now.live ≡ false)
+            (λ i. (i < length self.now.live) × (get_or self.now.live i 0 ≡ transaction)) }
     {
         let slot = transaction as usize;
         if slot >= self.places.len() {
@@ -181,7 +187,8 @@ impl Graph {
 
     /// Decides whether a link leads into a transaction from a marked one.
     fn is_led(&self, transaction: u64, marks: &BTreeSet<u64>) -> bool
-        ensures { result ≡ list_any (λ (l : Link). has_key marks.now.keys l.from) (into_in self.now transaction) }
+        ensures { result ≡ list_any (λ (l : Link). has_key marks.now.keys l.from)
+            (into_in self.now transaction) }
     {
         self.links_into(transaction)
             .iter()
@@ -190,14 +197,16 @@ impl Graph {
 
     /// Decides whether y is this transaction, or a link leads into y from a marked one.
     fn is_entered(&self, y: u64, transaction: u64, marks: &BTreeSet<u64>) -> bool
-        ensures { result ≡ ((y == transaction) || list_any (λ (l : Link). has_key marks.now.keys l.from) (into_in self.now y)) }
+        ensures { result ≡ ((y == transaction)
+            || list_any (λ (l : Link). has_key marks.now.keys l.from) (into_in self.now y)) }
     {
         y == transaction || self.is_led(y, marks)
     }
 
     /// Returns the transaction and what it reaches by links, within a part of the order.
     fn reached(&self, region: &[u64], transaction: u64) -> Result<BTreeSet<u64>, AllocError>
-        ensures { IfOk result (λ s. HasMarks s.keys (marked (λ y. y == transaction) (into_in self.now) [] region.now)) }
+        ensures { IfOk result (λ s. HasMarks s.keys
+            (marked (λ y. y == transaction) (into_in self.now) [] region.now)) }
     {
         let mut marks = BTreeSet::new(self.alloc);
         for y in region {
@@ -210,7 +219,8 @@ impl Graph {
 
     /// Decides whether a link leads into a transaction from a live one that is not to be dropped.
     fn is_linked(&self, transaction: u64, gone: &BTreeSet<u64>) -> bool
-        ensures { result ≡ list_any (λ (l : Link). is_among l.from self.now.live && not (has_key gone.now.keys l.from)) (into_in self.now transaction) }
+        ensures { result ≡ list_any (λ (l : Link). is_among l.from self.now.live
+            && not (has_key gone.now.keys l.from)) (into_in self.now transaction) }
     {
         self.links_into(transaction).iter().any(|link| self.is_live(link.from)
             && !gone.contains(&link.from))
@@ -218,8 +228,9 @@ impl Graph {
 
     /// Decides whether y stays live after a transaction closes and these are dropped.
     fn is_held(&self, y: u64, closing: u64, gone: &BTreeSet<u64>) -> bool
-        ensures { result ≡ (cond (y == closing) false (open_in self.now y)
-            || list_any (λ (l : Link). is_among l.from self.now.live && not (has_key gone.now.keys l.from)) (into_in self.now y)) }
+        ensures { result ≡ (cond (y == closing) false (open_in self.now y) || list_any
+            (λ (l : Link). is_among l.from self.now.live && not (has_key gone.now.keys l.from))
+            (into_in self.now y)) }
     {
         y != closing && self.is_open(y) || self.is_linked(y, gone)
     }
@@ -227,7 +238,8 @@ impl Graph {
     /// Returns the transactions of a part of the order that don't stay live after one closes.
     fn to_be_dropped(&self, region: &[u64], closing: u64) -> Result<BTreeSet<u64>, AllocError>
         ensures { IfOk result (λ s. HasMarks s.keys
-            (to_be_dropped (λ y. cond (y == closing) false (open_in self.now y)) (λ y. is_among y self.now.live) (into_in self.now) [] region.now)) }
+            (to_be_dropped (λ y. cond (y == closing) false (open_in self.now y))
+            (λ y. is_among y self.now.live) (into_in self.now) [] region.now)) }
     {
         let mut gone = BTreeSet::new(self.alloc);
         for y in region {
@@ -254,7 +266,8 @@ impl Graph {
 
     /// Decides whether a link leads into a transaction from a live one.
     fn has_live_link(&self, transaction: u64) -> bool
-        ensures { result ≡ list_any (λ (l : Link). is_among l.from self.now.live) (into_in self.now transaction) }
+        ensures { result ≡ list_any (λ (l : Link). is_among l.from self.now.live)
+            (into_in self.now transaction) }
     {
         self.links_into(transaction)
             .iter()
@@ -351,7 +364,8 @@ impl Graph {
     /// Decides whether a link leads from a transaction at this place or a later one.
     fn leads_back(&self, links: &[Link], place: usize) -> bool
         requires { place < length self.now.live }
-        ensures { result ≡ list_any (λ (l : Link). is_among l.from (drop place self.now.live)) links.now }
+        ensures { result
+            ≡ list_any (λ (l : Link). is_among l.from (drop place self.now.live)) links.now }
     {
         links
             .iter()
@@ -374,7 +388,8 @@ impl Graph {
     pub fn link(&mut self, transaction: u64, links: &[Link]) -> Result<Option<Closing>, AllocError>
         requires live { is_among transaction self.old.live ≡ true }
         requires usable { IsUsable self.old }
-        ensures ok { IfOk result (λ o. MatchOption o (IsLinking transaction links.now self.old self.new)
+        ensures ok { IfOk result
+            (λ o. MatchOption o (IsLinking transaction links.now self.old self.new)
             (λ c. (self.new ≡ self.old) × ClosesCycle transaction links.now self.old c)) }
         ensures err { OnErr result (self.new ≡ self.old) }
     {
@@ -394,7 +409,8 @@ impl Graph {
         requires place { place < length self.old.live }
         requires there { get_or self.old.live place 0 ≡ transaction }
         requires usable { IsUsable self.old }
-        ensures ok { IfOk result (λ o. MatchOption o (IsLinking transaction links.now self.old self.new)
+        ensures ok { IfOk result
+            (λ o. MatchOption o (IsLinking transaction links.now self.old self.new)
             (λ c. (self.new ≡ self.old) × ClosesCycle transaction links.now self.old c)) }
         ensures err { OnErr result (self.new ≡ self.old) }
     {
@@ -422,7 +438,8 @@ impl Graph {
         requires place { place < length self.old.live }
         requires there { get_or self.old.live place 0 ≡ transaction }
         requires usable { IsUsable self.old }
-        requires marks { HasMarks marks.now.keys (marked (λ y. y == transaction) (into_in self.old) [] (drop place self.old.live)) }
+        requires marks { HasMarks marks.now.keys
+            (marked (λ y. y == transaction) (into_in self.old) [] (drop place self.old.live)) }
         requires apart { (l : Link) → IsIn l links.now → has_key marks.now.keys l.from ≡ false }
         ensures ok { OnOk result (IsLinking transaction links.now self.old self.new) }
         ensures err { OnErr result (self.new ≡ self.old) }

@@ -59,10 +59,13 @@ pub fn put_from(list: &mut Vec<u64>, place: usize, numbers: &[u64])
 /// Records the places of the live transactions from one on.
 pub fn note_places(places: &mut Vec<usize>, live: &[u64], from: usize)
     requires slots { (i : ℕ) → i < length live.now → get_or live.now i 0 < length places.old.items }
-    requires apart { (i j : ℕ) → i < j → j < length live.now → get_or live.now i 0 ≢ get_or live.now j 0 }
-    requires front { (i : ℕ) → i < from → i < length live.now → get_or places.old.items (get_or live.now i 0) 0 ≡ i }
+    requires apart { (i j : ℕ) → i < j → j < length live.now
+        → get_or live.now i 0 ≢ get_or live.now j 0 }
+    requires front { (i : ℕ) → i < from → i < length live.now
+        → get_or places.old.items (get_or live.now i 0) 0 ≡ i }
     ensures len { length places.new.items ≡ length places.old.items }
-    ensures at { (i : ℕ) → i < length live.now → get_or places.new.items (get_or live.now i 0) 0 ≡ i }
+    ensures at { (i : ℕ) → i < length live.now
+        → get_or places.new.items (get_or live.now i 0) 0 ≡ i }
 {
     for i in from..live.len() {
         places[live[i] as usize] = i;
@@ -72,7 +75,8 @@ pub fn note_places(places: &mut Vec<usize>, live: &[u64], from: usize)
 /// Removes the links into a transaction.
 fn forget_one(into: &mut Vec<Links>, transaction: u64, alloc: Global)
     ensures len { length into.new.items ≡ length into.old.items }
-    ensures others { (y : ℕ) → y ≢ transaction → get_or into.new.items y [] ≡ get_or into.old.items y [] }
+    ensures others { (y : ℕ) → y ≢ transaction
+        → get_or into.new.items y [] ≡ get_or into.old.items y [] }
 {
     let slot = transaction as usize;
     if slot < into.len() {
@@ -83,7 +87,8 @@ fn forget_one(into: &mut Vec<Links>, transaction: u64, alloc: Global)
 /// Removes the links into transactions.
 pub fn forget(into: &mut Vec<Links>, gone: &[u64], alloc: Global)
     ensures len { length into.new.items ≡ length into.old.items }
-    ensures others { (y : ℕ) → is_among y gone.now ≡ false → get_or into.new.items y [] ≡ get_or into.old.items y [] }
+    ensures others { (y : ℕ) → is_among y gone.now ≡ false
+        → get_or into.new.items y [] ≡ get_or into.old.items y [] }
 {
     for y in gone {
         forget_one(into, *y, alloc);
@@ -94,12 +99,16 @@ pub fn forget(into: &mut Vec<Links>, gone: &[u64], alloc: Global)
 pub fn rearrange(live: &mut Vec<u64>, places: &mut Vec<usize>, place: usize, numbers: &[u64])
     requires fits { place + length numbers.now ≤ length live.old.items }
     requires moved { IsMoved place live.old.items (take place live.old.items ++ numbers.now) }
-    requires slots { (i : ℕ) → i < length live.old.items → get_or live.old.items i 0 < length places.old.items }
-    requires at { (i : ℕ) → i < length live.old.items → get_or places.old.items (get_or live.old.items i 0) 0 ≡ i }
+    requires slots { (i : ℕ) → i < length live.old.items
+        → get_or live.old.items i 0 < length places.old.items }
+    requires at { (i : ℕ) → i < length live.old.items
+        → get_or places.old.items (get_or live.old.items i 0) 0 ≡ i }
     ensures live { live.new.items ≡ take place live.old.items ++ numbers.now }
     ensures len { length places.new.items ≡ length places.old.items }
-    ensures slots { (i : ℕ) → i < length live.new.items → get_or live.new.items i 0 < length places.new.items }
-    ensures at { (i : ℕ) → i < length live.new.items → get_or places.new.items (get_or live.new.items i 0) 0 ≡ i }
+    ensures slots { (i : ℕ) → i < length live.new.items
+        → get_or live.new.items i 0 < length places.new.items }
+    ensures at { (i : ℕ) → i < length live.new.items
+        → get_or places.new.items (get_or live.new.items i 0) 0 ≡ i }
 {
     put_from(live, place, numbers);
     note_places(places, live.as_slice(), place);

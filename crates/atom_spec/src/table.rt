@@ -54,7 +54,8 @@ impl NameTable {
 
     /// Sets the decision for a descriptor.
     fn put(&mut self, alloc: Global, descriptor: &[u16], said: bool) -> Result<(), AllocError>
-        ensures { OnOk result ((q : List ℕ) → decision_of_name self.new q ≡ (if same_text q descriptor.now then said else decision_of_name self.old q)) }
+        ensures { OnOk result ((q : List ℕ) → decision_of_name self.new q
+            ≡ (if same_text q descriptor.now then said else decision_of_name self.old q)) }
     {
         self.exactly.put(alloc, descriptor, said)
     }
@@ -85,8 +86,10 @@ impl ClassTable {
 
     /// Removes the table of a name and returns it. Without one, returns a table of the common decision.
     fn take(&mut self, alloc: Global, name: &[u16]) -> NameTable
-        ensures value { (q : List ℕ) → decision_of_name result q ≡ decision_of_class self.old name.now q }
-        ensures others { (p q : List ℕ) → same_text p name.now ≡ false → decision_of_class self.new p q ≡ decision_of_class self.old p q }
+        ensures value { (q : List ℕ)
+            → decision_of_name result q ≡ decision_of_class self.old name.now q }
+        ensures others { (p q : List ℕ) → same_text p name.now ≡ false
+            → decision_of_class self.new p q ≡ decision_of_class self.old p q }
     {
         match self.names.take(name) {
             Some(table) => table,
@@ -96,7 +99,8 @@ impl ClassTable {
 
     /// Sets the decision for all methods of a name.
     fn put_name(&mut self, alloc: Global, name: &[u16], said: bool) -> Result<(), AllocError>
-        ensures { OnOk result ((p q : List ℕ) → decision_of_class self.new p q ≡ (if same_text p name.now then said else decision_of_class self.old p q)) }
+        ensures { OnOk result ((p q : List ℕ) → decision_of_class self.new p q
+            ≡ (if same_text p name.now then said else decision_of_class self.old p q)) }
     {
         self.names.put(alloc, name, NameTable::new(alloc, said))
     }
@@ -109,7 +113,9 @@ impl ClassTable {
         descriptor: &[u16],
         said: bool,
     ) -> Result<(), AllocError>
-        ensures { OnOk result ((p q : List ℕ) → decision_of_class self.new p q ≡ (if same_text p name.now && same_text q descriptor.now then said else decision_of_class self.old p q)) }
+        ensures { OnOk result ((p q : List ℕ) → decision_of_class self.new p q
+            ≡ (if same_text p name.now && same_text q descriptor.now
+            then said else decision_of_class self.old p q)) }
     {
         let mut table = self.take(alloc, name);
         table.put(alloc, descriptor, said)?;
@@ -144,8 +150,10 @@ impl Table {
 
     /// Removes the table of a class and returns it. Without one, returns a table of the common decision.
     fn take(&mut self, alloc: Global, class: &[u16]) -> ClassTable
-        ensures value { (m : MethodKey) → same_text m.class class.now ≡ true → decision_of_class result m.name m.descriptor ≡ decision_of self.old m }
-        ensures others { (m : MethodKey) → same_text m.class class.now ≡ false → decision_of self.new m ≡ decision_of self.old m }
+        ensures value { (m : MethodKey) → same_text m.class class.now ≡ true
+            → decision_of_class result m.name m.descriptor ≡ decision_of self.old m }
+        ensures others { (m : MethodKey) → same_text m.class class.now ≡ false
+            → decision_of self.new m ≡ decision_of self.old m }
     {
         match self.classes.take(class) {
             Some(table) => table,
@@ -155,7 +163,8 @@ impl Table {
 
     /// Sets the decision for all methods of a class.
     fn put_class(&mut self, alloc: Global, class: &[u16], said: bool) -> Result<(), AllocError>
-        ensures { OnOk result ((m : MethodKey) → decision_of self.new m ≡ (if same_text m.class class.now then said else decision_of self.old m)) }
+        ensures { OnOk result ((m : MethodKey) → decision_of self.new m
+            ≡ (if same_text m.class class.now then said else decision_of self.old m)) }
     {
         self.classes.put(alloc, class, ClassTable::new(alloc, said))
     }
@@ -168,7 +177,9 @@ impl Table {
         name: &[u16],
         said: bool,
     ) -> Result<(), AllocError>
-        ensures { OnOk result ((m : MethodKey) → decision_of self.new m ≡ (if same_text m.class class.now && same_text m.name name.now then said else decision_of self.old m)) }
+        ensures { OnOk result ((m : MethodKey)
+            → decision_of self.new m ≡ (if same_text m.class class.now && same_text m.name name.now
+            then said else decision_of self.old m)) }
     {
         let mut table = self.take(alloc, class);
         table.put_name(alloc, name, said)?;
@@ -184,7 +195,9 @@ impl Table {
         descriptor: &[u16],
         said: bool,
     ) -> Result<(), AllocError>
-        ensures { OnOk result ((m : MethodKey) → decision_of self.new m ≡ (if same_text m.class class.now && same_text m.name name.now && same_text m.descriptor descriptor.now then said else decision_of self.old m)) }
+        ensures { OnOk result ((m : MethodKey)
+            → decision_of self.new m ≡ (if same_text m.class class.now && same_text m.name name.now
+            && same_text m.descriptor descriptor.now then said else decision_of self.old m)) }
     {
         let mut table = self.take(alloc, class);
         table.put_exactly(alloc, name, descriptor, said)?;
@@ -193,7 +206,8 @@ impl Table {
 
     /// Sets the decision of a line for all methods of its pattern.
     pub(crate) fn put(&mut self, alloc: Global, line: &SpecificationLine) -> Result<(), AllocError>
-        ensures { OnOk result ((m : MethodKey) → decision_of self.new m ≡ (if is_of line.now.pattern m then line.now.is_atomic else decision_of self.old m)) }
+        ensures { OnOk result ((m : MethodKey) → decision_of self.new m
+            ≡ (if is_of line.now.pattern m then line.now.is_atomic else decision_of self.old m)) }
     {
         let said = line.is_atomic;
         match &line.pattern {

@@ -43,7 +43,8 @@ impl<V> Texts<V> {
     /// Removes the value of a text and returns it.
     pub(crate) fn take(&mut self, text: &[u16]) -> Option<V>
         ensures value { result ≡ found self.old text.now }
-        ensures others { (q : List ℕ) → same_text q text.now ≡ false → found self.new q ≡ found self.old q }
+        ensures others { (q : List ℕ) → same_text q text.now ≡ false
+            → found self.new q ≡ found self.old q }
     {
         self.values.remove(text)
     }
@@ -52,7 +53,8 @@ impl<V> Texts<V> {
     pub(crate) fn put(&mut self, alloc: Global, text: &[u16], value: V) -> Result<(), AllocError>
     where
         V: Drop,
-        ensures { OnOk result ((q : List ℕ) → found self.new q ≡ (if same_text q text.now then Some value else found self.old q)) }
+        ensures { OnOk result ((q : List ℕ)
+            → found self.new q ≡ (if same_text q text.now then Some value else found self.old q)) }
     {
         let key = Vec::from_slice(alloc, text)?;
         self.values.insert(key, value)?;

@@ -24,7 +24,8 @@ pub(crate) fn class_with(
     methods: Vec<Method>,
     name: &str,
 ) -> Result<Class, AllocError>
-    ensures { IfOk result (λ c. c ≡ class_with superclass.now interfaces.items fields.items methods.items name.now) }
+    ensures { IfOk result
+        (λ c. c ≡ class_with superclass.now interfaces.items fields.items methods.items name.now) }
 {
     Ok(Class {
         name: ascii_text(alloc, name)?,
@@ -90,7 +91,8 @@ pub(crate) fn runnable_class(alloc: Global) -> Result<Class, AllocError>
 
 /// Creates the constructor of a thread with a target.
 fn thread_constructor(alloc: Global) -> Result<Method, AllocError>
-    ensures { IfOk result (λ m. m ≡ coded (codes "<init>") (codes "(Ljava/lang/Runnable;)V") (load 0 ∷ load 1 ∷ target_field FieldUse.Put ∷ return_void ∷ [])) }
+    ensures { IfOk result (λ m. m ≡ coded (codes "<init>") (codes "(Ljava/lang/Runnable;)V")
+        (load 0 ∷ load 1 ∷ target_field FieldUse.Put ∷ return_void ∷ [])) }
 {
     let put = target_field(alloc, FieldUse::Put)?;
     let code = vec![in alloc; load(0), load(1), put, return_void()]?;
@@ -99,7 +101,9 @@ fn thread_constructor(alloc: Global) -> Result<Method, AllocError>
 
 /// Creates a thread's run, which calls the target's run if there is a target.
 fn thread_run(alloc: Global) -> Result<Method, AllocError>
-    ensures { IfOk result (λ m. m ≡ coded (codes "run") (codes "()V") (load 0 ∷ target_field FieldUse.Get ∷ Instruction.Branch Branch.IfNull 6 ∷ load 0 ∷ target_field FieldUse.Get ∷ call_run ∷ return_void ∷ [])) }
+    ensures { IfOk result (λ m. m ≡ coded (codes "run") (codes "()V")
+        (load 0 ∷ target_field FieldUse.Get ∷ Instruction.Branch Branch.IfNull 6
+        ∷ load 0 ∷ target_field FieldUse.Get ∷ call_run ∷ return_void ∷ [])) }
 {
     let tested = target_field(alloc, FieldUse::Get)?;
     let called = target_field(alloc, FieldUse::Get)?;
@@ -191,7 +195,8 @@ pub(crate) fn print_stream_class(alloc: Global) -> Result<Class, AllocError>
 
 /// Creates a serializable class without members.
 pub(crate) fn serializable_class(alloc: Global, name: &str) -> Result<Class, AllocError>
-    ensures { IfOk result (λ c. c ≡ class_with object (codes "java/io/Serializable" ∷ []) [] [] name.now) }
+    ensures { IfOk result
+        (λ c. c ≡ class_with object (codes "java/io/Serializable" ∷ []) [] [] name.now) }
 {
     let interfaces = vec![in alloc; ascii_text(alloc, "java/io/Serializable")?]?;
     let fields = Vec::new(alloc);
@@ -201,7 +206,9 @@ pub(crate) fn serializable_class(alloc: Global, name: &str) -> Result<Class, All
 
 /// Creates the class with the stream `out`.
 pub(crate) fn system_class(alloc: Global) -> Result<Class, AllocError>
-    ensures { IfOk result (λ c. c ≡ class_with object [] (field true (codes "out") (codes "Ljava/io/PrintStream;") ∷ []) [] (codes "java/lang/System")) }
+    ensures { IfOk result (λ c. c
+        ≡ class_with object [] (field true (codes "out") (codes "Ljava/io/PrintStream;") ∷ []) []
+        (codes "java/lang/System")) }
 {
     let fields = vec![in alloc; field(alloc, true, "out", "Ljava/io/PrintStream;")?]?;
     let interfaces = Vec::new(alloc);

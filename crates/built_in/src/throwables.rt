@@ -98,7 +98,8 @@ pub(crate) const BELOW: [(&str, &str); 27] = [
 
 /// Creates the constructor that stores a message.
 fn message_constructor(alloc: Global) -> Result<Method, AllocError>
-    ensures { IfOk result (λ m. m ≡ coded (codes "<init>") (codes "(Ljava/lang/String;)V") (load 0 ∷ load 1 ∷ message_field FieldUse.Put ∷ return_void ∷ [])) }
+    ensures { IfOk result (λ m. m ≡ coded (codes "<init>") (codes "(Ljava/lang/String;)V")
+        (load 0 ∷ load 1 ∷ message_field FieldUse.Put ∷ return_void ∷ [])) }
 {
     let put = message_field(alloc, FieldUse::Put)?;
     let code = vec![in alloc; load(0), load(1), put, return_void()]?;
@@ -107,7 +108,8 @@ fn message_constructor(alloc: Global) -> Result<Method, AllocError>
 
 /// Creates the method that returns the message.
 fn get_message(alloc: Global) -> Result<Method, AllocError>
-    ensures { IfOk result (λ m. m ≡ coded (codes "getMessage") (codes "()Ljava/lang/String;") (load 0 ∷ message_field FieldUse.Get ∷ return_reference ∷ [])) }
+    ensures { IfOk result (λ m. m ≡ coded (codes "getMessage") (codes "()Ljava/lang/String;")
+        (load 0 ∷ message_field FieldUse.Get ∷ return_reference ∷ [])) }
 {
     let get = message_field(alloc, FieldUse::Get)?;
     let code = vec![in alloc; load(0), get, return_reference()]?;
@@ -157,7 +159,8 @@ pub(crate) fn push_below(
     classes: &mut Vec<Class>,
     below: &[(&str, &str)],
 ) -> Result<(), AllocError>
-    ensures { OnOk result (classes.new.items ≡ classes.old.items ++ map (λ p. throwable_below p.0.now p.1.now) below.now) }
+    ensures { OnOk result (classes.new.items
+        ≡ classes.old.items ++ map (λ p. throwable_below p.0.now p.1.now) below.now) }
 {
     for (superclass, name) in below {
         classes.push(throwable_below(alloc, superclass, name)?)?;

@@ -68,7 +68,8 @@ pub fn audit(
             |number: u64| -> Option<Result<u64, AllocError>>
                 requires fits { IsTrue (fits program.now plan.now) }
                 requires within { number < length table.now.results.items }
-                ensures { IsFindingAt program.entry.now plan.entry.now table.entry.now.results.items number result }
+                ensures { IsFindingAt program.entry.now plan.entry.now
+                    table.entry.now.results.items number result }
             { finding(alloc, program, plan, number, table.results[number as usize]) },
         )
         .collect::<Result<Vec<u64>, AllocError>>(rt, alloc)?

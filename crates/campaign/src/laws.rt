@@ -14,5 +14,6 @@ pub fn events_keep_a_campaign()
 
 /// Proves that a plan has one table of a program, whichever worker ran which job.
 pub fn a_plan_has_one_table()
-    ensures { (program : List Class) (plan : Plan) (first second : List JobResult) → IsTable program plan first → IsTable program plan second → first ≡ second }
+    ensures { (program : List Class) (plan : Plan) (first second : List JobResult)
+        → IsTable program plan first → IsTable program plan second → first ≡ second }
 {}

@@ -74,7 +74,8 @@ fn run_named<'a, C: Campaign + Send + Sync, G: Gate + Sync, R: Threads + Wait + 
     seats: Vec<Seat>,
     workers: u64,
 ) -> Result<Table, Halted<'a>>
-    requires blank { (blank.name ≡ C.name) × (blank.parts ≡ C.parts) × (C.parts ≡ workers) × (0 < workers) }
+    requires blank { (blank.name ≡ C.name) × (blank.parts ≡ C.parts)
+        × (C.parts ≡ workers) × (0 < workers) }
     requires names { (program.now ≡ C.program) × (plan.now ≡ C.plan) }
     requires fits { IsTrue (fits program.now plan.now) }
     requires seats { seats.items ≡ new_seats desk.table desk.jobs workers }

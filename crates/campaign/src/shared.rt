@@ -62,7 +62,8 @@ impl<'a, C: Campaign> Guarded<'a, C> {
         requires { IsEntryOf C.program C.plan entry }
         ensures program { self.new.book.program ≡ self.old.book.program }
         ensures plan { self.new.book.plan ≡ self.old.book.plan }
-        ensures rows { IsStoring self.old.book.plan self.old.book.rows (row_of entry.entry) result self.new.book.rows }
+        ensures rows { IsStoring self.old.book.plan self.old.book.rows
+            (row_of entry.entry) result self.new.book.rows }
         ensures answer { IsAnswer C.program C.plan (row_of entry.entry) result }
         ensures share { share.new ≡ after_answer share.old result }
     {
@@ -95,7 +96,8 @@ impl<'a, C: Campaign> SharedBook<'a, C> {
         book: Book<'a>,
         workers: u64,
     ) -> Result<(SharedBook<'a, C>, Vec<Share<C>>), AllocError>
-        requires blank { (blank.name ≡ C.name) × (blank.parts ≡ C.parts) × (C.parts ≡ workers) × (0 < workers) }
+        requires blank { (blank.name ≡ C.name) × (blank.parts ≡ C.parts)
+            × (C.parts ≡ workers) × (0 < workers) }
         requires book { (book.rows ≡ []) × (book.program ≡ C.program) × (book.plan ≡ C.plan) }
         ensures { IfOk result (λ r. r.1.items ≡ replicate workers 0) }
     {

@@ -60,7 +60,8 @@ fn result_at<'a>(
     requires fits { IsTrue (fits program.now plan.now) }
     requires job { number < plan.now.jobs }
     // If the plan stops, no job of a smaller number has a cycle.
-    requires needed { plan.now.stop ≡ true → (k : ℕ) → k < number → HasNoCycle program.now plan.now k }
+    requires needed { plan.now.stop ≡ true → (k : ℕ) → k < number
+        → HasNoCycle program.now plan.now k }
     ensures program { book.new.program ≡ program.now }
     ensures plan { book.new.plan ≡ plan.now }
     ensures right { IfOk result (IsResultOf program.now plan.now number) }

@@ -30,7 +30,8 @@ impl<'a> Model for Book<'a> {
 
     ghost view = { λ b. record { program = b.program.now; plan = b.plan.now; rows = b.rows } };
 
-    ghost invariant = { λ b. IsBook b.program.now b.plan.now b.rows × (b.totals ≡ totals_of b.rows) };
+    ghost invariant = { λ b. IsBook b.program.now b.plan.now b.rows
+        × (b.totals ≡ totals_of b.rows) };
 }
 
 /// Returns whether the row with a number exists and is a result with a cycle.
@@ -122,7 +123,8 @@ impl<'a> Book<'a> {
         requires { IsEntryOf self.old.program self.old.plan entry }
         ensures program { self.new.program ≡ self.old.program }
         ensures plan { self.new.plan ≡ self.old.plan }
-        ensures rows { IsStoring self.old.plan self.old.rows (row_of entry.entry) result self.new.rows }
+        ensures rows { IsStoring self.old.plan self.old.rows
+            (row_of entry.entry) result self.new.rows }
         ensures was { IsBook self.old.program self.old.plan self.old.rows }
         ensures is { IsBook self.new.program self.new.plan self.new.rows }
     {

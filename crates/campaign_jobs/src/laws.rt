@@ -16,17 +16,22 @@ ghost use Rattle.campaign_jobs.specs.Reports.{IsResultOf, job_shown};
 /// stream.
 #[tactic(auto, using(crate::proofs::SeededChoices::are_seeded))]
 pub fn job_choices_are_seeded()
-    ensures { (most seed number : ℕ) (m : Machine) → job_choices most (generator_of seed number) m ≡ choices_from most (opened (Seeded seed number)) m }
+    ensures { (most seed number : ℕ) (m : Machine) → job_choices most (generator_of seed number) m
+        ≡ choices_from most (opened (Seeded seed number)) m }
 {}
 
 /// Proves that a job has at most one result: any two are equal.
 #[tactic(auto, using(crate::proofs::OneResult::is_one))]
 pub fn a_job_has_one_result()
-    ensures { (program : List Class) (plan : Plan) (number : ℕ) (first second : JobResult) → IsResultOf program plan number first → IsResultOf program plan number second → first ≡ second }
+    ensures { (program : List Class) (plan : Plan) (number : ℕ) (first second : JobResult)
+        → IsResultOf program plan number first → IsResultOf program plan number second
+        → first ≡ second }
 {}
 
 /// Proves that a job of a part of a campaign shows what the campaign's job of the same stream shows.
 #[tactic(auto, using(crate::proofs::PartJobs::same_job))]
 pub fn a_job_of_a_part_is_one_of_the_whole()
-    ensures { (program : List Class) (plan : Plan) (begin jobs number : ℕ) → job_shown program (part_of plan begin jobs) number ≡ job_shown program plan (begin + number) }
+    ensures { (program : List Class) (plan : Plan) (begin jobs number : ℕ)
+        → job_shown program (part_of plan begin jobs) number
+        ≡ job_shown program plan (begin + number) }
 {}

@@ -9,7 +9,9 @@ ghost use Rattle.campaign_jobs.specs.Plans.{part_of};
 
 /// Proves that the table of a part of a campaign, followed by that of the next part, is the table of both.
 pub fn tables_of_parts_make_the_table_of_the_whole()
-    ensures { (program : List Class) (plan : Plan) (begin some more : ℕ) (results others : List JobResult) → plan.stop ≡ false
-        → IsTable program (part_of plan begin some) results → IsTable program (part_of plan (begin + some) more) others
+    ensures { (program : List Class) (plan : Plan) (begin some more : ℕ)
+        (results others : List JobResult) → plan.stop ≡ false
+        → IsTable program (part_of plan begin some) results
+        → IsTable program (part_of plan (begin + some) more) others
         → IsTable program (part_of plan begin (some + more)) (results ++ others) }
 {}

@@ -71,7 +71,8 @@ pub fn write_table<G: Gate + Sync, R: Threads + Wait + Sync, W: ByteOut>(
     ensures fault { IfErr result (λ fault.
         IsFault plan.now.jobs workers fault (program_for plan.now inputs.now)) }
     ensures named { IfErr result (λ fault. NamesFile (length inputs.now) fault) }
-    ensures untouched { IfErr result (λ fault. fault ≢ CampaignFault.Output → output.new ≡ output.old) }
+    ensures untouched { IfErr result
+        (λ fault. fault ≢ CampaignFault.Output → output.new ≡ output.old) }
     // The fault is `Output` only if the writer failed. Then a prefix of the text was written.
     ensures failed { IsErrOf result CampaignFault.Output
         → W.failures output.new ≡ W.failures output.old + 1 }

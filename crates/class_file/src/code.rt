@@ -75,7 +75,8 @@ fn code_bytes<'a>(
     code_length: u32,
     bytes: &'a [u8],
 ) -> Result<(&'a [u8], &'a [u8]), ClassFault>
-    ensures exact { Finds (λ x. (x.0.now, x.1.now)) result (code_bytes_at cut code_length bytes.now) }
+    ensures exact { Finds (λ x. (x.0.now, x.1.now)) result
+        (code_bytes_at cut code_length bytes.now) }
     ensures few { IfOk result (λ x. length x.0.now ≤ 65535) }
 {
     if code_length == 0 || code_length > MOST_CODE {
@@ -125,7 +126,8 @@ pub(crate) fn code_at<'a>(
     major: u16,
     content: Content<'a>,
 ) -> Result<(Code, &'a [u8]), ReadError>
-    ensures { Gives (λ x. (x.0, x.1.now)) result (code_at pool.now major (framed_by content.entry)) }
+    ensures { Gives (λ x. (x.0, x.1.now)) result
+        (code_at pool.now major (framed_by content.entry)) }
 {
     let (max_stack, rest) = u2_at(content.cut, content.bytes)?;
     let (max_locals, rest) = u2_at(content.cut, rest)?;
@@ -194,7 +196,8 @@ pub(crate) fn exceptions_at<'a>(
     pool: &Pool,
     content: Content<'a>,
 ) -> Result<(Items<u16>, &'a [u8]), ReadError>
-    ensures { Gives (λ x. (x.0, x.1.now)) result (exceptions_at pool.now (framed_by content.entry)) }
+    ensures { Gives (λ x. (x.0, x.1.now)) result
+        (exceptions_at pool.now (framed_by content.entry)) }
 {
     let (classes, rest) = classes_at(alloc, pool, content.cut, content.bytes)?;
     want_all(content, rest)?;

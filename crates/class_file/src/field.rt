@@ -56,7 +56,8 @@ fn constant_value<'a>(
     name: u16,
     content: Content<'a>,
 ) -> Result<(FieldAttribute, &'a [u8]), ClassFault>
-    ensures { Finds (λ x. (x.0, x.1.now)) result (constant_value_at pool.now descriptor name (framed_by content.entry)) }
+    ensures { Finds (λ x. (x.0, x.1.now)) result
+        (constant_value_at pool.now descriptor name (framed_by content.entry)) }
 {
     let (value, rest) = u2_at(content.cut, content.bytes)?;
     want(is_its_constant(pool, descriptor, value), ClassFault::Index)?;
@@ -117,7 +118,8 @@ fn want_name(pool: &ScannedPool, number: u16) -> Result<(), ClassFault>
 
 /// Tests that a number is that of a field's descriptor.
 fn want_descriptor(pool: &ScannedPool, number: u16) -> Result<(), ClassFault>
-    ensures { Finds (λ x. x) result (text_wanted (λ text. is_some (field_type_of text)) pool.now number) }
+    ensures { Finds (λ x. x) result
+        (text_wanted (λ text. is_some (field_type_of text)) pool.now number) }
 {
     match pool.forms(number) {
         None => Err(ClassFault::Index),
@@ -133,7 +135,8 @@ fn attributes_at<'a>(
     descriptor: u16,
     bytes: &'a [u8],
 ) -> Result<(Items<FieldAttribute>, &'a [u8]), ReadError>
-    ensures { Gives (λ x. (x.0, x.1.now)) result (field_attributes_at pool.now cut descriptor bytes.now) }
+    ensures { Gives (λ x. (x.0, x.1.now)) result
+        (field_attributes_at pool.now cut descriptor bytes.now) }
 {
     let (count, rest) = u2_at(cut, bytes)?;
     let attributes = Attributes {
@@ -194,7 +197,8 @@ fn field_at<'a>(
     bytes: &'a [u8],
 ) -> Result<(FieldInfo, &'a [u8]), ReadError>
     requires { AreFields pool.now before.now.seen before.now.items }
-    ensures { Gives (λ x. (x.0, x.1.now)) result (field_at pool.now cut before.now.items bytes.now) }
+    ensures { Gives (λ x. (x.0, x.1.now)) result
+        (field_at pool.now cut before.now.items bytes.now) }
 {
     let (access, rest) = u2_at(cut, bytes)?;
     let (name, rest) = u2_at(cut, rest)?;
@@ -223,7 +227,8 @@ fn fields_of<'a>(
     count: usize,
     bytes: &'a [u8],
 ) -> Result<(Items<FieldInfo>, &'a [u8]), ReadError>
-    ensures { Gives (λ x. (x.0, x.1.now)) result (part_list_onto (field_at pool.now cut) [] count bytes.now) }
+    ensures { Gives (λ x. (x.0, x.1.now)) result
+        (part_list_onto (field_at pool.now cut) [] count bytes.now) }
 {
     let mut fields = Fields::new(alloc, pool);
     let mut rest = bytes;

@@ -60,7 +60,8 @@ fn code_after_name<'a>(
     name: u16,
     bytes: &'a [u8],
 ) -> Result<(MethodAttribute, &'a [u8]), ReadError>
-    ensures { Gives (λ x. (x.0, x.1.now)) result (code_attribute_at pool.now major cut name bytes.now) }
+    ensures { Gives (λ x. (x.0, x.1.now)) result
+        (code_attribute_at pool.now major cut name bytes.now) }
 {
     let content = content_at(cut, bytes)?;
     let (code, behind) = code_at(alloc, pool, major, content)?;
@@ -75,7 +76,8 @@ fn exceptions_after_name<'a>(
     name: u16,
     bytes: &'a [u8],
 ) -> Result<(MethodAttribute, &'a [u8]), ReadError>
-    ensures { Gives (λ x. (x.0, x.1.now)) result (exceptions_attribute_at pool.now cut name bytes.now) }
+    ensures { Gives (λ x. (x.0, x.1.now)) result
+        (exceptions_attribute_at pool.now cut name bytes.now) }
 {
     let content = content_at(cut, bytes)?;
     let (classes, behind) = exceptions_at(alloc, pool, content)?;
@@ -129,7 +131,8 @@ fn method_after<'a>(
     code: bool,
     bytes: &'a [u8],
 ) -> Result<(MethodInfo, &'a [u8]), ReadError>
-    ensures { Gives (λ x. (x.0, x.1.now)) result (method_after pool.now major cut head code bytes.now) }
+    ensures { Gives (λ x. (x.0, x.1.now)) result
+        (method_after pool.now major cut head code bytes.now) }
 {
     let (count, rest) = u2_at(cut, bytes)?;
     let parts = Attributes {
@@ -205,7 +208,8 @@ fn is_descriptor(on_none: bool, forms: Forms) -> bool
 /// Tests that a number is that of a method's descriptor.
 #[tactic(auto, using(crate::proofs::FormedDescriptors::formed_descriptor))]
 fn want_descriptor(pool: &ScannedPool, on_none: bool, number: u16) -> Result<(), ClassFault>
-    ensures { Finds (λ x. x) result (text_wanted (is_method_descriptor_for on_none) pool.now number) }
+    ensures { Finds (λ x. x) result
+        (text_wanted (is_method_descriptor_for on_none) pool.now number) }
 {
     match pool.forms(number) {
         None => Err(ClassFault::Index),
@@ -266,7 +270,8 @@ fn named_at<'a>(
     bytes: &'a [u8],
 ) -> Result<(MethodInfo, &'a [u8]), ReadError>
     requires { AreMethods pool.now before.now.seen before.now.items }
-    ensures { Gives (λ x. (x.0, x.1.now)) result (named_method_at pool.now major cut access name before.now.items bytes.now) }
+    ensures { Gives (λ x. (x.0, x.1.now)) result
+        (named_method_at pool.now major cut access name before.now.items bytes.now) }
 {
     let (descriptor, rest) = u2_at(cut, bytes)?;
     let initializer = names_initializer(pool.pool(), name);
@@ -298,7 +303,8 @@ fn method_at<'a>(
     bytes: &'a [u8],
 ) -> Result<(MethodInfo, &'a [u8]), ReadError>
     requires { AreMethods pool.now before.now.seen before.now.items }
-    ensures { Gives (λ x. (x.0, x.1.now)) result (method_at pool.now major cut class_access before.now.items bytes.now) }
+    ensures { Gives (λ x. (x.0, x.1.now)) result
+        (method_at pool.now major cut class_access before.now.items bytes.now) }
 {
     let (access, rest) = u2_at(cut, bytes)?;
     let (name, rest) = u2_at(cut, rest)?;
@@ -320,7 +326,8 @@ fn methods_of<'a>(
     count: usize,
     bytes: &'a [u8],
 ) -> Result<(Items<MethodInfo>, &'a [u8]), ReadError>
-    ensures { Gives (λ x. (x.0, x.1.now)) result (part_list_onto (method_at pool.now major cut class_access) [] count bytes.now) }
+    ensures { Gives (λ x. (x.0, x.1.now)) result
+        (part_list_onto (method_at pool.now major cut class_access) [] count bytes.now) }
 {
     let mut methods = Methods::new(alloc, pool);
     let mut rest = bytes;
@@ -354,7 +361,8 @@ pub(crate) fn methods_at<'a>(
     class_access: u16,
     bytes: &'a [u8],
 ) -> Result<(Items<MethodInfo>, &'a [u8]), ReadError>
-    ensures { Gives (λ x. (x.0, x.1.now)) result (methods_at pool.now major cut class_access bytes.now) }
+    ensures { Gives (λ x. (x.0, x.1.now)) result
+        (methods_at pool.now major cut class_access bytes.now) }
 {
     let (count, rest) = u2_at(cut, bytes)?;
     methods_of(

@@ -20,7 +20,8 @@ pub(crate) struct Seen {
 impl Seen {
     /// Creates an empty set.
     pub(crate) fn new(alloc: Global) -> Self
-        ensures { (pool : List Constant) (name descriptor : ℕ) → is_seen pool result name descriptor ≡ false }
+        ensures { (pool : List Constant) (name descriptor : ℕ)
+            → is_seen pool result name descriptor ≡ false }
     {
         Seen {
             pairs: BTreeSet::new(alloc),
@@ -54,7 +55,9 @@ impl Seen {
         name: u16,
         descriptor: u16,
     ) -> Result<(), AllocError>
-        ensures { OnOk result ((m n : ℕ) → is_seen pool.now self.new m n ≡ ((same_entry_text pool.now name m && same_entry_text pool.now descriptor n) || is_seen pool.now self.old m n)) }
+        ensures { OnOk result ((m n : ℕ) → is_seen pool.now self.new m n
+            ≡ ((same_entry_text pool.now name m && same_entry_text pool.now descriptor n)
+            || is_seen pool.now self.old m n)) }
     {
         if let Some(pair) = Seen::pair(pool, name, descriptor) {
             self.pairs.insert(pair)?;

@@ -13,5 +13,6 @@ ghost use Rattle.assembly.specs.Assembled.{assembled};
 /// Proves that bytes spell the class that a formed source is assembled to, if the units of its pool's texts have 16
 /// bits (JVMS 4.1).
 pub fn assembled_class_is_spelled()
-    ensures { (s : Source) (c : ClassFile) → assembled s ≡ Ok c → IsFormed s → AreProper c.pool → (bytes : List ℕ) × Spells bytes c }
+    ensures { (s : Source) (c : ClassFile) → assembled s ≡ Ok c → IsFormed s → AreProper c.pool
+        → (bytes : List ℕ) × Spells bytes c }
 {}

@@ -37,7 +37,8 @@ pub(crate) fn items_of(
     texts: &Texts<'_>,
     code: &Code,
 ) -> Result<Items<CodeItem>, ListFault>
-    ensures { Lists result (items_onto texts.now code.now [] 0 code.now.layout.starts code.now.insns) }
+    ensures { Lists result
+        (items_onto texts.now code.now [] 0 code.now.layout.starts code.now.insns) }
 {
     let marks = Marks::of(alloc, code)?;
     let bytes = code.layout.bytes.as_slice();

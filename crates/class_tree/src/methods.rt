@@ -28,7 +28,8 @@ fn method_with(
     catches: Items<CatchLine>,
     code: Items<CodeItem>,
 ) -> Result<MethodLines, AllocError>
-    ensures { IfOk result (λ m. m ≡ method_with texts.now info.now max_stack max_locals catches code) }
+    ensures { IfOk result
+        (λ m. m ≡ method_with texts.now info.now max_stack max_locals catches code) }
 {
     Ok(MethodLines {
         access: info.access & FLAGS,

@@ -12,7 +12,11 @@ use std::alloc::AllocError;
 
 /// Returns the field of a class and a NameAndType entry.
 fn field_of(texts: &Texts<'_>, class: u16, member: u16) -> Result<FieldName, AllocError>
-    ensures { IfOk result (λ f. f ≡ record { class = class_text texts.now class; name = (name_and_type texts.now member).0; descriptor = (name_and_type texts.now member).1 }) }
+    ensures { IfOk result (λ f. f ≡ record {
+      class = class_text texts.now class;
+      name = (name_and_type texts.now member).0;
+      descriptor = (name_and_type texts.now member).1;
+    }) }
 {
     let (name, descriptor) = texts.name_and_type(member);
     Ok(FieldName {
@@ -24,7 +28,8 @@ fn field_of(texts: &Texts<'_>, class: u16, member: u16) -> Result<FieldName, All
 
 /// Returns the field that a Fieldref entry names (JVMS 4.4.2).
 pub(crate) fn field_name(texts: &Texts<'_>, number: u16) -> Result<FieldName, AllocError>
-    ensures { IfOk result (λ f. f ≡ named_field (field_reference_of texts.now (entry texts.now number))) }
+    ensures { IfOk result
+        (λ f. f ≡ named_field (field_reference_of texts.now (entry texts.now number))) }
 {
     match texts.entry(number) {
         Some(
@@ -39,7 +44,11 @@ pub(crate) fn field_name(texts: &Texts<'_>, number: u16) -> Result<FieldName, Al
 
 /// Returns the method of a class or an interface and a NameAndType entry.
 fn method_of(texts: &Texts<'_>, class: u16, member: u16) -> Result<MethodName, AllocError>
-    ensures { IfOk result (λ m. m ≡ record { class = class_text texts.now class; name = (name_and_type texts.now member).0; descriptor = (name_and_type texts.now member).1 }) }
+    ensures { IfOk result (λ m. m ≡ record {
+      class = class_text texts.now class;
+      name = (name_and_type texts.now member).0;
+      descriptor = (name_and_type texts.now member).1;
+    }) }
 {
     let (name, descriptor) = texts.name_and_type(member);
     Ok(MethodName {
@@ -51,7 +60,8 @@ fn method_of(texts: &Texts<'_>, class: u16, member: u16) -> Result<MethodName, A
 
 /// Returns the method that a Methodref or an InterfaceMethodref entry names (JVMS 4.4.2).
 pub(crate) fn method_name(texts: &Texts<'_>, number: u16) -> Result<MethodName, AllocError>
-    ensures { IfOk result (λ m. m ≡ named_method (method_reference_of texts.now (entry texts.now number))) }
+    ensures { IfOk result
+        (λ m. m ≡ named_method (method_reference_of texts.now (entry texts.now number))) }
 {
     match texts.entry(number) {
         Some(

@@ -11,7 +11,11 @@ use std::alloc::{AllocError, Global};
 
 /// Returns the lines of a tableswitch.
 pub(crate) fn table_lines(alloc: Global, switch: &TableSwitch) -> Result<TableLines, AllocError>
-    ensures { IfOk result (λ lines. lines ≡ record { low = switch.now.low; labels = map label_of switch.now.targets; default = label_of switch.now.default }) }
+    ensures { IfOk result (λ lines. lines ≡ record {
+      low = switch.now.low;
+      labels = map label_of switch.now.targets;
+      default = label_of switch.now.default;
+    }) }
 {
     Ok(TableLines {
         low: switch.low,
@@ -43,7 +47,10 @@ fn matches_of(alloc: Global, cases: &[SwitchCase]) -> Result<Items<MatchLine>, A
 
 /// Returns the lines of a lookupswitch.
 pub(crate) fn lookup_lines(alloc: Global, switch: &LookupSwitch) -> Result<LookupLines, AllocError>
-    ensures { IfOk result (λ lines. lines ≡ record { matches = map match_of switch.now.cases; default = label_of switch.now.default }) }
+    ensures { IfOk result (λ lines. lines ≡ record {
+      matches = map match_of switch.now.cases;
+      default = label_of switch.now.default;
+    }) }
 {
     Ok(LookupLines {
         matches: matches_of(alloc, switch.cases.as_slice())?,

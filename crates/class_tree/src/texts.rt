@@ -137,8 +137,10 @@ impl<'p> Texts<'p> {
 
     /// Returns two texts, or two empty texts if one is missing.
     fn two_texts(&self, name: u16, descriptor: u16) -> (&Text, &Text)
-        ensures name { result.0.now ≡ (unwrap_or (both (utf8_at self.now name) (utf8_at self.now descriptor)) ([], [])).0 }
-        ensures descriptor { result.1.now ≡ (unwrap_or (both (utf8_at self.now name) (utf8_at self.now descriptor)) ([], [])).1 }
+        ensures name { result.0.now
+            ≡ (unwrap_or (both (utf8_at self.now name) (utf8_at self.now descriptor)) ([], [])).0 }
+        ensures descriptor { result.1.now
+            ≡ (unwrap_or (both (utf8_at self.now name) (utf8_at self.now descriptor)) ([], [])).1 }
     {
         match (self.found(name), self.found(descriptor)) {
             (Some(name), Some(descriptor)) => (name, descriptor),

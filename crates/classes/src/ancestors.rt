@@ -53,7 +53,9 @@ fn mark_above(ranked: &Ranked, class: usize, reached: &mut [u64])
 /// is one.
 fn is_useful<L: Look>(ranked: &Ranked, class: usize, look: &L, useful: &[u64]) -> bool
     requires { class < length ranked.now.classes.now }
-    ensures { (c : SeenClass) → slice_get ranked.now.classes.now class ≡ Some c → result ≡ (is_some (L.gives look.now class c) || list_any (is_marked useful.now) (super_numbers ranked.now.classes.now c)) }
+    ensures { (c : SeenClass) → slice_get ranked.now.classes.now class ≡ Some c
+        → result ≡ (is_some (L.gives look.now class c)
+        || list_any (is_marked useful.now) (super_numbers ranked.now.classes.now c)) }
 {
     look.look(class, &ranked.classes[class]).is_some()
         || is_any_marked(useful, ranked.supers[class].as_slice())
@@ -71,7 +73,8 @@ fn mark_useful<L: Look>(
     requires room { length ranked.now.classes.now ≤ 64 * length useful.old }
     requires reached { AreAbove ranked.now.classes.now ranked.now.ranks.now class reached.now }
     requires none { (n : ℕ) → is_marked useful.old n ≡ false }
-    ensures { AreUseful ranked.now.classes.now (placed ranked.now.classes.now (L.gives look.now)) reached.now useful.new }
+    ensures { AreUseful ranked.now.classes.now
+        (placed ranked.now.classes.now (L.gives look.now)) reached.now useful.new }
 {
     for place in 0..rank(ranked.ranks, class) + 1 {
         let at = ranked.order[place];
@@ -93,8 +96,11 @@ fn first_above<L: Look>(
     requires class { class < length ranked.now.classes.now }
     requires itself { is_marked reached.now class ≡ true }
     requires closed { IsClosed ranked.now.classes.now reached.now }
-    requires useful { AreUseful ranked.now.classes.now (placed ranked.now.classes.now (L.gives look.now)) reached.now useful.now }
-    ensures { (name : List ℕ) → class_number ranked.now.classes.now name ≡ Some class → result ≡ first_in (placed ranked.now.classes.now (L.gives look.now)) (ancestry ranked.now.classes.now name) }
+    requires useful { AreUseful ranked.now.classes.now
+        (placed ranked.now.classes.now (L.gives look.now)) reached.now useful.now }
+    ensures { (name : List ℕ) → class_number ranked.now.classes.now name ≡ Some class
+        → result ≡ first_in (placed ranked.now.classes.now (L.gives look.now))
+        (ancestry ranked.now.classes.now name) }
 {
     let mut at = class;
     loop {
@@ -118,8 +124,10 @@ fn first_of_names<L: Look>(
 ) -> Option<(usize, usize)>
     requires reached { list_all (is_marked reached.now) (numbers_of program.now names.now) ≡ true }
     requires closed { IsClosed program.now reached.now }
-    requires useful { AreUseful program.now (placed program.now (L.gives look.now)) reached.now useful.now }
-    ensures { result ≡ first_in (placed program.now (L.gives look.now)) (flat_map (ancestry program.now) names.now) }
+    requires useful { AreUseful program.now
+        (placed program.now (L.gives look.now)) reached.now useful.now }
+    ensures { result ≡ first_in (placed program.now (L.gives look.now))
+        (flat_map (ancestry program.now) names.now) }
 {
     for name in names {
         if let Some(class) = program.class_number(name.as_slice()) {
@@ -146,7 +154,8 @@ fn mark_for<L: Look>(
     requires none_useful { (n : ℕ) → is_marked useful.old n ≡ false }
     ensures itself { is_marked reached.new class ≡ true }
     ensures closed { IsClosed program.now reached.new }
-    ensures useful { AreUseful program.now (placed program.now (L.gives look.now)) reached.new useful.new }
+    ensures useful { AreUseful program.now
+        (placed program.now (L.gives look.now)) reached.new useful.new }
 {
     let ranked = program.ranked();
     mark_above(&ranked, class, reached);
@@ -162,10 +171,13 @@ fn first_along<L: Look>(
     reached: &[u64],
     useful: &[u64],
 ) -> Option<(usize, usize)>
-    requires reached { list_all (is_marked reached.now) (to_list (class_number program.now name.now)) ≡ true }
+    requires reached { list_all (is_marked reached.now)
+        (to_list (class_number program.now name.now)) ≡ true }
     requires closed { IsClosed program.now reached.now }
-    requires useful { AreUseful program.now (placed program.now (L.gives look.now)) reached.now useful.now }
-    ensures { result ≡ first_in (placed program.now (L.gives look.now)) (flat_map (λ c. flat_map (ancestry program.now) c.interfaces) (chain program.now name.now)) }
+    requires useful { AreUseful program.now
+        (placed program.now (L.gives look.now)) reached.now useful.now }
+    ensures { result ≡ first_in (placed program.now (L.gives look.now)) (flat_map
+        (λ c. flat_map (ancestry program.now) c.interfaces) (chain program.now name.now)) }
 {
     let mut left = program.classes().len();
     let mut name = name;
@@ -219,7 +231,8 @@ fn first_from_with<L: Look>(
     requires useful_room { length program.now ≤ 64 * length useful.old }
     requires none_reached { (n : ℕ) → is_marked reached.old n ≡ false }
     requires none_useful { (n : ℕ) → is_marked useful.old n ≡ false }
-    ensures { result ≡ first_in (placed program.now (L.gives look.now)) (classes_from program.now start.entry) }
+    ensures { result
+        ≡ first_in (placed program.now (L.gives look.now)) (classes_from program.now start.entry) }
 {
     let Some((number, class)) = numbered(program, name_of(start)) else {
         return None;
@@ -237,7 +250,8 @@ fn first_from_with<L: Look>(
 /// Returns the first match from a start on, in a program of at most 4,096 classes.
 fn first_from_few<L: Look>(program: &Classes, start: Start<'_>, look: &L) -> Option<(usize, usize)>
     requires { length program.now ≤ 64 * FEW_WORDS }
-    ensures { result ≡ first_in (placed program.now (L.gives look.now)) (classes_from program.now start.entry) }
+    ensures { result
+        ≡ first_in (placed program.now (L.gives look.now)) (classes_from program.now start.entry) }
 {
     let mut reached = [0; FEW_WORDS];
     let mut useful = [0; FEW_WORDS];
@@ -248,7 +262,8 @@ fn first_from_few<L: Look>(program: &Classes, start: Start<'_>, look: &L) -> Opt
 #[inline(never)]
 fn first_from_all<L: Look>(program: &Classes, start: Start<'_>, look: &L) -> Option<(usize, usize)>
     requires { length program.now ≤ 64 * ALL_WORDS }
-    ensures { result ≡ first_in (placed program.now (L.gives look.now)) (classes_from program.now start.entry) }
+    ensures { result
+        ≡ first_in (placed program.now (L.gives look.now)) (classes_from program.now start.entry) }
 {
     let mut reached = [0; ALL_WORDS];
     let mut useful = [0; ALL_WORDS];
@@ -261,7 +276,8 @@ pub(crate) fn first_from<L: Look>(
     start: Start<'_>,
     look: &L,
 ) -> Option<(usize, usize)>
-    ensures { result ≡ first_in (placed program.now (L.gives look.now)) (classes_from program.now start.entry) }
+    ensures { result
+        ≡ first_in (placed program.now (L.gives look.now)) (classes_from program.now start.entry) }
 {
     program.few_classes_invariant();
     if program.classes().len() <= 64 * FEW_WORDS {
@@ -277,7 +293,8 @@ pub(crate) fn first_in_ancestry<L: Look>(
     name: &[u16],
     look: &L,
 ) -> Option<(usize, usize)>
-    ensures { result ≡ first_in (placed program.now (L.gives look.now)) (ancestry program.now name.now) }
+    ensures { result
+        ≡ first_in (placed program.now (L.gives look.now)) (ancestry program.now name.now) }
 {
     let Some((number, class)) = numbered(program, name) else {
         return None;

@@ -43,8 +43,10 @@ impl<'a> Chain<'a> {
     /// Returns the next class with its number, and moves to its superclass.
     #[tactic(auto, using(crate::proofs::ChainLaws::ways))]
     pub(crate) fn next_class(&mut self) -> Option<(usize, &'a Class)>
-        ensures classes { MatchOption result (classes_left self.old ≡ []) (λ next. classes_left self.old ≡ next.1.now ∷ classes_left self.new) }
-        ensures place { IfSome result (λ next. next.0 ≡ class_place self.old.program.now next.1.now) }
+        ensures classes { MatchOption result (classes_left self.old ≡ [])
+            (λ next. classes_left self.old ≡ next.1.now ∷ classes_left self.new) }
+        ensures place { IfSome result
+            (λ next. next.0 ≡ class_place self.old.program.now next.1.now) }
         ensures program { self.new.program.now ≡ self.old.program.now }
     {
         if self.most == 0 {

@@ -41,7 +41,9 @@ impl Model for ClassList {
 
     ghost view = { λ p. p.classes.items };
 
-    ghost invariant = { λ p. (p.built_in.items ≡ map (λ c. is_built_in c.name) p.classes.items) × AreNumbersOf p.classes.items p.by_name × IsProgram p.classes.items × AreCountable p.classes.items × (length p.classes.items ≤ 1048576) };
+    ghost invariant = { λ p. (p.built_in.items ≡ map (λ c. is_built_in c.name) p.classes.items)
+        × AreNumbersOf p.classes.items p.by_name × IsProgram p.classes.items
+        × AreCountable p.classes.items × (length p.classes.items ≤ 1048576) };
 }
 
 /// Returns for each of these classes whether it is built in.
@@ -141,7 +143,8 @@ impl ClassList {
 
     /// Returns whether the class of a number is built in, or false if there is no such class.
     pub fn is_built_in(&self, number: usize) -> bool
-        ensures { result ≡ unwrap_or (option_map (λ c. is_built_in c.name) (slice_get self.now number)) false }
+        ensures { result
+            ≡ unwrap_or (option_map (λ c. is_built_in c.name) (slice_get self.now number)) false }
     {
         self.built_in.get(number).copied().unwrap_or(false)
     }

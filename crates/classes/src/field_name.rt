@@ -18,5 +18,9 @@ impl<'a> Model for FieldName<'a> {
 
     ghost Value = { FieldKey };
 
-    ghost view = { λ n. record { class = n.class.now; name = n.name.now; descriptor = n.descriptor.now } };
+    ghost view = { λ n. record {
+      class = n.class.now;
+      name = n.name.now;
+      descriptor = n.descriptor.now;
+    } };
 }

@@ -29,7 +29,8 @@ pub(crate) fn rank(ranks: &[usize], class: usize) -> usize
 
 /// Returns whether each of these classes is one of `count`, and its place is below a limit.
 fn come_before(ranks: &[usize], count: usize, limit: usize, classes: &[usize]) -> bool
-    ensures { result ≡ list_all (λ n. nat_lt n count && nat_lt (rank ranks.now n) limit) classes.now }
+    ensures { result
+        ≡ list_all (λ n. nat_lt n count && nat_lt (rank ranks.now n) limit) classes.now }
 {
     classes
         .iter()
@@ -79,7 +80,8 @@ fn order_by(alloc: Global, ranks: &mut [usize]) -> Result<Vec<usize>, AllocError
 
 /// Orders the classes of a list, if there is an order.
 pub(crate) fn hierarchy_of(alloc: Global, list: &ClassList) -> Result<Option<Hierarchy>, AllocError>
-    ensures { IfOk result (λ found. IfSome found (λ h. IsHierarchyOf list.now h.supers.items h.ranks.items h.order.items)) }
+    ensures { IfOk result (λ found. IfSome found
+        (λ h. IsHierarchyOf list.now h.supers.items h.ranks.items h.order.items)) }
 {
     let supers = super_rows(alloc, list)?;
     let mut ranks = ranks_of(alloc, supers.as_slice())?;

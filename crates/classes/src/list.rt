@@ -35,7 +35,8 @@ impl Model for Classes {
 
     ghost view = { λ p. p.list };
 
-    ghost invariant = { λ p. IsHierarchyOf p.list p.hierarchy.supers.items p.hierarchy.ranks.items p.hierarchy.order.items };
+    ghost invariant = { λ p. IsHierarchyOf p.list p.hierarchy.supers.items
+        p.hierarchy.ranks.items p.hierarchy.order.items };
 }
 
 /// The result of ordering a list of classes.
@@ -109,7 +110,8 @@ impl Classes {
 
     /// Returns whether the class of a number is built in, or false if there is no such class.
     pub fn is_built_in(&self, number: usize) -> bool
-        ensures { result ≡ unwrap_or (option_map (λ c. is_built_in c.name) (slice_get self.now number)) false }
+        ensures { result
+            ≡ unwrap_or (option_map (λ c. is_built_in c.name) (slice_get self.now number)) false }
     {
         self.list.is_built_in(number)
     }

@@ -23,7 +23,8 @@ pub fn declared_number(class: &Class, name: &[u16], descriptor: &[u16]) -> Optio
 
 /// Decides whether a field has this name and descriptor.
 pub(crate) fn is_field(field: &Field, name: &[u16], descriptor: &[u16]) -> bool
-    ensures { result ≡ (same_text field.now.name name.now && same_text field.now.descriptor descriptor.now) }
+    ensures { result
+        ≡ (same_text field.now.name name.now && same_text field.now.descriptor descriptor.now) }
 {
     same_text(field.name.as_slice(), name) && same_text(field.descriptor.as_slice(), descriptor)
 }

@@ -26,7 +26,8 @@ pub struct MethodNames<'a> {
 
 /// Finds the method that a reference names, in the order of resolution.
 fn method_in_order(program: &Classes, r: MethodNames) -> Option<(usize, usize)>
-    ensures { LocatesItem (IsMethodAt program.now) (method_in_order program.now (reference r.entry)) result }
+    ensures { LocatesItem (IsMethodAt program.now)
+        (method_in_order program.now (reference r.entry)) result }
 {
     let look = DeclaredMethod {
         name: r.name,
@@ -41,7 +42,8 @@ fn method_in_order(program: &Classes, r: MethodNames) -> Option<(usize, usize)>
 
 /// Finds the method that a reference names. A constructor is searched in the named class alone.
 pub(crate) fn reference_method(program: &Classes, r: MethodNames) -> Option<(usize, usize)>
-    ensures { LocatesItem (IsMethodAt program.now) (reference_method program.now (reference r.entry)) result }
+    ensures { LocatesItem (IsMethodAt program.now)
+        (reference_method program.now (reference r.entry)) result }
 {
     if !is_constructor_name(r.name) {
         return method_in_order(program, r);

@@ -17,7 +17,8 @@ pub(crate) fn first_for_class<L: Look>(
     name: &[u16],
     look: &L,
 ) -> Option<(usize, usize)>
-    ensures { result ≡ first_in (placed program.now (L.gives look.now)) (class_method_order program.now name.now) }
+    ensures { result ≡ first_in (placed program.now (L.gives look.now))
+        (class_method_order program.now name.now) }
 {
     if let Some(found) = first_up(program, name, look) {
         return Some(found);
@@ -31,7 +32,8 @@ pub(crate) fn first_for_interface<L: Look>(
     name: &[u16],
     look: &L,
 ) -> Option<(usize, usize)>
-    ensures { result ≡ first_in (placed program.now (L.gives look.now)) (interface_method_order program.now name.now) }
+    ensures { result ≡ first_in (placed program.now (L.gives look.now))
+        (interface_method_order program.now name.now) }
 {
     let (number, interface) = numbered(program, name)?;
     if let Some(found) = look.look(number, interface) {

@@ -15,7 +15,8 @@ impl Classes {
     /// Resolves a method's names (JVMS 5.4.3.3, 5.4.3.4) to the numbers of its class and of the method in that class.
     /// Returns the exception that resolution throws if there is no such method. Allocates no memory.
     pub fn resolve_named(&self, is_static: bool, r: MethodNames) -> Result<(usize, usize), Thrown>
-        ensures { Resolves (IsMethodAt self.now) (resolved_method self.now is_static (reference r.entry)) result }
+        ensures { Resolves (IsMethodAt self.now)
+            (resolved_method self.now is_static (reference r.entry)) result }
     {
         if !class_exists(self, r.class) {
             return Err(Thrown::NoClassDefFoundError);

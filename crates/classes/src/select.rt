@@ -38,7 +38,8 @@ impl Classes {
     /// Selects the method for a call of the method at a place, from the class of a name up its superclasses. A private
     /// method is itself selected.
     pub fn select_from(&self, class: &[u16], place: (usize, usize)) -> Option<(usize, usize)>
-        ensures { (found : ResolvedMethod) → IsMethodAt self.now found place → LocatesItem (IsMethodAt self.now) (selected_from self.now class.now found) result }
+        ensures { (found : ResolvedMethod) → IsMethodAt self.now found place
+            → LocatesItem (IsMethodAt self.now) (selected_from self.now class.now found) result }
     {
         let number = MethodNumber {
             class: place.0,
@@ -60,7 +61,9 @@ impl Classes {
         name: &[u16],
         descriptor: &[u16],
     ) -> Option<(usize, usize)>
-        ensures { LocatesItem (IsMethodAt self.now) (first_in (selectable_in name.now descriptor.now) (chain self.now (members_class class.now))) result }
+        ensures { LocatesItem (IsMethodAt self.now)
+            (first_in (selectable_in name.now descriptor.now)
+            (chain self.now (members_class class.now))) result }
     {
         first_up(self, members_class(class), &Selectable { name, descriptor })
     }
@@ -74,7 +77,8 @@ impl Classes {
         r: &MethodReference,
         place: (usize, usize),
     ) -> Option<(usize, usize)>
-        ensures { (found : ResolvedMethod) → IsMethodAt self.now found place → LocatesItem (IsMethodAt self.now) (selected_special self.now current.now r.now found) result }
+        ensures { (found : ResolvedMethod) → IsMethodAt self.now found place → LocatesItem
+            (IsMethodAt self.now) (selected_special self.now current.now r.now found) result }
     {
         if is_constructor_name(r.name.as_slice())
             || !is_superclass(self, r.class.as_slice(), current)

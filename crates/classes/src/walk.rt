@@ -20,7 +20,8 @@ pub(crate) trait Look {
 
 /// Returns the first match in a class, its superclass, and so on.
 pub(crate) fn first_up<L: Look>(program: &Classes, name: &[u16], look: &L) -> Option<(usize, usize)>
-    ensures { result ≡ first_in (placed program.now (L.gives look.now)) (chain program.now name.now) }
+    ensures { result
+        ≡ first_in (placed program.now (L.gives look.now)) (chain program.now name.now) }
 {
     let mut up = Chain::of(program, name);
     while let Some((number, class)) = up.next_class() {

@@ -23,7 +23,8 @@ fn collected_bytes(
     items: &[CodeItem],
 ) -> Result<Items<u8>, AsmFault>
     requires { AreFew (operations items.now) }
-    ensures { Answers result (bytes_onto starts.now labels.now [] operands.now starts.now (operations items.now)) }
+    ensures { Answers result
+        (bytes_onto starts.now labels.now [] operands.now starts.now (operations items.now)) }
 {
     let mut bytes = Vec::new(alloc);
     let mut numbers = operands;

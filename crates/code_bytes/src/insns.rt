@@ -56,7 +56,11 @@ fn table_of(
     lines: &TableLines,
 ) -> Result<TableSwitch, AllocError>
     requires { length (operations labels.now) ≤ 65535 }
-    ensures { IfOk result (λ s. s ≡ record { default = target labels.now lines.now.default; low = lines.now.low; targets = map (target labels.now) lines.now.labels }) }
+    ensures { IfOk result (λ s. s ≡ record {
+      default = target labels.now lines.now.default;
+      low = lines.now.low;
+      targets = map (target labels.now) lines.now.labels;
+    }) }
 {
     let targets = targets_of(alloc, labels, lines.labels.as_slice())?;
     Ok(TableSwitch {
@@ -100,7 +104,10 @@ fn lookup_of(
     lines: &LookupLines,
 ) -> Result<LookupSwitch, AllocError>
     requires { length (operations labels.now) ≤ 65535 }
-    ensures { IfOk result (λ s. s ≡ record { default = target labels.now lines.now.default; cases = map (switch_case labels.now) lines.now.matches }) }
+    ensures { IfOk result (λ s. s ≡ record {
+      default = target labels.now lines.now.default;
+      cases = map (switch_case labels.now) lines.now.matches;
+    }) }
 {
     let cases = cases_of(alloc, labels, lines.matches.as_slice())?;
     Ok(LookupSwitch {
@@ -156,7 +163,8 @@ pub(crate) fn insns_of(
     items: &[CodeItem],
 ) -> Result<Items<Insn>, AllocError>
     requires { length (operations labels.now) ≤ 65535 }
-    ensures { IfOk result (λ insns. insns ≡ insns_from labels.now operands.now (operations items.now)) }
+    ensures { IfOk result
+        (λ insns. insns ≡ insns_from labels.now operands.now (operations items.now)) }
 {
     let mut insns = Items::with_capacity(alloc, operands.len())?;
     let mut numbers = operands;

@@ -66,7 +66,8 @@ fn write_push_short(out: &mut Vec<u8>, number: i16) -> Result<(), AllocError>
 
 /// Appends ldc, or ldc_w for an index above 255.
 fn write_short_load(out: &mut Vec<u8>, number: u16) -> Result<(), AllocError>
-    ensures { OnOk result (out.new.items ≡ out.old.items ++ (if nat_le number 255 then 18 ∷ number ∷ [] else 19 ∷ u2 number)) }
+    ensures { OnOk result (out.new.items
+        ≡ out.old.items ++ (if nat_le number 255 then 18 ∷ number ∷ [] else 19 ∷ u2 number)) }
 {
     if number <= 255 {
         write_two(out, 18, number as u8)
@@ -112,7 +113,8 @@ fn write_increment(out: &mut Vec<u8>, local: u16, by: i16) -> Result<(), AllocEr
 
 /// Returns the offset, if it fits two bytes.
 fn near(offset: i32) -> Option<i16>
-    ensures { result ≡ (if is_between (neg_ℤ (pos (2 ^ 15))) (pos (2 ^ 15 - 1)) offset then Some offset else None) }
+    ensures { result ≡ (if is_between (neg_ℤ (pos (2 ^ 15))) (pos (2 ^ 15 - 1)) offset
+        then Some offset else None) }
 {
     if -32768 <= offset && offset <= 32767 {
         Some(offset as i16)
@@ -127,7 +129,8 @@ fn near(offset: i32) -> Option<i16>
 ///
 /// Returns `BranchTooFar` if the offset doesn't fit, or `Memory` if memory ran out.
 fn write_near(out: &mut Vec<u8>, how: Branch, offset: i32) -> Result<(), AsmFault>
-    ensures { Writes (not (is_between (neg_ℤ (pos (2 ^ 15))) (pos (2 ^ 15 - 1)) offset)) (branch_opcode how ∷ s2 offset) result out.old.items out.new.items }
+    ensures { Writes (not (is_between (neg_ℤ (pos (2 ^ 15))) (pos (2 ^ 15 - 1)) offset))
+        (branch_opcode how ∷ s2 offset) result out.old.items out.new.items }
 {
     let Some(short) = near(offset) else {
         return Err(AsmFault::BranchTooFar);
@@ -172,7 +175,8 @@ fn write_invoke(
     number: u16,
     descriptor: &[u16],
 ) -> Result<(), AllocError>
-    ensures { OnOk result (out.new.items ≡ out.old.items ++ (invoke_opcode how ∷ u2 number ++ after_invoke how descriptor.now)) }
+    ensures { OnOk result (out.new.items
+        ≡ out.old.items ++ (invoke_opcode how ∷ u2 number ++ after_invoke how descriptor.now)) }
 {
     write_numbered(out, invoke_opcode(how), number)?;
     write_after_invoke(out, how, descriptor)
@@ -202,7 +206,9 @@ pub(crate) fn write_operation(
     operation: &Operation,
 ) -> Result<(), AsmFault>
     requires { IsFew operation.now }
-    ensures { Writes (is_too_far starts.now labels.now pc operation.now) (operation_bytes starts.now labels.now number pc operation.now) result out.old.items out.new.items }
+    ensures { Writes (is_too_far starts.now labels.now pc operation.now)
+        (operation_bytes starts.now labels.now number pc operation.now)
+        result out.old.items out.new.items }
 {
     match operation {
         Operation::Alone(code) => Ok(write_u1(out, *code)?),

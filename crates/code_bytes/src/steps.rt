@@ -7,7 +7,8 @@ use jasmin::source::{CodeItem, Operation};
 
 /// Returns the first instruction of items, and the items after it.
 pub(crate) fn next_operation(items: &[CodeItem]) -> Option<(&Operation, &[CodeItem])>
-    ensures { MatchOption result (operations items.now ≡ []) (λ x. operations items.now ≡ x.0.now ∷ operations x.1.now) }
+    ensures { MatchOption result (operations items.now ≡ [])
+        (λ x. operations items.now ≡ x.0.now ∷ operations x.1.now) }
 {
     let mut rest = items;
     while let [item, behind @ ..] = rest {

@@ -47,7 +47,8 @@ fn write_offset(
     pc: u16,
     label: &Text,
 ) -> Result<(), AllocError>
-    ensures { OnOk result (out.new.items ≡ out.old.items ++ s4 (offset starts.now labels.now pc label.now)) }
+    ensures { OnOk result
+        (out.new.items ≡ out.old.items ++ s4 (offset starts.now labels.now pc label.now)) }
 {
     write_s4(out, offset_of(labels, starts, pc, label))
 }
@@ -60,7 +61,8 @@ fn write_offsets(
     pc: u16,
     names: &[Text],
 ) -> Result<(), AllocError>
-    ensures { OnOk result (out.new.items ≡ out.old.items ++ flat_map (λ label. s4 (offset starts.now labels.now pc label)) names.now) }
+    ensures { OnOk result (out.new.items ≡ out.old.items
+        ++ flat_map (λ label. s4 (offset starts.now labels.now pc label)) names.now) }
 {
     for name in names {
         write_offset(out, labels, starts, pc, name)?;
@@ -81,7 +83,8 @@ fn greatest(low: i32, count: usize) -> i64
 /// Appends the least and the greatest value of a tableswitch with `count` labels.
 fn write_bounds(out: &mut Vec<u8>, low: i32, count: usize) -> Result<(), AllocError>
     requires { count ≤ 65535 }
-    ensures { OnOk result (out.new.items ≡ out.old.items ++ (s4 low ++ s4 (low +ℤ pos (count - 1)))) }
+    ensures { OnOk result
+        (out.new.items ≡ out.old.items ++ (s4 low ++ s4 (low +ℤ pos (count - 1)))) }
 {
     write_s4(out, low)?;
     write_u4(out, word_of(greatest(low, count)))
@@ -90,7 +93,8 @@ fn write_bounds(out: &mut Vec<u8>, low: i32, count: usize) -> Result<(), AllocEr
 /// Appends the least and the greatest value of a tableswitch.
 fn write_bounds_of(out: &mut Vec<u8>, lines: &TableLines) -> Result<(), AllocError>
     requires { length lines.now.labels ≤ 65535 }
-    ensures { OnOk result (out.new.items ≡ out.old.items ++ (s4 lines.now.low ++ s4 (lines.now.low +ℤ pos (length lines.now.labels - 1)))) }
+    ensures { OnOk result (out.new.items ≡ out.old.items
+        ++ (s4 lines.now.low ++ s4 (lines.now.low +ℤ pos (length lines.now.labels - 1)))) }
 {
     write_bounds(out, lines.low, lines.labels.len())
 }
@@ -105,7 +109,8 @@ pub(crate) fn write_table(
     lines: &TableLines,
 ) -> Result<(), AllocError>
     requires { length lines.now.labels ≤ 65535 }
-    ensures { OnOk result (out.new.items ≡ out.old.items ++ table_bytes starts.now labels.now pc lines.now) }
+    ensures { OnOk result
+        (out.new.items ≡ out.old.items ++ table_bytes starts.now labels.now pc lines.now) }
 {
     write_head(out, TABLE, pc)?;
     write_offset(out, labels, starts, pc, &lines.default)?;
@@ -122,7 +127,8 @@ fn write_pair(
     pc: u16,
     pair: &MatchLine,
 ) -> Result<(), AllocError>
-    ensures { OnOk result (out.new.items ≡ out.old.items ++ pair_bytes starts.now labels.now pc pair.now) }
+    ensures { OnOk result
+        (out.new.items ≡ out.old.items ++ pair_bytes starts.now labels.now pc pair.now) }
 {
     write_s4(out, pair.value)?;
     write_offset(out, labels, starts, pc, &pair.label)
@@ -136,7 +142,8 @@ fn write_pairs(
     pc: u16,
     pairs: &[MatchLine],
 ) -> Result<(), AllocError>
-    ensures { OnOk result (out.new.items ≡ out.old.items ++ flat_map (pair_bytes starts.now labels.now pc) pairs.now) }
+    ensures { OnOk result (out.new.items
+        ≡ out.old.items ++ flat_map (pair_bytes starts.now labels.now pc) pairs.now) }
 {
     for pair in pairs {
         write_pair(out, labels, starts, pc, pair)?;
@@ -153,7 +160,8 @@ pub(crate) fn write_lookup(
     pc: u16,
     lines: &LookupLines,
 ) -> Result<(), AllocError>
-    ensures { OnOk result (out.new.items ≡ out.old.items ++ lookup_bytes starts.now labels.now pc lines.now) }
+    ensures { OnOk result
+        (out.new.items ≡ out.old.items ++ lookup_bytes starts.now labels.now pc lines.now) }
 {
     write_head(out, LOOKUP, pc)?;
     write_offset(out, labels, starts, pc, &lines.default)?;

@@ -18,5 +18,10 @@ ghost use Rattle.assembly.specs.CodeOf.{code_within};
 /// indices have to be those of what the code names in a pool. The instructions have to be formed, the labels and ranges
 /// good, and the limits and counts within two bytes.
 pub fn assembled_code_is_spelled()
-    ensures { (pool : List Constant) (m : MethodLines) (operands caught : List ℕ) (code : Code) → AreOperands pool operands (operations m.code) → AreCaught pool caught m.catches → AllByRecursion IsFormedItem m.code → IsU2 m.max_stack → IsU2 m.max_locals → has_undefined_label m ≡ false → has_bad_range m ≡ false → is_too_many m.catches ≡ false → code_within operands caught m ≡ Ok code → (content : List ℕ) × SpellsCode pool 49 content code }
+    ensures { (pool : List Constant) (m : MethodLines) (operands caught : List ℕ) (code : Code)
+        → AreOperands pool operands (operations m.code) → AreCaught pool caught m.catches
+        → AllByRecursion IsFormedItem m.code → IsU2 m.max_stack → IsU2 m.max_locals
+        → has_undefined_label m ≡ false → has_bad_range m ≡ false
+        → is_too_many m.catches ≡ false → code_within operands caught m ≡ Ok code
+        → (content : List ℕ) × SpellsCode pool 49 content code }
 {}

@@ -21,7 +21,8 @@ pub enum TraceText {
 
 /// Appends threads after the first one of a list.
 fn put_further(alloc: Global, text: &mut String, threads: &[ThreadId]) -> Result<(), AllocError>
-    ensures { OnOk result (string_bytes text.new ≡ string_bytes text.old ++ flat_map further_text threads.now) }
+    ensures { OnOk result
+        (string_bytes text.new ≡ string_bytes text.old ++ flat_map further_text threads.now) }
 {
     for thread in threads {
         let further = format!(in alloc; ",{thread}")?;
@@ -32,7 +33,8 @@ fn put_further(alloc: Global, text: &mut String, threads: &[ThreadId]) -> Result
 
 /// Appends threads, separated by commas.
 fn put_threads(alloc: Global, text: &mut String, threads: &[ThreadId]) -> Result<(), AllocError>
-    ensures { OnOk result (string_bytes text.new ≡ string_bytes text.old ++ threads_text threads.now) }
+    ensures { OnOk result
+        (string_bytes text.new ≡ string_bytes text.old ++ threads_text threads.now) }
 {
     let Some((thread, further)) = threads.split_first() else {
         return Ok(());

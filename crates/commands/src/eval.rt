@@ -53,12 +53,16 @@ fn write_result<W: ByteOut>(
     value: Option<Value>,
     output: &mut W,
 ) -> Result<(), RunFault>
-    ensures written { OnOk result (Appends (W.written output.old) (W.written output.new) (result_text value)) }
+    ensures written { OnOk result
+        (Appends (W.written output.old) (W.written output.new) (result_text value)) }
     ensures count { OnOk result (W.failures output.new ≡ W.failures output.old) }
-    ensures beginning { IsErrOf result RunFault.Output → AppendsBeginning (W.written output.old) (W.written output.new) (result_text value) }
-    ensures failed { IsErrOf result RunFault.Output → W.failures output.new ≡ W.failures output.old + 1 }
+    ensures beginning { IsErrOf result RunFault.Output
+        → AppendsBeginning (W.written output.old) (W.written output.new) (result_text value) }
+    ensures failed { IsErrOf result RunFault.Output
+        → W.failures output.new ≡ W.failures output.old + 1 }
     ensures named { IfErr result (λ fault. NamesFile 0 fault) }
-    ensures untouched { IfErr result (λ fault. fault ≢ RunFault.Output → (fault ≡ RunFault.Judge JudgeFault.Memory) × (output.new ≡ output.old)) }
+    ensures untouched { IfErr result (λ fault. fault ≢ RunFault.Output
+        → (fault ≡ RunFault.Judge JudgeFault.Memory) × (output.new ≡ output.old)) }
 {
     let Some(value) = value else {
         return Ok(());
@@ -79,14 +83,16 @@ pub fn eval<W: ByteOut>(
     // The result, the status, the turns and the uncaught exceptions are those of the run by the instruction table.
     ensures exact { IfOk result (λ e. HasEnding (evaluated inputs.now entry.now) e) }
     // The line of the result was written, or nothing if there is none.
-    ensures written { IfOk result (λ e. Appends (W.written output.old) (W.written output.new) (result_text e.result)) }
+    ensures written { IfOk result
+        (λ e. Appends (W.written output.old) (W.written output.new) (result_text e.result)) }
     ensures count { OnOk result (W.failures output.new ≡ W.failures output.old) }
     // A fault is returned only if its condition holds. A fault of a file names one of these.
     ensures fault { IfErr result (λ fault. IsFault fault (evaluated inputs.now entry.now)) }
     ensures named { IfErr result (λ fault. NamesFile (length inputs.now) fault) }
     ensures untouched { IfErr result (λ fault. fault ≢ RunFault.Output → output.new ≡ output.old) }
     // The fault is `Output` only if the writer failed. Then a prefix of the line was written.
-    ensures failed { IsErrOf result RunFault.Output → W.failures output.new ≡ W.failures output.old + 1 }
+    ensures failed { IsErrOf result RunFault.Output
+        → W.failures output.new ≡ W.failures output.old + 1 }
     ensures beginning { IsErrOf result RunFault.Output → WroteBeginning
         (evaluated inputs.now entry.now) (λ shown. result_text shown.result)
         (W.written output.old) (W.written output.new) }

@@ -26,7 +26,8 @@ fn missing_in_program(
 ) -> Result<String, JudgeFault>
     ensures exact { IfOk result (λ text.
         missing_in_program lines.now files.now inputs.now ≡ Ok (string_bytes text)) }
-    ensures fault { IfErr result (λ fault. IsJudgeFault fault (missing_in_program lines.now files.now inputs.now)) }
+    ensures fault { IfErr result
+        (λ fault. IsJudgeFault fault (missing_in_program lines.now files.now inputs.now)) }
     ensures named { IfErr result (λ fault. NamesInput (length inputs.now) fault) }
 {
     let program = program_of(alloc, inputs)?;
@@ -76,9 +77,11 @@ pub fn write_missing<W: ByteOut>(
     ensures named { IfErr result (λ fault. NamesFile (length inputs.now) fault) }
     ensures untouched { IfErr result (λ fault. fault ≢ RunFault.Output → output.new ≡ output.old) }
     // The fault is `Output` only if the writer failed. Then a prefix of the text was written.
-    ensures failed { IsErrOf result RunFault.Output → W.failures output.new ≡ W.failures output.old + 1 }
-    ensures beginning { IsErrOf result RunFault.Output → WroteBeginning (missing_in lines.now inputs.now) (λ text. text)
-        (W.written output.old) (W.written output.new) }
+    ensures failed { IsErrOf result RunFault.Output
+        → W.failures output.new ≡ W.failures output.old + 1 }
+    ensures beginning { IsErrOf result RunFault.Output
+        → WroteBeginning (missing_in lines.now inputs.now)
+        (λ text. text) (W.written output.old) (W.written output.new) }
 {
     let text = missing_in(alloc, inputs, lines)?;
     output.write_all(text.as_bytes())?;

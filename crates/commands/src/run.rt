@@ -38,9 +38,9 @@ fn run_and_explain(
         HasEnding (run_judged most chooser.old default_limits inputs.now entry.now) run.ending) }
     ensures judged { IfOk result (λ run. IsJudgementOn spec
         (run_judged most chooser.old default_limits inputs.now entry.now) run.judgement) }
-    ensures explained { IfOk result (λ run. IsTrue explains →
-        explanation_of_inputs spec run.judgement most chooser.old default_limits inputs.now entry.now
-        ≡ Ok (string_bytes run.explanation)) }
+    ensures explained { IfOk result
+        (λ run. IsTrue explains → explanation_of_inputs spec run.judgement most chooser.old
+        default_limits inputs.now entry.now ≡ Ok (string_bytes run.explanation)) }
     ensures plain { IfOk result (λ run. explains ≡ false → string_bytes run.explanation ≡ []) }
     ensures fault { IfErr result (λ fault.
         IsJudgeFault fault (run_judged most chooser.old default_limits inputs.now entry.now)) }
@@ -79,9 +79,9 @@ pub fn run<W: ByteOut>(
         (run_judged most chooser.old default_limits inputs.now entry.now) run.judgement) }
     // The explanation is that of the verdict's cycle, on the items of that run with their turns, and of the threads of
     // the machine after the run.
-    ensures explained { IfOk result (λ run. IsTrue explains →
-        explanation_of_inputs spec run.judgement most chooser.old default_limits inputs.now entry.now
-        ≡ Ok (string_bytes run.explanation)) }
+    ensures explained { IfOk result
+        (λ run. IsTrue explains → explanation_of_inputs spec run.judgement most chooser.old
+        default_limits inputs.now entry.now ≡ Ok (string_bytes run.explanation)) }
     // Without `explains` the explanation is empty.
     ensures plain { IfOk result (λ run. explains ≡ false → string_bytes run.explanation ≡ []) }
     // Exactly the output's bytes were written.
@@ -89,12 +89,16 @@ pub fn run<W: ByteOut>(
         Appends (W.written output.old) (W.written output.new) run.ending.output) }
     ensures count { OnOk result (W.failures output.new ≡ W.failures output.old) }
     // A fault is returned only if its condition holds. A fault of a file names one of these.
-    ensures fault { IfErr result (λ fault. IsFault fault (run_judged most chooser.old default_limits inputs.now entry.now)) }
+    ensures fault { IfErr result
+        (λ fault. IsFault fault (run_judged most chooser.old default_limits inputs.now entry.now)) }
     ensures named { IfErr result (λ fault. NamesFile (length inputs.now) fault) }
     ensures untouched { IfErr result (λ fault. fault ≢ RunFault.Output → output.new ≡ output.old) }
     // The fault is `Output` only if the writer failed. Then a prefix of the bytes was written.
-    ensures failed { IsErrOf result RunFault.Output → W.failures output.new ≡ W.failures output.old + 1 }
-    ensures beginning { IsErrOf result RunFault.Output → WroteBeginning (run_judged most chooser.old default_limits inputs.now entry.now) (λ shown. shown.output) (W.written output.old) (W.written output.new) }
+    ensures failed { IsErrOf result RunFault.Output
+        → W.failures output.new ≡ W.failures output.old + 1 }
+    ensures beginning { IsErrOf result RunFault.Output
+        → WroteBeginning (run_judged most chooser.old default_limits inputs.now entry.now)
+        (λ shown. shown.output) (W.written output.old) (W.written output.new) }
 {
     let run = run_and_explain(alloc, inputs, entry, chooser, most, spec, explains)?;
     output.write_all(run.ending.output.as_slice())?;

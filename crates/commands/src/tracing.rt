@@ -28,11 +28,11 @@ fn write_text<W: ByteOut>(
     run: &TracedRun,
     output: &mut W,
 ) -> Result<(), RunFault>
-    ensures written { OnOk result
-        (Appends (W.written output.old) (W.written output.new) (text_of kind (view_of_traced run.now))) }
+    ensures written { OnOk result (Appends (W.written output.old)
+        (W.written output.new) (text_of kind (view_of_traced run.now))) }
     ensures count { OnOk result (W.failures output.new ≡ W.failures output.old) }
-    ensures beginning { IsErrOf result RunFault.Output
-        → AppendsBeginning (W.written output.old) (W.written output.new) (text_of kind (view_of_traced run.now)) }
+    ensures beginning { IsErrOf result RunFault.Output → AppendsBeginning (W.written output.old)
+        (W.written output.new) (text_of kind (view_of_traced run.now)) }
     ensures failed { IsErrOf result RunFault.Output
         → W.failures output.new ≡ W.failures output.old + 1 }
     ensures named { IfErr result (λ fault. NamesFile 0 fault) }
@@ -56,20 +56,26 @@ pub fn write_trace<W: ByteOut>(
     output: &mut W,
 ) -> Result<Judged, RunFault>
     // The turns, the status, the uncaught exceptions and the items are those of the run by the instruction table.
-    ensures exact { IfOk result (λ j.
-        run_judged most chooser.old default_limits inputs.now entry.now ≡ Ok (view_of_traced j.run)) }
+    ensures exact { IfOk result
+        (λ j. run_judged most chooser.old default_limits inputs.now entry.now
+        ≡ Ok (view_of_traced j.run)) }
     // Nothing is judged.
     ensures unjudged { IfOk result (λ j. j.judgement ≡ None) }
     // Exactly the text of the items, or of the choices, was written.
-    ensures written { IfOk result (λ j. Appends (W.written output.old) (W.written output.new) (text_of kind (view_of_traced j.run))) }
+    ensures written { IfOk result (λ j. Appends (W.written output.old)
+        (W.written output.new) (text_of kind (view_of_traced j.run))) }
     ensures count { OnOk result (W.failures output.new ≡ W.failures output.old) }
     // A fault is returned only if its condition holds. A fault of a file names one of these.
-    ensures fault { IfErr result (λ fault. IsFault fault (run_judged most chooser.old default_limits inputs.now entry.now)) }
+    ensures fault { IfErr result
+        (λ fault. IsFault fault (run_judged most chooser.old default_limits inputs.now entry.now)) }
     ensures named { IfErr result (λ fault. NamesFile (length inputs.now) fault) }
     ensures untouched { IfErr result (λ fault. fault ≢ RunFault.Output → output.new ≡ output.old) }
     // The fault is `Output` only if the writer failed. Then a prefix of the text was written.
-    ensures failed { IsErrOf result RunFault.Output → W.failures output.new ≡ W.failures output.old + 1 }
-    ensures beginning { IsErrOf result RunFault.Output → WroteBeginning (run_judged most chooser.old default_limits inputs.now entry.now) (text_of kind) (W.written output.old) (W.written output.new) }
+    ensures failed { IsErrOf result RunFault.Output
+        → W.failures output.new ≡ W.failures output.old + 1 }
+    ensures beginning { IsErrOf result RunFault.Output
+        → WroteBeginning (run_judged most chooser.old default_limits inputs.now entry.now)
+        (text_of kind) (W.written output.old) (W.written output.new) }
 {
     let judged = judge(alloc, inputs, DEFAULT_LIMITS, entry, chooser, most, None)?;
     match write_text(alloc, kind, &judged.run, output) {

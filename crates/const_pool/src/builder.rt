@@ -94,7 +94,8 @@ impl PoolBuilder {
     /// Returns the number of an entry, if it is there.
     pub fn number(&self, entry: &Entry) -> Option<u16>
         ensures exact { result ≡ number_from 1 self.now entry.now }
-        ensures names { IfSome result (λ n. entry_at (pool_of self.now) n ≡ Some (constant_of entry.now)) }
+        ensures names { IfSome result
+            (λ n. entry_at (pool_of self.now) n ≡ Some (constant_of entry.now)) }
     {
         self.numbers.get(entry).copied()
     }
@@ -102,8 +103,10 @@ impl PoolBuilder {
     /// Returns the number of an entry, and appends the entry if it isn't there (JVMS 4.4). On an error nothing changes.
     pub fn intern(&mut self, entry: Entry) -> Result<u16, PoolFault>
         ensures exact { Interns self.old entry result self.new }
-        ensures names { IfOk result (λ n. entry_at (pool_of self.new) n ≡ Some (constant_of entry)) }
-        ensures kept { (n : ℕ) (c : Constant) → entry_at (pool_of self.old) n ≡ Some c → entry_at (pool_of self.new) n ≡ Some c }
+        ensures names { IfOk result
+            (λ n. entry_at (pool_of self.new) n ≡ Some (constant_of entry)) }
+        ensures kept { (n : ℕ) (c : Constant) → entry_at (pool_of self.old) n ≡ Some c
+            → entry_at (pool_of self.new) n ≡ Some c }
     {
         if let Some(number) = self.number(&entry) {
             return Ok(number);

@@ -46,7 +46,8 @@ impl<'a> Firsts<'a> {
     /// Returns the number of a text, and adds the text with this number if it isn't there.
     pub(crate) fn number(&mut self, text: &'a [u16], number: usize) -> Result<usize, AllocError>
         ensures exact { IfOk result (λ n. n ≡ unwrap_or (number_at self.old text.now) number) }
-        ensures kept { IfOk result (λ n. (other : List ℕ) → number_at self.new other ≡ (if same_text text.now other then Some n else number_at self.old other)) }
+        ensures kept { IfOk result (λ n. (other : List ℕ) → number_at self.new other
+            ≡ (if same_text text.now other then Some n else number_at self.old other)) }
     {
         let key = (fingerprint(text), text);
         if let Some(known) = self.numbers.get(&key).copied() {

@@ -119,7 +119,8 @@ impl Pool {
 
     /// Returns the texts of two Utf8 entries, if both are.
     pub fn two_texts(&self, first: u16, second: u16) -> Option<(&[u16], &[u16])>
-        ensures { option_map (λ x. (x.0.now, x.1.now)) result ≡ both (utf8_at self.now first) (utf8_at self.now second) }
+        ensures { option_map (λ x. (x.0.now, x.1.now)) result
+            ≡ both (utf8_at self.now first) (utf8_at self.now second) }
     {
         match (self.utf8(first), self.utf8(second)) {
             (Some(a), Some(b)) => Some((a, b)),

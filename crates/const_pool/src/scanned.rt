@@ -51,8 +51,10 @@ fn text_of<'a>(
     number: usize,
     entry: &'a Constant,
 ) -> Result<Option<Text>, AllocError>
-    ensures exact { IfOk result (λ text. text ≡ text_with (λ t. unwrap_or (number_at firsts.old t) number) entry.now) }
-    ensures kept { IfOk result (λ text. (other : List ℕ) → number_at firsts.new other ≡ known_after (number_at firsts.old other) number other entry.now) }
+    ensures exact { IfOk result
+        (λ text. text ≡ text_with (λ t. unwrap_or (number_at firsts.old t) number) entry.now) }
+    ensures kept { IfOk result (λ text. (other : List ℕ) → number_at firsts.new other
+        ≡ known_after (number_at firsts.old other) number other entry.now) }
 {
     let Constant::Utf8(text) = entry else {
         return Ok(None);
@@ -150,7 +152,8 @@ impl ScannedPool {
     /// share such a number exactly if their texts are equal.
     pub fn canonical(&self, number: u16) -> Option<usize>
         ensures exact { result ≡ canonical self.now number }
-        ensures same { (other : ℕ) → is_one_number result (canonical self.now other) ≡ same_entry_text self.now number other }
+        ensures same { (other : ℕ) → is_one_number result (canonical self.now other)
+            ≡ same_entry_text self.now number other }
     {
         self.text(number).map(|text| text.canonical)
     }

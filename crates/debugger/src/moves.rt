@@ -167,9 +167,10 @@ impl<'p> Timeline<'p> {
         requires walk { IsWalkOf self.now walk.old }
         requires position { walk.old.replay.position ≡ start }
         requires made { walk.old.replay.made ≡ 0 }
-        ensures hit { IfOk result (λ h. nearest_before (setting self.now) self.now.choices.items
-            breakpoints.now.items end ≡ unwrap_or h.position
-            (nearest_before (setting self.now) self.now.choices.items breakpoints.now.items start)) }
+        ensures hit { IfOk result
+            (λ h. nearest_before (setting self.now) self.now.choices.items breakpoints.now.items end
+            ≡ unwrap_or h.position (nearest_before
+            (setting self.now) self.now.choices.items breakpoints.now.items start)) }
         ensures within { IfOk result (λ h. IfSome h.position (λ p. p < end)) }
         ensures made { IfOk result (λ h. h.made + start ≡ end) }
     {

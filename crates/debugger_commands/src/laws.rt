@@ -10,20 +10,25 @@ ghost use Rattle.debugger_commands.specs.Sessions.{Session, IsSession, opened, n
 
 /// Proves that words are read as one command at most.
 pub fn words_are_of_one_command()
-    ensures { (words : List (List ℕ)) (a b : Command) → AreRead words (Ok a) → AreRead words (Ok b) → a ≡ b }
+    ensures { (words : List (List ℕ)) (a b : Command)
+        → AreRead words (Ok a) → AreRead words (Ok b) → a ≡ b }
 {}
 
 /// Proves that `continue` moves to a hit after the position, or to the end, and skips no hit.
 pub fn the_next_hit_is_the_nearest()
-    ensures hit { (test : ℕ → Bool) (p left : ℕ) → next_hit test p left < p + left → test (next_hit test p left) ≡ true }
-    ensures nearest { (test : ℕ → Bool) (p left k : ℕ) → p < k → k < next_hit test p left → test k ≡ false }
-    ensures within { (test : ℕ → Bool) (p left : ℕ) → (p ≤ next_hit test p left) × (next_hit test p left ≤ p + left) }
+    ensures hit { (test : ℕ → Bool) (p left : ℕ) → next_hit test p left < p + left
+        → test (next_hit test p left) ≡ true }
+    ensures nearest { (test : ℕ → Bool) (p left k : ℕ)
+        → p < k → k < next_hit test p left → test k ≡ false }
+    ensures within { (test : ℕ → Bool) (p left : ℕ)
+        → (p ≤ next_hit test p left) × (next_hit test p left ≤ p + left) }
     ensures behind { (test : ℕ → Bool) (p left : ℕ) → 0 < left → p < next_hit test p left }
 {}
 
 /// Proves that `rcontinue` moves to a hit before the position, or to 0, and skips no hit.
 pub fn the_hit_before_is_the_nearest()
-    ensures hit { (test : ℕ → Bool) (p : ℕ) → 0 < hit_before test p → test (hit_before test p) ≡ true }
+    ensures hit { (test : ℕ → Bool) (p : ℕ) → 0 < hit_before test p
+        → test (hit_before test p) ≡ true }
     ensures nearest { (test : ℕ → Bool) (p k : ℕ) → k < p → hit_before test p < k → test k ≡ false }
     ensures within { (test : ℕ → Bool) (p : ℕ) → hit_before test p ≤ p }
     ensures before { (test : ℕ → Bool) (p : ℕ) → 0 < p → hit_before test p < p }
@@ -33,5 +38,6 @@ pub fn the_hit_before_is_the_nearest()
 /// breakpoints are below the next.
 pub fn a_session_stays_one()
     ensures opened { (choices : List ℕ) → IsSession (opened choices) }
-    ensures behind { (program : List Class) (limits : Limits) (start : Start) (x y : Session) (c : Command) → IsSession x → after program limits start x c ≡ Ok y → IsSession y }
+    ensures behind { (program : List Class) (limits : Limits) (start : Start) (x y : Session)
+        (c : Command) → IsSession x → after program limits start x c ≡ Ok y → IsSession y }
 {}

@@ -33,7 +33,10 @@ impl BitSet for Flags {
 
     ghost exact = { ⊤ };
 
-    ghost table = { (codes "PUBLIC", 1) ∷ (codes "PRIVATE", 2) ∷ (codes "PROTECTED", 4) ∷ (codes "STATIC", 8) ∷ (codes "FINAL", 16) ∷ (codes "SUPER", 32) ∷ (codes "SYNCHRONIZED", 32) ∷ (codes "VOLATILE", 64) ∷ (codes "TRANSIENT", 128) ∷ (codes "NATIVE", 256) ∷ (codes "INTERFACE", 512) ∷ (codes "ABSTRACT", 1024) ∷ [] };
+    ghost table = { (codes "PUBLIC", 1) ∷ (codes "PRIVATE", 2) ∷ (codes "PROTECTED", 4)
+        ∷ (codes "STATIC", 8) ∷ (codes "FINAL", 16) ∷ (codes "SUPER", 32)
+        ∷ (codes "SYNCHRONIZED", 32) ∷ (codes "VOLATILE", 64) ∷ (codes "TRANSIENT", 128)
+        ∷ (codes "NATIVE", 256) ∷ (codes "INTERFACE", 512) ∷ (codes "ABSTRACT", 1024) ∷ [] };
 
     ghost set_of = { λ f. f.0 };
 

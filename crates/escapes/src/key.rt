@@ -22,7 +22,8 @@ fn put_parts(
     name: &[u16],
     descriptor: &[u16],
 ) -> Result<(), AllocError>
-    ensures exact { OnOk result (string_bytes out.new ≡ string_bytes out.old ++ member_text class.now name.now descriptor.now) }
+    ensures exact { OnOk result (string_bytes out.new
+        ≡ string_bytes out.old ++ member_text class.now name.now descriptor.now) }
     ensures behind { OnErr result (IsAppended (string_bytes out.old) (string_bytes out.new)) }
 {
     put_name(out, class)?;
@@ -39,7 +40,8 @@ pub fn put_member(
     name: &[u16],
     descriptor: &[u16],
 ) -> Result<(), AllocError>
-    ensures exact { OnOk result (string_bytes out.new ≡ string_bytes out.old ++ member_text class.now name.now descriptor.now) }
+    ensures exact { OnOk result (string_bytes out.new
+        ≡ string_bytes out.old ++ member_text class.now name.now descriptor.now) }
     // Without memory nothing changes.
     ensures kept { OnErr result (string_bytes out.new ≡ string_bytes out.old) }
 {
@@ -53,7 +55,8 @@ pub fn put_member(
 
 /// Appends a field: `C.x.D`.
 pub fn put_field(out: &mut String, field: &FieldKey) -> Result<(), AllocError>
-    ensures exact { OnOk result (string_bytes out.new ≡ string_bytes out.old ++ field_text field.now) }
+    ensures exact { OnOk result
+        (string_bytes out.new ≡ string_bytes out.old ++ field_text field.now) }
     // Without memory nothing changes.
     ensures kept { OnErr result (string_bytes out.new ≡ string_bytes out.old) }
 {
@@ -67,7 +70,8 @@ pub fn put_field(out: &mut String, field: &FieldKey) -> Result<(), AllocError>
 
 /// Appends a method: `C.m.D`.
 pub fn put_method(out: &mut String, method: &MethodKey) -> Result<(), AllocError>
-    ensures exact { OnOk result (string_bytes out.new ≡ string_bytes out.old ++ method_text method.now) }
+    ensures exact { OnOk result
+        (string_bytes out.new ≡ string_bytes out.old ++ method_text method.now) }
     // Without memory nothing changes.
     ensures kept { OnErr result (string_bytes out.new ≡ string_bytes out.old) }
 {
@@ -87,7 +91,8 @@ fn member_of(
     descriptor_sort: NameSort,
     text: &[u8],
 ) -> Result<Option<(Text, Text, Text)>, AllocError>
-    ensures { IfOk result (IsReadAs (λ x. IsMember name_sort descriptor_sort x.0 x.1 x.2) (λ x. member_text x.0 x.1 x.2) text.now) }
+    ensures { IfOk result (IsReadAs (λ x. IsMember name_sort descriptor_sort x.0 x.1 x.2)
+        (λ x. member_text x.0 x.1 x.2) text.now) }
 {
     let Some((class, name, descriptor)) = cut_twice(text, DOT) else {
         return Ok(None);

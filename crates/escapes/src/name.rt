@@ -33,7 +33,8 @@ pub fn put_name(out: &mut String, name: &[u16]) -> Result<(), AllocError>
 
 /// Parses a text as code units. Returns `None` if it isn't how units are written.
 fn units_of(alloc: Global, text: &[u8]) -> Result<Option<Vec<u16>>, AllocError>
-    ensures { IfOk result (λ units. IsReadAs IsText spelled text.now (option_map (λ v. v.items) units)) }
+    ensures { IfOk result
+        (λ units. IsReadAs IsText spelled text.now (option_map (λ v. v.items) units)) }
 {
     let mut units = Vec::with_capacity(alloc, text.len())?;
     let mut rest = text;

@@ -73,7 +73,8 @@ pub(crate) fn put_unit(out: &mut String, unit: u16) -> Result<(), AllocError>
 
 /// Returns the value of a hexadecimal digit in lower case.
 fn digit_of(byte: u8) -> Option<u16>
-    ensures { MatchOption result ((d : ℕ) → d < 16 → byte ≢ hexadecimal d) (λ d. (d < 16) × (byte ≡ hexadecimal d)) }
+    ensures { MatchOption result ((d : ℕ) → d < 16 → byte ≢ hexadecimal d)
+        (λ d. (d < 16) × (byte ≡ hexadecimal d)) }
 {
     match byte {
         b'0'..=b'9' => Some(u16::from(byte - b'0')),

@@ -15,7 +15,8 @@ use jvms_program::thrown::Thrown;
 
 #[inline(always)]
 pub(crate) fn binary(op: insn::Binary, frame: &SeenFrame) -> FrameDecision
-    ensures decision { result ≡ int_decision frame.now.body (int_insn.Binary op) frame.now.activation }
+    ensures decision { result
+        ≡ int_decision frame.now.body (int_insn.Binary op) frame.now.activation }
     ensures room { IfDoes result (HasRoom frame.now.body frame.now.activation) }
 {
     if !frame.has_depth(2, 1) {
@@ -29,7 +30,8 @@ pub(crate) fn binary(op: insn::Binary, frame: &SeenFrame) -> FrameDecision
 
 #[inline(always)]
 fn division(op: insn::Division, frame: &SeenFrame) -> FrameDecision
-    ensures decision { result ≡ int_decision frame.now.body (int_insn.Division op) frame.now.activation }
+    ensures decision { result
+        ≡ int_decision frame.now.body (int_insn.Division op) frame.now.activation }
     ensures room { IfDoes result (HasRoom frame.now.body frame.now.activation) }
 {
     if !frame.has_depth(2, 1) {
@@ -71,7 +73,8 @@ fn convert(to: insn::Conversion, n: i32) -> i32
 
 #[inline(always)]
 fn conversion(to: insn::Conversion, frame: &SeenFrame) -> FrameDecision
-    ensures decision { result ≡ int_decision frame.now.body (int_insn.Conversion to) frame.now.activation }
+    ensures decision { result
+        ≡ int_decision frame.now.body (int_insn.Conversion to) frame.now.activation }
     ensures room { IfDoes result (HasRoom frame.now.body frame.now.activation) }
 {
     if !frame.has_depth(1, 1) {

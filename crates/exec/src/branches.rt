@@ -72,7 +72,8 @@ fn jump_if(holds: bool, takes: u16, frame: &SeenFrame, target: u32) -> FrameDeci
 #[inline(always)]
 pub(crate) fn if_zero(how: Comparison, target: u32, frame: &SeenFrame) -> FrameDecision
     requires { frame.now.activation.place + 1 < 2 ^ 64 }
-    ensures decision { result ≡ branch_decision frame.now.body (branches.IfZero how) target frame.now.activation }
+    ensures decision { result
+        ≡ branch_decision frame.now.body (branches.IfZero how) target frame.now.activation }
     ensures room { IfDoes result (HasRoom frame.now.body frame.now.activation) }
 {
     if !frame.has_depth(1, 0) {
@@ -87,7 +88,8 @@ pub(crate) fn if_zero(how: Comparison, target: u32, frame: &SeenFrame) -> FrameD
 #[inline(always)]
 pub(crate) fn if_ints(how: Comparison, target: u32, frame: &SeenFrame) -> FrameDecision
     requires { frame.now.activation.place + 1 < 2 ^ 64 }
-    ensures decision { result ≡ branch_decision frame.now.body (branches.IfInts how) target frame.now.activation }
+    ensures decision { result
+        ≡ branch_decision frame.now.body (branches.IfInts how) target frame.now.activation }
     ensures room { IfDoes result (HasRoom frame.now.body frame.now.activation) }
 {
     if !frame.has_depth(2, 0) {
@@ -102,7 +104,8 @@ pub(crate) fn if_ints(how: Comparison, target: u32, frame: &SeenFrame) -> FrameD
 #[inline(always)]
 fn if_same(target: u32, frame: &SeenFrame) -> FrameDecision
     requires { frame.now.activation.place + 1 < 2 ^ 64 }
-    ensures decision { result ≡ branch_decision frame.now.body branches.IfSame target frame.now.activation }
+    ensures decision { result
+        ≡ branch_decision frame.now.body branches.IfSame target frame.now.activation }
     ensures room { IfDoes result (HasRoom frame.now.body frame.now.activation) }
 {
     if !frame.has_depth(2, 0) {
@@ -118,7 +121,8 @@ fn if_same(target: u32, frame: &SeenFrame) -> FrameDecision
 #[inline(always)]
 fn if_different(target: u32, frame: &SeenFrame) -> FrameDecision
     requires { frame.now.activation.place + 1 < 2 ^ 64 }
-    ensures decision { result ≡ branch_decision frame.now.body branches.IfDifferent target frame.now.activation }
+    ensures decision { result
+        ≡ branch_decision frame.now.body branches.IfDifferent target frame.now.activation }
     ensures room { IfDoes result (HasRoom frame.now.body frame.now.activation) }
 {
     if !frame.has_depth(2, 0) {
@@ -134,7 +138,8 @@ fn if_different(target: u32, frame: &SeenFrame) -> FrameDecision
 #[inline(always)]
 pub(crate) fn if_null(target: u32, frame: &SeenFrame) -> FrameDecision
     requires { frame.now.activation.place + 1 < 2 ^ 64 }
-    ensures decision { result ≡ branch_decision frame.now.body branches.IfNull target frame.now.activation }
+    ensures decision { result
+        ≡ branch_decision frame.now.body branches.IfNull target frame.now.activation }
     ensures room { IfDoes result (HasRoom frame.now.body frame.now.activation) }
 {
     if !frame.has_depth(1, 0) {
@@ -149,7 +154,8 @@ pub(crate) fn if_null(target: u32, frame: &SeenFrame) -> FrameDecision
 #[inline(always)]
 pub(crate) fn if_non_null(target: u32, frame: &SeenFrame) -> FrameDecision
     requires { frame.now.activation.place + 1 < 2 ^ 64 }
-    ensures decision { result ≡ branch_decision frame.now.body branches.IfNonNull target frame.now.activation }
+    ensures decision { result
+        ≡ branch_decision frame.now.body branches.IfNonNull target frame.now.activation }
     ensures room { IfDoes result (HasRoom frame.now.body frame.now.activation) }
 {
     if !frame.has_depth(1, 0) {
@@ -164,7 +170,8 @@ pub(crate) fn if_non_null(target: u32, frame: &SeenFrame) -> FrameDecision
 // Decides JVMS 6.5 `jsr`.
 #[inline(always)]
 fn subroutine(target: u32, frame: &SeenFrame) -> FrameDecision
-    ensures decision { result ≡ branch_decision frame.now.body branches.Subroutine target frame.now.activation }
+    ensures decision { result
+        ≡ branch_decision frame.now.body branches.Subroutine target frame.now.activation }
     ensures room { IfDoes result (HasRoom frame.now.body frame.now.activation) }
 {
     if !frame.has_depth(0, 1) {

@@ -36,7 +36,8 @@ pub(crate) fn load_int(n: u16, frame: &SeenFrame) -> FrameDecision
 /// Decides JVMS 6.5 `aload`.
 #[inline(always)]
 pub(crate) fn load_reference(n: u16, frame: &SeenFrame) -> FrameDecision
-    ensures decision { result ≡ load_decision frame.now.body kinds.Reference n frame.now.activation }
+    ensures decision { result
+        ≡ load_decision frame.now.body kinds.Reference n frame.now.activation }
     ensures room { IfDoes result (HasRoom frame.now.body frame.now.activation) }
 {
     if usize::from(n) >= frame.local_count() {
@@ -115,7 +116,8 @@ pub(crate) fn store_int(n: u16, frame: &SeenFrame) -> FrameDecision
 /// Decides JVMS 6.5 `astore`, which takes a reference, null or a return address.
 #[inline(always)]
 pub(crate) fn store_reference(n: u16, frame: &SeenFrame) -> FrameDecision
-    ensures decision { result ≡ store_decision frame.now.body kinds.Reference n frame.now.activation }
+    ensures decision { result
+        ≡ store_decision frame.now.body kinds.Reference n frame.now.activation }
     ensures room { IfDoes result (HasRoom frame.now.body frame.now.activation) }
 {
     if usize::from(n) >= frame.local_count() {
@@ -165,7 +167,8 @@ fn store(kind: Kind, n: u16, frame: &SeenFrame) -> FrameDecision
 // Decides JVMS 6.5 `ret`.
 #[inline(always)]
 fn return_to(n: u16, frame: &SeenFrame) -> FrameDecision
-    ensures decision { result ≡ local_decision frame.now.body local_use.Return n frame.now.activation }
+    ensures decision { result
+        ≡ local_decision frame.now.body local_use.Return n frame.now.activation }
     ensures room { IfDoes result (HasRoom frame.now.body frame.now.activation) }
 {
     if usize::from(n) >= frame.local_count() {

@@ -15,7 +15,8 @@ use jvms_program::thrown::Thrown;
 
 #[inline(always)]
 pub(crate) fn binary(op: insn::LongBinary, frame: &SeenFrame) -> FrameDecision
-    ensures decision { result ≡ long_decision frame.now.body (long_insn.Binary op) frame.now.activation }
+    ensures decision { result
+        ≡ long_decision frame.now.body (long_insn.Binary op) frame.now.activation }
     ensures room { IfDoes result (HasRoom frame.now.body frame.now.activation) }
 {
     if !frame.has_depth(4, 2) {
@@ -29,7 +30,8 @@ pub(crate) fn binary(op: insn::LongBinary, frame: &SeenFrame) -> FrameDecision
 
 #[inline(always)]
 pub(crate) fn division(op: insn::Division, frame: &SeenFrame) -> FrameDecision
-    ensures decision { result ≡ long_decision frame.now.body (long_insn.Division op) frame.now.activation }
+    ensures decision { result
+        ≡ long_decision frame.now.body (long_insn.Division op) frame.now.activation }
     ensures room { IfDoes result (HasRoom frame.now.body frame.now.activation) }
 {
     if !frame.has_depth(4, 2) {
@@ -47,7 +49,8 @@ pub(crate) fn division(op: insn::Division, frame: &SeenFrame) -> FrameDecision
 /// Decides JVMS 6.5 `lshl`, `lshr` and `lushr`. The shift distance is an int, on top of the long.
 #[inline(always)]
 pub(crate) fn shift(op: insn::LongShift, frame: &SeenFrame) -> FrameDecision
-    ensures decision { result ≡ long_decision frame.now.body (long_insn.Shift op) frame.now.activation }
+    ensures decision { result
+        ≡ long_decision frame.now.body (long_insn.Shift op) frame.now.activation }
     ensures room { IfDoes result (HasRoom frame.now.body frame.now.activation) }
 {
     if !frame.has_depth(3, 2) {
@@ -75,7 +78,8 @@ pub(crate) fn negate(frame: &SeenFrame) -> FrameDecision
 
 #[inline(always)]
 pub(crate) fn from_int(frame: &SeenFrame) -> FrameDecision
-    ensures decision { result ≡ long_decision frame.now.body long_insn.FromInt frame.now.activation }
+    ensures decision { result
+        ≡ long_decision frame.now.body long_insn.FromInt frame.now.activation }
     ensures room { IfDoes result (HasRoom frame.now.body frame.now.activation) }
 {
     if !frame.has_depth(1, 2) {
@@ -103,7 +107,8 @@ pub(crate) fn to_int(frame: &SeenFrame) -> FrameDecision
 
 #[inline(always)]
 pub(crate) fn compare(frame: &SeenFrame) -> FrameDecision
-    ensures decision { result ≡ long_decision frame.now.body long_insn.Compare frame.now.activation }
+    ensures decision { result
+        ≡ long_decision frame.now.body long_insn.Compare frame.now.activation }
     ensures room { IfDoes result (HasRoom frame.now.body frame.now.activation) }
 {
     if !frame.has_depth(4, 1) {

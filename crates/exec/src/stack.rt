@@ -166,9 +166,11 @@ pub(crate) fn duplicates(frame: &SeenFrame) -> FrameDecision
 pub(crate) fn rearrange(form: StackForm, head: &mut Head, values: &mut [Value])
     requires fits { IsOpen head.old values.old }
     requires there { form_takes form ≤ length (open_frame head.old values.old).activation.operands }
-    requires room { length (open_frame head.old values.old).activation.operands - form_takes form + form_gives form ≤ (open_frame head.old values.old).body.max_stack }
+    requires room { length (open_frame head.old values.old).activation.operands
+        - form_takes form + form_gives form ≤ (open_frame head.old values.old).body.max_stack }
     ensures fits { IsOpen head.new values.new }
-    ensures frame { open_frame head.new values.new ≡ with_operands (open_frame head.old values.old) (rearranged form (open_frame head.old values.old).activation.operands) }
+    ensures frame { open_frame head.new values.new ≡ with_operands (open_frame head.old values.old)
+        (rearranged form (open_frame head.old values.old).activation.operands) }
 {
     match form {
         StackForm::Pop => head.drop_operands(values, 1),
@@ -196,9 +198,12 @@ impl OpenWork<(), ()> for Rearrangement {
 
     type Output = ();
 
-    ghost can = { λ w f. (form_takes w.form ≤ length f.activation.operands) × (length f.activation.operands - form_takes w.form + form_gives w.form ≤ f.body.max_stack) };
+    ghost can = { λ w f. (form_takes w.form ≤ length f.activation.operands)
+        × (length f.activation.operands - form_takes w.form + form_gives w.form
+        ≤ f.body.max_stack) };
 
-    ghost does = { λ w f _ _ _ g _ _. g ≡ with_operands f (rearranged w.form f.activation.operands) };
+    ghost does = { λ w f _ _ _ g _ _. g
+        ≡ with_operands f (rearranged w.form f.activation.operands) };
 
     #[inline(always)]
     fn run(self, head: &mut Head<'_>, values: &mut [Value], _first: &mut (), _second: &mut ()) {
@@ -211,7 +216,8 @@ impl OpenWork<(), ()> for Rearrangement {
 #[inline(never)]
 pub(crate) fn rearrange_frame(form: StackForm, frame: &mut Frame)
     requires there { form_takes form ≤ length frame.old.activation.operands }
-    requires room { length frame.old.activation.operands - form_takes form + form_gives form ≤ frame.old.body.max_stack }
+    requires room { length frame.old.activation.operands - form_takes form + form_gives form
+        ≤ frame.old.body.max_stack }
     ensures { frame.new ≡ with_operands frame.old (rearranged form frame.old.activation.operands) }
 {
     frame.open_for(Rearrangement { form }, &mut (), &mut ());
@@ -221,9 +227,11 @@ pub(crate) fn rearrange_frame(form: StackForm, frame: &mut Frame)
 fn dup(head: &mut Head, values: &mut [Value])
     requires fits { IsOpen head.old values.old }
     requires there { 1 ≤ length (open_frame head.old values.old).activation.operands }
-    requires room { length (open_frame head.old values.old).activation.operands + 1 ≤ (open_frame head.old values.old).body.max_stack }
+    requires room { length (open_frame head.old values.old).activation.operands + 1
+        ≤ (open_frame head.old values.old).body.max_stack }
     ensures fits { IsOpen head.new values.new }
-    ensures frame { open_frame head.new values.new ≡ with_operands (open_frame head.old values.old) (rearranged form.Dup (open_frame head.old values.old).activation.operands) }
+    ensures frame { open_frame head.new values.new ≡ with_operands (open_frame head.old values.old)
+        (rearranged form.Dup (open_frame head.old values.old).activation.operands) }
 {
     let a = head.seen(values).top();
     head.push(values, a);
@@ -233,9 +241,11 @@ fn dup(head: &mut Head, values: &mut [Value])
 fn dup_x1(head: &mut Head, values: &mut [Value])
     requires fits { IsOpen head.old values.old }
     requires there { 2 ≤ length (open_frame head.old values.old).activation.operands }
-    requires room { length (open_frame head.old values.old).activation.operands + 1 ≤ (open_frame head.old values.old).body.max_stack }
+    requires room { length (open_frame head.old values.old).activation.operands + 1
+        ≤ (open_frame head.old values.old).body.max_stack }
     ensures fits { IsOpen head.new values.new }
-    ensures frame { open_frame head.new values.new ≡ with_operands (open_frame head.old values.old) (rearranged form.DupX1 (open_frame head.old values.old).activation.operands) }
+    ensures frame { open_frame head.new values.new ≡ with_operands (open_frame head.old values.old)
+        (rearranged form.DupX1 (open_frame head.old values.old).activation.operands) }
 {
     let (a, b) = head.seen(values).top_two();
     head.drop_operands(values, 2);
@@ -248,9 +258,11 @@ fn dup_x1(head: &mut Head, values: &mut [Value])
 fn dup_x2(head: &mut Head, values: &mut [Value])
     requires fits { IsOpen head.old values.old }
     requires there { 3 ≤ length (open_frame head.old values.old).activation.operands }
-    requires room { length (open_frame head.old values.old).activation.operands + 1 ≤ (open_frame head.old values.old).body.max_stack }
+    requires room { length (open_frame head.old values.old).activation.operands + 1
+        ≤ (open_frame head.old values.old).body.max_stack }
     ensures fits { IsOpen head.new values.new }
-    ensures frame { open_frame head.new values.new ≡ with_operands (open_frame head.old values.old) (rearranged form.DupX2 (open_frame head.old values.old).activation.operands) }
+    ensures frame { open_frame head.new values.new ≡ with_operands (open_frame head.old values.old)
+        (rearranged form.DupX2 (open_frame head.old values.old).activation.operands) }
 {
     let (a, b, c) = head.seen(values).top_three();
     head.drop_operands(values, 3);
@@ -264,9 +276,11 @@ fn dup_x2(head: &mut Head, values: &mut [Value])
 fn dup2(head: &mut Head, values: &mut [Value])
     requires fits { IsOpen head.old values.old }
     requires there { 2 ≤ length (open_frame head.old values.old).activation.operands }
-    requires room { length (open_frame head.old values.old).activation.operands + 2 ≤ (open_frame head.old values.old).body.max_stack }
+    requires room { length (open_frame head.old values.old).activation.operands + 2
+        ≤ (open_frame head.old values.old).body.max_stack }
     ensures fits { IsOpen head.new values.new }
-    ensures frame { open_frame head.new values.new ≡ with_operands (open_frame head.old values.old) (rearranged form.Dup2 (open_frame head.old values.old).activation.operands) }
+    ensures frame { open_frame head.new values.new ≡ with_operands (open_frame head.old values.old)
+        (rearranged form.Dup2 (open_frame head.old values.old).activation.operands) }
 {
     let (a, b) = head.seen(values).top_two();
     head.push(values, a);
@@ -277,9 +291,11 @@ fn dup2(head: &mut Head, values: &mut [Value])
 fn dup2_x1(head: &mut Head, values: &mut [Value])
     requires fits { IsOpen head.old values.old }
     requires there { 3 ≤ length (open_frame head.old values.old).activation.operands }
-    requires room { length (open_frame head.old values.old).activation.operands + 2 ≤ (open_frame head.old values.old).body.max_stack }
+    requires room { length (open_frame head.old values.old).activation.operands + 2
+        ≤ (open_frame head.old values.old).body.max_stack }
     ensures fits { IsOpen head.new values.new }
-    ensures frame { open_frame head.new values.new ≡ with_operands (open_frame head.old values.old) (rearranged form.Dup2X1 (open_frame head.old values.old).activation.operands) }
+    ensures frame { open_frame head.new values.new ≡ with_operands (open_frame head.old values.old)
+        (rearranged form.Dup2X1 (open_frame head.old values.old).activation.operands) }
 {
     let (a, b, c) = head.seen(values).top_three();
     head.drop_operands(values, 3);
@@ -294,9 +310,11 @@ fn dup2_x1(head: &mut Head, values: &mut [Value])
 fn dup2_x2(head: &mut Head, values: &mut [Value])
     requires fits { IsOpen head.old values.old }
     requires there { 4 ≤ length (open_frame head.old values.old).activation.operands }
-    requires room { length (open_frame head.old values.old).activation.operands + 2 ≤ (open_frame head.old values.old).body.max_stack }
+    requires room { length (open_frame head.old values.old).activation.operands + 2
+        ≤ (open_frame head.old values.old).body.max_stack }
     ensures fits { IsOpen head.new values.new }
-    ensures frame { open_frame head.new values.new ≡ with_operands (open_frame head.old values.old) (rearranged form.Dup2X2 (open_frame head.old values.old).activation.operands) }
+    ensures frame { open_frame head.new values.new ≡ with_operands (open_frame head.old values.old)
+        (rearranged form.Dup2X2 (open_frame head.old values.old).activation.operands) }
 {
     let (a, b, c, d) = head.seen(values).top_four();
     head.drop_operands(values, 4);
@@ -312,9 +330,11 @@ fn dup2_x2(head: &mut Head, values: &mut [Value])
 fn swap(head: &mut Head, values: &mut [Value])
     requires fits { IsOpen head.old values.old }
     requires there { 2 ≤ length (open_frame head.old values.old).activation.operands }
-    requires room { length (open_frame head.old values.old).activation.operands ≤ (open_frame head.old values.old).body.max_stack }
+    requires room { length (open_frame head.old values.old).activation.operands
+        ≤ (open_frame head.old values.old).body.max_stack }
     ensures fits { IsOpen head.new values.new }
-    ensures frame { open_frame head.new values.new ≡ with_operands (open_frame head.old values.old) (rearranged form.Swap (open_frame head.old values.old).activation.operands) }
+    ensures frame { open_frame head.new values.new ≡ with_operands (open_frame head.old values.old)
+        (rearranged form.Swap (open_frame head.old values.old).activation.operands) }
 {
     let (a, b) = head.seen(values).top_two();
     head.drop_operands(values, 2);

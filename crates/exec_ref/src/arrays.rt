@@ -23,7 +23,8 @@ use shared_data::shared::Text;
 
 /// Decides whether the limits allow `objects` more objects and `elements` more array elements.
 pub(crate) fn has_room_for_elements(parts: &Parts, objects: usize, elements: usize) -> bool
-    ensures exact { result ≡ has_room_for_elements objects elements parts.now.limits parts.now.state }
+    ensures exact { result
+        ≡ has_room_for_elements objects elements parts.now.limits parts.now.state }
     // Each of their references fits 32 bits.
     ensures number { IsTrue result → length parts.now.state.heap + objects < 2 ^ 32 }
 {
@@ -53,7 +54,8 @@ fn length_decision<'p>(
     class: ActionText<'p>,
     n: i32,
 ) -> Decided<'p>
-    ensures { seen result ≡ length_decision parts.now.limits parts.now.state thread.now (text_of class.entry) n }
+    ensures { seen result
+        ≡ length_decision parts.now.limits parts.now.state thread.now (text_of class.entry) n }
 {
     if n < 0 {
         return parts.throws(thread, Thrown::NegativeArraySizeException);
@@ -72,7 +74,8 @@ fn new_array_decision<'p>(
     frame: &Frame,
     t: ArrayType,
 ) -> Decided<'p>
-    ensures { seen result ≡ new_array_decision parts.now.limits parts.now.state thread.now frame.now t }
+    ensures { seen result
+        ≡ new_array_decision parts.now.limits parts.now.state thread.now frame.now t }
 {
     if !has_depth(frame, 1, 1) {
         return bad(BadCause::Depth);
@@ -90,7 +93,8 @@ pub(crate) fn new_class_array_decision<'p>(
     frame: &Frame,
     name: &'p Text,
 ) -> Decided<'p>
-    ensures { seen result ≡ new_class_array_decision parts.now.program parts.now.limits parts.now.state thread.now frame.now name.now }
+    ensures { seen result ≡ new_class_array_decision parts.now.program
+        parts.now.limits parts.now.state thread.now frame.now name.now }
 {
     if !has_depth(frame, 1, 1) {
         return bad(BadCause::Depth);
@@ -124,7 +128,8 @@ fn measured<'p>(parts: &Parts<'p>, thread: &Thread, reference: u32) -> Decided<'
 /// Decides JVMS 6.5 `arraylength`.
 #[inline(always)]
 fn array_length_decision<'p>(parts: &Parts<'p>, thread: &Thread, frame: &Frame) -> Decided<'p>
-    ensures { seen result ≡ if_deep frame.now 1 1 (array_length_decision parts.now.limits parts.now.state thread.now frame.now.activation.operands) }
+    ensures { seen result ≡ if_deep frame.now 1 1 (array_length_decision parts.now.limits
+        parts.now.state thread.now frame.now.activation.operands) }
 {
     if !has_depth(frame, 1, 1) {
         return bad(BadCause::Depth);
@@ -147,7 +152,8 @@ pub fn array_decision<'p>(
     what: ArrayInsn,
 ) -> Decided<'p>
     requires { frame.now.activation.place + 1 < 2 ^ 64 }
-    ensures { seen result ≡ array_decision parts.now.program parts.now.limits parts.now.state thread.now frame.now what }
+    ensures { seen result ≡ array_decision parts.now.program
+        parts.now.limits parts.now.state thread.now frame.now what }
 {
     match what {
         ArrayInsn::New(t) => new_array_decision(parts, thread, frame, t),

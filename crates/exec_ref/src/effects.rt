@@ -45,14 +45,16 @@ fn printed_text<'h>(heap: &'h Heap<'_>, what: Printed) -> Option<&'h [u16]>
 /// Stores a value in a field of an object.
 #[inline(always)]
 fn put_field(parts: &mut Parts, reference: u32, field: FieldNumber, value: Value)
-    ensures { parts.new ≡ with_state parts.old (put_field parts.old.state reference value (field_key_at parts.old.program field)) }
+    ensures { parts.new ≡ with_state parts.old
+        (put_field parts.old.state reference value (field_key_at parts.old.program field)) }
 {
     parts.heap.put_field_numbered(reference, field, value);
 }
 
 /// Stores a value in a static field.
 fn put_static(parts: &mut Parts, field: FieldNumber, value: Value)
-    ensures { parts.new ≡ with_state parts.old (put_static parts.old.state value (field_key_at parts.old.program field)) }
+    ensures { parts.new ≡ with_state parts.old
+        (put_static parts.old.state value (field_key_at parts.old.program field)) }
 {
     parts.statics.put_numbered(field, value);
 }
@@ -60,9 +62,11 @@ fn put_static(parts: &mut Parts, field: FieldNumber, value: Value)
 /// Stores the value of an effect in its field or element. Other effects change nothing.
 #[inline(always)]
 fn put<'p>(parts: &mut Parts<'p>, t: ThreadId, effect: Effect<ActionText<'p>>)
-    requires makeable { CanBeMade parts.old.state (operands_of (slice_get parts.old.state.threads t)) (effect_value effect) }
+    requires makeable { CanBeMade parts.old.state
+        (operands_of (slice_get parts.old.state.threads t)) (effect_value effect) }
     requires puts { PutsAtMost (effect_value effect) }
-    ensures { parts.new ≡ with_state parts.old (affected parts.old.program parts.old.state t (operands_of (slice_get parts.old.state.threads t)) (effect_value effect.entry)) }
+    ensures { parts.new ≡ with_state parts.old (affected parts.old.program parts.old.state t
+        (operands_of (slice_get parts.old.state.threads t)) (effect_value effect.entry)) }
 {
     match effect {
         Effect::PutField {
@@ -82,7 +86,8 @@ fn put<'p>(parts: &mut Parts<'p>, t: ThreadId, effect: Effect<ActionText<'p>>)
 
 /// Prints a value, and ends the line if `ends_line` is set. If there is no memory, nothing changes.
 fn print(parts: &mut Parts, what: Printed, ends_line: bool) -> Result<(), AllocError>
-    ensures ok { OnOk result (parts.new ≡ with_state parts.old (affected parts.old.program parts.old.state 0 [] (effects.Prints what ends_line))) }
+    ensures ok { OnOk result (parts.new ≡ with_state parts.old
+        (affected parts.old.program parts.old.state 0 [] (effects.Prints what ends_line))) }
     ensures err { OnErr result (parts.new ≡ parts.old) }
     ensures none { line_bytes parts.old.state.heap what ends_line ≡ [] → IsOk result }
 {
@@ -98,8 +103,10 @@ fn start_thread(
     started: ThreadId,
     trace: &mut Recording,
 ) -> Result<(), AllocError>
-    ensures state { OnOk result (parts.new ≡ with_state parts.old (affected parts.old.program parts.old.state t [] (effects.Starts reference started))) }
-    ensures items { OnOk result (trace.new ≡ recorded trace.old (effect_items parts.old.program t (effects.Starts reference started))) }
+    ensures state { OnOk result (parts.new ≡ with_state parts.old
+        (affected parts.old.program parts.old.state t [] (effects.Starts reference started))) }
+    ensures items { OnOk result (trace.new ≡ recorded trace.old
+        (effect_items parts.old.program t (effects.Starts reference started))) }
     ensures kept { OnErr result (parts.new ≡ parts.old) }
     ensures no_items { OnErr result (trace.new ≡ trace.old) }
 {
@@ -122,7 +129,8 @@ fn record<'p>(
     effect: Effect<ActionText<'p>>,
     trace: &mut Recording,
 ) -> Result<(), AllocError>
-    ensures ok { OnOk result (trace.new ≡ recorded trace.old (effect_items parts.now.program t (effect_value effect.entry))) }
+    ensures ok { OnOk result (trace.new
+        ≡ recorded trace.old (effect_items parts.now.program t (effect_value effect.entry))) }
     ensures err { OnErr result (trace.new ≡ trace.old) }
     ensures none { effect_items parts.now.program t (effect_value effect.entry) ≡ [] → IsOk result }
 {
@@ -142,12 +150,17 @@ fn affect<'p>(
     effect: Effect<ActionText<'p>>,
     trace: &mut Recording,
 ) -> Result<(), AllocError>
-    requires { CanBeMade parts.old.state (operands_of (slice_get parts.old.state.threads t)) (effect_value effect) }
-    ensures state { OnOk result (parts.new ≡ with_state parts.old (affected parts.old.program parts.old.state t (operands_of (slice_get parts.old.state.threads t)) (effect_value effect.entry))) }
-    ensures items { OnOk result (trace.new ≡ recorded trace.old (effect_items parts.old.program t (effect_value effect.entry))) }
+    requires { CanBeMade parts.old.state
+        (operands_of (slice_get parts.old.state.threads t)) (effect_value effect) }
+    ensures state { OnOk result
+        (parts.new ≡ with_state parts.old (affected parts.old.program parts.old.state t
+        (operands_of (slice_get parts.old.state.threads t)) (effect_value effect.entry))) }
+    ensures items { OnOk result (trace.new
+        ≡ recorded trace.old (effect_items parts.old.program t (effect_value effect.entry))) }
     ensures kept { OnErr result (parts.new ≡ parts.old) }
     ensures no_items { OnErr result (trace.new ≡ trace.old) }
-    ensures none { AffectsNone parts.old.state (effect_value effect.entry) → effect_items parts.old.program t (effect_value effect.entry) ≡ [] → IsOk result }
+    ensures none { AffectsNone parts.old.state (effect_value effect.entry)
+        → effect_items parts.old.program t (effect_value effect.entry) ≡ [] → IsOk result }
 {
     match effect {
         Effect::Makes(what) => make_object(parts, t, what),
@@ -178,13 +191,18 @@ pub fn reach<'p>(
     act: FrameAction,
     trace: &mut Recording,
 ) -> Result<(), AllocError>
-    requires ready { IsReady parts.old.start parts.old.state t (action.Reaches (effect_value effect) act) }
+    requires ready { IsReady parts.old.start parts.old.state t
+        (action.Reaches (effect_value effect) act) }
     requires stands { HasCaller parts.old.state t (action.Reaches (effect_value effect) act) }
-    ensures state { OnOk result (parts.new ≡ after parts.old t (action.Reaches (effect_value effect.entry) act)) }
-    ensures items { OnOk result (trace.new ≡ recorded trace.old (items_of parts.old.program t (action.Reaches (effect_value effect.entry) act))) }
+    ensures state { OnOk result
+        (parts.new ≡ after parts.old t (action.Reaches (effect_value effect.entry) act)) }
+    ensures items { OnOk result (trace.new ≡ recorded trace.old
+        (items_of parts.old.program t (action.Reaches (effect_value effect.entry) act))) }
     ensures kept { OnErr result (parts.new ≡ parts.old) }
     ensures no_items { OnErr result (trace.new ≡ trace.old) }
-    ensures none { AffectsNone parts.old.state (effect_value effect.entry) → items_of parts.old.program t (action.Reaches (effect_value effect.entry) act) ≡ [] → IsOk result }
+    ensures none { AffectsNone parts.old.state (effect_value effect.entry)
+        → items_of parts.old.program t (action.Reaches (effect_value effect.entry) act) ≡ []
+        → IsOk result }
 {
     affect(parts, t, effect, trace)?;
     parts.threads[t as usize].go_on(act);

@@ -100,7 +100,8 @@ pub(crate) fn effect_item<'p>(
     t: ThreadId,
     effect: Effect<ActionText<'p>>,
 ) -> Result<Option<Item>, AllocError>
-    ensures item { IfOk result (λ item. listed item ≡ effect_items parts.now.program t (effect_value effect.entry)) }
+    ensures item { IfOk result
+        (λ item. listed item ≡ effect_items parts.now.program t (effect_value effect.entry)) }
     ensures none { effect_items parts.now.program t (effect_value effect.entry) ≡ [] → IsOk result }
 {
     match effect {

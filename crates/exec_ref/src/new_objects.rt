@@ -71,7 +71,8 @@ fn lengths_of(alloc: Global, values: &[Value]) -> Result<Vec<u32>, AllocError>
 /// Returns the lengths in the topmost `dimensions` operands of the top call.
 fn lengths_taken(parts: &Parts, t: ThreadId, dimensions: u8) -> Result<Vec<u32>, AllocError>
     requires { dimensions ≤ length (operands_of (slice_get parts.now.state.threads t)) }
-    ensures { IfOk result (λ lengths. lengths.items ≡ counted_lengths dimensions (operands_of (slice_get parts.now.state.threads t))) }
+    ensures { IfOk result (λ lengths. lengths.items
+        ≡ counted_lengths dimensions (operands_of (slice_get parts.now.state.threads t))) }
 {
     match parts.threads.as_slice().get(t as usize) {
         None => Ok(Vec::new(parts.alloc)),
@@ -87,8 +88,11 @@ fn make_arrays<'p>(
     class: ActionText<'p>,
     dimensions: u8,
 ) -> Result<(), AllocError>
-    requires { CanBeMade parts.old.state (operands_of (slice_get parts.old.state.threads t)) (effects.Makes (object_value (new_object.Arrays class dimensions))) }
-    ensures ok { OnOk result (parts.new ≡ with_state parts.old (with_new parts.old.program parts.old.state (operands_of (slice_get parts.old.state.threads t)) (object_value (new_object.Arrays class.entry dimensions)))) }
+    requires { CanBeMade parts.old.state (operands_of (slice_get parts.old.state.threads t))
+        (effects.Makes (object_value (new_object.Arrays class dimensions))) }
+    ensures ok { OnOk result (parts.new ≡ with_state parts.old (with_new parts.old.program
+        parts.old.state (operands_of (slice_get parts.old.state.threads t))
+        (object_value (new_object.Arrays class.entry dimensions)))) }
     ensures err { OnErr result (parts.new ≡ parts.old) }
 {
     let class = text(parts.alloc, &parts.heap, class)?;
@@ -102,8 +106,11 @@ pub(crate) fn make_object<'p>(
     t: ThreadId,
     what: NewObject<ActionText<'p>>,
 ) -> Result<(), AllocError>
-    requires { CanBeMade parts.old.state (operands_of (slice_get parts.old.state.threads t)) (effects.Makes (object_value what)) }
-    ensures ok { OnOk result (parts.new ≡ with_state parts.old (with_new parts.old.program parts.old.state (operands_of (slice_get parts.old.state.threads t)) (object_value what.entry))) }
+    requires { CanBeMade parts.old.state (operands_of (slice_get parts.old.state.threads t))
+        (effects.Makes (object_value what)) }
+    ensures ok { OnOk result
+        (parts.new ≡ with_state parts.old (with_new parts.old.program parts.old.state
+        (operands_of (slice_get parts.old.state.threads t)) (object_value what.entry))) }
     ensures err { OnErr result (parts.new ≡ parts.old) }
 {
     match what {

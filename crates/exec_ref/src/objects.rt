@@ -65,7 +65,8 @@ fn creation_if_room<'p>(
     takes: u8,
     what: NewObject<ActionText<'p>>,
 ) -> Decided<'p>
-    ensures { seen result ≡ creation_if_room parts.now.limits parts.now.state thread.now takes (object_value what.entry) }
+    ensures { seen result ≡ creation_if_room parts.now.limits parts.now.state thread.now takes
+        (object_value what.entry) }
 {
     if parts.has_room() {
         making(parts, takes, what)
@@ -81,7 +82,8 @@ fn instance_of_number<'p>(
     thread: &Thread,
     class: usize,
 ) -> Decided<'p>
-    ensures { seen result ≡ instance_of_number parts.now.program parts.now.limits parts.now.state t thread.now (Some class) }
+    ensures { seen result ≡ instance_of_number parts.now.program
+        parts.now.limits parts.now.state t thread.now (Some class) }
 {
     match parts.asking(t, thread, class) {
         Some(decision) => decision,
@@ -97,8 +99,10 @@ fn class_of_site<'p>(
     name: &[u16],
 ) -> Option<(usize, &'p Class)>
     requires { IsSite parts.now.program frame.now (instruction.Class how name.now) }
-    ensures number { option_map (λ found. found.0) result ≡ class_number parts.now.program name.now }
-    ensures class { option_map (λ found. found.1.now) result ≡ class_named parts.now.program name.now }
+    ensures number { option_map (λ found. found.0) result
+        ≡ class_number parts.now.program name.now }
+    ensures class { option_map (λ found. found.1.now) result
+        ≡ class_named parts.now.program name.now }
 {
     parts
         .program()
@@ -115,7 +119,8 @@ fn new_instance_decision<'p>(
     name: &[u16],
 ) -> Decided<'p>
     requires { IsSite parts.now.program frame.now (instruction.Class class_use.New name.now) }
-    ensures { seen result ≡ new_instance_decision parts.now.program parts.now.limits parts.now.state t thread.now name.now (class_named parts.now.program name.now) }
+    ensures { seen result ≡ new_instance_decision parts.now.program parts.now.limits
+        parts.now.state t thread.now name.now (class_named parts.now.program name.now) }
 {
     match class_of_site(parts, frame, ClassUse::New, name) {
         None => parts.throws(thread, Thrown::NoClassDefFoundError),
@@ -131,7 +136,9 @@ fn new_instance_decision<'p>(
 
 /// Tests the object of a reference against a named class, which is resolved first.
 fn tested_object<'p>(parts: &Parts<'p>, thread: &Thread, name: &[u16], reference: u32) -> Told<'p>
-    ensures { (null : TurnDecision) → (told : Bool → TurnDecision) → by_instance_test null told result ≡ with_class_of parts.now.program parts.now.limits parts.now.state thread.now name.now (value.Reference reference ∷ []) null told }
+    ensures { (null : TurnDecision) → (told : Bool → TurnDecision)
+        → by_instance_test null told result ≡ with_class_of parts.now.program parts.now.limits
+        parts.now.state thread.now name.now (value.Reference reference ∷ []) null told }
 {
     let Some(class) = parts.heap.class_of(reference) else {
         return Told::Stops(never_seen());
@@ -146,7 +153,9 @@ fn tested_object<'p>(parts: &Parts<'p>, thread: &Thread, name: &[u16], reference
 /// Tests the topmost operand against a named class. Null is tested before the class is resolved.
 fn top_told<'p>(parts: &Parts<'p>, thread: &Thread, frame: &Frame, name: &[u16]) -> Told<'p>
     requires { 1 ≤ length frame.now.activation.operands }
-    ensures { (null : TurnDecision) → (told : Bool → TurnDecision) → by_instance_test null told result ≡ with_class_of parts.now.program parts.now.limits parts.now.state thread.now name.now frame.now.activation.operands null told }
+    ensures { (null : TurnDecision) → (told : Bool → TurnDecision)
+        → by_instance_test null told result ≡ with_class_of parts.now.program parts.now.limits
+        parts.now.state thread.now name.now frame.now.activation.operands null told }
 {
     match frame.top() {
         Value::Null => Told::Null,
@@ -160,7 +169,10 @@ fn top_told<'p>(parts: &Parts<'p>, thread: &Thread, frame: &Frame, name: &[u16])
 /// Decides JVMS 6.5 `checkcast`. The object stays on the operand stack.
 fn cast_decision<'p>(parts: &Parts<'p>, thread: &Thread, frame: &Frame, name: &[u16]) -> Decided<'p>
     requires { frame.now.activation.place + 1 < 2 ^ 64 }
-    ensures { seen result ≡ if_deep frame.now 1 1 (with_class_of parts.now.program parts.now.limits parts.now.state thread.now name.now frame.now.activation.operands (reaches effect.Nothing (taking 0 frame.now.activation)) (cast parts.now.limits parts.now.state thread.now frame.now)) }
+    ensures { seen result ≡ if_deep frame.now 1 1
+        (with_class_of parts.now.program parts.now.limits parts.now.state thread.now name.now
+        frame.now.activation.operands (reaches effect.Nothing (taking 0 frame.now.activation))
+        (cast parts.now.limits parts.now.state thread.now frame.now)) }
 {
     if !has_depth(frame, 1, 1) {
         return bad(BadCause::Depth);
@@ -179,7 +191,9 @@ fn instance_test_decision<'p>(
     frame: &Frame,
     name: &[u16],
 ) -> Decided<'p>
-    ensures { seen result ≡ if_deep frame.now 1 1 (with_class_of parts.now.program parts.now.limits parts.now.state thread.now name.now frame.now.activation.operands (instance_test_result false) instance_test_result) }
+    ensures { seen result ≡ if_deep frame.now 1 1
+        (with_class_of parts.now.program parts.now.limits parts.now.state thread.now name.now
+        frame.now.activation.operands (instance_test_result false) instance_test_result) }
 {
     if !has_depth(frame, 1, 1) {
         return bad(BadCause::Depth);
@@ -203,7 +217,8 @@ pub fn class_decision<'p>(
 ) -> Decided<'p>
     requires place { frame.now.activation.place + 1 < 2 ^ 64 }
     requires site { IsSite parts.now.program frame.now (instruction.Class how name.now) }
-    ensures { seen result ≡ class_decision parts.now.program parts.now.limits parts.now.state t thread.now frame.now how name.now }
+    ensures { seen result ≡ class_decision parts.now.program parts.now.limits
+        parts.now.state t thread.now frame.now how name.now }
 {
     match how {
         ClassUse::New => {
@@ -226,7 +241,8 @@ fn existing_or_new<'p>(
     held: Option<u32>,
     what: NewObject<ActionText<'p>>,
 ) -> Decided<'p>
-    ensures { seen result ≡ existing_or_new parts.now.limits parts.now.state thread.now held (object_value what.entry) }
+    ensures { seen result ≡ existing_or_new parts.now.limits parts.now.state thread.now held
+        (object_value what.entry) }
 {
     match held {
         None => creation_if_room(parts, thread, 0, what),
@@ -244,7 +260,8 @@ fn string_decision<'p>(
     frame: &Frame,
     units: &'p Text,
 ) -> Decided<'p>
-    ensures { seen result ≡ if_deep frame.now 0 1 (existing_or_new parts.now.limits parts.now.state thread.now (text_reference parts.now.state.heap units.now) (new_object.Text units.now)) }
+    ensures { seen result ≡ if_deep frame.now 0 1 (existing_or_new parts.now.limits parts.now.state
+        thread.now (text_reference parts.now.state.heap units.now) (new_object.Text units.now)) }
 {
     if !has_depth(frame, 0, 1) {
         return bad(BadCause::Depth);
@@ -256,7 +273,8 @@ fn string_decision<'p>(
 
 /// Decides to push the object of an existing class.
 fn class_object_decision<'p>(parts: &Parts<'p>, thread: &Thread, name: &'p Text) -> Decided<'p>
-    ensures { seen result ≡ existing_or_new parts.now.limits parts.now.state thread.now (class_reference parts.now.state.heap name.now) (new_object.ClassObject name.now) }
+    ensures { seen result ≡ existing_or_new parts.now.limits parts.now.state thread.now
+        (class_reference parts.now.state.heap name.now) (new_object.ClassObject name.now) }
 {
     let held = parts.heap.class_reference(name.as_slice());
     let name = ActionText::Of(name);
@@ -271,7 +289,8 @@ fn named_class_decision<'p>(
     frame: &Frame,
     name: &'p Text,
 ) -> Decided<'p>
-    ensures { seen result ≡ loadable_decision parts.now.program parts.now.limits parts.now.state thread.now frame.now (loadable.Class name.now) }
+    ensures { seen result ≡ loadable_decision parts.now.program parts.now.limits
+        parts.now.state thread.now frame.now (loadable.Class name.now) }
 {
     if !has_depth(frame, 0, 1) {
         return bad(BadCause::Depth);
@@ -291,7 +310,8 @@ pub fn loadable_decision<'p>(
     frame: &Frame,
     what: &'p Loadable,
 ) -> Decided<'p>
-    ensures { seen result ≡ loadable_decision parts.now.program parts.now.limits parts.now.state thread.now frame.now what.now }
+    ensures { seen result ≡ loadable_decision parts.now.program
+        parts.now.limits parts.now.state thread.now frame.now what.now }
 {
     match what {
         Loadable::String(units) => string_decision(parts, thread, frame, units),

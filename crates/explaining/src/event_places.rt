@@ -76,9 +76,9 @@ fn put_event(
     number: u64,
     event: &EventTurn,
 ) -> Result<(), AllocError>
-    ensures { OnOk result (string_bytes out.new ≡ string_bytes out.old
-        ++ cond (is_in_pairs pairs.now number)
-        (event_place program.now sources.now.first sources.now.files.now number event.now.place) []) }
+    ensures { OnOk result (string_bytes out.new
+        ≡ string_bytes out.old ++ cond (is_in_pairs pairs.now number) (event_place program.now
+        sources.now.first sources.now.files.now number event.now.place) []) }
 {
     if is_in_pairs(pairs, number) {
         put_event_place(alloc, out, program, sources, number, event.place)
@@ -96,8 +96,8 @@ fn put_events(
     pairs: &[ConflictingPair],
     events: &[EventTurn],
 ) -> Result<(), AllocError>
-    ensures { OnOk result (string_bytes out.new ≡ string_bytes out.old
-        ++ event_places program.now sources.now.first sources.now.files.now pairs.now 1 events.now) }
+    ensures { OnOk result (string_bytes out.new ≡ string_bytes out.old ++ event_places program.now
+        sources.now.first sources.now.files.now pairs.now 1 events.now) }
 {
     for (index, event) in events.iter().enumerate() {
         put_event(alloc, out, program, sources, pairs, index as u64 + 1, event)?;
@@ -114,8 +114,8 @@ pub(crate) fn put_event_places(
     verdict: &Verdict,
     events: &[EventTurn],
 ) -> Result<(), AllocError>
-    ensures { OnOk result (string_bytes out.new ≡ string_bytes out.old
-        ++ event_places program.now sources.now.first sources.now.files.now (pairs_of verdict.now) 1 events.now) }
+    ensures { OnOk result (string_bytes out.new ≡ string_bytes out.old ++ event_places program.now
+        sources.now.first sources.now.files.now (pairs_of verdict.now) 1 events.now) }
 {
     put_events(alloc, out, program, sources, pairs_of(verdict), events)
 }

@@ -77,8 +77,9 @@ fn take_turn(
     requires { trace.old ≡ [] }
     ensures trace { OnOk result (trace.new ≡ []) }
     ensures machine { OnOk result (machine.new ≡ after_turn machine.old thread) }
-    ensures events { OnOk result (events.new.items ≡ events.old.items
-        ++ map (λ i. turn_at turn machine.old thread) (filter is_event (transition_of machine.old thread).items)) }
+    ensures events { OnOk result
+        (events.new.items ≡ events.old.items ++ map (λ i. turn_at turn machine.old thread)
+        (filter is_event (transition_of machine.old thread).items)) }
 {
     let event = turn_at(turn, machine, thread);
     machine.step(thread, trace)?;

@@ -37,8 +37,8 @@ fn explain_by(
 ) -> Result<Explained, AllocError>
     requires { MayBeFed spec items.now }
     ensures judged { IfOk result (λ e. IsJudgement (Some spec) items.now e.judgement) }
-    ensures text { IfOk result (λ e. string_bytes e.text
-        ≡ verdict_part program.now sources.now.first sources.now.files.now (Some spec) e.judgement items.now events.now) }
+    ensures text { IfOk result (λ e. string_bytes e.text ≡ verdict_part program.now
+        sources.now.first sources.now.files.now (Some spec) e.judgement items.now events.now) }
 {
     let unmatched = unmatched_text(alloc, program, spec.lines())?;
     let turns = turns_of(alloc, events)?;
@@ -72,8 +72,8 @@ pub(crate) fn explain_items(
 ) -> Result<Explained, AllocError>
     requires { (lines : Specification) → MayBeFed lines items.now }
     ensures judged { IfOk result (λ e. IsJudgement spec items.now e.judgement) }
-    ensures text { IfOk result (λ e. string_bytes e.text
-        ≡ verdict_part program.now sources.now.first sources.now.files.now spec e.judgement items.now events.now) }
+    ensures text { IfOk result (λ e. string_bytes e.text ≡ verdict_part program.now
+        sources.now.first sources.now.files.now spec e.judgement items.now events.now) }
 {
     match spec {
         Some(spec) => explain_by(alloc, program, sources, spec, items, events),

@@ -69,8 +69,8 @@ pub(crate) fn put_frame_part(
     sources: &SourceFiles,
     frame: &Option<FrameView<'_, '_>>,
 ) -> Result<(), AllocError>
-    ensures { OnOk result (string_bytes out.new ≡ string_bytes out.old
-        ++ frame_part program.now sources.now.first sources.now.files.now (option_map shown frame.now)) }
+    ensures { OnOk result (string_bytes out.new ≡ string_bytes out.old ++ frame_part program.now
+        sources.now.first sources.now.files.now (option_map shown frame.now)) }
 {
     match frame {
         None => Ok(()),

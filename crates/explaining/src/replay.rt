@@ -63,8 +63,8 @@ fn replay_on(
     ending: &Ending,
 ) -> Result<Replayed, AllocError>
     ensures events { IfOk result (λ r. r.events.items ≡ event_turns 1 machine.old choices.now) }
-    ensures lines { IfOk result (λ r. string_bytes r.lines
-        ≡ stuck_lines sources.now.first sources.now.files.now machine.old choices.now ending.now.uncaught ending.now.status) }
+    ensures lines { IfOk result (λ r. string_bytes r.lines ≡ stuck_lines sources.now.first
+        sources.now.files.now machine.old choices.now ending.now.uncaught ending.now.status) }
 {
     let mut lines = throw_lines(alloc, machine, sources, choices, ending.uncaught.as_slice())?;
     let events = event_turns(alloc, machine, choices)?;
@@ -85,7 +85,8 @@ pub(crate) fn replay(
 ) -> Result<Replayed, MachineFault>
     ensures { IfOk result (λ r. (start : Start) × (made program.now limits entry.now ≡ Ok start)
         × (r.events.items ≡ event_turns 1 (opened program.now limits start) choices.now)
-        × (string_bytes r.lines ≡ stuck_lines sources.now.first sources.now.files.now (opened program.now limits start) choices.now ending.now.uncaught ending.now.status)) }
+        × (string_bytes r.lines ≡ stuck_lines sources.now.first sources.now.files.now
+        (opened program.now limits start) choices.now ending.now.uncaught ending.now.status)) }
 {
     let mut machine = Machine::new(alloc, program, limits, entry)?;
     let replayed = replay_on(alloc, &mut machine, sources, choices, ending);

@@ -49,9 +49,9 @@ fn explain_program(
         HasEnding (program_judged most chooser.old limits program.now entry.now) run.ending) }
     ensures judged { IfOk result (λ run. IsJudgementOn spec
         (program_judged most chooser.old limits program.now entry.now) run.judgement) }
-    ensures explained { IfOk result (λ run.
-        program_explanation sources.now.first sources.now.files.now spec run.judgement most chooser.old limits program.now entry.now
-        ≡ Ok (string_bytes run.explanation)) }
+    ensures explained { IfOk result
+        (λ run. program_explanation sources.now.first sources.now.files.now spec run.judgement
+        most chooser.old limits program.now entry.now ≡ Ok (string_bytes run.explanation)) }
     ensures chooser { OnOk result
         (program_chooser_left most chooser.old limits program.now entry.now ≡ Ok chooser.new) }
     ensures fault { IfErr result (λ fault.

@@ -49,8 +49,8 @@ fn put_call_stop(
     thread: ThreadId,
     call: &Frame<'_>,
 ) -> Result<(), AllocError>
-    ensures { OnOk result (string_bytes out.new ≡ string_bytes out.old
-        ++ stop_text program.now sources.now.first sources.now.files.now thread (Some (Call call.now))) }
+    ensures { OnOk result (string_bytes out.new ≡ string_bytes out.old ++ stop_text program.now
+        sources.now.first sources.now.files.now thread (Some (Call call.now))) }
 {
     if !is_known_better(alloc, program, sources, call)? {
         return Ok(());
@@ -71,8 +71,8 @@ fn put_stop(
     thread: ThreadId,
     frame: &Option<FrameView<'_, '_>>,
 ) -> Result<(), AllocError>
-    ensures { OnOk result (string_bytes out.new ≡ string_bytes out.old
-        ++ stop_text program.now sources.now.first sources.now.files.now thread (option_map shown frame.now)) }
+    ensures { OnOk result (string_bytes out.new ≡ string_bytes out.old ++ stop_text program.now
+        sources.now.first sources.now.files.now thread (option_map shown frame.now)) }
 {
     match frame {
         None => Ok(()),

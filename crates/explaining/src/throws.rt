@@ -105,7 +105,8 @@ fn take_turn(
     last: &mut Throw,
 ) -> Result<(), AllocError>
     ensures machine { OnOk result (machine.new ≡ after_turn machine.old choice) }
-    ensures last { OnOk result (record { exception = last.new.exception; line = string_bytes last.new.line }
+    ensures last { OnOk result
+        (record { exception = last.new.exception; line = string_bytes last.new.line }
         ≡ later_throw (record { exception = last.old.exception; line = string_bytes last.old.line })
         (pending_in (after_turn machine.old choice) thread)
         (line_in sources.now.first sources.now.files.now thread turn machine.old choice)) }
@@ -124,8 +125,8 @@ fn last_throw(
     choices: &[ThreadId],
     thread: ThreadId,
 ) -> Result<String, AllocError>
-    ensures { IfOk result (λ line. string_bytes line
-        ≡ (last_throw sources.now.first sources.now.files.now thread no_throw 1 machine.old choices.now).line) }
+    ensures { IfOk result (λ line. string_bytes line ≡ (last_throw sources.now.first
+        sources.now.files.now thread no_throw 1 machine.old choices.now).line) }
 {
     let mut last = Throw {
         exception: 0,
@@ -153,8 +154,8 @@ pub(crate) fn throw_lines(
     choices: &[ThreadId],
     uncaught: &[Uncaught],
 ) -> Result<String, AllocError>
-    ensures { IfOk result (λ lines. string_bytes lines
-        ≡ throw_lines sources.now.first sources.now.files.now opening.now choices.now uncaught.now) }
+    ensures { IfOk result (λ lines. string_bytes lines ≡ throw_lines sources.now.first
+        sources.now.files.now opening.now choices.now uncaught.now) }
 {
     let mut lines = String::new(alloc);
     for (thread, _) in uncaught {

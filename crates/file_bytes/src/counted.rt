@@ -30,7 +30,8 @@ pub fn parts_of<'a, T: Drop, P: Part<T>>(
     count: usize,
     bytes: &'a [u8],
 ) -> Result<(Items<T>, &'a [u8]), ReadError>
-    ensures { Gives (λ x. (x.0, x.1.now)) result (part_list_onto (P.at part.now) [] count bytes.now) }
+    ensures { Gives (λ x. (x.0, x.1.now)) result
+        (part_list_onto (P.at part.now) [] count bytes.now) }
 {
     let mut parts = Items::new(alloc);
     let mut rest = bytes;

@@ -75,8 +75,8 @@ impl<'f, 'p> SeenFrame<'f, 'p> {
     /// Decides whether there are `takes` operands, and whether `gives` in their place fit `max_stack`.
     #[inline(always)]
     pub fn has_depth(&self, takes: u8, gives: u8) -> bool
-        ensures { result ≡ (nat_le takes (length self.now.activation.operands)
-            && nat_le (length self.now.activation.operands - takes + gives) self.now.body.max_stack) }
+        ensures { result ≡ (nat_le takes (length self.now.activation.operands) && nat_le
+            (length self.now.activation.operands - takes + gives) self.now.body.max_stack) }
     {
         let height = self.height();
         let takes = usize::from(takes);
@@ -133,7 +133,8 @@ impl<'f, 'p> SeenFrame<'f, 'p> {
     #[tactic(auto, using(crate::proofs::Tops::two_on_top))]
     pub fn top_two(&self) -> (Value, Value)
         requires { 2 ≤ length self.now.activation.operands }
-        ensures { self.now.activation.operands ≡ result.1 ∷ result.0 ∷ drop 2 self.now.activation.operands }
+        ensures { self.now.activation.operands
+            ≡ result.1 ∷ result.0 ∷ drop 2 self.now.activation.operands }
     {
         (self.operand(1), self.operand(0))
     }
@@ -143,7 +144,8 @@ impl<'f, 'p> SeenFrame<'f, 'p> {
     #[tactic(auto, using(crate::proofs::Tops::three_on_top))]
     pub fn top_three(&self) -> (Value, Value, Value)
         requires { 3 ≤ length self.now.activation.operands }
-        ensures { self.now.activation.operands ≡ result.2 ∷ result.1 ∷ result.0 ∷ drop 3 self.now.activation.operands }
+        ensures { self.now.activation.operands
+            ≡ result.2 ∷ result.1 ∷ result.0 ∷ drop 3 self.now.activation.operands }
     {
         (self.operand(2), self.operand(1), self.operand(0))
     }
@@ -153,7 +155,8 @@ impl<'f, 'p> SeenFrame<'f, 'p> {
     #[tactic(auto, using(crate::proofs::Tops::four_on_top))]
     pub fn top_four(&self) -> (Value, Value, Value, Value)
         requires { 4 ≤ length self.now.activation.operands }
-        ensures { self.now.activation.operands ≡ result.3 ∷ result.2 ∷ result.1 ∷ result.0 ∷ drop 4 self.now.activation.operands }
+        ensures { self.now.activation.operands
+            ≡ result.3 ∷ result.2 ∷ result.1 ∷ result.0 ∷ drop 4 self.now.activation.operands }
     {
         (
             self.operand(3),

@@ -76,7 +76,8 @@ fn part_references(
 /// Creates an array with the first value for each of its elements.
 fn first_array(alloc: Global, class: &Text, length: u32) -> Result<StoredObject, AllocError>
     requires { length < 2 ^ 31 }
-    ensures { IfOk result (λ o. IsArray o (array class.now (replicate length (first_element class.now)))) }
+    ensures { IfOk result
+        (λ o. IsArray o (array class.now (replicate length (first_element class.now)))) }
 {
     let kind = kind_of_array(class.as_slice());
     let elements = Elements::new(alloc, kind, length)?;
@@ -98,7 +99,8 @@ fn array_of_parts(
     requires over { 0 < first }
     requires few { count < 2 ^ 31 }
     requires references { kind_of (component_type class.now) ≡ kind.Reference }
-    ensures { IfOk result (λ o. IsArray o (array class.now (map value.Reference (part_references first size count)))) }
+    ensures { IfOk result (λ o. IsArray o
+        (array class.now (map value.Reference (part_references first size count)))) }
 {
     let references = part_references(alloc, first, size, count)?;
     let class = class.share()?;
@@ -128,7 +130,8 @@ fn make_arrays(
     requires room { reference + arrays_made (count ∷ rest.now) ≤ 2 ^ 32 }
     requires few { elements_made (count ∷ rest.now) < 2 ^ 31 }
     requires dimensions { HasDimensions class.now (count ∷ rest.now) }
-    ensures { OnOk result (AppendsArrays made.old.items made.new.items (new_arrays reference class.now (count ∷ rest.now))) }
+    ensures { OnOk result (AppendsArrays made.old.items made.new.items
+        (new_arrays reference class.now (count ∷ rest.now))) }
 {
     let Some((next_count, more)) = rest.split_first() else {
         made.push(first_array(alloc, class, count)?)?;
@@ -160,7 +163,8 @@ fn made_arrays(
     requires room { reference + arrays_made lengths.now ≤ 2 ^ 32 }
     requires few { elements_made lengths.now < 2 ^ 31 }
     requires dimensions { HasDimensions class.now lengths.now }
-    ensures { IfOk result (λ v. AppendsArrays [] v.items (new_arrays reference class.now lengths.now)) }
+    ensures { IfOk result
+        (λ v. AppendsArrays [] v.items (new_arrays reference class.now lengths.now)) }
 {
     let mut made = Vec::new(alloc);
     let Some((count, rest)) = lengths.split_first() else {
@@ -176,7 +180,9 @@ impl Heap<'_> {
         requires objects { length self.old.objects + arrays_made lengths.now < 2 ^ 32 }
         requires elements { self.old.elements + elements_made lengths.now < 2 ^ 31 }
         requires dimensions { HasDimensions class.now lengths.now }
-        ensures ok { OnOk result (self.new ≡ with_arrays (new_arrays (next_reference self.old.objects) class.now lengths.now) (elements_made lengths.now) self.old) }
+        ensures ok { OnOk result (self.new
+            ≡ with_arrays (new_arrays (next_reference self.old.objects) class.now lengths.now)
+            (elements_made lengths.now) self.old) }
         ensures err { OnErr result (self.new ≡ self.old) }
     {
         let reference = self.objects.as_slice().len() + 1;

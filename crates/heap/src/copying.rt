@@ -19,7 +19,8 @@ pub(crate) fn push_copies(
 ) -> Result<(), AllocError>
     requires objects { AllByRecursion (IsKept program.now) objects.now }
     requires copies { AllByRecursion (IsKept program.now) copies.old.items }
-    ensures shown { OnOk result (map (shown program.now) copies.new.items ≡ map (shown program.now) copies.old.items ++ map (shown program.now) objects.now) }
+    ensures shown { OnOk result (map (shown program.now) copies.new.items
+        ≡ map (shown program.now) copies.old.items ++ map (shown program.now) objects.now) }
     ensures kept { OnOk result (AllByRecursion (IsKept program.now) copies.new.items) }
 {
     // Only for the proof: the objects are of this program.
@@ -37,7 +38,8 @@ pub(crate) fn copied(
     objects: &[StoredObject],
 ) -> Result<Vec<StoredObject>, AllocError>
     requires { AllByRecursion (IsKept program.now) objects.now }
-    ensures shown { IfOk result (λ copies. map (shown program.now) copies.items ≡ map (shown program.now) objects.now) }
+    ensures shown { IfOk result
+        (λ copies. map (shown program.now) copies.items ≡ map (shown program.now) objects.now) }
     ensures kept { IfOk result (λ copies. AllByRecursion (IsKept program.now) copies.items) }
 {
     let mut copies = Vec::with_capacity(alloc, objects.len())?;

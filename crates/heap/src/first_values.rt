@@ -60,7 +60,8 @@ fn push_values(fields: &[Field], values: &mut Vec<Value>) -> Result<(), AllocErr
 /// Appends the first values of the fields of an instance of the class of a name, in reverse order. On an error some may
 /// have been appended.
 fn put_by_name(program: &Program, name: &[u16], values: &mut Vec<Value>) -> Result<(), AllocError>
-    ensures { OnOk result (values.new.items ≡ values.old.items ++ flat_map values_down (chain program.now name.now)) }
+    ensures { OnOk result
+        (values.new.items ≡ values.old.items ++ flat_map values_down (chain program.now name.now)) }
 {
     let mut most = program.classes().len();
     let mut name = name;
@@ -81,7 +82,8 @@ fn put_by_name(program: &Program, name: &[u16], values: &mut Vec<Value>) -> Resu
 /// Appends the first values of the fields of an instance of the class of a number, in reverse order. It follows the
 /// numbers of superclasses as far as the program has them. On an error some may have been appended.
 fn put_by_number(program: &Program, class: usize, values: &mut Vec<Value>) -> Result<(), AllocError>
-    ensures { OnOk result (values.new.items ≡ values.old.items ++ flat_map values_down (chain program.now (name_at program.now class))) }
+    ensures { OnOk result (values.new.items ≡ values.old.items
+        ++ flat_map values_down (chain program.now (name_at program.now class))) }
 {
     let mut at = class;
     for _ in 0..MOST_UP {
@@ -104,7 +106,8 @@ pub(crate) fn first_values(
     program: &Program,
     class: usize,
 ) -> Result<Vec<Value>, AllocError>
-    ensures { IfOk result (λ v. v.items ≡ map (λ f. f.1) (instance_fields program.now (name_at program.now class))) }
+    ensures { IfOk result
+        (λ v. v.items ≡ map (λ f. f.1) (instance_fields program.now (name_at program.now class))) }
 {
     let mut values = Vec::new(alloc);
     put_by_number(program, class, &mut values)?;

@@ -41,7 +41,11 @@ impl<'p> Model for Heap<'p> {
 
     ghost Value = { Seen };
 
-    ghost view = { λ h. record { program = h.program.now; objects = map (shown h.program.now) h.objects.items; elements = h.elements } };
+    ghost view = { λ h. record {
+      program = h.program.now;
+      objects = map (shown h.program.now) h.objects.items;
+      elements = h.elements;
+    } };
 
     ghost invariant = { λ h. AreStored h.program.now h.objects.items h.texts h.class_objects };
 }
@@ -63,7 +67,9 @@ impl<'p> Heap<'p> {
 
     /// States that each instance has the fields of its class. It does nothing at run time.
     pub fn instances_have_their_fields(&self)
-        ensures { (r : ℕ) (class : List ℕ) (fields : List (FieldKey × Held)) → object_at self.now.objects r ≡ Some (instance class fields) → keys fields ≡ keys (instance_fields self.now.program class) }
+        ensures { (r : ℕ) (class : List ℕ) (fields : List (FieldKey × Held))
+            → object_at self.now.objects r ≡ Some (instance class fields)
+            → keys fields ≡ keys (instance_fields self.now.program class) }
     {
         let _ = &self.objects;
     }
@@ -87,7 +93,8 @@ impl<'p> Heap<'p> {
     #[inline(always)]
     #[tactic(auto, using(crate::proofs::HeldLaws::shown_of, crate::proofs::HeldLaws::kept_of))]
     pub(crate) fn object(&self, reference: u32) -> Option<&StoredObject>
-        ensures shown { option_map (λ o. shown self.now.program o.now) result ≡ object_at self.now.objects reference }
+        ensures shown { option_map (λ o. shown self.now.program o.now) result
+            ≡ object_at self.now.objects reference }
         ensures kept { IfSome result (λ o. IsKept self.now.program o.now) }
     {
         if reference == 0 {
@@ -107,7 +114,8 @@ impl<'p> Heap<'p> {
 
     /// Returns the number of the class of an instance.
     pub fn instance_class(&self, reference: u32) -> Option<usize>
-        ensures { option_map (name_at self.now.program) result ≡ asked instance_class self.now.objects reference }
+        ensures { option_map (name_at self.now.program) result
+            ≡ asked instance_class self.now.objects reference }
     {
         self.object(reference)?.instance_class()
     }
@@ -140,7 +148,8 @@ impl<'p> Heap<'p> {
     /// Returns an element of an array, if an instruction of this kind serves the array.
     #[inline(always)]
     pub fn loaded(&self, reference: u32, kind: ArrayKind, index: usize) -> Option<Value>
-        ensures { IfSome result (λ v. IfThere (Loads kind index v) (object_at self.now.objects reference)) }
+        ensures { IfSome result
+            (λ v. IfThere (Loads kind index v) (object_at self.now.objects reference)) }
     {
         match self.object(reference) {
             None => None,
@@ -158,7 +167,8 @@ impl<'p> Heap<'p> {
         index: usize,
         value: Value,
     ) -> Option<Value>
-        ensures { IfSome result (λ kept. IfThere (Stores kind index value kept) (object_at self.now.objects reference)) }
+        ensures { IfSome result (λ kept. IfThere (Stores kind index value kept)
+            (object_at self.now.objects reference)) }
     {
         match self.object(reference) {
             None => None,
@@ -176,7 +186,8 @@ impl<'p> Heap<'p> {
 
     /// Returns the units of a string.
     pub fn units_of(&self, reference: u32) -> Option<&Text>
-        ensures { option_map (λ units. units.now) result ≡ asked units_of self.now.objects reference }
+        ensures { option_map (λ units. units.now) result
+            ≡ asked units_of self.now.objects reference }
     {
         self.object(reference)?.units()
     }
@@ -213,7 +224,10 @@ impl<'p> Heap<'p> {
 
     /// Stores a value in the field of a slot, if the reference is that of an instance with such a slot.
     pub fn put_field(&mut self, reference: u32, slot: usize, value: Value)
-        ensures { self.new ≡ record self.old { objects = with_object self.old.objects reference (with_slot slot value) (object_at self.old.objects reference) } }
+        ensures { self.new ≡ record self.old {
+          objects = with_object self.old.objects reference
+              (with_slot slot value) (object_at self.old.objects reference);
+        } }
     {
         if reference == 0 {
             return;
@@ -228,7 +242,10 @@ impl<'p> Heap<'p> {
     #[inline(always)]
     pub fn put_element(&mut self, reference: u32, index: usize, value: Value)
         requires { IfSome (object_at self.old.objects reference) (Suits value) }
-        ensures { self.new ≡ record self.old { objects = with_object self.old.objects reference (with_element index value) (object_at self.old.objects reference) } }
+        ensures { self.new ≡ record self.old {
+          objects = with_object self.old.objects reference
+              (with_element index value) (object_at self.old.objects reference);
+        } }
     {
         if reference == 0 {
             return;

@@ -48,8 +48,10 @@ pub(crate) fn value_at(values: &[Value], place: usize) -> Option<Value>
 impl StoredObject {
     /// Copies the object.
     pub(crate) fn copy(&self, alloc: Global) -> Result<StoredObject, AllocError>
-        ensures shown { (program : List Class) → IfOk result (λ o. shown program o ≡ shown program self.now) }
-        ensures kept { (program : List Class) → IsKept program self.now → IfOk result (IsKept program) }
+        ensures shown { (program : List Class)
+            → IfOk result (λ o. shown program o ≡ shown program self.now) }
+        ensures kept { (program : List Class) → IsKept program self.now
+            → IfOk result (IsKept program) }
     {
         match self {
             StoredObject::Instance { class, values } => Ok(StoredObject::Instance {
@@ -108,7 +110,8 @@ impl StoredObject {
 
     /// Returns the class of an array.
     pub(crate) fn array_class(&self) -> Option<&Text>
-        ensures { (program : List Class) → option_map (λ c. c.now) result ≡ array_class (shown program self.now) }
+        ensures { (program : List Class)
+            → option_map (λ c. c.now) result ≡ array_class (shown program self.now) }
     {
         match self {
             StoredObject::Array { class, .. } => Some(class),
@@ -120,7 +123,8 @@ impl StoredObject {
     #[inline(always)]
     pub(crate) fn length(&self) -> Option<usize>
         ensures count { (program : List Class) → result ≡ length_of (shown program self.now) }
-        ensures few { (program : List Class) → IsKept program self.now → IfSome result (λ length. length < 2 ^ 31) }
+        ensures few { (program : List Class) → IsKept program self.now
+            → IfSome result (λ length. length < 2 ^ 31) }
     {
         match self {
             StoredObject::Array { elements, .. } => Some(elements.len()),
@@ -142,7 +146,8 @@ impl StoredObject {
     /// Returns an element of an array, if an instruction of this kind serves the array.
     #[inline(always)]
     pub(crate) fn loaded(&self, kind: ArrayKind, index: usize) -> Option<Value>
-        ensures { (program : List Class) → IsKept program self.now → IfSome result (λ v. Loads kind index v (shown program self.now)) }
+        ensures { (program : List Class) → IsKept program self.now
+            → IfSome result (λ v. Loads kind index v (shown program self.now)) }
     {
         match self {
             StoredObject::Array { elements, .. } => elements.loaded(kind, index),
@@ -154,7 +159,8 @@ impl StoredObject {
     /// array.
     #[inline(always)]
     pub(crate) fn stored(&self, kind: ArrayKind, index: usize, value: Value) -> Option<Value>
-        ensures { (program : List Class) → IsKept program self.now → IfSome result (λ kept. Stores kind index value kept (shown program self.now)) }
+        ensures { (program : List Class) → IsKept program self.now
+            → IfSome result (λ kept. Stores kind index value kept (shown program self.now)) }
     {
         match self {
             StoredObject::Array { elements, .. } => elements.stored(kind, index, value),
@@ -164,7 +170,8 @@ impl StoredObject {
 
     /// Returns the units of a string.
     pub(crate) fn units(&self) -> Option<&Text>
-        ensures { (program : List Class) → option_map (λ units. units.now) result ≡ units_of (shown program self.now) }
+        ensures { (program : List Class)
+            → option_map (λ units. units.now) result ≡ units_of (shown program self.now) }
     {
         match self {
             StoredObject::Text(units) => Some(units),
@@ -174,7 +181,8 @@ impl StoredObject {
 
     /// Returns the name of the class of a class object.
     pub(crate) fn name(&self) -> Option<&Text>
-        ensures { (program : List Class) → option_map (λ name. name.now) result ≡ named_by (shown program self.now) }
+        ensures { (program : List Class)
+            → option_map (λ name. name.now) result ≡ named_by (shown program self.now) }
     {
         match self {
             StoredObject::ClassObject(name) => Some(name),
@@ -184,7 +192,8 @@ impl StoredObject {
 
     /// Returns the value of the field of a slot.
     pub(crate) fn value(&self, slot: usize) -> Option<Value>
-        ensures { (program : List Class) → IsKept program self.now → result ≡ value_in slot (shown program self.now) }
+        ensures { (program : List Class) → IsKept program self.now
+            → result ≡ value_in slot (shown program self.now) }
     {
         match self {
             StoredObject::Instance { values, .. } => value_at(values.as_slice(), slot),
@@ -194,7 +203,8 @@ impl StoredObject {
 
     /// Returns the number of the class of an instance.
     pub(crate) fn instance_class(&self) -> Option<usize>
-        ensures { (program : List Class) → option_map (name_at program) result ≡ instance_class (shown program self.now) }
+        ensures { (program : List Class)
+            → option_map (name_at program) result ≡ instance_class (shown program self.now) }
     {
         match self {
             StoredObject::Instance { class, .. } => Some(*class),
@@ -205,7 +215,8 @@ impl StoredObject {
     /// Stores a value in the field of a slot, if it is an instance with such a slot.
     #[tactic(auto, using(crate::proofs::SlotLaws::slot_put, crate::proofs::SlotLaws::no_slot_put))]
     pub(crate) fn put_value(&mut self, slot: usize, value: Value)
-        ensures { (program : List Class) → IsKept program self.old → Becomes (with_slot slot value) program self.old self.new }
+        ensures { (program : List Class) → IsKept program self.old
+            → Becomes (with_slot slot value) program self.old self.new }
     {
         if let StoredObject::Instance { values, .. } = self {
             if slot < values.len() {
@@ -218,7 +229,8 @@ impl StoredObject {
     #[inline(always)]
     pub(crate) fn put_element(&mut self, index: usize, value: Value)
         requires { AcceptsStored value self.old }
-        ensures { (program : List Class) → IsKept program self.old → Becomes (with_element index value) program self.old self.new }
+        ensures { (program : List Class) → IsKept program self.old
+            → Becomes (with_element index value) program self.old self.new }
     {
         if let StoredObject::Array { elements, .. } = self {
             elements.put(index, value);

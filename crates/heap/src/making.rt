@@ -29,7 +29,8 @@ impl Heap<'_> {
     fn push_plain(&mut self, plain: StoredObject) -> Result<(), AllocError>
         requires kept { IsKept self.old.program plain }
         requires plain { IsPlain plain }
-        ensures ok { OnOk result (self.new ≡ with_new (shown self.old.program plain ∷ []) self.old) }
+        ensures ok { OnOk result
+            (self.new ≡ with_new (shown self.old.program plain ∷ []) self.old) }
         ensures err { OnErr result (self.new ≡ self.old) }
     {
         self.objects.push(plain)?;
@@ -38,7 +39,8 @@ impl Heap<'_> {
 
     /// Creates an instance of the class of a number. Without memory nothing changes.
     pub fn new_instance(&mut self, class: usize) -> Result<(), AllocError>
-        ensures ok { OnOk result (self.new ≡ with_new (first_instance self.old.program (name_at self.old.program class) ∷ []) self.old) }
+        ensures ok { OnOk result (self.new ≡ with_new
+            (first_instance self.old.program (name_at self.old.program class) ∷ []) self.old) }
         ensures err { OnErr result (self.new ≡ self.old) }
     {
         let program = self.program();
@@ -49,7 +51,8 @@ impl Heap<'_> {
     /// Creates an array of a class. Without memory nothing changes.
     pub fn new_array(&mut self, class: &Text, length: u32) -> Result<(), AllocError>
         requires { self.old.elements + length < 2 ^ 31 }
-        ensures ok { OnOk result (self.new ≡ with_arrays (array class.now (replicate length (first_element class.now)) ∷ []) length self.old) }
+        ensures ok { OnOk result (self.new ≡ with_arrays
+            (array class.now (replicate length (first_element class.now)) ∷ []) length self.old) }
         ensures err { OnErr result (self.new ≡ self.old) }
     {
         let kind = kind_of_array(class.as_slice());

@@ -35,7 +35,10 @@ impl Heap<'_> {
     /// Stores a value in the field of a key, if the instance has one.
     #[tactic(auto, using(crate::proofs::NamedLaws::named_put, crate::proofs::NamedLaws::none_named_put))]
     pub fn put_field_named(&mut self, reference: u32, field: &FieldName, value: Value)
-        ensures { self.new ≡ record self.old { objects = with_object self.old.objects reference (with_field field.now value) (object_at self.old.objects reference) } }
+        ensures { self.new ≡ record self.old {
+          objects = with_object self.old.objects reference
+              (with_field field.now value) (object_at self.old.objects reference);
+        } }
     {
         self.instances_have_their_fields();
         if let Some(slot) = self.slot_named(reference, field) {

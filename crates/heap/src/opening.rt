@@ -30,7 +30,8 @@ fn strings(alloc: Global) -> Result<Text, AllocError>
 impl<'p> Heap<'p> {
     /// Creates a heap without objects.
     pub fn empty(alloc: Global, program: &'p Program) -> Result<Heap<'p>, AllocError>
-        ensures { IfOk result (λ h. h ≡ record { program = program.now; objects = []; elements = 0 }) }
+        ensures { IfOk result
+            (λ h. h ≡ record { program = program.now; objects = []; elements = 0 }) }
     {
         Ok(Heap {
             alloc,
@@ -46,7 +47,11 @@ impl<'p> Heap<'p> {
     /// Appends the two errors of the limits, System.out, and main's argument to an empty heap.
     fn put_first_objects(&mut self) -> Result<(), AllocError>
         requires { self.old ≡ record { program = self.old.program; objects = []; elements = 0 } }
-        ensures { OnOk result (self.new ≡ record { program = self.old.program; objects = opening_heap self.old.program; elements = 0 }) }
+        ensures { OnOk result (self.new ≡ record {
+          program = self.old.program;
+          objects = opening_heap self.old.program;
+          elements = 0;
+        }) }
     {
         self.program().program_invariant();
         self.new_instance(OUT_OF_MEMORY)?;
@@ -59,7 +64,8 @@ impl<'p> Heap<'p> {
 
     /// Creates the heap at the opening: the two errors of the limits, System.out, and main's argument.
     pub fn opening(alloc: Global, program: &'p Program) -> Result<Heap<'p>, AllocError>
-        ensures { IfOk result (λ h. h ≡ record { program = program.now; objects = opening_heap program.now; elements = 0 }) }
+        ensures { IfOk result (λ h. h
+            ≡ record { program = program.now; objects = opening_heap program.now; elements = 0 }) }
     {
         let mut heap = Heap::empty(alloc, program)?;
         heap.put_first_objects()?;

@@ -30,7 +30,8 @@ impl Model for PrimitiveArrays {
 
     ghost view = { λ a. 0 };
 
-    ghost invariant = { λ a. ArePrimitiveArrays a.booleans a.chars a.floats a.doubles a.bytes a.shorts a.ints a.longs };
+    ghost invariant = { λ a.
+        ArePrimitiveArrays a.booleans a.chars a.floats a.doubles a.bytes a.shorts a.ints a.longs };
 }
 
 /// Returns the class of an array of one dimension, by the letter of its type.

@@ -41,9 +41,14 @@ impl<'p> Model for SavedHeap<'p> {
 
     ghost Value = { Seen };
 
-    ghost view = { λ h. record { program = h.program.now; objects = map (shown h.program.now) (flat_map (λ g. g) h.groups.items); elements = h.elements } };
+    ghost view = { λ h. record {
+      program = h.program.now;
+      objects = map (shown h.program.now) (flat_map (λ g. g) h.groups.items);
+      elements = h.elements;
+    } };
 
-    ghost invariant = { λ h. AreStored h.program.now (flat_map (λ g. g) h.groups.items) h.texts h.class_objects };
+    ghost invariant = { λ h. AreStored h.program.now
+        (flat_map (λ g. g) h.groups.items) h.texts h.class_objects };
 }
 
 /// Returns true only if two lists have the same objects, in the same order.
@@ -67,7 +72,8 @@ fn saved_group(
     before: Option<&Group>,
 ) -> Result<Group, AllocError>
     requires { AllByRecursion (IsKept program.now) objects.now }
-    ensures shown { IfOk result (λ group. map (shown program.now) group ≡ map (shown program.now) objects.now) }
+    ensures shown { IfOk result
+        (λ group. map (shown program.now) group ≡ map (shown program.now) objects.now) }
     ensures kept { IfOk result (λ group. AllByRecursion (IsKept program.now) group) }
 {
     if let Some(group) = before {
@@ -88,8 +94,10 @@ fn saved_groups(
     before: &[Group],
 ) -> Result<Vec<Group>, AllocError>
     requires { AllByRecursion (IsKept program.now) objects.now }
-    ensures shown { IfOk result (λ groups. map (shown program.now) (flat_map (λ g. g) groups.items) ≡ map (shown program.now) objects.now) }
-    ensures kept { IfOk result (λ groups. AllByRecursion (IsKept program.now) (flat_map (λ g. g) groups.items)) }
+    ensures shown { IfOk result (λ groups. map (shown program.now) (flat_map (λ g. g) groups.items)
+        ≡ map (shown program.now) objects.now) }
+    ensures kept { IfOk result
+        (λ groups. AllByRecursion (IsKept program.now) (flat_map (λ g. g) groups.items)) }
 {
     let mut groups = Vec::with_capacity(alloc, objects.len().div_ceil(GROUP_SIZE))?;
     let mut rest = objects;
@@ -108,7 +116,8 @@ fn restored(
     groups: &[Group],
 ) -> Result<Vec<StoredObject>, AllocError>
     requires { AllByRecursion (IsKept program.now) (flat_map (λ g. g) groups.now) }
-    ensures shown { IfOk result (λ objects. map (shown program.now) objects.items ≡ map (shown program.now) (flat_map (λ g. g) groups.now)) }
+    ensures shown { IfOk result (λ objects. map (shown program.now) objects.items
+        ≡ map (shown program.now) (flat_map (λ g. g) groups.now)) }
     ensures kept { IfOk result (λ objects. AllByRecursion (IsKept program.now) objects.items) }
 {
     let mut objects = Vec::with_capacity(alloc, groups.len().saturating_mul(GROUP_SIZE))?;

@@ -14,7 +14,8 @@ use std::alloc::AllocError;
 
 /// Returns the units of the last object, if it is a string.
 fn last_units(objects: &[StoredObject]) -> Option<&Text>
-    ensures { (program : List Class) → option_map (λ units. units.now) result ≡ option_and_then (λ o. units_of (shown program o)) (slice_get objects.now (length objects.now - 1)) }
+    ensures { (program : List Class) → option_map (λ units. units.now) result ≡ option_and_then
+        (λ o. units_of (shown program o)) (slice_get objects.now (length objects.now - 1)) }
 {
     objects.last()?.units()
 }
@@ -22,7 +23,8 @@ fn last_units(objects: &[StoredObject]) -> Option<&Text>
 impl Heap<'_> {
     /// Removes the last object, if it is a string.
     fn remove_last_text(&mut self)
-        ensures { (before : Seen) (units : List ℕ) → self.old ≡ with_new (text units ∷ []) before → self.new ≡ before }
+        ensures { (before : Seen) (units : List ℕ) → self.old ≡ with_new (text units ∷ []) before
+            → self.new ≡ before }
     {
         let Some(units) = last_units(self.objects.as_slice()) else {
             return;
@@ -35,7 +37,8 @@ impl Heap<'_> {
     /// Removes the last `count` objects, if they are strings.
     #[tactic(auto, using(crate::proofs::TextLaws::all_left, crate::proofs::TextLaws::none_left))]
     fn remove_last_texts(&mut self, count: usize)
-        ensures { (before : Seen) (texts : List (List ℕ)) → length texts ≡ count → self.old ≡ with_new (map text texts) before → self.new ≡ before }
+        ensures { (before : Seen) (texts : List (List ℕ)) → length texts ≡ count
+            → self.old ≡ with_new (map text texts) before → self.new ≡ before }
     {
         let mut left = count;
         while left > 0 {

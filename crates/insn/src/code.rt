@@ -107,7 +107,8 @@ pub fn decode(
     major: u16,
     bytes: &[u8],
 ) -> Result<Decoded, ReadError>
-    ensures exact { length bytes.now ≤ 65535 → Gives (λ d. (d.starts, d.insns)) result (insns_of pool.now major bytes.now) }
+    ensures exact { length bytes.now ≤ 65535
+        → Gives (λ d. (d.starts, d.insns)) result (insns_of pool.now major bytes.now) }
     ensures long { 65535 < length bytes.now → result ≡ Err (Fault CodeLength) }
 {
     if bytes.len() > MOST_CODE {

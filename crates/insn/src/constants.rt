@@ -58,7 +58,8 @@ pub(crate) fn constant<'a>(
     major: u16,
     bytes: &'a [u8],
 ) -> Result<(Insn, &'a [u8]), ReadError>
-    ensures { Gives (λ x. (x.0, x.1.now)) result (narrow_constant_insn cut pool.now major bytes.now) }
+    ensures { Gives (λ x. (x.0, x.1.now)) result
+        (narrow_constant_insn cut pool.now major bytes.now) }
 {
     let (n, rest) = u1_at(cut, bytes)?;
     let number = u16::from(n);

@@ -161,7 +161,8 @@ fn after_invoke<'a>(
     number: u16,
     bytes: &'a [u8],
 ) -> Result<&'a [u8], ReadError>
-    ensures { Gives (λ x. x.now) result (after_invoke cut how (invoked pool.now how number) bytes.now) }
+    ensures { Gives (λ x. x.now) result
+        (after_invoke cut how (invoked pool.now how number) bytes.now) }
 {
     match how {
         Invoke::Interface => interface_operands(cut, interface_units(pool, number), bytes),

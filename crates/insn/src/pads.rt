@@ -45,7 +45,8 @@ fn is_switch(insn: &Insn) -> bool
 
 /// Sets the pads of the instruction that starts at byte `pc` to 0, if it has any.
 fn zero_pads_of(bytes: &mut [u8], pc: u32, insn: &Insn)
-    ensures { bytes.new ≡ (if is_switch insn.now then zeroed (pad_length pc) (suc pc) bytes.old else bytes.old) }
+    ensures { bytes.new
+        ≡ (if is_switch insn.now then zeroed (pad_length pc) (suc pc) bytes.old else bytes.old) }
 {
     if is_switch(insn) {
         let start = pc as usize;

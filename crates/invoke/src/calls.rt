@@ -53,7 +53,10 @@ fn enter_decision<'p>(
     given: Given,
     code: &'p Body,
 ) -> Called<'p>
-    ensures { (native : TurnDecision) → (make : Code → Locked → TurnDecision) → made_of native make result ≡ enter_decision parts.now.program parts.now.limits parts.now.state t thread.now n method.now given.receiver given.arguments code.now (make code.now) }
+    ensures { (native : TurnDecision) → (make : Code → Locked → TurnDecision)
+        → made_of native make result
+        ≡ enter_decision parts.now.program parts.now.limits parts.now.state t thread.now
+        n method.now given.receiver given.arguments code.now (make code.now) }
 {
     if parts.limits.frames as usize <= thread.height() {
         return Called::Stops(parts.throws(thread, Thrown::StackOverflowError));
@@ -76,7 +79,9 @@ fn called_decision<'p>(
     method: &'p Method,
     given: Given,
 ) -> Called<'p>
-    ensures { (native : TurnDecision) → (make : Code → Locked → TurnDecision) → made_of native make result ≡ called_decision parts.now.program parts.now.limits parts.now.state t thread.now n method.now given.receiver given.arguments native make }
+    ensures { (native : TurnDecision) → (make : Code → Locked → TurnDecision)
+        → made_of native make result ≡ called_decision parts.now.program parts.now.limits
+        parts.now.state t thread.now n method.now given.receiver given.arguments native make }
 {
     if method.flags.is_abstract {
         return Called::Stops(parts.throws(thread, Thrown::AbstractMethodError));
@@ -99,7 +104,8 @@ fn first_call<'p>(
     method: &'p Method,
     given: Given,
 ) -> Decided<'p>
-    ensures { seen result ≡ first_call parts.now.program parts.now.limits parts.now.state t thread.now given.receiver given.arguments n method.now }
+    ensures { seen result ≡ first_call parts.now.program parts.now.limits
+        parts.now.state t thread.now given.receiver given.arguments n method.now }
 {
     match called_decision(parts, t, thread, n, method, given) {
         Called::Stops(decision) => decision,
@@ -119,7 +125,8 @@ fn entry_decision<'p>(
     thread: &Thread,
     method: &'p Method,
 ) -> Decided<'p>
-    ensures { seen result ≡ entry_decision parts.now.program parts.now.limits parts.now.start parts.now.state t thread.now (Some method.now) }
+    ensures { seen result ≡ entry_decision parts.now.program parts.now.limits
+        parts.now.start parts.now.state t thread.now (Some method.now) }
 {
     if is_outside_method(method.method_type.get()) {
         return bad(BadCause::OutOfProfile);
@@ -136,7 +143,8 @@ fn entry_decision<'p>(
 
 /// Decides the first call of a thread.
 pub fn first_call_decision<'p>(parts: &Parts<'p>, t: ThreadId, thread: &Thread) -> Decided<'p>
-    ensures { seen result ≡ first_call_decision parts.now.program parts.now.limits parts.now.start parts.now.state t thread.now }
+    ensures { seen result ≡ first_call_decision parts.now.program
+        parts.now.limits parts.now.start parts.now.state t thread.now }
 {
     if t != 0 {
         return run_decision(parts, t, thread);

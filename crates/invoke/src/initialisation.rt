@@ -48,7 +48,8 @@ fn initializer_call<'p>(
     class: usize,
     number: usize,
 ) -> Decided<'p>
-    ensures { seen result ≡ initializer_decision parts.now.limits parts.now.state thread.now c.now class (Some number) }
+    ensures { seen result ≡ initializer_decision parts.now.limits
+        parts.now.state thread.now c.now class (Some number) }
 {
     let Some(method) = c.methods.as_slice().get(number) else {
         return never_seen();
@@ -76,7 +77,8 @@ fn initializer_decision<'p>(
     c: &'p Class,
     class: usize,
 ) -> Decided<'p>
-    ensures { seen result ≡ initializer_decision parts.now.limits parts.now.state thread.now c.now class (initializer_of c.now) }
+    ensures { seen result ≡ initializer_decision parts.now.limits
+        parts.now.state thread.now c.now class (initializer_of c.now) }
 {
     match initializer_of(c) {
         None => Decision::Makes(Action::Finishes { class }),
@@ -91,7 +93,8 @@ fn superclass_decision<'p>(
     thread: &Thread,
     superclass: Option<usize>,
 ) -> Option<Decided<'p>>
-    ensures { (go_on : TurnDecision) → first_or go_on result ≡ superclass_decision parts.now.program parts.now.limits parts.now.state t thread.now superclass go_on }
+    ensures { (go_on : TurnDecision) → first_or go_on result ≡ superclass_decision parts.now.program
+        parts.now.limits parts.now.state t thread.now superclass go_on }
 {
     match superclass {
         None => None,
@@ -107,7 +110,8 @@ pub fn initialisation_decision<'p>(
     class: usize,
     called: bool,
 ) -> Decided<'p>
-    ensures { seen result ≡ initialisation_decision parts.now.program parts.now.limits parts.now.state t thread.now class called (slice_get parts.now.program class) }
+    ensures { seen result ≡ initialisation_decision parts.now.program parts.now.limits
+        parts.now.state t thread.now class called (slice_get parts.now.program class) }
 {
     let Some(c) = parts.program().class(class) else {
         return never_seen();

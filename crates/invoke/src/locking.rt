@@ -25,7 +25,9 @@ fn enter_object<'p>(
     reference: u32,
 ) -> Decided<'p>
     requires { frame.now.activation.place + 1 < 2 ^ 64 }
-    ensures { seen result ≡ with_object_of parts.now.limits parts.now.state thread.now (value.Reference reference) (enter_object parts.now.limits parts.now.state t thread.now frame.now) }
+    ensures { seen result
+        ≡ with_object_of parts.now.limits parts.now.state thread.now (value.Reference reference)
+        (enter_object parts.now.limits parts.now.state t thread.now frame.now) }
 {
     if parts.heap.class_of(reference).is_none() {
         return never_seen();
@@ -45,7 +47,9 @@ fn exit_object<'p>(
     reference: u32,
 ) -> Decided<'p>
     requires { frame.now.activation.place + 1 < 2 ^ 64 }
-    ensures { seen result ≡ with_object_of parts.now.limits parts.now.state thread.now (value.Reference reference) (exit_object parts.now.limits parts.now.state t thread.now frame.now) }
+    ensures { seen result
+        ≡ with_object_of parts.now.limits parts.now.state thread.now (value.Reference reference)
+        (exit_object parts.now.limits parts.now.state t thread.now frame.now) }
 {
     if parts.heap.class_of(reference).is_none() {
         return never_seen();
@@ -65,7 +69,8 @@ pub fn monitor_enter_decision<'p>(
     frame: &Frame,
 ) -> Decided<'p>
     requires { frame.now.activation.place + 1 < 2 ^ 64 }
-    ensures { seen result ≡ monitor_enter_decision parts.now.limits parts.now.state t thread.now frame.now }
+    ensures { seen result
+        ≡ monitor_enter_decision parts.now.limits parts.now.state t thread.now frame.now }
 {
     if !has_depth(frame, 1, 0) {
         return bad(BadCause::Depth);
@@ -87,7 +92,8 @@ pub fn monitor_exit_decision<'p>(
     frame: &Frame,
 ) -> Decided<'p>
     requires { frame.now.activation.place + 1 < 2 ^ 64 }
-    ensures { seen result ≡ monitor_exit_decision parts.now.limits parts.now.state t thread.now frame.now }
+    ensures { seen result
+        ≡ monitor_exit_decision parts.now.limits parts.now.state t thread.now frame.now }
 {
     if !has_depth(frame, 1, 0) {
         return bad(BadCause::Depth);

@@ -60,7 +60,8 @@ fn object_printed<'p>(
     reference: u32,
 ) -> Decided<'p>
     requires { frame.now.activation.place + 1 < 2 ^ 64 }
-    ensures { seen result ≡ object_printed frame.now.activation takes ends_line reference (object_at parts.now.state.heap reference) }
+    ensures { seen result ≡ object_printed frame.now.activation takes ends_line reference
+        (object_at parts.now.state.heap reference) }
 {
     match parts.heap.units_of(reference) {
         Some(_) => prints(frame, takes, Printed::Text { reference }, ends_line),
@@ -90,7 +91,8 @@ fn whole_top(frame: &Frame) -> Option<Value>
 /// Decides the print of the topmost value.
 fn value_printed<'p>(parts: &Parts<'p>, frame: &Frame, takes: u16, ends_line: bool) -> Decided<'p>
     requires { frame.now.activation.place + 1 < 2 ^ 64 }
-    ensures { seen result ≡ value_printed parts.now.state frame.now.activation takes ends_line (whole_top frame.now.activation.operands) }
+    ensures { seen result ≡ value_printed parts.now.state frame.now.activation takes ends_line
+        (whole_top frame.now.activation.operands) }
 {
     match whole_top(frame) {
         Some(Value::Int(n)) => prints(frame, takes, Printed::Int(n), ends_line),
@@ -129,7 +131,8 @@ pub(crate) fn native_decision<'p>(
 ) -> Decided<'p>
     requires place { frame.now.activation.place + 1 < 2 ^ 64 }
     requires numbered { AreNumbered parts.now.state }
-    ensures { seen result ≡ native_of_class parts.now.limits parts.now.state t thread.now frame.now.activation takes method.now (slice_get parts.now.program class) }
+    ensures { seen result ≡ native_of_class parts.now.limits parts.now.state t thread.now
+        frame.now.activation takes method.now (slice_get parts.now.program class) }
 {
     let Some(c) = parts.program().class(class) else {
         return never_seen();

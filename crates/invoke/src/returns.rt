@@ -71,7 +71,8 @@ fn returned_decision<'p>(
     frame: &Frame,
     value: Option<Value>,
 ) -> Decided<'p>
-    ensures { seen result ≡ returned_decision parts.now.limits parts.now.state t frame.now (drop 1 thread.now.frames) value }
+    ensures { seen result ≡ returned_decision parts.now.limits parts.now.state t frame.now
+        (drop 1 thread.now.frames) value }
 {
     match parts.unlocking(t, frame) {
         Unlocking::Leaves(unlock) => returns_to(thread, frame, value, unlock),
@@ -88,7 +89,8 @@ fn return_top_decision<'p>(
     given: &ResultType,
     kind: Kind,
 ) -> Decided<'p>
-    ensures { seen result ≡ return_top_decision parts.now.limits parts.now.state t frame.now (drop 1 thread.now.frames) given.now kind }
+    ensures { seen result ≡ return_top_decision parts.now.limits parts.now.state t frame.now
+        (drop 1 thread.now.frames) given.now kind }
 {
     if frame.height() < u16::from(kind_size(kind)) {
         return bad(BadCause::Depth);
@@ -110,7 +112,8 @@ fn return_decision<'p>(
     given: &ResultType,
     how: ReturnInsn,
 ) -> Decided<'p>
-    ensures { seen result ≡ return_decision parts.now.limits parts.now.state t frame.now (drop 1 thread.now.frames) given.now how }
+    ensures { seen result ≡ return_decision parts.now.limits parts.now.state t frame.now
+        (drop 1 thread.now.frames) given.now how }
 {
     match how {
         ReturnInsn::Void => {
@@ -135,7 +138,8 @@ pub fn method_return_decision<'p>(
     frame: &Frame,
     how: ReturnInsn,
 ) -> Decided<'p>
-    ensures { seen result ≡ method_return_decision parts.now.limits parts.now.state t frame.now (drop 1 thread.now.frames) how (method_at parts.now.program frame.now.method) }
+    ensures { seen result ≡ method_return_decision parts.now.limits parts.now.state t frame.now
+        (drop 1 thread.now.frames) how (method_at parts.now.program frame.now.method) }
 {
     let Some(method) = parts.program().method(frame.method()) else {
         return never_seen();

@@ -28,7 +28,8 @@ fn start_decision<'p>(
     reference: u32,
 ) -> Decided<'p>
     requires { frame.now.activation.place + 1 < 2 ^ 64 }
-    ensures { seen result ≡ start_decision parts.now.limits parts.now.state thread.now frame.now.activation reference (thread_of parts.now.state.threads reference) }
+    ensures { seen result ≡ start_decision parts.now.limits parts.now.state thread.now
+        frame.now.activation reference (thread_of parts.now.state.threads reference) }
 {
     if parts.thread_of(reference).is_some() {
         return parts.throws(thread, Thrown::IllegalThreadStateException);
@@ -75,7 +76,8 @@ pub(crate) fn thread_native_decision<'p>(
 ) -> Decided<'p>
     requires place { frame.now.activation.place + 1 < 2 ^ 64 }
     requires numbered { AreNumbered parts.now.state }
-    ensures { seen result ≡ thread_native_decision parts.now.limits parts.now.state thread.now frame.now.activation method.now frame.now.activation.operands }
+    ensures { seen result ≡ thread_native_decision parts.now.limits parts.now.state
+        thread.now frame.now.activation method.now frame.now.activation.operands }
 {
     if frame.height() == 0 {
         return never_seen();

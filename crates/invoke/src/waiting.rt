@@ -32,7 +32,8 @@ const NOTIFY_ALL: [u16; 9] = [110, 111, 116, 105, 102, 121, 65, 108, 108];
 /// Decides the wait of the monitor's owner, with its entry count, or a notification.
 fn waits_or_notifies<'p>(frame: &Frame, method: &Method, wait: Wait) -> Decided<'p>
     requires { frame.now.activation.place + 1 < 2 ^ 64 }
-    ensures { seen result ≡ waits_or_notifies frame.now.activation method.now wait.reference wait.count }
+    ensures { seen result
+        ≡ waits_or_notifies frame.now.activation method.now wait.reference wait.count }
 {
     if same_text(method.name.as_slice(), &WAIT) {
         return Decision::Makes(Action::Waits(wait));
@@ -56,7 +57,8 @@ fn owned_decision<'p>(
     hold: Option<Hold>,
 ) -> Decided<'p>
     requires { frame.now.activation.place + 1 < 2 ^ 64 }
-    ensures { seen result ≡ owned parts.now.limits parts.now.state t thread.now hold (waits_or_notifies frame.now.activation method.now reference) }
+    ensures { seen result ≡ owned parts.now.limits parts.now.state t thread.now hold
+        (waits_or_notifies frame.now.activation method.now reference) }
 {
     let Some(hold) = hold else {
         return parts.throws(thread, Thrown::IllegalMonitorStateException);
@@ -80,7 +82,8 @@ pub(crate) fn object_native_decision<'p>(
     method: &Method,
 ) -> Decided<'p>
     requires { frame.now.activation.place + 1 < 2 ^ 64 }
-    ensures { seen result ≡ object_native_decision parts.now.limits parts.now.state t thread.now frame.now.activation method.now frame.now.activation.operands }
+    ensures { seen result ≡ object_native_decision parts.now.limits parts.now.state
+        t thread.now frame.now.activation method.now frame.now.activation.operands }
 {
     if frame.height() == 0 {
         return never_seen();
@@ -132,7 +135,8 @@ pub fn wait(
 ) -> Result<(), AllocError>
     requires { IsReady parts.old.start parts.old.state t (action.Waits wait) }
     ensures state { OnOk result (parts.new ≡ after parts.old t (action.Waits wait)) }
-    ensures items { OnOk result (trace.new ≡ recorded trace.old (items_of parts.old.program t (action.Waits wait))) }
+    ensures items { OnOk result
+        (trace.new ≡ recorded trace.old (items_of parts.old.program t (action.Waits wait))) }
     ensures kept { OnErr result (parts.new ≡ parts.old) }
     ensures no_items { OnErr result (trace.new ≡ trace.old) }
 {
@@ -153,7 +157,8 @@ pub fn retake(
     requires ready { IsReady parts.old.start parts.old.state t (action.Retakes wait) }
     requires stands { HasCaller parts.old.state t (action.Retakes wait) }
     ensures state { OnOk result (parts.new ≡ after parts.old t (action.Retakes wait)) }
-    ensures items { OnOk result (trace.new ≡ recorded trace.old (items_of parts.old.program t (action.Retakes wait))) }
+    ensures items { OnOk result
+        (trace.new ≡ recorded trace.old (items_of parts.old.program t (action.Retakes wait))) }
     ensures kept { OnErr result (parts.new ≡ parts.old) }
     ensures no_items { OnErr result (trace.new ≡ trace.old) }
 {

@@ -50,8 +50,8 @@ fn is_usable_word(how: ClassUse, word: &[u16]) -> bool
 /// Judges the class of an instruction, its only operand.
 fn class_parts(how: ClassUse, tokens: &[Token]) -> Judged<&[u16]>
     ensures { let ts = lexemes tokens.now in
-        said (λ w. w.now) result
-        ≡ unless (unless (class_at (slice_get ts 0)) (asked (is_usable_word how (word_or_none (slice_get ts 0))) Flaw.Operand)) (exactly 1 ts) }
+        said (λ w. w.now) result ≡ unless (unless (class_at (slice_get ts 0))
+        (asked (is_usable_word how (word_or_none (slice_get ts 0))) Flaw.Operand)) (exactly 1 ts) }
 {
     let is_usable = is_usable_word(how, word_or_none(operand(tokens, 0)));
     let class = word_unless(
@@ -110,8 +110,8 @@ fn dimensions(tokens: &[Token]) -> Judged<u8>
 #[tactic(auto, using(jasmin_operands::proofs::Judgements::said_both))]
 fn multi_at(tokens: &[Token]) -> Judged<(&[u16], u8)>
     ensures { let ts = lexemes tokens.now in
-        said (λ p. (p.0.now, p.1)) result
-        ≡ both (class_at (slice_get ts 0)) (dimensions_at (word_or_none (slice_get ts 0)) (u8_at (slice_get ts 1))) }
+        said (λ p. (p.0.now, p.1)) result ≡ both (class_at (slice_get ts 0))
+        (dimensions_at (word_or_none (slice_get ts 0)) (u8_at (slice_get ts 1))) }
 {
     both(class_at(operand(tokens, 0)), dimensions(tokens))
 }
@@ -120,8 +120,8 @@ fn multi_at(tokens: &[Token]) -> Judged<(&[u16], u8)>
 #[tactic(auto, using(jasmin_operands::proofs::Judgements::said_unless))]
 fn multi_parts(tokens: &[Token]) -> Judged<(&[u16], u8)>
     ensures { let ts = lexemes tokens.now in
-        said (λ p. (p.0.now, p.1)) result
-        ≡ unless (both (class_at (slice_get ts 0)) (dimensions_at (word_or_none (slice_get ts 0)) (u8_at (slice_get ts 1)))) (exactly 2 ts) }
+        said (λ p. (p.0.now, p.1)) result ≡ unless (both (class_at (slice_get ts 0))
+        (dimensions_at (word_or_none (slice_get ts 0)) (u8_at (slice_get ts 1)))) (exactly 2 ts) }
 {
     unless(multi_at(tokens), exactly(2, tokens))
 }

@@ -28,14 +28,16 @@ pub(crate) enum BorrowedConstant<'a> {
 
 /// Judges the number that is loaded.
 fn loaded_number(lexeme: Option<&Lexeme>) -> Judged<BorrowedConstant<'_>>
-    ensures { said loaded_of result ≡ said (λ n. LoadedConstant.Integer n) (i32_at (option_map (λ l. l.now) lexeme.entry)) }
+    ensures { said loaded_of result
+        ≡ said (λ n. LoadedConstant.Integer n) (i32_at (option_map (λ l. l.now) lexeme.entry)) }
 {
     Ok(BorrowedConstant::Integer(i32_at(lexeme)?))
 }
 
 /// Judges the class that is loaded.
 fn loaded_class(lexeme: Option<&Lexeme>) -> Judged<BorrowedConstant<'_>>
-    ensures { said loaded_of result ≡ said (λ name. LoadedConstant.Class name) (class_at (option_map (λ l. l.now) lexeme.entry)) }
+    ensures { said loaded_of result ≡ said (λ name. LoadedConstant.Class name)
+        (class_at (option_map (λ l. l.now) lexeme.entry)) }
 {
     Ok(BorrowedConstant::Class(class_at(lexeme)?))
 }

@@ -26,7 +26,8 @@ use std::alloc::Global;
 
 /// Judges a place that requires `class/name` of a field.
 fn member_at(lexeme: Option<&Lexeme>) -> Judged<&[u16]>
-    ensures { said (λ w. w.now) result ≡ tested (is_member is_name) Flaw.Name (word_at (option_map (λ l. l.now) lexeme.entry)) }
+    ensures { said (λ w. w.now) result
+        ≡ tested (is_member is_name) Flaw.Name (word_at (option_map (λ l. l.now) lexeme.entry)) }
 {
     let word = word_at(lexeme)?;
     asked(is_member_field(word), Flaw::Name)?;
@@ -37,7 +38,8 @@ fn member_at(lexeme: Option<&Lexeme>) -> Judged<&[u16]>
 fn field_at(tokens: &[Token]) -> Judged<(&[u16], &[u16])>
     ensures { let ts = lexemes tokens.now in
         said two_texts result
-        ≡ both (tested (is_member is_name) Flaw.Name (word_at (slice_get ts 0))) (field_descriptor_at (slice_get ts 1)) }
+        ≡ both (tested (is_member is_name) Flaw.Name (word_at (slice_get ts 0)))
+        (field_descriptor_at (slice_get ts 1)) }
 {
     two_words(
         member_at(operand(tokens, 0)),
@@ -49,7 +51,8 @@ fn field_at(tokens: &[Token]) -> Judged<(&[u16], &[u16])>
 fn field_parts(tokens: &[Token]) -> Judged<(&[u16], &[u16])>
     ensures { let ts = lexemes tokens.now in
         said two_texts result
-        ≡ unless (both (tested (is_member is_name) Flaw.Name (word_at (slice_get ts 0))) (field_descriptor_at (slice_get ts 1))) (exactly 2 ts) }
+        ≡ unless (both (tested (is_member is_name) Flaw.Name (word_at (slice_get ts 0)))
+        (field_descriptor_at (slice_get ts 1))) (exactly 2 ts) }
 {
     two_words_unless(field_at(tokens), exactly(2, tokens))
 }

@@ -31,7 +31,8 @@ use std::alloc::Global;
 
 /// Judges `class/name` in the word of a method.
 fn method_member(word: &[u16]) -> Judged<&[u16]>
-    ensures { said (λ w. w.now) result ≡ tested (is_member is_method_name) Flaw.Name (Ok (before_descriptor word.now)) }
+    ensures { said (λ w. w.now) result
+        ≡ tested (is_member is_method_name) Flaw.Name (Ok (before_descriptor word.now)) }
 {
     let member = before_descriptor(word);
     asked(is_member_method(member), Flaw::Name)?;
@@ -40,7 +41,8 @@ fn method_member(word: &[u16]) -> Judged<&[u16]>
 
 /// Judges the descriptor in the word of a method.
 fn method_descriptor(word: &[u16]) -> Judged<&[u16]>
-    ensures { said (λ w. w.now) result ≡ tested (is_method_descriptor_for true) Flaw.Descriptor (Ok (descriptor_of word.now)) }
+    ensures { said (λ w. w.now) result
+        ≡ tested (is_method_descriptor_for true) Flaw.Descriptor (Ok (descriptor_of word.now)) }
 {
     let descriptor = descriptor_of(word);
     asked(is_method_descriptor_for(true, descriptor), Flaw::Descriptor)?;
@@ -101,7 +103,8 @@ fn operands_after_method(how: Invoke, tokens: &[Token]) -> Judged<()>
 
 /// Judges all operands of an invoke instruction, and returns `class/name` and the descriptor.
 fn method_parts(how: Invoke, tokens: &[Token]) -> Judged<(&[u16], &[u16])>
-    ensures { said two_texts result ≡ unless (method_at how (slice_get (lexemes tokens.now) 0)) (operands_after_method how (lexemes tokens.now)) }
+    ensures { said two_texts result ≡ unless (method_at how (slice_get (lexemes tokens.now) 0))
+        (operands_after_method how (lexemes tokens.now)) }
 {
     two_words_unless(
         method_at(how, operand(tokens, 0)),

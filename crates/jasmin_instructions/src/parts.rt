@@ -18,7 +18,8 @@ pub fn word_unless(word: Judged<&[u16]>, other: Judged<()>) -> Judged<&[u16]>
 
 /// Judges a word that has to be the only operand.
 pub fn alone<'a>(word: Judged<&'a [u16]>, tokens: &[Token]) -> Judged<&'a [u16]>
-    ensures { said (λ w. w.now) result ≡ unless (said (λ w. w.now) word.entry) (exactly 1 (lexemes tokens.now)) }
+    ensures { said (λ w. w.now) result
+        ≡ unless (said (λ w. w.now) word.entry) (exactly 1 (lexemes tokens.now)) }
 {
     word_unless(word, exactly(1, tokens))
 }
@@ -28,7 +29,8 @@ pub fn two_words<'a>(
     first: Judged<&'a [u16]>,
     second: Judged<&'a [u16]>,
 ) -> Judged<(&'a [u16], &'a [u16])>
-    ensures { said two_texts result ≡ both (said (λ w. w.now) first.entry) (said (λ w. w.now) second.entry) }
+    ensures { said two_texts result
+        ≡ both (said (λ w. w.now) first.entry) (said (λ w. w.now) second.entry) }
 {
     both(first, second)
 }

@@ -89,7 +89,8 @@ pub fn tokens(alloc: Global, line: &str) -> Result<Vec<Token>, LexFault>
     // The tokens that are read spell the line, each at its place.
     ensures found { IfOk result (λ v. Lexes true 0 (units_of line.now) v.items) }
     // Tokens that spell the line are read, unless memory runs out.
-    ensures only { (ts : List TokenValue) → Lexes true 0 (units_of line.now) ts → IsLexed (λ v. v.items) result (Some ts) }
+    ensures only { (ts : List TokenValue) → Lexes true 0 (units_of line.now) ts
+        → IsLexed (λ v. v.items) result (Some ts) }
 {
     tokens_of_text(alloc, line)
 }

@@ -35,7 +35,8 @@ fn digit_below(radix: u64, unit: u16) -> Option<u64>
 
 /// Returns the number whose digits are those of `number` and this one, if it fits 64 bits.
 fn with_digit(radix: u64, number: u64, unit: u16) -> Option<u64>
-    ensures { result ≡ option_and_then (λ d. unsigned_64_bits (number * radix + d)) (digit_below radix unit) }
+    ensures { result
+        ≡ option_and_then (λ d. unsigned_64_bits (number * radix + d)) (digit_below radix unit) }
 {
     let digit = digit_below(radix, unit)?;
     number.checked_mul(radix)?.checked_add(digit)

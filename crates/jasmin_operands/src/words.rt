@@ -93,7 +93,8 @@ pub fn class_at(lexeme: Option<&Lexeme>) -> Judged<&[u16]>
 ///
 /// Returns `Operand` if there is no word, and `Descriptor` if the word is no descriptor.
 pub fn field_descriptor_at(lexeme: Option<&Lexeme>) -> Judged<&[u16]>
-    ensures { said (λ w. w.now) result ≡ field_descriptor_at (option_map (λ l. l.now) lexeme.entry) }
+    ensures { said (λ w. w.now) result
+        ≡ field_descriptor_at (option_map (λ l. l.now) lexeme.entry) }
 {
     let word = word_at(lexeme)?;
     asked(is_field_descriptor(word), Flaw::Descriptor)?;

@@ -16,7 +16,8 @@ use std::alloc::{AllocError, Global};
 
 /// Sets the limit of the operand stack.
 pub(crate) fn with_max_stack(method: &mut Option<OpenMethod>, limit: u16)
-    ensures { method.new ≡ option_map (λ (m : MethodValue). record m { max_stack = Some limit }) method.old }
+    ensures { method.new
+        ≡ option_map (λ (m : MethodValue). record m { max_stack = Some limit }) method.old }
 {
     if let Some(method) = method {
         method.max_stack = Some(limit);
@@ -25,7 +26,8 @@ pub(crate) fn with_max_stack(method: &mut Option<OpenMethod>, limit: u16)
 
 /// Sets the number of local variables.
 pub(crate) fn with_max_locals(method: &mut Option<OpenMethod>, limit: u16)
-    ensures { method.new ≡ option_map (λ (m : MethodValue). record m { max_locals = Some limit }) method.old }
+    ensures { method.new
+        ≡ option_map (λ (m : MethodValue). record m { max_locals = Some limit }) method.old }
 {
     if let Some(method) = method {
         method.max_locals = Some(limit);
@@ -159,7 +161,8 @@ pub(crate) fn with_labelled_instruction(
     label: Text,
     instruction: Instruction,
 ) -> Result<(), AllocError>
-    ensures { OnOk result (method.new ≡ option_map (λ (m : MethodValue). with_instruction instruction (with_item (item.Label label) m)) method.old) }
+    ensures { OnOk result (method.new ≡ option_map (λ (m : MethodValue).
+        with_instruction instruction (with_item (item.Label label) m)) method.old) }
 {
     match method {
         Some(method) => {
@@ -175,7 +178,8 @@ pub(crate) fn with_table_label(
     method: &mut Option<OpenMethod>,
     label: Text,
 ) -> Result<(), AllocError>
-    ensures { OnOk result (method.new ≡ option_map (λ (m : MethodValue). record m { switch = with_table_label label m.switch }) method.old) }
+    ensures { OnOk result (method.new ≡ option_map
+        (λ (m : MethodValue). record m { switch = with_table_label label m.switch }) method.old) }
 {
     match method {
         Some(method) => with_table_label_in(&mut method.switch, label),
@@ -185,7 +189,8 @@ pub(crate) fn with_table_label(
 
 /// Appends a match to an open `lookupswitch`.
 pub(crate) fn with_match(method: &mut Option<OpenMethod>, line: MatchLine) -> Result<(), AllocError>
-    ensures { OnOk result (method.new ≡ option_map (λ (m : MethodValue). record m { switch = with_match line m.switch }) method.old) }
+    ensures { OnOk result (method.new ≡ option_map
+        (λ (m : MethodValue). record m { switch = with_match line m.switch }) method.old) }
 {
     match method {
         Some(method) => with_match_in(&mut method.switch, line),
@@ -199,7 +204,8 @@ pub(crate) fn with_default(
     method: &mut Option<OpenMethod>,
     label: Text,
 ) -> Result<(), AllocError>
-    ensures { OnOk result (method.new ≡ option_map (λ (m : MethodValue). closed_switch m.switch label m) method.old) }
+    ensures { OnOk result
+        (method.new ≡ option_map (λ (m : MethodValue). closed_switch m.switch label m) method.old) }
 {
     match method {
         Some(method) => with_default_in(alloc, method, label),

@@ -31,7 +31,8 @@ impl Member {
 }
 
 impl Ord for Member {
-    ghost cmp = { then_cmp (on (λ m. m.name) (slice_cmp nat_cmp)) (on (λ m. m.descriptor) (slice_cmp nat_cmp)) };
+    ghost cmp = { then_cmp (on (λ m. m.name) (slice_cmp nat_cmp))
+        (on (λ m. m.descriptor) (slice_cmp nat_cmp)) };
 
     ghost total = { Prim.search (comparing, rules) };
 
@@ -46,9 +47,11 @@ impl Ord for Member {
 }
 
 impl PartialOrd for Member {
-    ghost partial_cmp = { as_partial_cmp (then_cmp (on (λ m. m.name) (slice_cmp nat_cmp)) (on (λ m. m.descriptor) (slice_cmp nat_cmp))) };
+    ghost partial_cmp = { as_partial_cmp (then_cmp (on (λ m. m.name) (slice_cmp nat_cmp))
+        (on (λ m. m.descriptor) (slice_cmp nat_cmp))) };
 
-    ghost laws = { partial_order_from_own_ties (Prim.search (comparing, rules)) (Prim.search (comparing, rules)) };
+    ghost laws = { partial_order_from_own_ties (Prim.search (comparing, rules))
+        (Prim.search (comparing, rules)) };
 
     fn partial_cmp(&self, other: &Member) -> Option<Ordering> {
         Some(self.cmp(other))
@@ -56,7 +59,8 @@ impl PartialOrd for Member {
 }
 
 impl PartialEq for Member {
-    ghost eq = { eq_by_cmp (then_cmp (on (λ m. m.name) (slice_cmp nat_cmp)) (on (λ m. m.descriptor) (slice_cmp nat_cmp))) };
+    ghost eq = { eq_by_cmp (then_cmp (on (λ m. m.name) (slice_cmp nat_cmp))
+        (on (λ m. m.descriptor) (slice_cmp nat_cmp))) };
 
     ghost laws = { Prim.search (comparing, rules) };
 

@@ -35,7 +35,8 @@ impl Members {
 
     /// Adds a name with a descriptor to the set.
     pub(crate) fn put(&mut self, name: &Text, descriptor: &Text) -> Result<(), AllocError>
-        ensures { OnOk result ((m d : List ℕ) → has_member self.new m d ≡ ((same_text m name.now && same_text d descriptor.now) || has_member self.old m d)) }
+        ensures { OnOk result ((m d : List ℕ) → has_member self.new m d
+            ≡ ((same_text m name.now && same_text d descriptor.now) || has_member self.old m d)) }
     {
         let member = Member::new(name, descriptor)?;
         self.pairs.insert(member)?;

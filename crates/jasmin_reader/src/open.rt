@@ -36,7 +36,8 @@ impl Model for Open {
 
     ghost view = { λ o. o.parts.value.reading };
 
-    ghost invariant = { λ o. AreFields o.parts.value.fields o.parts.value.reading.fields × AreMethods o.parts.value.methods o.parts.value.reading.methods };
+    ghost invariant = { λ o. AreFields o.parts.value.fields o.parts.value.reading.fields
+        × AreMethods o.parts.value.methods o.parts.value.reading.methods };
 }
 
 /// Returns the state before the first line.
@@ -60,9 +61,11 @@ fn nothing(alloc: Global) -> Reading
 impl Parts {
     /// Adds a statement.
     fn add(&mut self, alloc: Global, statement: Statement) -> Result<(), AllocError>
-        ensures reading { OnOk result (self.new.reading ≡ with_statement self.old.reading statement) }
+        ensures reading { OnOk result
+            (self.new.reading ≡ with_statement self.old.reading statement) }
         ensures fields { OnOk result (FollowsFields self.old.fields self.new.fields statement) }
-        ensures methods { OnOk result (FollowsMethods self.old.methods self.new.methods self.old.reading.method statement) }
+        ensures methods { OnOk result
+            (FollowsMethods self.old.methods self.new.methods self.old.reading.method statement) }
     {
         note_field(&mut self.fields, &statement)?;
         note_method(&mut self.methods, &self.reading.method, &statement)?;

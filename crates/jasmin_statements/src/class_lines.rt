@@ -60,7 +60,8 @@ pub(crate) fn source_line(tokens: &[Token]) -> Judged<Statement>
 
 /// Judges the access words and the name of a class, and returns the name.
 fn class_head(tokens: &[Token]) -> Judged<&[u16]>
-    ensures { said (λ w. w.now) result ≡ unless (class_name_at (last_of (lexemes tokens.now))) (access_words class_words (but_last (lexemes tokens.now))) }
+    ensures { said (λ w. w.now) result ≡ unless (class_name_at (last_of (lexemes tokens.now)))
+        (access_words class_words (but_last (lexemes tokens.now))) }
 {
     word_unless(
         class_name_at(last_of(tokens)),

@@ -56,7 +56,8 @@ fn label_after<'a>(
     before: Option<&Lexeme>,
     label: Option<&'a Lexeme>,
 ) -> Judged<&'a [u16]>
-    ensures { said (λ w. w.now) result ≡ unless (label_at (option_map (λ l. l.now) label.entry)) (keyword_at word.now (option_map (λ l. l.now) before.entry)) }
+    ensures { said (λ w. w.now) result ≡ unless (label_at (option_map (λ l. l.now) label.entry))
+        (keyword_at word.now (option_map (λ l. l.now) before.entry)) }
 {
     word_unless(label_at(label), keyword_at(word, before))
 }
@@ -69,7 +70,8 @@ type CatchParts<'a> = (CaughtName<'a>, (&'a [u16], (&'a [u16], &'a [u16])));
 fn catch_labels(tokens: &[Token]) -> Judged<(&[u16], (&[u16], &[u16]))>
     ensures { let ts = lexemes tokens.now in
         said (λ p. (p.0.now, (p.1.0.now, p.1.1.now))) result
-        ≡ both (label_after (codes "from") ts 1) (both (label_after (codes "to") ts 3) (label_after (codes "using") ts 5)) }
+        ≡ both (label_after (codes "from") ts 1)
+        (both (label_after (codes "to") ts 3) (label_after (codes "using") ts 5)) }
 {
     let to = label_after("to", operand(tokens, 3), operand(tokens, 4));
     let handler = label_after("using", operand(tokens, 5), operand(tokens, 6));
@@ -82,7 +84,8 @@ fn catch_labels(tokens: &[Token]) -> Judged<(&[u16], (&[u16], &[u16]))>
 fn catch_operands(tokens: &[Token]) -> Judged<CatchParts<'_>>
     ensures { let ts = lexemes tokens.now in
         said (λ p. (caught_of p.0, (p.1.0.now, (p.1.1.0.now, p.1.1.1.now)))) result
-        ≡ both (caught_at (slice_get ts 0)) (both (label_after (codes "from") ts 1) (both (label_after (codes "to") ts 3) (label_after (codes "using") ts 5))) }
+        ≡ both (caught_at (slice_get ts 0)) (both (label_after (codes "from") ts 1)
+        (both (label_after (codes "to") ts 3) (label_after (codes "using") ts 5))) }
 {
     both(caught_at(operand(tokens, 0)), catch_labels(tokens))
 }
@@ -92,9 +95,8 @@ fn catch_operands(tokens: &[Token]) -> Judged<CatchParts<'_>>
 fn catch_parts(tokens: &[Token]) -> Judged<CatchParts<'_>>
     ensures { let ts = lexemes tokens.now in
         said (λ p. (caught_of p.0, (p.1.0.now, (p.1.1.0.now, p.1.1.1.now)))) result
-        ≡ unless
-        (both (caught_at (slice_get ts 0)) (both (label_after (codes "from") ts 1) (both (label_after (codes "to") ts 3) (label_after (codes "using") ts 5))))
-        (exactly 7 ts) }
+        ≡ unless (both (caught_at (slice_get ts 0)) (both (label_after (codes "from") ts 1)
+        (both (label_after (codes "to") ts 3) (label_after (codes "using") ts 5)))) (exactly 7 ts) }
 {
     unless(catch_operands(tokens), exactly(7, tokens))
 }
@@ -143,7 +145,8 @@ pub(crate) fn line_line(tokens: &[Token]) -> Judged<Statement>
 
 /// Judges the number of a local variable, and the word `is` that follows it.
 fn var_number(tokens: &[Token]) -> Judged<(u16, ())>
-    ensures { result ≡ both (u16_at (slice_get (lexemes tokens.now) 0)) (keyword_at (codes "is") (slice_get (lexemes tokens.now) 1)) }
+    ensures { result ≡ both (u16_at (slice_get (lexemes tokens.now) 0))
+        (keyword_at (codes "is") (slice_get (lexemes tokens.now) 1)) }
 {
     both(
         u16_at(operand(tokens, 0)),
@@ -153,7 +156,8 @@ fn var_number(tokens: &[Token]) -> Judged<(u16, ())>
 
 /// Judges the name and the descriptor of a `.var`.
 fn var_name(tokens: &[Token]) -> Judged<(&[u16], &[u16])>
-    ensures { said two_texts result ≡ both (name_at (slice_get (lexemes tokens.now) 2)) (field_descriptor_at (slice_get (lexemes tokens.now) 3)) }
+    ensures { said two_texts result ≡ both (name_at (slice_get (lexemes tokens.now) 2))
+        (field_descriptor_at (slice_get (lexemes tokens.now) 3)) }
 {
     two_words(
         name_at(operand(tokens, 2)),
@@ -163,7 +167,8 @@ fn var_name(tokens: &[Token]) -> Judged<(&[u16], &[u16])>
 
 /// Judges the labels of a `.var`.
 fn var_labels(tokens: &[Token]) -> Judged<(&[u16], &[u16])>
-    ensures { said two_texts result ≡ both (label_after (codes "from") (lexemes tokens.now) 4) (label_after (codes "to") (lexemes tokens.now) 6) }
+    ensures { said two_texts result ≡ both (label_after (codes "from") (lexemes tokens.now) 4)
+        (label_after (codes "to") (lexemes tokens.now) 6) }
 {
     two_words(
         label_after("from", operand(tokens, 4), operand(tokens, 5)),

@@ -62,7 +62,8 @@ fn int_constant<'a>(descriptor: &[u16], number: Judged<i32>) -> Judged<LentConst
 
 /// Judges the constant of a field of this type.
 fn constant_at<'a>(descriptor: &[u16], lexeme: Option<&'a Lexeme>) -> Judged<LentConstant<'a>>
-    ensures { said constant_of result ≡ constant_at descriptor.now (option_map (λ l. l.now) lexeme.entry) }
+    ensures { said constant_of result
+        ≡ constant_at descriptor.now (option_map (λ l. l.now) lexeme.entry) }
 {
     match lexeme {
         Some(Lexeme::Word(_)) if is_long(descriptor) => Ok(LentConstant::Long(i64_at(lexeme)?)),
@@ -80,7 +81,8 @@ pub(crate) fn constant_in<'a>(
     descriptor: &[u16],
     tokens: Option<&'a [Token]>,
 ) -> Judged<Option<LentConstant<'a>>>
-    ensures { said (λ c. option_map constant_of c) result ≡ constant_in descriptor.now (option_map (λ ts. lexemes ts.now) tokens.entry) }
+    ensures { said (λ c. option_map constant_of c) result
+        ≡ constant_in descriptor.now (option_map (λ ts. lexemes ts.now) tokens.entry) }
 {
     match tokens {
         None => Ok(None),

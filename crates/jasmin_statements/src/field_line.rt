@@ -85,7 +85,8 @@ fn field_name_at(head: &[Token]) -> Option<&Lexeme>
 
 /// Judges the constant of a field, whose descriptor is the last token of the head.
 fn field_constant<'a>(head: &[Token], tail: Option<&'a [Token]>) -> Judged<Option<LentConstant<'a>>>
-    ensures { said (λ c. option_map constant_of c) result ≡ constant_in (word_or_none (last_of (lexemes head.now))) (option_map (λ ts. lexemes ts.now) tail.entry) }
+    ensures { said (λ c. option_map constant_of c) result ≡ constant_in
+        (word_or_none (last_of (lexemes head.now))) (option_map (λ ts. lexemes ts.now) tail.entry) }
 {
     constant_in(word_or_none(last_of(head)), tail)
 }
@@ -97,8 +98,8 @@ fn field_type<'a>(
     tail: Option<&'a [Token]>,
 ) -> Judged<(&'a [u16], Option<LentConstant<'a>>)>
     ensures { let last = last_of (lexemes head.now) in
-        said (λ p. (p.0.now, option_map constant_of p.1)) result
-        ≡ both (field_descriptor_at last) (constant_in (word_or_none last) (option_map (λ ts. lexemes ts.now) tail.entry)) }
+        said (λ p. (p.0.now, option_map constant_of p.1)) result ≡ both (field_descriptor_at last)
+        (constant_in (word_or_none last) (option_map (λ ts. lexemes ts.now) tail.entry)) }
 {
     both(
         field_descriptor_at(last_of(head)),
@@ -111,9 +112,8 @@ fn field_type<'a>(
 fn field_operands<'a>(head: &'a [Token], tail: Option<&'a [Token]>) -> Judged<FieldParts<'a>>
     ensures { let last = last_of (lexemes head.now) in
         said (λ p. (p.0.now, (p.1.0.now, option_map constant_of p.1.1))) result
-        ≡ both
-        (name_at (field_name_at (lexemes head.now)))
-        (both (field_descriptor_at last) (constant_in (word_or_none last) (option_map (λ ts. lexemes ts.now) tail.entry))) }
+        ≡ both (name_at (field_name_at (lexemes head.now))) (both (field_descriptor_at last)
+        (constant_in (word_or_none last) (option_map (λ ts. lexemes ts.now) tail.entry))) }
 {
     both(name_at(field_name_at(head)), field_type(head, tail))
 }
@@ -123,10 +123,8 @@ fn field_operands<'a>(head: &'a [Token], tail: Option<&'a [Token]>) -> Judged<Fi
 fn field_parts<'a>(head: &'a [Token], tail: Option<&'a [Token]>) -> Judged<FieldParts<'a>>
     ensures { let last = last_of (lexemes head.now) in
         said (λ p. (p.0.now, (p.1.0.now, option_map constant_of p.1.1))) result
-        ≡ unless
-        (both
-        (name_at (field_name_at (lexemes head.now)))
-        (both (field_descriptor_at last) (constant_in (word_or_none last) (option_map (λ ts. lexemes ts.now) tail.entry))))
+        ≡ unless (both (name_at (field_name_at (lexemes head.now))) (both (field_descriptor_at last)
+        (constant_in (word_or_none last) (option_map (λ ts. lexemes ts.now) tail.entry))))
         (access_words field_words (field_access (lexemes head.now))) }
 {
     unless(

@@ -42,7 +42,8 @@ fn is_on_none(access: u16, name: &[u16]) -> bool
 
 /// Judges the descriptor of a method with these flags and this name.
 fn method_descriptor<'a>(access: u16, name: &[u16], descriptor: &'a [u16]) -> Judged<&'a [u16]>
-    ensures { said (λ w. w.now) result ≡ tested (is_method_descriptor_for (is_static access || is_initializer_name name.now)) Flaw.Descriptor (Ok descriptor.now) }
+    ensures { said (λ w. w.now) result ≡ tested (is_method_descriptor_for (is_static access
+        || is_initializer_name name.now)) Flaw.Descriptor (Ok descriptor.now) }
 {
     let fits = is_method_descriptor_for(is_on_none(access, name), descriptor);
     asked(fits, Flaw::Descriptor)?;
@@ -51,7 +52,8 @@ fn method_descriptor<'a>(access: u16, name: &[u16], descriptor: &'a [u16]) -> Ju
 
 /// Judges the name in the word of a method.
 fn method_name(word: &[u16]) -> Judged<&[u16]>
-    ensures { said (λ w. w.now) result ≡ tested is_method_name Flaw.Name (Ok (before_descriptor word.now)) }
+    ensures { said (λ w. w.now) result
+        ≡ tested is_method_name Flaw.Name (Ok (before_descriptor word.now)) }
 {
     let name = before_descriptor(word);
     asked(is_method_name(name), Flaw::Name)?;
@@ -61,10 +63,9 @@ fn method_name(word: &[u16]) -> Judged<&[u16]>
 /// Judges the name and the descriptor in the word of a method with these flags.
 fn named_method(access: u16, word: &[u16]) -> Judged<(&[u16], &[u16])>
     ensures { let name = before_descriptor word.now in
-        said two_texts result
-        ≡ both
-        (tested is_method_name Flaw.Name (Ok name))
-        (tested (is_method_descriptor_for (is_static access || is_initializer_name name)) Flaw.Descriptor (Ok (descriptor_of word.now))) }
+        said two_texts result ≡ both (tested is_method_name Flaw.Name (Ok name))
+        (tested (is_method_descriptor_for (is_static access || is_initializer_name name))
+        Flaw.Descriptor (Ok (descriptor_of word.now))) }
 {
     two_words(
         method_name(word),
@@ -89,7 +90,9 @@ fn method_head_at(sort: ClassSort, access: u16, word: Judged<&[u16]>) -> Judged<
 
 /// Judges the access words, the name and the descriptor of a method, and returns the last two.
 fn method_head(sort: ClassSort, access: u16, tokens: &[Token]) -> Judged<(&[u16], &[u16])>
-    ensures { said two_texts result ≡ unless (method_head_at sort access (word_at (last_of (lexemes tokens.now)))) (access_words method_words (but_last (lexemes tokens.now))) }
+    ensures { said two_texts result
+        ≡ unless (method_head_at sort access (word_at (last_of (lexemes tokens.now))))
+        (access_words method_words (but_last (lexemes tokens.now))) }
 {
     two_words_unless(
         method_head_at(sort, access, word_at(last_of(tokens))),

@@ -61,7 +61,8 @@ fn label_line(tokens: &[Token]) -> Judged<&[u16]>
 
 /// Judges a label and an instruction, whose mnemonic is the third token.
 fn labelled_line(alloc: Global, code: u8, tokens: &[Token]) -> Result<Statement, LineFault>
-    ensures { Says result (said (λ p. Statement.LabelledInstruction p.0 p.1) (both (label_line (lexemes tokens.now)) (instruction_line code (drop 3 (lexemes tokens.now))))) }
+    ensures { Says result (said (λ p. Statement.LabelledInstruction p.0 p.1) (both
+        (label_line (lexemes tokens.now)) (instruction_line code (drop 3 (lexemes tokens.now))))) }
 {
     let instruction = instruction_line(alloc, code, behind(3, tokens));
     match (label_line(tokens), instruction) {

@@ -20,7 +20,8 @@ use std::alloc::Global;
 /// Judges the label of a line of a `tableswitch`. Its value `next` has to fit an int.
 fn table_label(next: i64, tokens: &[Token]) -> Judged<&[u16]>
     ensures { let ts = lexemes tokens.now in
-        said (λ w. w.now) result ≡ unless (unless (label_at (slice_get ts 0)) (exactly 1 ts)) (asked (int_le next (pos 2147483647)) Flaw.Number) }
+        said (λ w. w.now) result ≡ unless (unless (label_at (slice_get ts 0)) (exactly 1 ts))
+        (asked (int_le next (pos 2147483647)) Flaw.Number) }
 {
     word_unless(
         alone(label_at(operand(tokens, 0)), tokens),
@@ -81,7 +82,8 @@ fn rising_at(last: Option<i32>, value: Judged<i32>) -> Judged<i32>
 #[tactic(auto, using(jasmin_operands::proofs::Judgements::said_both))]
 fn match_parts(last: Option<i32>, tokens: &[Token]) -> Judged<(i32, &[u16])>
     ensures { let ts = lexemes tokens.now in
-        said (λ p. (p.0, p.1.now)) result ≡ both (rising_at last (i32_at (slice_get ts 0))) (label_after_colon ts) }
+        said (λ p. (p.0, p.1.now)) result
+        ≡ both (rising_at last (i32_at (slice_get ts 0))) (label_after_colon ts) }
 {
     both(
         rising_at(last, i32_at(operand(tokens, 0))),

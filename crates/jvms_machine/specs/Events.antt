@@ -7,6 +7,17 @@ use Rattle.jvms_machine.specs.declared.trace.Item.TheVariants as item
 use Rattle.jvms_machine.specs.declared.state.Hold.{Hold}
 use Rattle.jvms_machine.specs.State.{State, monitor_at}
 
+-- Returns the thread that an item belongs to.
+abbrev pub thread_of : Item → ℕ
+thread_of (item.Read t v) = t
+thread_of (item.Write t v) = t
+thread_of (item.Acquire t r) = t
+thread_of (item.Release t r) = t
+thread_of (item.Fork t u) = t
+thread_of (item.Join t u) = t
+thread_of (item.Enter t m) = t
+thread_of (item.Exit t m) = t
+
 abbrev pub is_acquire : Item → Bool
 is_acquire (item.Acquire t r) = true
 is_acquire _ = false

@@ -14,13 +14,16 @@ ghost use Rattle.jvms_machine.specs.State.{State, instance_fields, keys, static_
 
 /// Proves that 25 choices of thread 0 give 12: 24 turns run, and the thread ends in the last.
 pub fn run_of_gcd()
-    ensures outcomes { option_map (λ r. r.outcomes) (run_of_bytes gcd_bytes gcd_entry 25) ≡ Some gcd_outcomes }
-    ensures gives { option_map (λ r. r.state.result) (run_of_bytes gcd_bytes gcd_entry 25) ≡ Some (Some (value.Int (pos 12))) }
+    ensures outcomes { option_map (λ r. r.outcomes) (run_of_bytes gcd_bytes gcd_entry 25)
+        ≡ Some gcd_outcomes }
+    ensures gives { option_map (λ r. r.state.result) (run_of_bytes gcd_bytes gcd_entry 25)
+        ≡ Some (Some (value.Int (pos 12))) }
 {}
 
 /// Proves that an object's fields are those of its class's slots, in their order.
 pub fn the_keys_of_an_instance_are_those_of_its_class()
-    ensures { (program : List Class) (class : List ℕ) → keys (instance_fields program class) ≡ instance_keys program class }
+    ensures { (program : List Class) (class : List ℕ)
+        → keys (instance_fields program class) ≡ instance_keys program class }
 {}
 
 /// Proves that the static fields are those of a program's static slots, in their order.
@@ -31,5 +34,7 @@ pub fn the_keys_of_static_fields_are_those_of_the_program()
 /// Proves that a run of two lists of choices is the run of the first, followed by the run of the second from the state
 /// after it. Outcomes and items are concatenated.
 pub fn a_run_continues_another()
-    ensures { (program : List Class) (limits : Limits) (start : Start) (s : State) (xs ys : List ℕ) → run_from program limits start s (xs ++ ys) ≡ joined (run_from program limits start s xs) (run_from program limits start (run_from program limits start s xs).state ys) }
+    ensures { (program : List Class) (limits : Limits) (start : Start) (s : State) (xs ys : List ℕ)
+        → run_from program limits start s (xs ++ ys) ≡ joined (run_from program limits start s xs)
+        (run_from program limits start (run_from program limits start s xs).state ys) }
 {}

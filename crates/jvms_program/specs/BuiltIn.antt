@@ -174,9 +174,9 @@ throwable_classes =
     ∷ throwable_below (codes "java/lang/VirtualMachineError") (codes "java/lang/StackOverflowError")
     ∷ []
 
--- The built-in classes.
-unfoldable pub built_in_classes : List Class
-built_in_classes =
+-- Returns the built-in classes that aren't below Throwable, followed by these classes.
+abbrev pub with_ordinary_classes : List Class → List Class
+with_ordinary_classes classes =
     object_class
     ∷ class_with object (codes "java/io/Serializable" ∷ []) [] [] (codes "java/lang/String")
     ∷ class_with object (codes "java/io/Serializable" ∷ []) [] [] (codes "java/lang/Class")
@@ -186,7 +186,11 @@ built_in_classes =
     ∷ runnable_class
     ∷ interface_with [] (codes "java/lang/Cloneable")
     ∷ interface_with [] (codes "java/io/Serializable")
-    ∷ throwable_classes
+    ∷ classes
+
+-- The built-in classes.
+unfoldable pub built_in_classes : List Class
+built_in_classes = with_ordinary_classes throwable_classes
 
 -- A class of this name is built in.
 unfoldable pub is_built_in : List ℕ → Bool

@@ -114,7 +114,8 @@ impl<'p> Supers<'p> {
     /// these names.
     fn all_above(&self, alloc: Global, numbers: &[usize]) -> Result<NumberSet, AllocError>
         requires { list_all (λ n. nat_lt n (length self.now)) numbers.now ≡ true }
-        ensures { IfOk result (λ met. (names : List (List ℕ)) → numbers.now ≡ numbers_of self.now names → AreAllAbove self.now names met.numbers) }
+        ensures { IfOk result (λ met. (names : List (List ℕ))
+            → numbers.now ≡ numbers_of self.now names → AreAllAbove self.now names met.numbers) }
     {
         let mut met = NumberSet::new(alloc, self.len())?;
         met.add_all(numbers)?;
@@ -130,7 +131,9 @@ impl<'p> Supers<'p> {
 
     /// Returns true only if the rank of a class shows that it isn't in the ancestries of classes of these numbers.
     fn is_not_above(&self, number: usize, numbers: &[usize]) -> bool
-        ensures { result ≡ true → (name : List ℕ) (names : List (List ℕ)) → class_number self.now name ≡ Some number → numbers.now ≡ numbers_of self.now names → is_above self.now (length self.now) name names ≡ false }
+        ensures { result ≡ true → (name : List ℕ) (names : List (List ℕ))
+            → class_number self.now name ≡ Some number → numbers.now ≡ numbers_of self.now names
+            → is_above self.now (length self.now) name names ≡ false }
     {
         let ranks = self.ranks.as_slice();
         self.falls && all_are_below(ranks, rank(ranks, number), numbers)

@@ -31,7 +31,8 @@ fn kind_of(access: u16) -> ClassKind
 
 /// Returns the superclass's name, or `None` for number 0.
 fn superclass_of(texts: &Texts, number: u16) -> Result<Option<Text>, AllocError>
-    ensures { IfOk result (λ name. name ≡ (if number == 0 then None else Some (class_text texts.now number))) }
+    ensures { IfOk result
+        (λ name. name ≡ (if number == 0 then None else Some (class_text texts.now number))) }
 {
     if number == 0 {
         Ok(None)
@@ -51,8 +52,10 @@ struct ClassNames {
 /// Returns the names of a class file's class, from the texts of its pool.
 fn names_of(alloc: Global, texts: &Texts, file: &ClassFile) -> Result<ClassNames, AllocError>
     ensures name { IfOk result (λ n. n.name ≡ class_text texts.now file.now.this_class) }
-    ensures superclass { IfOk result (λ n. n.superclass ≡ (if file.now.super_class == 0 then None else Some (class_text texts.now file.now.super_class))) }
-    ensures interfaces { IfOk result (λ n. n.interfaces ≡ map (class_text texts.now) file.now.interfaces) }
+    ensures superclass { IfOk result (λ n. n.superclass ≡ (if file.now.super_class == 0
+        then None else Some (class_text texts.now file.now.super_class))) }
+    ensures interfaces { IfOk result
+        (λ n. n.interfaces ≡ map (class_text texts.now) file.now.interfaces) }
 {
     Ok(ClassNames {
         name: texts.class_name(file.this_class)?,

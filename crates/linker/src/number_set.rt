@@ -62,7 +62,8 @@ impl NumberSet {
     /// Adds a number.
     pub(crate) fn add(&mut self, number: usize) -> Result<(), AllocError>
         requires { number < self.old.limit }
-        ensures { OnOk result (self.new ≡ record { limit = self.old.limit; numbers = with_number self.old.numbers number }) }
+        ensures { OnOk result (self.new
+            ≡ record { limit = self.old.limit; numbers = with_number self.old.numbers number }) }
     {
         if self.has(number) {
             return Ok(());
@@ -75,7 +76,10 @@ impl NumberSet {
     /// Adds numbers.
     pub(crate) fn add_all(&mut self, numbers: &[usize]) -> Result<(), AllocError>
         requires { list_all (λ n. nat_lt n self.old.limit) numbers.now ≡ true }
-        ensures { OnOk result (self.new ≡ record { limit = self.old.limit; numbers = with_numbers self.old.numbers numbers.now }) }
+        ensures { OnOk result (self.new ≡ record {
+          limit = self.old.limit;
+          numbers = with_numbers self.old.numbers numbers.now;
+        }) }
     {
         for number in numbers {
             self.add(*number)?;

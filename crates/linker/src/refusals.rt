@@ -46,7 +46,8 @@ fn is_missing(program: &ClassList, name: &Text) -> bool
 
 /// Decides whether a superinterface of a class isn't there.
 fn lacks_interface(program: &ClassList, class: &Class) -> bool
-    ensures { result ≡ list_any (λ name. not (is_some (class_named program.now name))) class.now.interfaces }
+    ensures { result
+        ≡ list_any (λ name. not (is_some (class_named program.now name))) class.now.interfaces }
 {
     let interfaces = class.interfaces.as_slice();
     interfaces.iter().any(|name| is_missing(program, name))
@@ -105,7 +106,8 @@ fn has_wrong_interface(program: &ClassList, class: &Class) -> bool
 
 /// Decides whether the superclass or a superinterface of a class is of a wrong kind.
 fn has_wrong_super(program: &ClassList, class: &Class) -> bool
-    ensures { result ≡ (has_wrong_superclass program.now class.now || has_wrong_interface program.now class.now) }
+    ensures { result ≡ (has_wrong_superclass program.now class.now
+        || has_wrong_interface program.now class.now) }
 {
     has_wrong_superclass(program, class) || has_wrong_interface(program, class)
 }

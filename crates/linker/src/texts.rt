@@ -32,7 +32,8 @@ impl Model for Texts {
 
     ghost view = { λ t. t.pool };
 
-    ghost invariant = { λ t. (t.spelled.items ≡ map typed_text_of t.pool) × (t.nothing ≡ spelled_text []) };
+    ghost invariant = { λ t. (t.spelled.items ≡ map typed_text_of t.pool)
+        × (t.nothing ≡ spelled_text []) };
 }
 
 /// Copies items to a new list.

@@ -24,10 +24,12 @@ use std::alloc::Global;
 #[tactic(auto, unfolding(listing_spec::specs::Listed::listed), using(crate::proofs::Meaning::means_class))]
 pub fn list(alloc: Global, class: &ClassFile) -> Result<String, ListFault>
     // The result has the lines of the definition, or its fault, unless memory runs out.
-    ensures exact { IfOk result (λ text. listed class.now ≡ Ok (map units_of (lines (string_bytes text)))) }
+    ensures exact { IfOk result
+        (λ text. listed class.now ≡ Ok (map units_of (lines (string_bytes text)))) }
     ensures fault { IfErr result (λ fault. Lists (Err fault) (listed class.now)) }
     // LF follows each line, the last one included, and nothing else separates them.
-    ensures ended { IfOk result (λ text. units_of (string_bytes text) ≡ text_of_lines (map units_of (lines (string_bytes text)))) }
+    ensures ended { IfOk result (λ text. units_of (string_bytes text)
+        ≡ text_of_lines (map units_of (lines (string_bytes text)))) }
     // The text is read as a source that denotes what the class means.
     ensures means { IfOk result (λ text. MeansClass (string_bytes text) class.now) }
 {

@@ -14,5 +14,6 @@ ghost use Rattle.listing_spec.specs.Listable.{IsListable};
 /// Proves that a text whose lines are those of a tree is read as the tree, if the tree is printable, formed and
 /// listable.
 pub fn what_is_listed_is_read()
-    ensures { (text : List ℕ) (tree : Source) → map units_of (lines text) ≡ printed tree → is_printable tree ≡ true → IsFormed tree → IsListable tree → source_of text ≡ Ok tree }
+    ensures { (text : List ℕ) (tree : Source) → map units_of (lines text) ≡ printed tree
+        → is_printable tree ≡ true → IsFormed tree → IsListable tree → source_of text ≡ Ok tree }
 {}

@@ -84,7 +84,8 @@ impl<'p> Machine<'p> {
     /// changes by the transition, and its items are appended to the trace. If there is no memory, nothing changes.
     pub fn step(&mut self, t: ThreadId, trace: &mut Trace) -> Result<Outcome, AllocError>
         ensures outcome { IfOk result (λ o. o ≡ (transition_of self.old t).outcome) }
-        ensures state { OnOk result (self.new ≡ with_state self.old (transition_of self.old t).state) }
+        ensures state { OnOk result
+            (self.new ≡ with_state self.old (transition_of self.old t).state) }
         ensures items { OnOk result (trace.new ≡ trace.old ++ (transition_of self.old t).items) }
         ensures kept { OnErr result (self.new ≡ self.old) }
         ensures no_items { OnErr result (trace.new ≡ trace.old) }
@@ -104,8 +105,10 @@ impl<'p> Machine<'p> {
         recording: &mut Recording,
     ) -> Result<Outcome, AllocError>
         ensures outcome { IfOk result (λ o. o ≡ (transition_of self.old t).outcome) }
-        ensures state { OnOk result (self.new ≡ with_state self.old (transition_of self.old t).state) }
-        ensures items { OnOk result (recording.new ≡ recorded recording.old (transition_of self.old t).items) }
+        ensures state { OnOk result
+            (self.new ≡ with_state self.old (transition_of self.old t).state) }
+        ensures items { OnOk result
+            (recording.new ≡ recorded recording.old (transition_of self.old t).items) }
         ensures kept { OnErr result (self.new ≡ self.old) }
         ensures no_items { OnErr result (recording.new ≡ recording.old) }
         ensures none { TakesNone self.old t → IsOk result }
@@ -119,7 +122,8 @@ impl<'p> Machine<'p> {
     /// other outcome, and before one without memory.
     pub fn step_consecutive(&mut self, t: ThreadId, most: u64, recording: &mut Recording) -> u64
         ensures most { result ≤ most }
-        ensures ran { AreRunTurns result t (length self.old.state.threads) self.old recording.old self.new recording.new }
+        ensures ran { AreRunTurns result t
+            (length self.old.state.threads) self.old recording.old self.new recording.new }
     {
         step_consecutive(&mut self.parts, t, most, recording)
     }
@@ -134,9 +138,12 @@ impl<'p> Machine<'p> {
         recording: &mut Recording,
     ) -> Result<Turn, AllocError>
         ensures outcome { IfOk result (λ turn. turn.outcome ≡ (transition_of self.old t).outcome) }
-        ensures state { OnOk result (self.new ≡ with_state self.old (transition_of self.old t).state) }
-        ensures items { OnOk result (recording.new ≡ recorded recording.old (transition_of self.old t).items) }
-        ensures others { IfOk result (λ turn. IsTrue turn.is_quiet → LeavesOthers self.old t self.new) }
+        ensures state { OnOk result
+            (self.new ≡ with_state self.old (transition_of self.old t).state) }
+        ensures items { OnOk result
+            (recording.new ≡ recorded recording.old (transition_of self.old t).items) }
+        ensures others { IfOk result
+            (λ turn. IsTrue turn.is_quiet → LeavesOthers self.old t self.new) }
         ensures kept { OnErr result (self.new ≡ self.old) }
         ensures no_items { OnErr result (recording.new ≡ recording.old) }
         ensures none { TakesNone self.old t → IsOk result }

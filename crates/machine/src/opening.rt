@@ -24,7 +24,8 @@ const NO_STRINGS: u32 = 4;
 
 /// Appends the slots of an argument. A long has two.
 fn put_argument(places: &mut Vec<Value>, argument: Argument) -> Result<(), AllocError>
-    ensures { OnOk result (places.new.items ≡ places.old.items ++ places_of (argument_value argument ∷ [])) }
+    ensures { OnOk result
+        (places.new.items ≡ places.old.items ++ places_of (argument_value argument ∷ [])) }
 {
     match argument {
         Argument::Int(n) => places.push(Value::Int(n))?,
@@ -97,7 +98,8 @@ fn opening_lists<'p>(
     entry: &Entry,
 ) -> Result<OpeningLists<'p>, AllocError>
     ensures arguments { IfOk result (λ l. l.arguments.items ≡ entry_arguments entry.now) }
-    ensures initialisations { IfOk result (λ l. l.initialisations.items ≡ map opening_initialisation program.now) }
+    ensures initialisations { IfOk result
+        (λ l. l.initialisations.items ≡ map opening_initialisation program.now) }
     ensures threads { IfOk result (λ l. l.threads.items ≡ new_thread None ∷ []) }
 {
     Ok(OpeningLists {
@@ -109,8 +111,12 @@ fn opening_lists<'p>(
 
 /// Returns the heap and the static fields at the opening.
 fn memory<'p>(alloc: Global, program: &'p Program) -> Result<(Heap<'p>, Statics<'p>), AllocError>
-    ensures heap { IfOk result (λ m. m.0 ≡ record { program = program.now; objects = opening_heap program.now; elements = 0 }) }
-    ensures statics { IfOk result (λ m. m.1 ≡ record { program = program.now; fields = map opening_static (static_fields program.now) }) }
+    ensures heap { IfOk result (λ m. m.0
+        ≡ record { program = program.now; objects = opening_heap program.now; elements = 0 }) }
+    ensures statics { IfOk result (λ m. m.1 ≡ record {
+      program = program.now;
+      fields = map opening_static (static_fields program.now);
+    }) }
 {
     let heap = Heap::opening(alloc, program)?;
     Ok((heap, Statics::opening(alloc, program)?))

@@ -18,9 +18,12 @@ impl Machine<'_> {
     /// Takes the turns of these choices of threads, and returns their outcomes. Their items are appended to the trace.
     /// If memory runs out, machine and trace are those after as many choices as the `RunStop` has outcomes.
     pub fn run(&mut self, choices: &[ThreadId], trace: &mut Trace) -> Result<Vec<Outcome>, RunStop>
-        ensures run { IfOk result (λ v. IsRun self.old choices.now v.items self.new (Some trace.old) (Some trace.new)) }
+        ensures run { IfOk result
+            (λ v. IsRun self.old choices.now v.items self.new (Some trace.old) (Some trace.new)) }
         ensures fewer { IfErr result (λ s. length s.outcomes.items < length choices.now) }
-        ensures stop { IfErr result (λ s. IsRun self.old (take (length s.outcomes.items) choices.now) s.outcomes.items self.new (Some trace.old) (Some trace.new)) }
+        ensures stop { IfErr result (λ s. IsRun self.old
+            (take (length s.outcomes.items) choices.now) s.outcomes.items self.new
+            (Some trace.old) (Some trace.new)) }
     {
         let mut recording = Recording::taken_from(self.parts.alloc, trace);
         let outcomes = self.run_recorded(choices, &mut recording);
@@ -34,9 +37,11 @@ impl Machine<'_> {
         choices: &[ThreadId],
         recording: &mut Recording,
     ) -> Result<Vec<Outcome>, RunStop>
-        ensures run { IfOk result (λ v. IsRun self.old choices.now v.items self.new recording.old recording.new) }
+        ensures run { IfOk result
+            (λ v. IsRun self.old choices.now v.items self.new recording.old recording.new) }
         ensures fewer { IfErr result (λ s. length s.outcomes.items < length choices.now) }
-        ensures stop { IfErr result (λ s. IsRun self.old (take (length s.outcomes.items) choices.now) s.outcomes.items self.new recording.old recording.new) }
+        ensures stop { IfErr result (λ s. IsRun self.old (take (length s.outcomes.items)
+            choices.now) s.outcomes.items self.new recording.old recording.new) }
     {
         let mut outcomes = Vec::new(self.parts.alloc);
         for choice in choices {

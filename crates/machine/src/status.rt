@@ -72,7 +72,8 @@ fn any_bad(parts: &Parts, t: ThreadId) -> bool
 fn standing(parts: &Parts) -> Status
     requires numbered { AreNumbered parts.now.state }
     requires code { HaveTheirCode parts.now }
-    ensures { result ≡ status_of parts.now.program parts.now.limits parts.now.start parts.now.state }
+    ensures { result
+        ≡ status_of parts.now.program parts.now.limits parts.now.start parts.now.state }
 {
     if have_all_ended(parts) {
         Status::Finished
@@ -90,7 +91,8 @@ impl Machine<'_> {
     /// else stalled if the turn of one is Bad, else deadlocked. Takes no memory.
     #[tactic(auto, using(crate::proofs::Callers::threads_are_numbered, crate::proofs::Sites::have_their_code))]
     pub fn status(&self) -> Status
-        ensures { result ≡ status_of self.now.program self.now.limits self.now.start self.now.state }
+        ensures { result
+            ≡ status_of self.now.program self.now.limits self.now.start self.now.state }
     {
         standing(&self.parts)
     }

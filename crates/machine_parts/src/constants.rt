@@ -83,7 +83,8 @@ impl<'p> Parts<'p> {
 
     /// Returns the string of a field's constant if it has no object yet and no field before it stores it.
     fn text_to_make<'f>(&self, before: &[Field], field: &'f Field) -> Option<&'f Text>
-        ensures { option_map (λ units. units.now) result ≡ text_to_make self.now.state.heap before.now field.now }
+        ensures { option_map (λ units. units.now) result
+            ≡ text_to_make self.now.state.heap before.now field.now }
     {
         let text = stored_text(field)?;
         if self.is_new(before, text.as_slice()) {
@@ -100,7 +101,8 @@ impl<'p> Parts<'p> {
         before: &[Field],
         field: &Field,
     ) -> Result<(), AllocError>
-        ensures { OnOk result (texts.new.items ≡ behind texts.old.items (text_to_make self.now.state.heap before.now field.now)) }
+        ensures { OnOk result (texts.new.items
+            ≡ behind texts.old.items (text_to_make self.now.state.heap before.now field.now)) }
     {
         if let Some(text) = self.text_to_make(before, field) {
             texts.push(text.share()?)?;
@@ -111,7 +113,8 @@ impl<'p> Parts<'p> {
     /// Returns the distinct strings among these fields' constants that have no object yet.
     #[tactic(auto, using(crate::proofs::ConstantTexts::texts_behind))]
     fn texts_of(&self, fields: &[Field]) -> Result<Vec<Text>, AllocError>
-        ensures { IfOk result (λ texts. texts.items ≡ new_texts self.now.state.heap (constants_of fields.now)) }
+        ensures { IfOk result
+            (λ texts. texts.items ≡ new_texts self.now.state.heap (constants_of fields.now)) }
     {
         let mut texts = Vec::new(self.alloc);
         for (i, field) in fields.iter().enumerate() {
@@ -122,7 +125,8 @@ impl<'p> Parts<'p> {
 
     /// Returns the strings for which the initialisation of a class creates objects.
     pub fn texts_to_make(&self, class: usize) -> Result<Vec<Text>, AllocError>
-        ensures { IfOk result (λ texts. texts.items ≡ texts_to_make self.now.state.heap (slice_get self.now.program class)) }
+        ensures { IfOk result (λ texts. texts.items
+            ≡ texts_to_make self.now.state.heap (slice_get self.now.program class)) }
     {
         match self.program().class(class) {
             None => Ok(Vec::new(self.alloc)),
@@ -154,7 +158,8 @@ impl<'p> Parts<'p> {
 
     /// Stores the constant of a field if it is static and has one.
     fn store_constant(&mut self, class: &Class, field: &Field)
-        ensures { self.new ≡ with_statics (with_constants self.old.state.heap class.now (field.now ∷ []) self.old.state.statics) self.old }
+        ensures { self.new ≡ with_statics (with_constants self.old.state.heap class.now
+            (field.now ∷ []) self.old.state.statics) self.old }
     {
         if !field.is_static {
             return;
@@ -174,7 +179,8 @@ impl<'p> Parts<'p> {
     /// Stores the constants of a class's static fields, in the fields' order.
     #[tactic(auto, using(crate::proofs::ConstantTexts::constants_further))]
     pub fn store_constants(&mut self, class: &Class)
-        ensures { self.new ≡ with_statics (with_constants self.old.state.heap class.now class.now.fields self.old.state.statics) self.old }
+        ensures { self.new ≡ with_statics (with_constants self.old.state.heap
+            class.now class.now.fields self.old.state.statics) self.old }
     {
         for field in class.fields.as_slice() {
             self.store_constant(class, field);

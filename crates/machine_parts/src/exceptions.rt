@@ -22,7 +22,8 @@ const STACK_OVERFLOW: Exception = Exception::Held { reference: 2 };
 /// Returns the index of an exception's class in the list of built-in classes.
 #[tactic(auto, unfolding(jvms_program::specs::BuiltIn::built_in_classes, jvms_machine::specs::Exceptions::thrown_class))]
 fn built_in_place(class: Thrown) -> usize
-    ensures { option_map (λ c. c.name) (slice_get built_in_classes result) ≡ Some (thrown_class class) }
+    ensures { option_map (λ c. c.name) (slice_get built_in_classes result)
+        ≡ Some (thrown_class class) }
 {
     match class {
         Thrown::ArithmeticException => 14,

@@ -26,7 +26,8 @@ impl<'p> Parts<'p> {
     /// Fast path of `asking`: reports that a turn which requires the initialisation of a class continues.
     #[inline(always)]
     pub fn goes_on(&self, t: ThreadId, class: usize) -> bool
-        ensures { (thread : SeenThread) (go_on : TurnDecision) → IsTrue result → asking self.now.program self.now.limits self.now.state t thread class go_on ≡ go_on }
+        ensures { (thread : SeenThread) (go_on : TurnDecision) → IsTrue result
+            → asking self.now.program self.now.limits self.now.state t thread class go_on ≡ go_on }
     {
         match self.initialisation(class) {
             Some(Initialisation::Done) => true,
@@ -38,7 +39,8 @@ impl<'p> Parts<'p> {
     /// Decides the start of a class's initialisation. Throws if there is no room for the strings of its constants, or
     /// for its frame.
     fn begin_decision(&self, thread: &Thread, class: usize) -> Decided<'p>
-        ensures { seen result ≡ begin_decision self.now.limits self.now.state thread.now class (slice_get self.now.program class) }
+        ensures { seen result ≡ begin_decision self.now.limits self.now.state thread.now class
+            (slice_get self.now.program class) }
     {
         let Some(c) = self.program().class(class) else {
             return never_seen();
@@ -55,7 +57,8 @@ impl<'p> Parts<'p> {
     /// Decides a turn that requires the initialisation of a class. Returns `None` if the turn continues, else the
     /// decision instead of it.
     pub fn asking(&self, t: ThreadId, thread: &Thread, class: usize) -> Option<Decided<'p>>
-        ensures { (go_on : TurnDecision) → first_or go_on result ≡ asking self.now.program self.now.limits self.now.state t thread.now class go_on }
+        ensures { (go_on : TurnDecision) → first_or go_on result
+            ≡ asking self.now.program self.now.limits self.now.state t thread.now class go_on }
     {
         match self.initialisation(class) {
             None => Some(never_seen()),

@@ -80,7 +80,8 @@ impl Parts<'_> {
         reference: u32,
     ) -> Result<(), AllocError>
         requires { CanBeLocked self.old.state (locks.NewClass class reference) }
-        ensures ok { OnOk result (self.new ≡ with_state self.old (with_lock self.old.program self.old.state t (locks.NewClass class reference))) }
+        ensures ok { OnOk result (self.new ≡ with_state self.old
+            (with_lock self.old.program self.old.state t (locks.NewClass class reference))) }
         ensures err { OnErr result (self.new ≡ self.old) }
     {
         let name = self.class_name(class)?;
@@ -96,7 +97,8 @@ impl Parts<'_> {
     #[inline(always)]
     pub fn lock(&mut self, t: ThreadId, lock: Lock) -> Result<(), AllocError>
         requires { CanBeLocked self.old.state lock }
-        ensures ok { OnOk result (self.new ≡ with_state self.old (with_lock self.old.program self.old.state t lock)) }
+        ensures ok { OnOk result
+            (self.new ≡ with_state self.old (with_lock self.old.program self.old.state t lock)) }
         ensures err { OnErr result (self.new ≡ self.old) }
     {
         match lock {
@@ -124,8 +126,10 @@ impl Parts<'_> {
         trace: &mut Recording,
     ) -> Result<(), AllocError>
         requires { CanBeEntered self.old.state monitor }
-        ensures state { OnOk result (self.new ≡ with_state self.old (affected self.old.program self.old.state t [] (effects.Locks monitor))) }
-        ensures items { OnOk result (trace.new ≡ recorded trace.old (effect_items self.old.program t (effects.Locks monitor))) }
+        ensures state { OnOk result (self.new ≡ with_state self.old
+            (affected self.old.program self.old.state t [] (effects.Locks monitor))) }
+        ensures items { OnOk result (trace.new
+            ≡ recorded trace.old (effect_items self.old.program t (effects.Locks monitor))) }
         ensures kept { OnErr result (self.new ≡ self.old) }
         ensures no_items { OnErr result (trace.new ≡ trace.old) }
         ensures none { effect_items self.old.program t (effects.Locks monitor) ≡ [] → IsOk result }
@@ -146,11 +150,14 @@ impl Parts<'_> {
         monitor: MonitorUse,
         trace: &mut Recording,
     ) -> Result<(), AllocError>
-        ensures state { OnOk result (self.new ≡ with_state self.old (affected self.old.program self.old.state t [] (effects.Unlocks monitor))) }
-        ensures items { OnOk result (trace.new ≡ recorded trace.old (effect_items self.old.program t (effects.Unlocks monitor))) }
+        ensures state { OnOk result (self.new ≡ with_state self.old
+            (affected self.old.program self.old.state t [] (effects.Unlocks monitor))) }
+        ensures items { OnOk result (trace.new
+            ≡ recorded trace.old (effect_items self.old.program t (effects.Unlocks monitor))) }
         ensures kept { OnErr result (self.new ≡ self.old) }
         ensures no_items { OnErr result (trace.new ≡ trace.old) }
-        ensures none { effect_items self.old.program t (effects.Unlocks monitor) ≡ [] → IsOk result }
+        ensures none { effect_items self.old.program t (effects.Unlocks monitor) ≡ []
+            → IsOk result }
     {
         push_listed(trace, release_item(t, monitor))?;
         self.monitors.leave(monitor.reference);

@@ -94,7 +94,8 @@ impl Parts<'_> {
         lock: Lock,
         trace: &mut Recording,
     ) -> Result<(), AllocError>
-        ensures ok { OnOk result (trace.new ≡ recorded trace.old (enter_items self.now.program t method ++ lock_items t lock)) }
+        ensures ok { OnOk result (trace.new
+            ≡ recorded trace.old (enter_items self.now.program t method ++ lock_items t lock)) }
         ensures err { OnErr result (trace.new ≡ trace.old) }
     {
         if !trace.keeps() {
@@ -113,9 +114,11 @@ impl Parts<'_> {
         unlock: Option<MonitorUse>,
         trace: &mut Recording,
     ) -> Result<(), AllocError>
-        ensures ok { OnOk result (trace.new ≡ recorded trace.old (unlock_items t unlock ++ exit_items self.now.program t method)) }
+        ensures ok { OnOk result (trace.new
+            ≡ recorded trace.old (unlock_items t unlock ++ exit_items self.now.program t method)) }
         ensures err { OnErr result (trace.new ≡ trace.old) }
-        ensures none { unlock_items t unlock ++ exit_items self.now.program t method ≡ [] → IsOk result }
+        ensures none { unlock_items t unlock ++ exit_items self.now.program t method ≡ []
+            → IsOk result }
     {
         if !trace.keeps() {
             return Ok(());

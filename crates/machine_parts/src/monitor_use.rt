@@ -56,7 +56,8 @@ impl<'p> Parts<'p> {
         reference: u32,
         hold: Hold,
     ) -> Entering<'p>
-        ensures { (make : Used → TurnDecision) → turn_by_entry make result ≡ entering_held self.now.limits self.now.state t thread.now reference (Some hold) make }
+        ensures { (make : Used → TurnDecision) → turn_by_entry make result
+            ≡ entering_held self.now.limits self.now.state t thread.now reference (Some hold) make }
     {
         if hold.owner != t {
             let on = BlockedOn::Monitor {
@@ -76,7 +77,8 @@ impl<'p> Parts<'p> {
 
     /// Decides the entry of an object's monitor.
     pub fn entering(&self, t: ThreadId, thread: &Thread, reference: u32) -> Entering<'p>
-        ensures { (make : Used → TurnDecision) → turn_by_entry make result ≡ entering self.now.limits self.now.state t thread.now reference make }
+        ensures { (make : Used → TurnDecision) → turn_by_entry make result
+            ≡ entering self.now.limits self.now.state t thread.now reference make }
     {
         match self.monitor(reference) {
             None => Entering::Enters(MonitorUse {
@@ -103,7 +105,8 @@ impl<'p> Parts<'p> {
 
     /// Decides the locking of an existing object by a call.
     fn object_locking(&self, t: ThreadId, thread: &Thread, reference: u32) -> Locking<'p>
-        ensures { (make : Locked → TurnDecision) → turn_by_lock make result ≡ object_locking self.now.limits self.now.state t thread.now (Some reference) make }
+        ensures { (make : Locked → TurnDecision) → turn_by_lock make result
+            ≡ object_locking self.now.limits self.now.state t thread.now (Some reference) make }
     {
         match self.entering(t, thread, reference) {
             Entering::Enters(monitor) => Locking::Locks(Lock::Monitor(monitor)),
@@ -119,7 +122,8 @@ impl<'p> Parts<'p> {
         class: usize,
         held: Option<u32>,
     ) -> Locking<'p>
-        ensures { (make : Locked → TurnDecision) → turn_by_lock make result ≡ class_locking self.now.limits self.now.state t thread.now class held make }
+        ensures { (make : Locked → TurnDecision) → turn_by_lock make result
+            ≡ class_locking self.now.limits self.now.state t thread.now class held make }
     {
         match held {
             Some(reference) => self.object_locking(t, thread, reference),
@@ -136,7 +140,8 @@ impl<'p> Parts<'p> {
 
     /// Returns the object of the class of a number, if it exists.
     fn class_object(&self, class: usize) -> Option<u32>
-        ensures { result ≡ class_reference self.now.state.heap (class_name_at self.now.program class) }
+        ensures { result
+            ≡ class_reference self.now.state.heap (class_name_at self.now.program class) }
     {
         match self.program().class(class) {
             None => self.heap.class_reference(&[]),
@@ -153,7 +158,9 @@ impl<'p> Parts<'p> {
         method: &Method,
         receiver: Option<u32>,
     ) -> Locking<'p>
-        ensures { (make : Locked → TurnDecision) → turn_by_lock make result ≡ locking self.now.program self.now.limits self.now.state t thread.now n method.now receiver make }
+        ensures { (make : Locked → TurnDecision)
+            → turn_by_lock make result ≡ locking self.now.program self.now.limits
+            self.now.state t thread.now n method.now receiver make }
     {
         if !method.flags.is_synchronized {
             return Locking::Locks(Lock::Nothing);
@@ -169,7 +176,9 @@ impl<'p> Parts<'p> {
 
     /// Decides how a call leaves the monitor of its frame, if it has one.
     pub fn unlocking(&self, t: ThreadId, frame: &Frame) -> Unlocking
-        ensures { (fails : TurnDecision) (make : Option Used → TurnDecision) → turn_by_exit fails make result ≡ unlocking self.now.state t frame.now.monitor fails make }
+        ensures { (fails : TurnDecision) (make : Option Used → TurnDecision)
+            → turn_by_exit fails make result
+            ≡ unlocking self.now.state t frame.now.monitor fails make }
     {
         match frame.monitor() {
             None => Unlocking::Leaves(None),
@@ -182,7 +191,8 @@ impl<'p> Parts<'p> {
 
     /// Returns the decision that the top call fails to leave its monitor, with an `IllegalMonitorStateException`.
     pub fn fails_to_unlock(&self, thread: &Thread, frame: &Frame) -> Decided<'p>
-        ensures { seen result ≡ fails self.now.limits self.now.state frame.now.method (drop 1 thread.now.frames) }
+        ensures { seen result
+            ≡ fails self.now.limits self.now.state frame.now.method (drop 1 thread.now.frames) }
     {
         Decision::Makes(Action::FailsToUnlock {
             method: frame.method(),

@@ -78,7 +78,8 @@ fn fields_without_objects<'p>(
     heap: &Heap<'p>,
     statics: &Statics<'p>,
 ) -> Result<(Heap<'p>, Statics<'p>), AllocError>
-    ensures { IfOk result (λ made. (made.0 ≡ empty_heap heap.now.program) × (made.1 ≡ statics.now)) }
+    ensures { IfOk result
+        (λ made. (made.0 ≡ empty_heap heap.now.program) × (made.1 ≡ statics.now)) }
 {
     let empty = Heap::empty(alloc, heap.program())?;
     Ok((empty, statics.copy(alloc)?))

@@ -21,7 +21,8 @@ impl Parts<'_> {
     pub fn throw(&mut self, exception: Exception) -> Result<u32, AllocError>
         requires { HasReference self.old.state }
         ensures reference { IfOk result (λ r. r ≡ exception_reference self.old.state exception) }
-        ensures state { OnOk result (self.new ≡ with_state self.old (with_exception self.old.program self.old.state exception)) }
+        ensures state { OnOk result (self.new
+            ≡ with_state self.old (with_exception self.old.program self.old.state exception)) }
         ensures kept { OnErr result (self.new ≡ self.old) }
         ensures none { IsTrue (is_held exception) → IsOk result }
     {

@@ -24,8 +24,10 @@ impl Parts<'_> {
         reference: u32,
         trace: &mut Recording,
     ) -> Result<(), AllocError>
-        ensures state { OnOk result (self.new ≡ with_state self.old (with_waiter self.old.state t reference)) }
-        ensures items { OnOk result (trace.new ≡ recorded trace.old (item.Release t reference ∷ [])) }
+        ensures state { OnOk result
+            (self.new ≡ with_state self.old (with_waiter self.old.state t reference)) }
+        ensures items { OnOk result
+            (trace.new ≡ recorded trace.old (item.Release t reference ∷ [])) }
         ensures kept { OnErr result (self.new ≡ self.old) }
         ensures no_items { OnErr result (trace.new ≡ trace.old) }
     {
@@ -52,8 +54,10 @@ impl Parts<'_> {
         wait: Wait,
         trace: &mut Recording,
     ) -> Result<(), AllocError>
-        ensures state { OnOk result (self.new ≡ with_state self.old (with_retaken self.old.state t wait)) }
-        ensures items { OnOk result (trace.new ≡ recorded trace.old (item.Acquire t wait.reference ∷ [])) }
+        ensures state { OnOk result
+            (self.new ≡ with_state self.old (with_retaken self.old.state t wait)) }
+        ensures items { OnOk result
+            (trace.new ≡ recorded trace.old (item.Acquire t wait.reference ∷ [])) }
         ensures kept { OnErr result (self.new ≡ self.old) }
         ensures no_items { OnErr result (trace.new ≡ trace.old) }
     {
@@ -72,7 +76,8 @@ impl Parts<'_> {
 
     /// Notifies the thread that has waited longest for an object, or all that wait for it. Takes no memory.
     pub fn notify(&mut self, reference: u32, all: bool)
-        ensures { self.new ≡ with_state self.old (affected self.old.program self.old.state 0 [] (effects.Notifies reference all)) }
+        ensures { self.new ≡ with_state self.old
+            (affected self.old.program self.old.state 0 [] (effects.Notifies reference all)) }
     {
         self.waiters.notify(reference, all);
     }

@@ -15,8 +15,9 @@ ghost use Rattle.needs.specs.Outside.{is_outside};
 /// Proves that the turn of a program's method at an instruction outside of the profile stops with OutOfProfile,
 /// whatever the operands are.
 pub fn a_turn_outside_of_the_profile_stops()
-    ensures { (program : List Class) (limits : Limits) (s : State) (t : ℕ) (thread : Thread) (frame : MethodFrame)
-        (below : List Frame) (m : Method) (i : Instruction) →
-        method_at program frame.method ≡ Some m → is_outside i ≡ true →
-        frame_turn_decision program limits s t thread frame below (Some i) ≡ bad cause.OutOfProfile }
+    ensures { (program : List Class) (limits : Limits) (s : State) (t : ℕ) (thread : Thread)
+        (frame : MethodFrame) (below : List Frame) (m : Method) (i : Instruction)
+        → method_at program frame.method ≡ Some m → is_outside i ≡ true
+        → frame_turn_decision program limits s t thread frame below (Some i)
+        ≡ bad cause.OutOfProfile }
 {}

@@ -46,8 +46,8 @@ fn put_named(
     class: Option<&[u16]>,
     member: Option<(&[u16], &[u16])>,
 ) -> Result<(), AllocError>
-    ensures { OnOk result (string_bytes out.new ≡ string_bytes out.old
-        ++ named_text lack (option_map (λ c. c.now) class.entry) (option_map (λ m. (m.0.now, m.1.now)) member.entry)) }
+    ensures { OnOk result (string_bytes out.new ≡ string_bytes out.old ++ named_text lack
+        (option_map (λ c. c.now) class.entry) (option_map (λ m. (m.0.now, m.1.now)) member.entry)) }
 {
     let Some(class) = class else {
         return Ok(());
@@ -61,8 +61,8 @@ fn put_named(
 
 /// Returns the hint why a compiler may have added an instruction.
 fn hint_text(lack: Lack, class: Option<&[u16]>, member: Option<(&[u16], &[u16])>) -> &'static str
-    ensures { result.now
-        ≡ hint_text lack (option_map (λ c. c.now) class.entry) (option_map (λ m. (m.0.now, m.1.now)) member.entry) }
+    ensures { result.now ≡ hint_text lack (option_map (λ c. c.now) class.entry)
+        (option_map (λ m. (m.0.now, m.1.now)) member.entry) }
 {
     match (class, member) {
         (None, _) => unnamed_hint(lack),
@@ -78,8 +78,8 @@ pub(crate) fn put_reason_of(
     class: Option<&[u16]>,
     member: Option<(&[u16], &[u16])>,
 ) -> Result<(), AllocError>
-    ensures { OnOk result (string_bytes out.new ≡ string_bytes out.old
-        ++ reason_of lack (option_map (λ c. c.now) class.entry) (option_map (λ m. (m.0.now, m.1.now)) member.entry)) }
+    ensures { OnOk result (string_bytes out.new ≡ string_bytes out.old ++ reason_of lack
+        (option_map (λ c. c.now) class.entry) (option_map (λ m. (m.0.now, m.1.now)) member.entry)) }
 {
     out.push_str(lack_name(lack))?;
     put_named(out, lack, class, member)?;
@@ -88,7 +88,8 @@ pub(crate) fn put_reason_of(
 
 /// Appends the reason why an instruction can't run.
 fn put_reason(out: &mut String, lack: Lack, instruction: &Instruction) -> Result<(), AllocError>
-    ensures { OnOk result (string_bytes out.new ≡ string_bytes out.old ++ reason_text lack instruction.now) }
+    ensures { OnOk result
+        (string_bytes out.new ≡ string_bytes out.old ++ reason_text lack instruction.now) }
 {
     let class = class_named(instruction);
     let member = member_named(instruction);
@@ -138,8 +139,8 @@ fn put_place_of(
     method: &NumberedMethod,
     place: usize,
 ) -> Result<(), AllocError>
-    ensures { OnOk result (string_bytes out.new ≡ string_bytes out.old
-        ++ place_text sources.now.first sources.now.files.now method.now.number method.now.key place) }
+    ensures { OnOk result (string_bytes out.new ≡ string_bytes out.old ++ place_text
+        sources.now.first sources.now.files.now method.now.number method.now.key place) }
 {
     put_instruction(out, &method.key, place)?;
     put_place(out, sources, method.number, place)?;
@@ -156,9 +157,9 @@ pub(crate) fn put_need_line(
     instruction: &Instruction,
     lack: Lack,
 ) -> Result<(), AllocError>
-    ensures { OnOk result (string_bytes out.new ≡ string_bytes out.old
-        ++ need_line (place_text sources.now.first sources.now.files.now method.now.number method.now.key place)
-        instruction.now lack) }
+    ensures { OnOk result
+        (string_bytes out.new ≡ string_bytes out.old ++ need_line (place_text sources.now.first
+        sources.now.files.now method.now.number method.now.key place) instruction.now lack) }
 {
     put_place_of(out, sources, method, place)?;
     put_reason(out, lack, instruction)?;

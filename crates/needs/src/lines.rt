@@ -37,8 +37,8 @@ fn put_instruction(
     place: usize,
     instruction: &Instruction,
 ) -> Result<(), AllocError>
-    ensures { OnOk result (string_bytes out.new ≡ string_bytes out.old
-        ++ line_if (place_text sources.now.first sources.now.files.now method.now.number method.now.key place)
+    ensures { OnOk result (string_bytes out.new ≡ string_bytes out.old ++ line_if
+        (place_text sources.now.first sources.now.files.now method.now.number method.now.key place)
         instruction.now (lack_of program.now instruction.now)) }
 {
     match lack_of(program, instruction) {
@@ -75,7 +75,8 @@ fn put_body(
     body: &Option<Body>,
 ) -> Result<(), AllocError>
     ensures { OnOk result (string_bytes out.new ≡ string_bytes out.old ++ body_lines program.now
-        (place_text sources.now.first sources.now.files.now method.now.number method.now.key) body.now) }
+        (place_text sources.now.first sources.now.files.now method.now.number method.now.key)
+        body.now) }
 {
     match body {
         None => Ok(()),

@@ -20,7 +20,8 @@ use std::alloc::{AllocError, Global};
 
 /// Appends the line of a missing superclass or superinterface.
 fn put_super_line(out: &mut String, class: &[u16], name: &[u16]) -> Result<(), AllocError>
-    ensures { OnOk result (string_bytes out.new ≡ string_bytes out.old ++ super_line class.now name.now) }
+    ensures { OnOk result
+        (string_bytes out.new ≡ string_bytes out.old ++ super_line class.now name.now) }
 {
     put_name(out, class)?;
     out.push_str(" ")?;

@@ -79,7 +79,8 @@ fn word_of(is_atomic: bool) -> &'static str
 
 /// Appends a pattern.
 fn put_pattern(out: &mut String, pattern: &Pattern) -> Result<(), AllocError>
-    ensures { OnOk result (string_bytes out.new ≡ string_bytes out.old ++ pattern_text pattern.now) }
+    ensures { OnOk result
+        (string_bytes out.new ≡ string_bytes out.old ++ pattern_text pattern.now) }
 {
     match pattern {
         Pattern::All => out.push_str("*"),

@@ -22,7 +22,11 @@ impl Model for Names {
 
     ghost Value = { Named };
 
-    ghost view = { λ n. record { threads = n.threads.items; references = n.references.items; classes = n.classes.items } };
+    ghost view = { λ n. record {
+      threads = n.threads.items;
+      references = n.references.items;
+      classes = n.classes.items;
+    } };
 }
 
 impl Names {
@@ -101,7 +105,11 @@ impl<'n> Model for NamesLeft<'n> {
 
     ghost Value = { Named };
 
-    ghost view = { λ n. record { threads = n.threads.now; references = n.references.now; classes = n.classes.now } };
+    ghost view = { λ n. record {
+      threads = n.threads.now;
+      references = n.references.now;
+      classes = n.classes.now;
+    } };
 }
 
 impl<'n> NamesLeft<'n> {

@@ -51,8 +51,10 @@ impl Entries {
     pub(crate) fn constant(&mut self, entry: Entry) -> Result<u16, EntryFault>
         requires short { IsShort (constant_of entry) }
         requires proper { IsProper (constant_of entry) }
-        ensures exact { Gives (constant_entry (pool_of self.old) (constant_of entry)) result (pool_of self.new) }
-        ensures names { IfOk result (λ n. entry_at (pool_of self.new) n ≡ Some (constant_of entry)) }
+        ensures exact { Gives (constant_entry (pool_of self.old) (constant_of entry)) result
+            (pool_of self.new) }
+        ensures names { IfOk result
+            (λ n. entry_at (pool_of self.new) n ≡ Some (constant_of entry)) }
         ensures kept { IsKept (pool_of self.old) (pool_of self.new) }
     {
         Ok(self.builder.intern(entry)?)
@@ -87,7 +89,8 @@ impl Entries {
     /// Returns the number of a string's entry, and appends it if it isn't there (JVMS 4.4.3).
     #[tactic(auto, unfolding(crate::specs::Entries::string_entry))]
     pub fn string(&mut self, alloc: Global, units: &[u16]) -> Result<u16, EntryFault>
-        ensures exact { Gives (string_entry (pool_of self.old) units.now) result (pool_of self.new) }
+        ensures exact { Gives (string_entry (pool_of self.old) units.now) result
+            (pool_of self.new) }
         ensures names { IfOk result (λ n. IsString (pool_of self.new) n units.now) }
         ensures kept { IsKept (pool_of self.old) (pool_of self.new) }
     {
@@ -98,7 +101,8 @@ impl Entries {
     /// Returns the number of an int's entry, and appends it if it isn't there (JVMS 4.4.4).
     pub fn integer(&mut self, number: i32) -> Result<u16, EntryFault>
         ensures exact { Gives (integer_entry (pool_of self.old) number) result (pool_of self.new) }
-        ensures names { IfOk result (λ n. entry_at (pool_of self.new) n ≡ Some (constant.Integer number)) }
+        ensures names { IfOk result
+            (λ n. entry_at (pool_of self.new) n ≡ Some (constant.Integer number)) }
         ensures kept { IsKept (pool_of self.old) (pool_of self.new) }
     {
         self.constant(Entry::Integer(number))
@@ -108,7 +112,8 @@ impl Entries {
     /// 4.4.5).
     pub fn long(&mut self, number: i64) -> Result<u16, EntryFault>
         ensures exact { Gives (long_entry (pool_of self.old) number) result (pool_of self.new) }
-        ensures names { IfOk result (λ n. entry_at (pool_of self.new) n ≡ Some (constant.Long number)) }
+        ensures names { IfOk result
+            (λ n. entry_at (pool_of self.new) n ≡ Some (constant.Long number)) }
         ensures kept { IsKept (pool_of self.old) (pool_of self.new) }
     {
         self.constant(Entry::Long(number))

@@ -14,9 +14,15 @@ pub fn keeping_is_transitive()
 
 /// Proves that a number names the same in each pool that keeps the entries.
 pub fn names_are_kept()
-    ensures texts { (old new : List Constant) (n : ℕ) (text : List ℕ) → IsKept old new → utf8_at old n ≡ Some text → utf8_at new n ≡ Some text }
-    ensures classes { (old new : List Constant) (n : ℕ) (name : List ℕ) → IsKept old new → class_name_at old n ≡ Some name → class_name_at new n ≡ Some name }
-    ensures names_and_types { (old new : List Constant) (n : ℕ) (pair : List ℕ × List ℕ) → IsKept old new → name_and_type_at old n ≡ Some pair → name_and_type_at new n ≡ Some pair }
-    ensures strings { (old new : List Constant) (n : ℕ) (text : List ℕ) → IsKept old new → IsString old n text → IsString new n text }
-    ensures members { (make : ℕ → ℕ → Constant) (old new : List Constant) (n : ℕ) (class name descriptor : List ℕ) → IsKept old new → IsMember make old n class name descriptor → IsMember make new n class name descriptor }
+    ensures texts { (old new : List Constant) (n : ℕ) (text : List ℕ)
+        → IsKept old new → utf8_at old n ≡ Some text → utf8_at new n ≡ Some text }
+    ensures classes { (old new : List Constant) (n : ℕ) (name : List ℕ) → IsKept old new
+        → class_name_at old n ≡ Some name → class_name_at new n ≡ Some name }
+    ensures names_and_types { (old new : List Constant) (n : ℕ) (pair : List ℕ × List ℕ)
+        → IsKept old new → name_and_type_at old n ≡ Some pair → name_and_type_at new n ≡ Some pair }
+    ensures strings { (old new : List Constant) (n : ℕ) (text : List ℕ)
+        → IsKept old new → IsString old n text → IsString new n text }
+    ensures members { (make : ℕ → ℕ → Constant) (old new : List Constant)
+        (n : ℕ) (class name descriptor : List ℕ) → IsKept old new
+        → IsMember make old n class name descriptor → IsMember make new n class name descriptor }
 {}

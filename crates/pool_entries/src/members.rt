@@ -24,8 +24,10 @@ impl Entries {
         name: &[u16],
         descriptor: &[u16],
     ) -> Result<u16, EntryFault>
-        ensures exact { Gives (name_and_type_entry (pool_of self.old) name.now descriptor.now) result (pool_of self.new) }
-        ensures names { IfOk result (λ n. name_and_type_at (pool_of self.new) n ≡ Some (name.now, descriptor.now)) }
+        ensures exact { Gives (name_and_type_entry (pool_of self.old) name.now descriptor.now)
+            result (pool_of self.new) }
+        ensures names { IfOk result
+            (λ n. name_and_type_at (pool_of self.new) n ≡ Some (name.now, descriptor.now)) }
         ensures kept { IsKept (pool_of self.old) (pool_of self.new) }
     {
         let name = self.text(alloc, name)?;
@@ -42,8 +44,10 @@ impl Entries {
         name: &[u16],
         descriptor: &[u16],
     ) -> Result<u16, EntryFault>
-        ensures exact { Gives (field_entry (pool_of self.old) class.now name.now descriptor.now) result (pool_of self.new) }
-        ensures names { IfOk result (λ n. IsMember (λ c m. constant.Field c m) (pool_of self.new) n class.now name.now descriptor.now) }
+        ensures exact { Gives (field_entry (pool_of self.old) class.now name.now descriptor.now)
+            result (pool_of self.new) }
+        ensures names { IfOk result (λ n. IsMember (λ c m. constant.Field c m)
+            (pool_of self.new) n class.now name.now descriptor.now) }
         ensures kept { IsKept (pool_of self.old) (pool_of self.new) }
     {
         let owner = self.class(alloc, class)?;
@@ -65,8 +69,10 @@ impl Entries {
         name: &[u16],
         descriptor: &[u16],
     ) -> Result<u16, EntryFault>
-        ensures exact { Gives (method_entry kind (pool_of self.old) class.now name.now descriptor.now) result (pool_of self.new) }
-        ensures names { IfOk result (λ n. IsMember (method_constant kind) (pool_of self.new) n class.now name.now descriptor.now) }
+        ensures exact { Gives (method_entry kind
+            (pool_of self.old) class.now name.now descriptor.now) result (pool_of self.new) }
+        ensures names { IfOk result (λ n. IsMember (method_constant kind)
+            (pool_of self.new) n class.now name.now descriptor.now) }
         ensures kept { IsKept (pool_of self.old) (pool_of self.new) }
     {
         let class = self.class(alloc, class)?;

@@ -53,7 +53,8 @@ fn put_printed(out: &mut Vec<u8>, what: Printed, text: Option<&[u16]>) -> Result
         → OnOk result (out.new.items ≡ out.old.items ++ printed_bytes heap what) }
     ensures front { take (length out.old.items) out.new.items ≡ out.old.items }
     ensures err { OnErr result (out.new.items ≡ out.old.items) }
-    ensures none { (heap : List Object) → IsTheString heap what (option_copied text.entry) → printed_bytes heap what ≡ [] → IsOk result }
+    ensures none { (heap : List Object) → IsTheString heap what (option_copied text.entry)
+        → printed_bytes heap what ≡ [] → IsOk result }
 {
     match what {
         Printed::Nothing => Ok(()),
@@ -76,7 +77,8 @@ pub fn put_line(
         → OnOk result (out.new.items ≡ out.old.items ++ line_bytes heap what ends_line) }
     ensures err { OnErr result (out.new.items ≡ out.old.items) }
     // Output without bytes doesn't fail.
-    ensures none { (heap : List Object) → IsTheString heap what (option_copied text.entry) → line_bytes heap what ends_line ≡ [] → IsOk result }
+    ensures none { (heap : List Object) → IsTheString heap what (option_copied text.entry)
+        → line_bytes heap what ends_line ≡ [] → IsOk result }
 {
     let before = out.len();
     put_printed(out, what, text)?;

@@ -47,7 +47,8 @@ impl Program {
     /// Selects the method for a call of the method at a place, from the class of a name up its superclasses. A private
     /// method is itself selected.
     pub fn select_from(&self, class: &[u16], place: (usize, usize)) -> Option<(usize, usize)>
-        ensures { (found : ResolvedMethod) → IsMethodAt self.now found place → LocatesItem (IsMethodAt self.now) (selected_from self.now class.now found) result }
+        ensures { (found : ResolvedMethod) → IsMethodAt self.now found place
+            → LocatesItem (IsMethodAt self.now) (selected_from self.now class.now found) result }
     {
         self.by_name.select_from(class, place)
     }
@@ -61,7 +62,8 @@ impl Program {
         r: &MethodReference,
         place: (usize, usize),
     ) -> Option<(usize, usize)>
-        ensures { (found : ResolvedMethod) → IsMethodAt self.now found place → LocatesItem (IsMethodAt self.now) (selected_special self.now current.now r.now found) result }
+        ensures { (found : ResolvedMethod) → IsMethodAt self.now found place → LocatesItem
+            (IsMethodAt self.now) (selected_special self.now current.now r.now found) result }
     {
         self.by_name.select_special(current, r, place)
     }

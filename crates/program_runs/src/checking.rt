@@ -39,7 +39,8 @@ fn check_some(
     requires fed { MayFollow checker.old
         (run_of machine.old (choices_from most chooser.old machine.old)).items }
     ensures count { IfOk result (λ n. n ≡ length (choices_from most chooser.old machine.old)) }
-    ensures chooser { OnOk result (chooser.new ≡ chooser_after_choices most chooser.old machine.old) }
+    ensures chooser { OnOk result
+        (chooser.new ≡ chooser_after_choices most chooser.old machine.old) }
     ensures state { OnOk result (machine.new ≡ with_state machine.old
         (run_of machine.old (choices_from most chooser.old machine.old)).state) }
     ensures fed { OnOk result (checker.new ≡ with_items
@@ -67,7 +68,8 @@ pub fn check_turns(
     requires opened { IsOpened machine.old }
     requires fresh { checker.old.items ≡ [] }
     ensures count { IfOk result (λ n. n ≡ length (choices_from most chooser.old machine.old)) }
-    ensures chooser { OnOk result (chooser.new ≡ chooser_after_choices most chooser.old machine.old) }
+    ensures chooser { OnOk result
+        (chooser.new ≡ chooser_after_choices most chooser.old machine.old) }
     // Machine and items are those of the run of these choices, by the instruction table.
     ensures state { OnOk result (machine.new ≡ with_state machine.old
         (run_of machine.old (choices_from most chooser.old machine.old)).state) }
@@ -101,7 +103,8 @@ fn check_machine(
     ensures ending { IfOk result (λ ending. ending ≡ ending_of most chooser.old machine.old) }
     ensures fed { OnOk result (checker.new
         ≡ with_items (view_of_run most chooser.old machine.old).items checker.old) }
-    ensures chooser { OnOk result (chooser.new ≡ chooser_after_choices most chooser.old machine.old) }
+    ensures chooser { OnOk result
+        (chooser.new ≡ chooser_after_choices most chooser.old machine.old) }
     ensures memory { IfErr result (λ fault. fault ≡ ProgramFault.Memory) }
 {
     let turns = check_turns(alloc, machine, chooser, most, checker)?;
@@ -140,8 +143,8 @@ pub fn feed_program(
     ensures ending { IfOk result (λ ending.
         HasEnding (view_of_program most chooser.old limits program.now entry.now) ending) }
     // The checker was fed the items of that run.
-    ensures fed { OnOk result (IsFedWith (view_of_program most chooser.old limits program.now entry.now)
-        checker.old.lines checker.new) }
+    ensures fed { OnOk result (IsFedWith (view_of_program most chooser.old
+        limits program.now entry.now) checker.old.lines checker.new) }
     // The chooser is then the one after its choices.
     ensures chooser { OnOk result
         (program_chooser_left most chooser.old limits program.now entry.now ≡ Ok chooser.new) }
@@ -166,7 +169,8 @@ fn judge_machine(
     ensures ending { IfOk result (λ run. run.ending ≡ ending_of most chooser.old machine.old) }
     ensures judgement { IfOk result (λ run.
         IsJudgementBy spec (view_of_run most chooser.old machine.old).items run.judgement) }
-    ensures chooser { OnOk result (chooser.new ≡ chooser_after_choices most chooser.old machine.old) }
+    ensures chooser { OnOk result
+        (chooser.new ≡ chooser_after_choices most chooser.old machine.old) }
     ensures memory { IfErr result (λ fault. fault ≡ ProgramFault.Memory) }
 {
     let mut checker = Checker::new(alloc, spec)?;

@@ -22,7 +22,8 @@ fn run_machine(
     most: u64,
 ) -> Result<Ending, ProgramFault>
     ensures ending { IfOk result (λ ending. ending ≡ ending_of most chooser.old machine.old) }
-    ensures chooser { OnOk result (chooser.new ≡ chooser_after_choices most chooser.old machine.old) }
+    ensures chooser { OnOk result
+        (chooser.new ≡ chooser_after_choices most chooser.old machine.old) }
     ensures memory { IfErr result (λ fault. fault ≡ ProgramFault.Memory) }
 {
     let ending = run_to_end(alloc, machine, chooser, most)?;

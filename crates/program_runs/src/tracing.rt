@@ -36,9 +36,11 @@ fn trace_machine(
     chooser: &mut Chooser,
     most: u64,
 ) -> Result<TracedRun, ProgramFault>
-    ensures shown { IfOk result (λ run. view_of_traced run ≡ view_of_run most chooser.old machine.old) }
+    ensures shown { IfOk result
+        (λ run. view_of_traced run ≡ view_of_run most chooser.old machine.old) }
     ensures turns { IfOk result (λ run. run.ending.turns ≡ length run.choices) }
-    ensures chooser { OnOk result (chooser.new ≡ chooser_after_choices most chooser.old machine.old) }
+    ensures chooser { OnOk result
+        (chooser.new ≡ chooser_after_choices most chooser.old machine.old) }
     ensures memory { IfErr result (λ fault. fault ≡ ProgramFault.Memory) }
 {
     let mut recording = Recording::of(Trace::new(alloc));

@@ -11,7 +11,7 @@ use Rattle.escapes.specs.Keys.{method_text}
 use Rattle.velodrome.specs.declared.verdict.ConflictingPair.{ConflictingPair}
 use Rattle.velodrome.specs.declared.verdict.Verdict.{Verdict}
 use Rattle.velodrome.specs.declared.verdict.Verdict.TheVariants as verdict
-use Rattle.velodrome.specs.Conflicts.{thread_of}
+use Rattle.jvms_machine.specs.Events.{thread_of}
 use Rattle.velodrome.specs.Specification.{Specification, is_atomic}
 use Rattle.velodrome.specs.Transactions.{TraceState, is_event, walk}
 

@@ -27,8 +27,9 @@ enum Mark<'a> {
 
 /// Returns the change that an item makes to the open methods of a thread.
 fn mark_of(item: &Item, thread: ThreadId) -> Mark<'_>
-    ensures { (lines : Specification) (w : TraceState) →
-        ((state_after_item lines w item.now).courses thread).methods ≡ methods_after result (w.courses thread).methods }
+    ensures { (lines : Specification) (w : TraceState)
+        → ((state_after_item lines w item.now).courses thread).methods
+        ≡ methods_after result (w.courses thread).methods }
 {
     if thread_of(item) != thread {
         return Mark::Nothing;
@@ -78,7 +79,8 @@ fn open_methods(
 
 /// Returns the first of these methods that a checker's specification calls atomic.
 fn first_atomic<'a>(checker: &Checker, methods: &[&'a MethodKey]) -> Option<&'a MethodKey>
-    ensures { option_map (λ m. m.now) result ≡ find (is_atomic checker.now.lines) (map (λ m. m.now) methods.now) }
+    ensures { option_map (λ m. m.now) result
+        ≡ find (is_atomic checker.now.lines) (map (λ m. m.now) methods.now) }
 {
     for method in methods {
         if checker.is_atomic(*method) {
@@ -90,7 +92,8 @@ fn first_atomic<'a>(checker: &Checker, methods: &[&'a MethodKey]) -> Option<&'a 
 
 /// Returns the innermost of open methods, the innermost last.
 fn innermost(methods: Vec<&MethodKey>) -> Option<&MethodKey>
-    ensures { option_map (λ m. m.now) result ≡ slice_get (reverse (map (λ m. m.now) methods.entry.items)) 0 }
+    ensures { option_map (λ m. m.now) result
+        ≡ slice_get (reverse (map (λ m. m.now) methods.entry.items)) 0 }
 {
     let mut methods = methods;
     methods.pop()
@@ -104,8 +107,8 @@ pub(crate) fn naming_method<'a>(
     place: usize,
     thread: ThreadId,
 ) -> Result<Option<&'a MethodKey>, AllocError>
-    ensures { IfOk result (λ method. option_map (λ m. m.now) method ≡ naming_method checker.now.lines
-        (open_methods checker.now.lines (take place checker.now.items) thread)) }
+    ensures { IfOk result (λ method. option_map (λ m. m.now) method ≡ naming_method
+        checker.now.lines (open_methods checker.now.lines (take place checker.now.items) thread)) }
 {
     let methods = open_methods(alloc, first(checker.items(), place), thread)?;
     let atomic = first_atomic(checker, methods.as_slice());

@@ -17,7 +17,8 @@ const MOST_EXPLAINED: usize = 64;
 
 /// Appends the last of a transaction's events, unless it is also the first.
 fn put_last(out: &mut String, told: &Told<'_>, first: u64, last: u64) -> Result<(), AllocError>
-    ensures { OnOk result (string_bytes out.new ≡ string_bytes out.old ++ last_text told.now.turns first (Some last)) }
+    ensures { OnOk result (string_bytes out.new
+        ≡ string_bytes out.old ++ last_text told.now.turns first (Some last)) }
 {
     if last == first {
         return Ok(());
@@ -33,7 +34,8 @@ fn put_span(
     told: &Told<'_>,
     numbers: &[u64],
 ) -> Result<(), AllocError>
-    ensures { OnOk result (string_bytes out.new ≡ string_bytes out.old ++ span_of told.now numbers.now) }
+    ensures { OnOk result
+        (string_bytes out.new ≡ string_bytes out.old ++ span_of told.now numbers.now) }
 {
     let (Some(first), Some(last)) = (numbers.first(), numbers.last()) else {
         return Ok(());
@@ -51,7 +53,8 @@ fn put_transaction(
     told: &Told<'_>,
     transaction: u64,
 ) -> Result<(), AllocError>
-    ensures { OnOk result (string_bytes out.new ≡ string_bytes out.old ++ transaction_line told.now transaction) }
+    ensures { OnOk result
+        (string_bytes out.new ≡ string_bytes out.old ++ transaction_line told.now transaction) }
 {
     let numbers = told.numbers_of(alloc, transaction)?;
     put_counted(out, "transaction ", transaction)?;
@@ -66,7 +69,8 @@ fn put_transactions(
     told: &Told<'_>,
     transactions: &[u64],
 ) -> Result<(), AllocError>
-    ensures { OnOk result (string_bytes out.new ≡ string_bytes out.old ++ flat_map (transaction_line told.now) transactions.now) }
+    ensures { OnOk result (string_bytes out.new
+        ≡ string_bytes out.old ++ flat_map (transaction_line told.now) transactions.now) }
 {
     for transaction in transactions {
         put_transaction(alloc, out, told, *transaction)?;
@@ -82,7 +86,8 @@ fn put_edge(
     to: u64,
     pair: ConflictingPair,
 ) -> Result<(), AllocError>
-    ensures { OnOk result (string_bytes out.new ≡ string_bytes out.old ++ edge_lines told.now from to pair) }
+    ensures { OnOk result
+        (string_bytes out.new ≡ string_bytes out.old ++ edge_lines told.now from to pair) }
 {
     put_number(out, from)?;
     put_counted(out, " before ", to)?;
@@ -111,7 +116,8 @@ fn put_edge_at(
     place: usize,
 ) -> Result<(), AllocError>
     requires { place < length transactions.now }
-    ensures { OnOk result (string_bytes out.new ≡ string_bytes out.old ++ edge_at told.now transactions.now pairs.now place) }
+    ensures { OnOk result (string_bytes out.new
+        ≡ string_bytes out.old ++ edge_at told.now transactions.now pairs.now place) }
 {
     let Some(to) = next_in(transactions, place) else {
         return Ok(());
@@ -129,7 +135,8 @@ fn put_edges(
     transactions: &[u64],
     pairs: &[ConflictingPair],
 ) -> Result<(), AllocError>
-    ensures { OnOk result (string_bytes out.new ≡ string_bytes out.old ++ all_edge_lines told.now transactions.now pairs.now) }
+    ensures { OnOk result (string_bytes out.new
+        ≡ string_bytes out.old ++ all_edge_lines told.now transactions.now pairs.now) }
 {
     for place in 0..transactions.len().min(MOST_EXPLAINED) {
         put_edge_at(out, told, transactions, pairs, place)?;
@@ -139,7 +146,8 @@ fn put_edges(
 
 /// Appends the number of transactions that aren't explained, if there are any.
 fn put_rest(out: &mut String, count: usize) -> Result<(), AllocError>
-    ensures { OnOk result (string_bytes out.new ≡ string_bytes out.old ++ rest_line (count - most_explained)) }
+    ensures { OnOk result
+        (string_bytes out.new ≡ string_bytes out.old ++ rest_line (count - most_explained)) }
 {
     if count <= MOST_EXPLAINED {
         return Ok(());
@@ -157,7 +165,8 @@ fn put_cycle(
     transactions: &[u64],
     pairs: &[ConflictingPair],
 ) -> Result<(), AllocError>
-    ensures { OnOk result (string_bytes out.new ≡ string_bytes out.old ++ cycle_lines told.now transactions.now pairs.now) }
+    ensures { OnOk result (string_bytes out.new
+        ≡ string_bytes out.old ++ cycle_lines told.now transactions.now pairs.now) }
 {
     put_transactions(alloc, out, told, first(transactions, MOST_EXPLAINED))?;
     put_edges(out, told, transactions, pairs)?;
@@ -176,8 +185,11 @@ pub fn explain(
     turns: &[u64],
     verdict: &Verdict,
 ) -> Result<String, AllocError>
-    ensures { IfOk result (λ text. string_bytes text
-        ≡ explanation (record { lines = checker.now.lines; items = checker.now.items; turns = turns.now }) verdict.now) }
+    ensures { IfOk result (λ text. string_bytes text ≡ explanation (record {
+      lines = checker.now.lines;
+      items = checker.now.items;
+      turns = turns.now;
+    }) verdict.now) }
 {
     let mut text = String::new(alloc);
     if let Verdict::Cycle {

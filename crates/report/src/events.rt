@@ -44,7 +44,8 @@ pub(crate) fn events_of_transaction(
     transaction: u64,
     transactions: &[u64],
 ) -> Result<Vec<u64>, AllocError>
-    ensures { IfOk result (λ numbers. numbers.items ≡ events_of_transaction transaction transactions.now) }
+    ensures { IfOk result
+        (λ numbers. numbers.items ≡ events_of_transaction transaction transactions.now) }
 {
     let mut numbers = Vec::new(alloc);
     for (place, other) in transactions.iter().enumerate() {

@@ -17,7 +17,8 @@ pub(crate) fn put_number(out: &mut String, number: u64) -> Result<(), AllocError
 
 /// Appends a word and a number in decimal.
 pub(crate) fn put_counted(out: &mut String, word: &str, number: u64) -> Result<(), AllocError>
-    ensures { OnOk result (string_bytes out.new ≡ string_bytes out.old ++ word.now ++ decimal number) }
+    ensures { OnOk result
+        (string_bytes out.new ≡ string_bytes out.old ++ word.now ++ decimal number) }
 {
     out.push_str(word)?;
     put_number(out, number)

@@ -26,7 +26,8 @@ fn events_of<'i>(alloc: Global, items: &'i [Item]) -> Result<Vec<&'i Item>, Allo
 
 /// Appends an event with its number to a text.
 fn put_numbered(out: &mut String, number: u64, item: &Item) -> Result<(), AllocError>
-    ensures { OnOk result (string_bytes out.new ≡ string_bytes out.old ++ event_line number (Some item.now)) }
+    ensures { OnOk result
+        (string_bytes out.new ≡ string_bytes out.old ++ event_line number (Some item.now)) }
 {
     put_number(out, number)?;
     out.push_str(" ")?;
@@ -36,7 +37,8 @@ fn put_numbered(out: &mut String, number: u64, item: &Item) -> Result<(), AllocE
 
 /// Appends the line of event `number` to a text, or nothing if there is no such event.
 fn put_event(out: &mut String, events: &[&Item], number: u64) -> Result<(), AllocError>
-    ensures { OnOk result (string_bytes out.new ≡ string_bytes out.old ++ event_line number (slice_get (map (λ e. e.now) events.now) (number - 1))) }
+    ensures { OnOk result (string_bytes out.new ≡ string_bytes out.old
+        ++ event_line number (slice_get (map (λ e. e.now) events.now) (number - 1))) }
 {
     match events.get(number.saturating_sub(1) as usize) {
         Some(event) => put_numbered(out, number, *event),

@@ -4,7 +4,7 @@ ghost use Rattle.std.specs.Prelude.{◌≡◌, ◌-◌, ◌++◌, IfOk, OnOk, So
 ghost use Rattle.std.specs.Fmt.{decimal};
 ghost use Rattle.std.specs.Option.{option_map};
 ghost use Rattle.std.specs.String.{string_bytes};
-ghost use Rattle.velodrome.specs.Conflicts.{thread_of};
+ghost use Rattle.jvms_machine.specs.Events.{thread_of};
 ghost use Rattle.report.specs.CycleTexts.{actor_at, actor_text, event_line, event_name, events_of_transaction, in_method_text, item_at, item_part, open_methods, naming_method, place_of_event, transactions_of, turn_text};
 
 use crate::actor::naming_method;
@@ -36,7 +36,11 @@ impl<'a> Model for Told<'a> {
 
     ghost Value = { Explained };
 
-    ghost view = { λ t. record { lines = t.checker.now.lines; items = t.checker.now.items; turns = t.turns.now } };
+    ghost view = { λ t. record {
+      lines = t.checker.now.lines;
+      items = t.checker.now.items;
+      turns = t.turns.now;
+    } };
 
     ghost invariant = { λ t. t.places.items ≡ event_places t.checker.now.items };
 }
@@ -53,7 +57,8 @@ fn put_turn(out: &mut String, turn: Option<u64>) -> Result<(), AllocError>
 
 /// Appends the method that names a transaction, if there is one.
 fn put_in_method(out: &mut String, method: Option<&MethodKey>) -> Result<(), AllocError>
-    ensures { OnOk result (string_bytes out.new ≡ string_bytes out.old ++ in_method_text (option_map (λ m. m.now) method.entry)) }
+    ensures { OnOk result (string_bytes out.new
+        ≡ string_bytes out.old ++ in_method_text (option_map (λ m. m.now) method.entry)) }
 {
     match method {
         Some(method) => {
@@ -66,7 +71,8 @@ fn put_in_method(out: &mut String, method: Option<&MethodKey>) -> Result<(), All
 
 /// Appends an item's line, or the end of the line if there is no item.
 fn put_item_part(out: &mut String, item: Option<&Item>) -> Result<(), AllocError>
-    ensures { OnOk result (string_bytes out.new ≡ string_bytes out.old ++ item_part (option_copied item.entry)) }
+    ensures { OnOk result
+        (string_bytes out.new ≡ string_bytes out.old ++ item_part (option_copied item.entry)) }
 {
     match item {
         Some(item) => {
@@ -84,7 +90,8 @@ impl<'a> Told<'a> {
         checker: &'a Checker,
         turns: &'a [u64],
     ) -> Result<Self, AllocError>
-        ensures { IfOk result (λ t. t ≡ record { lines = checker.now.lines; items = checker.now.items; turns = turns.now }) }
+        ensures { IfOk result (λ t. t
+            ≡ record { lines = checker.now.lines; items = checker.now.items; turns = turns.now }) }
     {
         Ok(Told {
             checker,
@@ -95,7 +102,8 @@ impl<'a> Told<'a> {
 
     /// Returns the numbers of a transaction's events.
     pub(crate) fn numbers_of(&self, alloc: Global, transaction: u64) -> Result<Vec<u64>, AllocError>
-        ensures { IfOk result (λ numbers. numbers.items ≡ events_of_transaction transaction (transactions_of self.now)) }
+        ensures { IfOk result (λ numbers. numbers.items
+            ≡ events_of_transaction transaction (transactions_of self.now)) }
     {
         events_of_transaction(alloc, transaction, self.checker.transactions())
     }
@@ -120,7 +128,8 @@ impl<'a> Told<'a> {
 
     /// Returns event `number`.
     fn event(&self, number: u64) -> Option<&Item>
-        ensures { option_copied result ≡ item_at self.now.items (place_of_event self.now.items number) }
+        ensures { option_copied result
+            ≡ item_at self.now.items (place_of_event self.now.items number) }
     {
         match self.place_of_event(number) {
             Some(place) => self.item(place),
@@ -138,7 +147,8 @@ impl<'a> Told<'a> {
 
     /// Appends `event N` with its turn.
     pub(crate) fn put_event_name(&self, out: &mut String, number: u64) -> Result<(), AllocError>
-        ensures { OnOk result (string_bytes out.new ≡ string_bytes out.old ++ event_name self.now.turns number) }
+        ensures { OnOk result
+            (string_bytes out.new ≡ string_bytes out.old ++ event_name self.now.turns number) }
     {
         put_counted(out, "event ", number)?;
         put_turn(out, self.turn_of(number))?;
@@ -147,7 +157,8 @@ impl<'a> Told<'a> {
 
     /// Appends the line of an event.
     pub(crate) fn put_event_line(&self, out: &mut String, number: u64) -> Result<(), AllocError>
-        ensures { OnOk result (string_bytes out.new ≡ string_bytes out.old ++ event_line self.now number) }
+        ensures { OnOk result
+            (string_bytes out.new ≡ string_bytes out.old ++ event_line self.now number) }
     {
         out.push_str("  ")?;
         self.put_event_name(out, number)?;
@@ -156,7 +167,8 @@ impl<'a> Told<'a> {
 
     /// Appends the thread of the item at a place, and the method that names its transaction.
     fn put_actor(&self, alloc: Global, out: &mut String, place: usize) -> Result<(), AllocError>
-        ensures { OnOk result (string_bytes out.new ≡ string_bytes out.old ++ actor_text self.now place (slice_get self.now.items place)) }
+        ensures { OnOk result (string_bytes out.new
+            ≡ string_bytes out.old ++ actor_text self.now place (slice_get self.now.items place)) }
     {
         let Some(item) = self.item(place) else {
             return Ok(());
@@ -173,7 +185,8 @@ impl<'a> Told<'a> {
         out: &mut String,
         number: u64,
     ) -> Result<(), AllocError>
-        ensures { OnOk result (string_bytes out.new ≡ string_bytes out.old ++ actor_at self.now (place_of_event self.now.items number)) }
+        ensures { OnOk result (string_bytes out.new
+            ≡ string_bytes out.old ++ actor_at self.now (place_of_event self.now.items number)) }
     {
         match self.place_of_event(number) {
             Some(place) => self.put_actor(alloc, out, place),

@@ -21,7 +21,8 @@ fn put_counts(out: &mut String, counts: Counts) -> Result<(), AllocError>
 
 /// Appends numbers to a text, each after a space.
 fn put_numbers(out: &mut String, numbers: &[u64]) -> Result<(), AllocError>
-    ensures { OnOk result (string_bytes out.new ≡ string_bytes out.old ++ flat_map number_text numbers.now) }
+    ensures { OnOk result
+        (string_bytes out.new ≡ string_bytes out.old ++ flat_map number_text numbers.now) }
 {
     for number in numbers {
         out.push_str(" ")?;
@@ -32,7 +33,8 @@ fn put_numbers(out: &mut String, numbers: &[u64]) -> Result<(), AllocError>
 
 /// Appends the line of a trace without a cycle to a text.
 fn put_atomic(out: &mut String, counts: Counts) -> Result<(), AllocError>
-    ensures { OnOk result (string_bytes out.new ≡ string_bytes out.old ++ (codes "atomic " ++ counts_text counts ++ codes "\n")) }
+    ensures { OnOk result (string_bytes out.new
+        ≡ string_bytes out.old ++ (codes "atomic " ++ counts_text counts ++ codes "\n")) }
 {
     out.push_str("atomic ")?;
     put_counts(out, counts)?;
@@ -47,7 +49,8 @@ fn put_cycle(
     transactions: &[u64],
     counts: Counts,
 ) -> Result<(), AllocError>
-    ensures { OnOk result (string_bytes out.new ≡ string_bytes out.old ++ cycle_text first_at transactions.now counts) }
+    ensures { OnOk result (string_bytes out.new
+        ≡ string_bytes out.old ++ cycle_text first_at transactions.now counts) }
 {
     put_counted(out, "cycle at ", first_at)?;
     out.push_str(" ")?;

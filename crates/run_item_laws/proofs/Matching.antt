@@ -15,7 +15,7 @@ use Rattle.jvms_machine.specs.declared.trace.Item.{Item}
 use Rattle.jvms_machine.specs.declared.trace.Item.TheVariants as item
 use Rattle.jvms_machine.specs.Actions.{enter_items, exit_items, mark}
 use Rattle.jvms_machine.specs.Marks.{is_mark, marks_between}
-use Rattle.velodrome.specs.Conflicts.{thread_of}
+use Rattle.jvms_machine.specs.Events.{thread_of}
 use Rattle.velodrome.specs.Specification.{Specification}
 use Rattle.velodrome.specs.Transactions.{ThreadState, TraceState, entered, exited, happened, is_innermost, is_matched, next_transaction, same_method, state_after_item, with_thread_state}
 use Rattle.run_item_laws.proofs.CallChanges.{IsCallsChange}

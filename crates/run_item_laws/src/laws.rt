@@ -16,7 +16,16 @@ ghost use Rattle.velodrome.specs.Transactions.{walk};
 /// Proves that the items of a run from the opening state may be fed to a checker. Each exit is of its thread's
 /// innermost open method, and there is at most one event for each choice.
 pub fn items_of_a_run_may_be_fed()
-    ensures matched { (lines : Specification) (program : List Class) (limits : Limits) (start : Start) (choices : List ℕ) → IsProgram program → IsTrue (are_limits limits) → IsStart start → AreMatched lines (run_from program limits start (opening program) choices).items }
-    ensures few { (lines : Specification) (program : List Class) (limits : Limits) (start : Start) (choices : List ℕ) → length (walk lines (run_from program limits start (opening program) choices).items).events ≤ length choices }
-    ensures within { (lines : Specification) (program : List Class) (limits : Limits) (start : Start) (choices : List ℕ) (before after : List Item) → (run_from program limits start (opening program) choices).items ≡ before ++ after → length (walk lines before).events ≤ length choices }
+    ensures matched { (lines : Specification) (program : List Class)
+        (limits : Limits) (start : Start) (choices : List ℕ)
+        → IsProgram program → IsTrue (are_limits limits) → IsStart start
+        → AreMatched lines (run_from program limits start (opening program) choices).items }
+    ensures few { (lines : Specification) (program : List Class)
+        (limits : Limits) (start : Start) (choices : List ℕ)
+        → length (walk lines (run_from program limits start (opening program) choices).items).events
+        ≤ length choices }
+    ensures within { (lines : Specification) (program : List Class) (limits : Limits)
+        (start : Start) (choices : List ℕ) (before after : List Item)
+        → (run_from program limits start (opening program) choices).items ≡ before ++ after
+        → length (walk lines before).events ≤ length choices }
 {}

@@ -7,7 +7,8 @@ use Rattle.jvms_machine.specs.declared.trace.Item.TheVariants as item
 use Rattle.jvms_machine.specs.declared.trace.Variable.{Variable}
 use Rattle.jvms_machine.specs.declared.trace.Variable.TheVariants as variable
 use Rattle.escapes.specs.Keys.{IsFieldKey, IsMethodKey}
-use Rattle.trace_text.specs.Items.{IsNumber, thread_of}
+use Rattle.jvms_machine.specs.Events.{thread_of}
+use Rattle.trace_text.specs.Items.{IsNumber}
 
 -- Some bytes spell the class file (JVMS 4.1).
 abbrev pub IsSpelled : ClassFile → Type 0

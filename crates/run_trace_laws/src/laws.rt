@@ -18,6 +18,13 @@ ghost use Rattle.run_trace_laws.specs.Written.{IsSpelled, IsNamed, HasNumbers};
 /// program. If the numbers of the items fit 32 bits too, the run's trace text is read as the same items, unless memory
 /// runs out.
 pub fn run_trace_text_is_read()
-    ensures named { (files : List ClassFile) (limits : Limits) (start : Start) (s : State) (choices : List ℕ) → AllByRecursion IsSpelled files → AllByRecursion IsNamed (run_from (program_of files) limits start s choices).items }
-    ensures again { (files : List ClassFile) (limits : Limits) (start : Start) (s : State) (choices : List ℕ) (answer : Result (List Item) TraceFault) → AllByRecursion IsSpelled files → AllByRecursion HasNumbers (run_from (program_of files) limits start s choices).items → IsRead (trace_text (run_from (program_of files) limits start s choices).items) answer → (answer ≡ Ok (run_from (program_of files) limits start s choices).items) ⊎ (answer ≡ Err fault.Memory) }
+    ensures named { (files : List ClassFile) (limits : Limits) (start : Start)
+        (s : State) (choices : List ℕ) → AllByRecursion IsSpelled files
+        → AllByRecursion IsNamed (run_from (program_of files) limits start s choices).items }
+    ensures again { (files : List ClassFile) (limits : Limits) (start : Start) (s : State)
+        (choices : List ℕ) (answer : Result (List Item) TraceFault) → AllByRecursion IsSpelled files
+        → AllByRecursion HasNumbers (run_from (program_of files) limits start s choices).items
+        → IsRead (trace_text (run_from (program_of files) limits start s choices).items) answer
+        → (answer ≡ Ok (run_from (program_of files) limits start s choices).items)
+        ⊎ (answer ≡ Err fault.Memory) }
 {}

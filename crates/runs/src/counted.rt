@@ -28,12 +28,16 @@ pub fn count_turns(
     recording: &mut Recording,
 ) -> Result<u64, AllocError>
     ensures count { IfOk result (λ n. n ≡ length (choices_from most chooser.old machine.old)) }
-    ensures chooser { OnOk result (chooser.new ≡ chooser_after_choices most chooser.old machine.old) }
+    ensures chooser { OnOk result
+        (chooser.new ≡ chooser_after_choices most chooser.old machine.old) }
     // The machine and the items are those of the run of these choices, by the instruction table.
-    ensures state { OnOk result (machine.new ≡ with_state machine.old (run_of machine.old (choices_from most chooser.old machine.old)).state) }
-    ensures items { OnOk result (recording.new ≡ recorded recording.old (run_of machine.old (choices_from most chooser.old machine.old)).items) }
+    ensures state { OnOk result (machine.new ≡ with_state machine.old
+        (run_of machine.old (choices_from most chooser.old machine.old)).state) }
+    ensures items { OnOk result (recording.new ≡ recorded recording.old
+        (run_of machine.old (choices_from most chooser.old machine.old)).items) }
     // Without memory, the turns of some first choices were taken.
-    ensures broken { OnErr result (BrokeOff machine.old chooser.old most machine.new chooser.new recording.old recording.new) }
+    ensures broken { OnErr result (BrokeOff machine.old chooser.old
+        most machine.new chooser.new recording.old recording.new) }
 {
     let mut kept = Kept::new(alloc);
     let mut made = 0;

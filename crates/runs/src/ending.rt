@@ -86,7 +86,8 @@ pub fn run_to_end(
     most: u64,
 ) -> Result<Ending, AllocError>
     ensures ending { IfOk result (λ ending. ending ≡ ending_of most chooser.old machine.old) }
-    ensures chooser { OnOk result (chooser.new ≡ chooser_after_choices most chooser.old machine.old) }
+    ensures chooser { OnOk result
+        (chooser.new ≡ chooser_after_choices most chooser.old machine.old) }
 {
     let turns = count_turns(alloc, machine, chooser, most, &mut Recording::of_nothing())?;
     ending_after(alloc, machine, turns)

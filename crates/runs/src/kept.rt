@@ -56,7 +56,8 @@ impl Kept {
     pub(crate) fn note_idle(&mut self, thread: ThreadId, outcome: Outcome)
         ensures current { self.new.is_current ≡ self.old.is_current }
         ensures threads { self.new.threads ≡ self.old.threads }
-        ensures idle { (self.new.idle.items ≡ self.old.idle.items) ⊎ ((is_bad outcome ≡ false) × (self.new.idle.items ≡ self.old.idle.items ++ thread ∷ [])) }
+        ensures idle { (self.new.idle.items ≡ self.old.idle.items) ⊎ ((is_bad outcome ≡ false)
+            × (self.new.idle.items ≡ self.old.idle.items ++ thread ∷ [])) }
     {
         if is_bad(outcome) {
             return;
@@ -81,8 +82,10 @@ impl Kept {
 
     /// Appends a thread if it is enabled. If its turn is Bad, the list isn't current.
     fn inspect(&mut self, machine: &Machine<'_>, thread: ThreadId) -> Result<(), AllocError>
-        ensures threads { OnOk result (self.new.threads.items ≡ self.old.threads.items ++ one_enabled machine.now thread) }
-        ensures fit { OnOk result (self.new.is_current ≡ self.old.is_current && is_fit machine.now thread) }
+        ensures threads { OnOk result
+            (self.new.threads.items ≡ self.old.threads.items ++ one_enabled machine.now thread) }
+        ensures fit { OnOk result
+            (self.new.is_current ≡ self.old.is_current && is_fit machine.now thread) }
         ensures idle { OnOk result (self.new.idle.items ≡ self.old.idle.items) }
     {
         let outcome = machine.peek(thread);
@@ -98,7 +101,8 @@ impl Kept {
     /// Inspects each thread of a machine, and lists those that are enabled.
     fn inspect_all(&mut self, machine: &Machine<'_>) -> Result<(), AllocError>
         ensures threads { OnOk result (self.new.threads.items ≡ enabled_threads machine.now) }
-        ensures kept { OnOk result (IsTrue self.new.is_current → AreEnabled machine.now self.new.threads.items) }
+        ensures kept { OnOk result
+            (IsTrue self.new.is_current → AreEnabled machine.now self.new.threads.items) }
         ensures idle { OnOk result (self.new.idle.items ≡ self.old.idle.items) }
     {
         // There are at most as many threads as the limit, so each number fits `ThreadId`.

@@ -40,7 +40,8 @@ pub(crate) fn take_consecutive_turns(
 ) -> TurnsOn
     requires { IsKept machine.old kept.old }
     ensures most { result.times ≤ most }
-    ensures taken { AreConsecutiveTurns machine.old chooser.old recording.old result.thread result.times machine.new chooser.new recording.new }
+    ensures taken { AreConsecutiveTurns machine.old chooser.old recording.old
+        result.thread result.times machine.new chooser.new recording.new }
     ensures enabled { IsKept machine.new kept.new }
 {
     let Some(Candidate { thread, turns }) = chooser.candidate(machine) else {
@@ -70,7 +71,8 @@ fn take_candidate(
     recording: &mut Recording,
 ) -> Result<Option<Taken>, AllocError>
     requires { IsKept machine.old kept.old }
-    ensures taken { IfOk result (λ taken. IsTurn machine.old chooser.old recording.old taken machine.new chooser.new recording.new) }
+    ensures taken { IfOk result (λ taken.
+        IsTurn machine.old chooser.old recording.old taken machine.new chooser.new recording.new) }
     ensures enabled { OnOk result (IsKept machine.new kept.new) }
     ensures kept { OnErr result (machine.new ≡ machine.old) }
     ensures chooser { OnErr result (chooser.new ≡ chooser.old) }
@@ -99,7 +101,8 @@ fn take_either_candidate(
     recording: &mut Recording,
 ) -> Result<Option<Taken>, AllocError>
     requires { IsKept machine.old kept.old }
-    ensures taken { IfOk result (λ taken. IsTurn machine.old chooser.old recording.old taken machine.new chooser.new recording.new) }
+    ensures taken { IfOk result (λ taken.
+        IsTurn machine.old chooser.old recording.old taken machine.new chooser.new recording.new) }
     ensures enabled { OnOk result (IsKept machine.new kept.new) }
     ensures kept { OnErr result (machine.new ≡ machine.old) }
     ensures chooser { OnErr result (chooser.new ≡ chooser.old) }
@@ -141,7 +144,8 @@ fn take_by_word(
 ) -> Result<Option<Taken>, AllocError>
     requires seeded { IsTrue (is_seeded chooser.old) }
     requires enabled { IsKept machine.old kept.old }
-    ensures taken { IfOk result (λ taken. IsNextTurn machine.old chooser.old recording.old taken machine.new chooser.new recording.new) }
+    ensures taken { IfOk result (λ taken. IsNextTurn machine.old chooser.old
+        recording.old taken machine.new chooser.new recording.new) }
     ensures enabled { OnOk result (IsKept machine.new kept.new) }
     ensures kept { OnErr result (machine.new ≡ machine.old) }
     ensures given { OnErr result (MayHaveGiven chooser.old machine.old chooser.new) }
@@ -172,7 +176,8 @@ pub(crate) fn take_turn(
     recording: &mut Recording,
 ) -> Result<Option<Taken>, AllocError>
     requires { IsKept machine.old kept.old }
-    ensures taken { IfOk result (λ taken. IsNextTurn machine.old chooser.old recording.old taken machine.new chooser.new recording.new) }
+    ensures taken { IfOk result (λ taken. IsNextTurn machine.old chooser.old
+        recording.old taken machine.new chooser.new recording.new) }
     ensures enabled { OnOk result (IsKept machine.new kept.new) }
     ensures kept { OnErr result (machine.new ≡ machine.old) }
     ensures given { OnErr result (MayHaveGiven chooser.old machine.old chooser.new) }

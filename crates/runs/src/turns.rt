@@ -64,13 +64,17 @@ pub fn take_turns(
     recording: &mut Recording,
 ) -> Result<Turns, AllocError>
     ensures choices { IfOk result (λ r. r.choices ≡ choices_from most chooser.old machine.old) }
-    ensures chooser { OnOk result (chooser.new ≡ chooser_after_choices most chooser.old machine.old) }
+    ensures chooser { OnOk result
+        (chooser.new ≡ chooser_after_choices most chooser.old machine.old) }
     // The outcomes, the machine and the items are those of the run of these choices, by the instruction table.
     ensures outcomes { IfOk result (λ r. r.outcomes ≡ (run_of machine.old r.choices).outcomes) }
-    ensures state { IfOk result (λ r. machine.new ≡ with_state machine.old (run_of machine.old r.choices).state) }
-    ensures items { IfOk result (λ r. recording.new ≡ recorded recording.old (run_of machine.old r.choices).items) }
+    ensures state { IfOk result
+        (λ r. machine.new ≡ with_state machine.old (run_of machine.old r.choices).state) }
+    ensures items { IfOk result
+        (λ r. recording.new ≡ recorded recording.old (run_of machine.old r.choices).items) }
     // Without memory, the turns of some first choices were taken.
-    ensures broken { OnErr result (BrokeOff machine.old chooser.old most machine.new chooser.new recording.old recording.new) }
+    ensures broken { OnErr result (BrokeOff machine.old chooser.old
+        most machine.new chooser.new recording.old recording.new) }
 {
     let mut choices = Vec::new(alloc);
     let mut outcomes = OutcomeList::new(alloc);

@@ -49,7 +49,8 @@ impl Model for Chooser {
 
 /// Returns the generator whose state and stream a text writes, separated by a colon, or `None` if it writes none.
 fn generator(text: &str) -> Option<Lcg64Xsh32>
-    ensures { MatchOption result ((state stream : ℕ) → ¬ (WritesSeed text.now state stream)) (IsSeeded text.now) }
+    ensures { MatchOption result
+        ((state stream : ℕ) → ¬ (WritesSeed text.now state stream)) (IsSeeded text.now) }
 {
     let (state, stream) = text.split_once(':')?;
     Some(Lcg64Xsh32::new(long_number(state)?, long_number(stream)?))
@@ -61,9 +62,12 @@ fn generator(text: &str) -> Option<Lcg64Xsh32>
 ///
 /// `Syntax` if the text spells no schedule, and `Memory` if memory runs out for a list.
 fn rule_of(alloc: Global, text: &str) -> Result<Rule, ScheduleFault>
-    ensures rule { IfOk result (λ rule. (schedule : Schedule) × Spells text.now schedule × (shown rule ≡ opened schedule)) }
-    ensures syntax { IsErrOf result ScheduleFault.Syntax → (schedule : Schedule) → ¬ (Spells text.now schedule) }
-    ensures memory { IsErrOf result ScheduleFault.Memory → (threads : List ℕ) × Spells text.now (Listed threads) }
+    ensures rule { IfOk result (λ rule. (schedule : Schedule)
+        × Spells text.now schedule × (shown rule ≡ opened schedule)) }
+    ensures syntax { IsErrOf result ScheduleFault.Syntax → (schedule : Schedule)
+        → ¬ (Spells text.now schedule) }
+    ensures memory { IsErrOf result ScheduleFault.Memory
+        → (threads : List ℕ) × Spells text.now (Listed threads) }
 {
     if let Some(threads) = text.strip_prefix("list:") {
         let threads = listed(alloc, threads)?;
@@ -89,7 +93,8 @@ fn rule_of(alloc: Global, text: &str) -> Result<Rule, ScheduleFault>
 
 /// Returns the enabled thread that a generator's next word names. Without an enabled thread, takes no word.
 fn next_by_word<T: Threads>(generator: &mut Lcg64Xsh32, threads: &T) -> Option<ThreadId>
-    ensures { (result, Seeded generator.new) ≡ by_word generator.old (enabled_of (T.passes threads.now) (T.count threads.now)) }
+    ensures { (result, Seeded generator.new)
+        ≡ by_word generator.old (enabled_of (T.passes threads.now) (T.count threads.now)) }
 {
     let enabled = enabled_count(threads);
     if enabled == 0 {
@@ -183,11 +188,15 @@ impl Chooser {
     ///
     /// `Syntax` if and only if the text spells no schedule. `Memory` if memory runs out for a list.
     pub fn parse(alloc: Global, text: &str) -> Result<Chooser, ScheduleFault>
-        ensures chooser { IfOk result (λ chooser. (schedule : Schedule) × Spells text.now schedule × (chooser ≡ opened schedule)) }
+        ensures chooser { IfOk result (λ chooser. (schedule : Schedule)
+            × Spells text.now schedule × (chooser ≡ opened schedule)) }
         // Whichever schedule the text spells, this is its chooser.
-        ensures only { (schedule : Schedule) → Spells text.now schedule → IfOk result (λ chooser. chooser ≡ opened schedule) }
-        ensures syntax { IsErrOf result ScheduleFault.Syntax ↔ ((schedule : Schedule) → ¬ (Spells text.now schedule)) }
-        ensures memory { IsErrOf result ScheduleFault.Memory → (threads : List ℕ) × Spells text.now (Listed threads) }
+        ensures only { (schedule : Schedule) → Spells text.now schedule
+            → IfOk result (λ chooser. chooser ≡ opened schedule) }
+        ensures syntax { IsErrOf result ScheduleFault.Syntax
+            ↔ ((schedule : Schedule) → ¬ (Spells text.now schedule)) }
+        ensures memory { IsErrOf result ScheduleFault.Memory
+            → (threads : List ℕ) × Spells text.now (Listed threads) }
     {
         let rule = rule_of(alloc, text)?;
         Ok(Chooser { rule })
@@ -204,7 +213,8 @@ impl Chooser {
 
     /// Returns the next choice among threads, if there is one.
     pub(crate) fn choose<T: Threads>(&mut self, threads: &T) -> Option<ThreadId>
-        ensures { (result, self.new) ≡ next self.old (enabled_of (T.passes threads.now) (T.count threads.now)) }
+        ensures { (result, self.new)
+            ≡ next self.old (enabled_of (T.passes threads.now) (T.count threads.now)) }
     {
         match &mut self.rule {
             Rule::Listed(list) => list.next(),
@@ -255,7 +265,8 @@ impl Chooser {
     /// `rr:Q` predicts the only thread, or the last thread for its remaining turns, else the thread after it. The
     /// chooser of thread 0 alone predicts that. Lists and random words predict nothing.
     pub fn candidate(&self, machine: &Machine<'_>) -> Option<Candidate>
-        ensures next { IfSome result (λ c. IsNextFor c.turns c.thread (length machine.now.state.threads) self.now) }
+        ensures next { IfSome result
+            (λ c. IsNextFor c.turns c.thread (length machine.now.state.threads) self.now) }
         ensures some { IfSome result (λ c. 1 ≤ c.turns) }
     {
         match &self.rule {
@@ -271,7 +282,8 @@ impl Chooser {
     /// `rr:Q` predicts the last thread if it has turns left and isn't idle, else the next thread that isn't idle. All
     /// other choosers predict nothing.
     pub fn candidate_beside(&self, machine: &Machine<'_>, idle: &[ThreadId]) -> Option<ThreadId>
-        ensures next { IfSome result (λ t. IsNextBeside idle.now t (length machine.now.state.threads) self.now) }
+        ensures next { IfSome result
+            (λ t. IsNextBeside idle.now t (length machine.now.state.threads) self.now) }
         ensures beside { IfSome result (λ t. may_go_on idle.now t ≡ true) }
     {
         match &self.rule {

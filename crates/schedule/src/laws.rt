@@ -8,19 +8,24 @@ ghost use Rattle.schedule.specs.Past.{behind, choice_after, with_choice};
 /// Round robin and random words choose an enabled thread, as long as there is one.
 #[tactic(auto, using(crate::proofs::Choices::chosen_is_enabled, crate::proofs::Choices::none_is_enabled))]
 pub fn choices_are_of_enabled_threads()
-    ensures enabled { (chooser : Chooser) (enabled : List ℕ) → IsTrue (asks chooser) → IfSome (next chooser enabled).0 (Contains enabled) }
-    ensures none { (chooser : Chooser) (enabled : List ℕ) → IsTrue (asks chooser) → (IsNone (next chooser enabled).0 ↔ (enabled ≡ [])) }
+    ensures enabled { (chooser : Chooser) (enabled : List ℕ) → IsTrue (asks chooser)
+        → IfSome (next chooser enabled).0 (Contains enabled) }
+    ensures none { (chooser : Chooser) (enabled : List ℕ) → IsTrue (asks chooser)
+        → (IsNone (next chooser enabled).0 ↔ (enabled ≡ [])) }
 {}
 
 /// Round robin counts all of a thread's last consecutive choices, up to the quantum, even if the round led back to it.
 #[tactic(auto, using(crate::proofs::Choices::opened_behind, crate::proofs::Choices::next_behind))]
 pub fn round_robin_counts_consecutive_choices()
     ensures start { (quantum : ℕ) → opened (RoundRobin quantum) ≡ behind quantum [] }
-    ensures turn { (quantum : ℕ) (past : List ℕ) (enabled : List ℕ) → 0 < quantum → let chosen = choice_after quantum past enabled in next (behind quantum past) enabled ≡ (chosen, behind quantum (with_choice chosen past)) }
+    ensures turn { (quantum : ℕ) (past : List ℕ) (enabled : List ℕ) → 0 < quantum
+        → let chosen = choice_after quantum past enabled in
+        next (behind quantum past) enabled ≡ (chosen, behind quantum (with_choice chosen past)) }
 {}
 
 /// The first words of state 42 and stream 54 are those of PCG's demonstration of pcg32.
 #[tactic(auto, using(crate::proofs::Choices::demonstrated))]
 pub fn random_words_are_those_of_pcg()
-    ensures { words_of 6 (generator_of 42 54) ≡ 0xa15c02b7 ∷ 0x7b47f409 ∷ 0xba1d3330 ∷ 0x83d2f293 ∷ 0xbfa4784b ∷ 0xcbed606e ∷ [] }
+    ensures { words_of 6 (generator_of 42 54)
+        ≡ 0xa15c02b7 ∷ 0x7b47f409 ∷ 0xba1d3330 ∷ 0x83d2f293 ∷ 0xbfa4784b ∷ 0xcbed606e ∷ [] }
 {}

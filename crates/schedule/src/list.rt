@@ -60,7 +60,8 @@ impl ListLeft {
 
 /// Appends a thread to a list and returns it, or `None` if memory runs out or ran out before.
 fn with_thread(threads: Option<Vec<ThreadId>>, thread: ThreadId) -> Option<Vec<ThreadId>>
-    ensures { IfSome result (λ after. MatchOption threads ⊥ (λ before. after.items ≡ before.items ++ thread ∷ [])) }
+    ensures { IfSome result
+        (λ after. MatchOption threads ⊥ (λ before. after.items ≡ before.items ++ thread ∷ [])) }
 {
     let mut threads = threads?;
     threads.push(thread).ok()?;
@@ -74,8 +75,10 @@ fn with_thread(threads: Option<Vec<ThreadId>>, thread: ThreadId) -> Option<Vec<T
 /// `Syntax` if the text is no such list. `Memory` if it is one and memory runs out, so the whole text is read.
 pub(crate) fn listed(alloc: Global, text: &str) -> Result<Vec<ThreadId>, ScheduleFault>
     ensures threads { IfOk result (λ threads. WritesThreads text.now threads.items) }
-    ensures syntax { IsErrOf result ScheduleFault.Syntax → (threads : List ℕ) → ¬ (WritesThreads text.now threads) }
-    ensures memory { IsErrOf result ScheduleFault.Memory → (threads : List ℕ) × WritesThreads text.now threads }
+    ensures syntax { IsErrOf result ScheduleFault.Syntax → (threads : List ℕ)
+        → ¬ (WritesThreads text.now threads) }
+    ensures memory { IsErrOf result ScheduleFault.Memory
+        → (threads : List ℕ) × WritesThreads text.now threads }
 {
     if text.is_empty() {
         return Ok(Vec::new(alloc));

@@ -9,7 +9,8 @@ use jvms_machine::machine::ThreadId;
 
 /// Returns the number that a text writes, if it is below 2^32.
 pub(crate) fn short_number(text: &str) -> Option<u32>
-    ensures { SomeIff result (IsNumeral 10 text.now × (digits_value 10 text.now < 2 ^ 32)) (digits_value 10 text.now) }
+    ensures { SomeIff result (IsNumeral 10 text.now × (digits_value 10 text.now < 2 ^ 32))
+        (digits_value 10 text.now) }
 {
     if text.starts_with('+') {
         return None;
@@ -19,7 +20,8 @@ pub(crate) fn short_number(text: &str) -> Option<u32>
 
 /// Returns the number that a text writes, if it is below 2^64.
 pub(crate) fn long_number(text: &str) -> Option<u64>
-    ensures { SomeIff result (IsNumeral 10 text.now × (digits_value 10 text.now < 2 ^ 64)) (digits_value 10 text.now) }
+    ensures { SomeIff result (IsNumeral 10 text.now × (digits_value 10 text.now < 2 ^ 64))
+        (digits_value 10 text.now) }
 {
     if text.starts_with('+') {
         return None;
@@ -29,14 +31,16 @@ pub(crate) fn long_number(text: &str) -> Option<u64>
 
 /// Returns the number of a thread that a text writes, if it writes one.
 pub(crate) fn thread_number(text: &str) -> Option<ThreadId>
-    ensures { MatchOption result ((thread : ℕ) → ¬ (WritesThread text.now thread)) (WritesThread text.now) }
+    ensures { MatchOption result ((thread : ℕ) → ¬ (WritesThread text.now thread))
+        (WritesThread text.now) }
 {
     short_number(text)
 }
 
 /// Returns the quantum that a text writes, if it writes one from 1 to 1,000,000.
 pub(crate) fn quantum(text: &str) -> Option<u32>
-    ensures { MatchOption result ((quantum : ℕ) → ¬ (WritesQuantum text.now quantum)) (WritesQuantum text.now) }
+    ensures { MatchOption result ((quantum : ℕ) → ¬ (WritesQuantum text.now quantum))
+        (WritesQuantum text.now) }
 {
     let quantum = short_number(text)?;
     if 1 <= quantum && quantum <= 1_000_000 {

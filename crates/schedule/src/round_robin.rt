@@ -30,7 +30,8 @@ impl Turns {
     /// Returns whether the last thread stays the choice: it is enabled and has turns left.
     #[tactic(auto, using(crate::proofs::Ranges::stays_enabled))]
     fn goes_on<T: Threads>(&self, threads: &T) -> bool
-        ensures { result ≡ stays self.now.quantum self.now.thread self.now.turns (enabled_of (T.passes threads.now) (T.count threads.now)) }
+        ensures { result ≡ stays self.now.quantum self.now.thread self.now.turns
+            (enabled_of (T.passes threads.now) (T.count threads.now)) }
     {
         self.turns < self.quantum
             && self.thread < threads.count()
@@ -39,7 +40,8 @@ impl Turns {
 
     /// Returns the thread of the next turn, if one is enabled.
     fn choice<T: Threads>(&self, threads: &T) -> Option<ThreadId>
-        ensures { result ≡ round_robin self.now.quantum self.now.thread self.now.turns (enabled_of (T.passes threads.now) (T.count threads.now)) }
+        ensures { result ≡ round_robin self.now.quantum self.now.thread self.now.turns
+            (enabled_of (T.passes threads.now) (T.count threads.now)) }
     {
         if self.goes_on(threads) {
             Some(self.thread)
@@ -53,7 +55,8 @@ impl Turns {
     /// least.
     #[tactic(auto, using(crate::proofs::Candidates::alone_for, crate::proofs::Candidates::stays_for, crate::proofs::Candidates::above_for, crate::proofs::Candidates::least_for))]
     pub(crate) fn candidate<T: Threads>(&self, threads: &T) -> Option<Candidate>
-        ensures next { IfSome result (λ c. IsNextFor c.turns c.thread (T.count threads.now) (RoundRobin self.now.quantum self.now.thread self.now.turns)) }
+        ensures next { IfSome result (λ c. IsNextFor c.turns c.thread (T.count threads.now)
+            (RoundRobin self.now.quantum self.now.thread self.now.turns)) }
         ensures some { IfSome result (λ c. 1 ≤ c.turns) }
     {
         let count = threads.count();
@@ -81,7 +84,8 @@ impl Turns {
     /// remaining turns, if it isn't idle, else the next thread that isn't idle. Returns `None` if all threads are idle.
     #[tactic(auto, using(crate::proofs::Beside::choice_beside))]
     pub(crate) fn candidate_beside(&self, count: u32, idle: &[ThreadId]) -> Option<ThreadId>
-        ensures next { IfSome result (λ t. IsNextBeside idle.now t count (RoundRobin self.now.quantum self.now.thread self.now.turns)) }
+        ensures next { IfSome result (λ t. IsNextBeside idle.now t count
+            (RoundRobin self.now.quantum self.now.thread self.now.turns)) }
         ensures beside { IfSome result (λ t. may_go_on idle.now t ≡ true) }
     {
         self.choice(&Beside { count, idle })
@@ -89,7 +93,10 @@ impl Turns {
 
     /// Counts a turn of a thread.
     pub(crate) fn count(&mut self, chosen: ThreadId)
-        ensures { self.new ≡ record self.old { thread = chosen; turns = turns_with self.old.quantum self.old.thread self.old.turns chosen } }
+        ensures { self.new ≡ record self.old {
+          thread = chosen;
+          turns = turns_with self.old.quantum self.old.thread self.old.turns chosen;
+        } }
     {
         if chosen == self.thread {
             self.turns = self.quantum.min(self.turns.saturating_add(1));
@@ -103,7 +110,8 @@ impl Turns {
     #[tactic(auto, using(crate::proofs::Candidates::counted_on))]
     fn count_on(&mut self, times: u64)
         requires { 1 ≤ times }
-        ensures { RoundRobin self.new.quantum self.new.thread self.new.turns ≡ counted_times times self.old.thread (RoundRobin self.old.quantum self.old.thread self.old.turns) }
+        ensures { RoundRobin self.new.quantum self.new.thread self.new.turns ≡ counted_times times
+            self.old.thread (RoundRobin self.old.quantum self.old.thread self.old.turns) }
     {
         let left = self.quantum.saturating_sub(self.turns);
         if times < u64::from(left) {
@@ -116,7 +124,8 @@ impl Turns {
     /// Counts consecutive turns of a thread.
     #[tactic(auto, using(crate::proofs::Candidates::counted_none, crate::proofs::Candidates::counted_first))]
     pub(crate) fn count_times(&mut self, chosen: ThreadId, times: u64)
-        ensures { RoundRobin self.new.quantum self.new.thread self.new.turns ≡ counted_times times chosen (RoundRobin self.old.quantum self.old.thread self.old.turns) }
+        ensures { RoundRobin self.new.quantum self.new.thread self.new.turns ≡ counted_times times
+            chosen (RoundRobin self.old.quantum self.old.thread self.old.turns) }
     {
         if times == 0 {
             return;
@@ -129,8 +138,10 @@ impl Turns {
 
     /// Returns the next choice, if a thread is enabled, and counts it.
     pub(crate) fn next<T: Threads>(&mut self, threads: &T) -> Option<ThreadId>
-        ensures choice { result ≡ round_robin self.old.quantum self.old.thread self.old.turns (enabled_of (T.passes threads.now) (T.count threads.now)) }
-        ensures after { RoundRobin self.new.quantum self.new.thread self.new.turns ≡ after_choice self.old.quantum self.old.thread self.old.turns result }
+        ensures choice { result ≡ round_robin self.old.quantum self.old.thread self.old.turns
+            (enabled_of (T.passes threads.now) (T.count threads.now)) }
+        ensures after { RoundRobin self.new.quantum self.new.thread self.new.turns
+            ≡ after_choice self.old.quantum self.old.thread self.old.turns result }
     {
         let chosen = self.choice(threads)?;
         self.count(chosen);

@@ -5,7 +5,7 @@ use Rattle.std.proofs.lemmas.Bool.{cases_Bool, cases_eq, eq-eqb, eqb-true, or_ri
 use Rattle.jvms_program.specs.declared.key.MethodKey.{MethodKey}
 use Rattle.jvms_machine.specs.declared.trace.Item.{Item}
 use Rattle.jvms_machine.specs.declared.trace.Item.TheVariants as item
-use Rattle.velodrome.specs.Conflicts.{thread_of}
+use Rattle.jvms_machine.specs.Events.{thread_of}
 use Rattle.velodrome.specs.Cycles.{IsIn}
 use Rattle.velodrome.specs.Specification.{Specification, is_atomic}
 use Rattle.velodrome.specs.Transactions.{ThreadState, Event, TraceState, entered, exited, happened, has_atomic, is_event, next_transaction, opening_trace_state, walk, state_after_item, with_thread_state}

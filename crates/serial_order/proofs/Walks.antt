@@ -3,7 +3,7 @@ use Rattle.std.proofs.Common.{◌≡◌, ℕ, suc, ◌+◌, ◌<◌, ◌≤◌, 
 use Rattle.std.proofs.lemmas.Option.{none-some, same_Some}
 use Rattle.jvms_machine.specs.declared.trace.Item.{Item}
 use Rattle.jvms_machine.specs.declared.trace.Item.TheVariants as item
-use Rattle.velodrome.specs.Conflicts.{thread_of}
+use Rattle.jvms_machine.specs.Events.{thread_of}
 use Rattle.velodrome.specs.Cycles.{IsBefore, IsIn}
 use Rattle.velodrome.specs.Rearrangements.{KeepsConflicts}
 use Rattle.velodrome.specs.Specification.{Specification}

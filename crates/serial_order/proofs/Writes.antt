@@ -10,7 +10,8 @@ use Rattle.jvms_machine.specs.declared.trace.Item.{Item}
 use Rattle.jvms_machine.specs.declared.trace.Item.TheVariants as item
 use Rattle.jvms_machine.specs.declared.trace.Variable.{Variable}
 use Rattle.jvms_machine.specs.declared.trace.Variable.TheVariants as variable
-use Rattle.velodrome.specs.Conflicts.{conflict, is_write, monitor_of, on_one_variable, same_number, same_variable, thread_of, started_or_joined, variable_of}
+use Rattle.jvms_machine.specs.Events.{thread_of}
+use Rattle.velodrome.specs.Conflicts.{conflict, is_write, monitor_of, on_one_variable, same_number, same_variable, started_or_joined, variable_of}
 use Rattle.velodrome.specs.Cycles.{IsBefore, IsIn}
 use Rattle.velodrome.specs.Rearrangements.{KeepsConflicts, ReadsTheSame, is_read, last_write}
 use Rattle.velodrome.specs.Transactions.{Event}

@@ -18,9 +18,11 @@ pub struct Chains {
 impl Chains {
     /// Returns the chains of the events of these transactions. No transaction number exceeds `most`.
     pub fn new(alloc: Global, transactions: &[u64], most: usize) -> Result<Self, AllocError>
-        requires below { (k : ℕ) → k < length transactions.now → slice_index transactions.now k ≤ most }
+        requires below { (k : ℕ) → k < length transactions.now
+            → slice_index transactions.now k ≤ most }
         requires room { most < 0x7fffffffffffffff }
-        ensures { IfOk result (λ chains. AreChains transactions.now most chains.first.items chains.next.items) }
+        ensures { IfOk result
+            (λ chains. AreChains transactions.now most chains.first.items chains.next.items) }
     {
         let events = transactions.len();
         let mut first = vec![in alloc; events; most + 1]?;

@@ -13,26 +13,37 @@ ghost use Rattle.velodrome.specs.declared.verdict.Verdict.TheVariants as verdict
 
 /// Proves that a serial order is a rearrangement.
 pub fn a_serial_order_is_a_rearrangement()
-    ensures { (events : List Event) (numbers : List ℕ) → IsSerial events numbers → IsRearrangement events numbers }
+    ensures { (events : List Event) (numbers : List ℕ) → IsSerial events numbers
+        → IsRearrangement events numbers }
 {}
 
 /// Proves that each rearrangement of a trace is a serial order: each read has its write.
 pub fn a_rearrangement_is_a_serial_order()
-    ensures { (lines : Specification) (items : List Item) (numbers : List ℕ) → IsRearrangement (walk lines items).events numbers → IsSerial (walk lines items).events numbers }
+    ensures { (lines : Specification) (items : List Item) (numbers : List ℕ)
+        → IsRearrangement (walk lines items).events numbers
+        → IsSerial (walk lines items).events numbers }
 {}
 
 /// Proves that a trace with a cycle of transactions has no rearrangement.
 pub fn a_cycle_has_no_rearrangement()
-    ensures { (lines : Specification) (items : List Item) (transactions numbers : List ℕ) → IsCycle (walk lines items).events transactions → IsRearrangement (walk lines items).events numbers → ⊥ }
+    ensures { (lines : Specification) (items : List Item) (transactions numbers : List ℕ)
+        → IsCycle (walk lines items).events transactions
+        → IsRearrangement (walk lines items).events numbers → ⊥ }
 {}
 
 /// Proves that a trace whose transactions have an order has no cycle.
 pub fn an_order_leaves_no_cycle()
-    ensures { (lines : Specification) (items : List Item) (order : List ℕ) → IsOrder (walk lines items).events (walk lines items).transactions order → AreAtomic (walk lines items).events }
+    ensures { (lines : Specification) (items : List Item) (order : List ℕ)
+        → IsOrder (walk lines items).events (walk lines items).transactions order
+        → AreAtomic (walk lines items).events }
 {}
 
 /// Proves that no trace has both verdicts, and that all verdicts of a cycle name the same number of events.
 pub fn a_trace_has_one_verdict()
-    ensures apart { (w : TraceState) (order : List ℕ) (first_at : ℕ) (transactions : List ℕ) (pairs : List ConflictingPair) → IsVerdict w (verdict.Atomic order) → IsVerdict w (verdict.Cycle first_at transactions pairs) → ⊥ }
-    ensures first { (w : TraceState) (m n : ℕ) (some others : List ℕ) (pairs more : List ConflictingPair) → IsVerdict w (verdict.Cycle m some pairs) → IsVerdict w (verdict.Cycle n others more) → m ≡ n }
+    ensures apart { (w : TraceState) (order : List ℕ) (first_at : ℕ) (transactions : List ℕ)
+        (pairs : List ConflictingPair) → IsVerdict w (verdict.Atomic order)
+        → IsVerdict w (verdict.Cycle first_at transactions pairs) → ⊥ }
+    ensures first { (w : TraceState) (m n : ℕ) (some others : List ℕ)
+        (pairs more : List ConflictingPair) → IsVerdict w (verdict.Cycle m some pairs)
+        → IsVerdict w (verdict.Cycle n others more) → m ≡ n }
 {}

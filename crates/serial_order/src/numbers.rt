@@ -26,7 +26,8 @@ pub fn serial(alloc: Global, transactions: &[u64], order: &[u64]) -> Result<Item
 /// Appends the numbers of a chain's events.
 fn push_chain(numbers: &mut Vec<u64>, next: &[usize], first: usize) -> Result<(), AllocError>
     requires { AreRising next.now }
-    ensures { OnOk result ((chain : List ℕ) → IsChain next.now first chain → numbers.new.items ≡ numbers.old.items ++ chain) }
+    ensures { OnOk result ((chain : List ℕ) → IsChain next.now first chain
+        → numbers.new.items ≡ numbers.old.items ++ chain) }
 {
     let mut event = first;
     while event < next.len() {

@@ -2,7 +2,7 @@
 
 ghost use Rattle.std.specs.Prelude.{◌≡◌, ◌+◌, ◌↔◌, ℕ, true, List, [], ◌∷◌, ◌++◌, length};
 ghost use Rattle.jvms_machine.specs.declared.trace.Item.{Item};
-ghost use Rattle.velodrome.specs.Conflicts.{thread_of};
+ghost use Rattle.jvms_machine.specs.Events.{thread_of};
 ghost use Rattle.velodrome.specs.Cycles.{IsIn};
 ghost use Rattle.velodrome.specs.Specification.{Specification};
 ghost use Rattle.velodrome.specs.Transactions.{Event, is_event, walk};
@@ -12,5 +12,12 @@ ghost use Rattle.serial_order.specs.Spans.{StaysAtomic};
 /// one to the other. So a transaction is what a thread does from the entry of its outermost atomic method to its exit,
 /// or else one event.
 pub fn a_transaction_is_one_stay_in_atomic_methods()
-    ensures { (lines : Specification) (before between after : List Item) (i j : Item) (e f : Event) → is_event i ≡ true → is_event j ≡ true → IsIn e (walk lines (before ++ i ∷ (between ++ j ∷ after))).events → IsIn f (walk lines (before ++ i ∷ (between ++ j ∷ after))).events → e.number ≡ length (walk lines before).events + 1 → f.number ≡ length (walk lines (before ++ i ∷ between)).events + 1 → (e.transaction ≡ f.transaction) ↔ ((thread_of i ≡ thread_of j) × StaysAtomic lines (thread_of i) (before ++ i ∷ []) between) }
+    ensures { (lines : Specification) (before between after : List Item) (i j : Item) (e f : Event)
+        → is_event i ≡ true → is_event j ≡ true
+        → IsIn e (walk lines (before ++ i ∷ (between ++ j ∷ after))).events
+        → IsIn f (walk lines (before ++ i ∷ (between ++ j ∷ after))).events
+        → e.number ≡ length (walk lines before).events + 1
+        → f.number ≡ length (walk lines (before ++ i ∷ between)).events + 1
+        → (e.transaction ≡ f.transaction) ↔ ((thread_of i ≡ thread_of j)
+        × StaysAtomic lines (thread_of i) (before ++ i ∷ []) between) }
 {}

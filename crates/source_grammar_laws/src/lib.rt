@@ -29,12 +29,16 @@ pub fn what_is_read_is_a_number()
 
 /// Proves that tokens that spell a statement which suits the lines before are read as this statement.
 pub fn what_is_spelled_is_said()
-    ensures { (sort : ClassSort) (switch : OpenSwitch) (ts : List Lexeme) (s : Statement) → Spells ts s → Suits sort switch s → (k : LineKind) × (kind_of switch ts ≡ Ok k) × (statement_of sort switch k ts ≡ Ok s) }
+    ensures { (sort : ClassSort) (switch : OpenSwitch) (ts : List Lexeme) (s : Statement)
+        → Spells ts s → Suits sort switch s
+        → (k : LineKind) × (kind_of switch ts ≡ Ok k) × (statement_of sort switch k ts ≡ Ok s) }
 {}
 
 /// Proves that tokens that are read as a statement spell this statement, and that it suits the lines before.
 pub fn read_statement_is_spelled()
-    ensures { (sort : ClassSort) (switch : OpenSwitch) (ts : List Lexeme) (k : LineKind) (s : Statement) → kind_of switch ts ≡ Ok k → statement_of sort switch k ts ≡ Ok s → Spells ts s × Suits sort switch s }
+    ensures { (sort : ClassSort) (switch : OpenSwitch) (ts : List Lexeme) (k : LineKind)
+        (s : Statement) → kind_of switch ts ≡ Ok k → statement_of sort switch k ts ≡ Ok s
+        → Spells ts s × Suits sort switch s }
 {}
 
 /// Proves that a text that writes a tree is read as this tree. So no text writes two trees.

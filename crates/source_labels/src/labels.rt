@@ -40,7 +40,8 @@ impl<'s> Labels<'s> {
     /// out.
     pub fn of(alloc: Global, code: &'s [CodeItem]) -> Result<Self, LabelsFault>
         ensures ok { IfOk result (λ labels. labels ≡ code.now) }
-        ensures repeated { MatchResult result (λ _. repeats_label code.now ≡ false) (λ fault. Explains fault code.now) }
+        ensures repeated { MatchResult result (λ _. repeats_label code.now ≡ false)
+            (λ fault. Explains fault code.now) }
     {
         let mut places = BTreeMap::new(alloc);
         let mut operations = 0;

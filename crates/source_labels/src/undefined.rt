@@ -40,7 +40,8 @@ fn any_match_leads_nowhere(labels: &Labels<'_>, lines: &[MatchLine]) -> bool
 
 /// Decides whether a label of a tableswitch marks no instruction.
 fn table_leads_nowhere(labels: &Labels<'_>, lines: &TableLines) -> bool
-    ensures { result ≡ list_any (marks_no_instruction labels.now) (lines.now.default ∷ lines.now.labels) }
+    ensures { result
+        ≡ list_any (marks_no_instruction labels.now) (lines.now.default ∷ lines.now.labels) }
 {
     marks_no_instruction(labels, &lines.default)
         || any_leads_nowhere(labels, lines.labels.as_slice())
@@ -49,7 +50,8 @@ fn table_leads_nowhere(labels: &Labels<'_>, lines: &TableLines) -> bool
 /// Decides whether a label of a lookupswitch marks no instruction.
 #[tactic(auto, using(crate::proofs::Any::any_mapped))]
 fn lookup_leads_nowhere(labels: &Labels<'_>, lines: &LookupLines) -> bool
-    ensures { result ≡ list_any (marks_no_instruction labels.now) (lines.now.default ∷ map (λ m. m.label) lines.now.matches) }
+    ensures { result ≡ list_any (marks_no_instruction labels.now)
+        (lines.now.default ∷ map (λ m. m.label) lines.now.matches) }
 {
     marks_no_instruction(labels, &lines.default)
         || any_match_leads_nowhere(labels, lines.matches.as_slice())
@@ -98,7 +100,8 @@ fn any_item_leads_nowhere(labels: &Labels<'_>, code: &[CodeItem]) -> bool
 #[tactic(auto, using(crate::proofs::Any::code_leads_nowhere))]
 fn code_leads_nowhere(method: &MethodLines, labels: &Labels<'_>) -> bool
     requires { labels.now ≡ method.now.code }
-    ensures { result ≡ list_any (λ o. list_any (marks_no_instruction method.now.code) (labels_of o)) (operations method.now.code) }
+    ensures { result ≡ list_any (λ o. list_any (marks_no_instruction method.now.code) (labels_of o))
+        (operations method.now.code) }
 {
     any_item_leads_nowhere(labels, method.code.as_slice())
 }

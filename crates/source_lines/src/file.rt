@@ -59,8 +59,8 @@ fn line_in(pool: &[Constant], place: usize, code: &Code) -> Option<u16>
 
 /// Returns the line of an instruction of a method of a class file.
 fn line_of(file: &ClassFile, method: usize, place: usize) -> Option<u16>
-    ensures { result ≡ option_and_then (λ m. option_and_then (line_in file.now.pool place) (code_of m.attributes))
-        (slice_get file.now.methods method) }
+    ensures { result ≡ option_and_then (λ m. option_and_then (line_in file.now.pool place)
+        (code_of m.attributes)) (slice_get file.now.methods method) }
 {
     let method = file.methods.as_slice().get(method)?;
     let code = code_of(method.attributes.as_slice())?;

@@ -21,7 +21,8 @@ const INTERFACE_WORDS: [(&str, u16); 3] = [
 
 /// Appends a word.
 pub(crate) fn push_word<'a>(words: &mut Vec<Word<'a>>, word: Word<'a>) -> Result<(), AllocError>
-    ensures { OnOk result (map units_in words.new.items ≡ map units_in words.old.items ++ units_in word.entry ∷ []) }
+    ensures { OnOk result
+        (map units_in words.new.items ≡ map units_in words.old.items ++ units_in word.entry ∷ []) }
 {
     words.push(word)?;
     Ok(())
@@ -33,7 +34,8 @@ fn push_word_if<'a>(
     word: &'a str,
     is_set: bool,
 ) -> Result<(), AllocError>
-    ensures { OnOk result (map units_in words.new.items ≡ map units_in words.old.items ++ (if is_set then word.now ∷ [] else [])) }
+    ensures { OnOk result (map units_in words.new.items
+        ≡ map units_in words.old.items ++ (if is_set then word.now ∷ [] else [])) }
 {
     if is_set {
         push_word(words, Word::Ascii(word))
@@ -49,7 +51,8 @@ fn push_words<'a>(
     table: &[(&'a str, u16)],
     access: u16,
 ) -> Result<(), AllocError>
-    ensures { OnOk result (map units_in words.new.items ≡ map units_in words.old.items ++ access_names (map (λ w. (w.0.now, w.1)) table.now) access) }
+    ensures { OnOk result (map units_in words.new.items ≡ map units_in words.old.items
+        ++ access_names (map (λ w. (w.0.now, w.1)) table.now) access) }
 {
     let mut rest = table;
     while let [(word, flag), behind @ ..] = rest {
@@ -61,28 +64,32 @@ fn push_words<'a>(
 
 /// Appends the access words of a class.
 pub(crate) fn push_class_words(words: &mut Vec<Word<'_>>, access: u16) -> Result<(), AllocError>
-    ensures { OnOk result (map units_in words.new.items ≡ map units_in words.old.items ++ access_names written_class_words access) }
+    ensures { OnOk result (map units_in words.new.items
+        ≡ map units_in words.old.items ++ access_names written_class_words access) }
 {
     push_words(words, &CLASS_WORDS, access)
 }
 
 /// Appends the access words of an interface.
 pub(crate) fn push_interface_words(words: &mut Vec<Word<'_>>, access: u16) -> Result<(), AllocError>
-    ensures { OnOk result (map units_in words.new.items ≡ map units_in words.old.items ++ access_names written_interface_words access) }
+    ensures { OnOk result (map units_in words.new.items
+        ≡ map units_in words.old.items ++ access_names written_interface_words access) }
 {
     push_words(words, &INTERFACE_WORDS, access)
 }
 
 /// Appends the access words of a field.
 pub(crate) fn push_field_words(words: &mut Vec<Word<'_>>, access: u16) -> Result<(), AllocError>
-    ensures { OnOk result (map units_in words.new.items ≡ map units_in words.old.items ++ access_names field_words access) }
+    ensures { OnOk result (map units_in words.new.items
+        ≡ map units_in words.old.items ++ access_names field_words access) }
 {
     push_words(words, access_table(AccessWords::Field), access)
 }
 
 /// Appends the access words of a method.
 pub(crate) fn push_method_words(words: &mut Vec<Word<'_>>, access: u16) -> Result<(), AllocError>
-    ensures { OnOk result (map units_in words.new.items ≡ map units_in words.old.items ++ access_names method_words access) }
+    ensures { OnOk result (map units_in words.new.items
+        ≡ map units_in words.old.items ++ access_names method_words access) }
 {
     push_words(words, access_table(AccessWords::Method), access)
 }

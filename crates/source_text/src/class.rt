@@ -16,7 +16,8 @@ use std::alloc::{AllocError, Global};
 
 /// Returns the words of a class's line.
 fn words_of_class<'a>(alloc: Global, source: &'a Source) -> Result<Vec<Word<'a>>, AllocError>
-    ensures { IfOk result (λ words. map units_in words.items ≡ codes ".class" ∷ access_names written_class_words source.now.access ++ source.now.name ∷ []) }
+    ensures { IfOk result (λ words. map units_in words.items ≡ codes ".class"
+        ∷ access_names written_class_words source.now.access ++ source.now.name ∷ []) }
 {
     let mut words = Vec::new(alloc);
     push_word(&mut words, Word::Ascii(".class"))?;
@@ -27,7 +28,8 @@ fn words_of_class<'a>(alloc: Global, source: &'a Source) -> Result<Vec<Word<'a>>
 
 /// Returns the words of an interface's line.
 fn words_of_interface<'a>(alloc: Global, source: &'a Source) -> Result<Vec<Word<'a>>, AllocError>
-    ensures { IfOk result (λ words. map units_in words.items ≡ codes ".interface" ∷ access_names written_interface_words source.now.access ++ source.now.name ∷ []) }
+    ensures { IfOk result (λ words. map units_in words.items ≡ codes ".interface"
+        ∷ access_names written_interface_words source.now.access ++ source.now.name ∷ []) }
 {
     let mut words = Vec::new(alloc);
     push_word(&mut words, Word::Ascii(".interface"))?;
@@ -51,7 +53,8 @@ fn put_class_line(alloc: Global, out: &mut Vec<u16>, source: &Source) -> Result<
 
 /// Appends the line of an implemented interface.
 fn put_interface(alloc: Global, out: &mut Vec<u16>, name: &Text) -> Result<(), AllocError>
-    ensures { OnOk result (out.new.items ≡ out.old.items ++ ended (joined (codes ".implements" ∷ name.now ∷ []))) }
+    ensures { OnOk result
+        (out.new.items ≡ out.old.items ++ ended (joined (codes ".implements" ∷ name.now ∷ []))) }
 {
     let name = Word::Name(name.as_slice());
     put_line(alloc, out, &[Word::Ascii(".implements"), name])
@@ -59,7 +62,8 @@ fn put_interface(alloc: Global, out: &mut Vec<u16>, name: &Text) -> Result<(), A
 
 /// Appends the lines of the implemented interfaces.
 fn put_interfaces(alloc: Global, out: &mut Vec<u16>, names: &[Text]) -> Result<(), AllocError>
-    ensures { OnOk result (out.new.items ≡ out.old.items ++ flat_map (λ name. ended (joined (codes ".implements" ∷ name ∷ []))) names.now) }
+    ensures { OnOk result (out.new.items ≡ out.old.items
+        ++ flat_map (λ name. ended (joined (codes ".implements" ∷ name ∷ []))) names.now) }
 {
     for name in names {
         put_interface(alloc, out, name)?;

@@ -22,7 +22,8 @@ use std::alloc::{AllocError, Global};
 
 /// Appends an instruction's line, indented by two spaces.
 fn put_instruction(alloc: Global, out: &mut Vec<u16>, words: &[Word<'_>]) -> Result<(), AllocError>
-    ensures { OnOk result (out.new.items ≡ out.old.items ++ ended (codes "  " ++ joined (map units_in words.now))) }
+    ensures { OnOk result
+        (out.new.items ≡ out.old.items ++ ended (codes "  " ++ joined (map units_in words.now))) }
 {
     put_ascii(out, "  ")?;
     put_line(alloc, out, words)
@@ -30,7 +31,8 @@ fn put_instruction(alloc: Global, out: &mut Vec<u16>, words: &[Word<'_>]) -> Res
 
 /// Appends a line of a switch, indented by four spaces.
 fn put_case(alloc: Global, out: &mut Vec<u16>, words: &[Word<'_>]) -> Result<(), AllocError>
-    ensures { OnOk result (out.new.items ≡ out.old.items ++ ended (switch_line (map units_in words.now))) }
+    ensures { OnOk result
+        (out.new.items ≡ out.old.items ++ ended (switch_line (map units_in words.now))) }
 {
     put_ascii(out, "    ")?;
     put_line(alloc, out, words)
@@ -53,7 +55,8 @@ fn put_default(alloc: Global, out: &mut Vec<u16>, label: &Text) -> Result<(), Al
 
 /// Appends the lines of labels.
 fn put_labels(alloc: Global, out: &mut Vec<u16>, labels: &[Text]) -> Result<(), AllocError>
-    ensures { OnOk result (out.new.items ≡ out.old.items ++ flat_map (λ label. ended (switch_line (label ∷ []))) labels.now) }
+    ensures { OnOk result (out.new.items
+        ≡ out.old.items ++ flat_map (λ label. ended (switch_line (label ∷ []))) labels.now) }
 {
     for label in labels {
         put_case(alloc, out, &[Word::Name(label.as_slice())])?;
@@ -78,7 +81,8 @@ fn put_match(alloc: Global, out: &mut Vec<u16>, line: &MatchLine) -> Result<(), 
 
 /// Appends the lines of matches.
 fn put_matches(alloc: Global, out: &mut Vec<u16>, matches: &[MatchLine]) -> Result<(), AllocError>
-    ensures { OnOk result (out.new.items ≡ out.old.items ++ flat_map (λ m. ended (match_line m)) matches.now) }
+    ensures { OnOk result
+        (out.new.items ≡ out.old.items ++ flat_map (λ m. ended (match_line m)) matches.now) }
 {
     for line in matches {
         put_match(alloc, out, line)?;
@@ -88,7 +92,9 @@ fn put_matches(alloc: Global, out: &mut Vec<u16>, matches: &[MatchLine]) -> Resu
 
 /// Appends the lines of a `tableswitch` after its first.
 fn put_table(alloc: Global, out: &mut Vec<u16>, lines: &TableLines) -> Result<(), AllocError>
-    ensures { OnOk result (out.new.items ≡ out.old.items ++ (flat_map (λ label. ended (switch_line (label ∷ []))) lines.now.labels ++ ended (default_line lines.now.default))) }
+    ensures { OnOk result (out.new.items
+        ≡ out.old.items ++ (flat_map (λ label. ended (switch_line (label ∷ []))) lines.now.labels
+        ++ ended (default_line lines.now.default))) }
 {
     put_labels(alloc, out, lines.labels.as_slice())?;
     put_default(alloc, out, &lines.default)
@@ -96,7 +102,9 @@ fn put_table(alloc: Global, out: &mut Vec<u16>, lines: &TableLines) -> Result<()
 
 /// Appends the lines of a `lookupswitch` after its first.
 fn put_lookup(alloc: Global, out: &mut Vec<u16>, lines: &LookupLines) -> Result<(), AllocError>
-    ensures { OnOk result (out.new.items ≡ out.old.items ++ (flat_map (λ m. ended (match_line m)) lines.now.matches ++ ended (default_line lines.now.default))) }
+    ensures { OnOk result
+        (out.new.items ≡ out.old.items ++ (flat_map (λ m. ended (match_line m)) lines.now.matches
+        ++ ended (default_line lines.now.default))) }
 {
     put_matches(alloc, out, lines.matches.as_slice())?;
     put_default(alloc, out, &lines.default)
@@ -105,7 +113,8 @@ fn put_lookup(alloc: Global, out: &mut Vec<u16>, lines: &LookupLines) -> Result<
 /// Appends the lines that follow that of an instruction's mnemonic.
 #[tactic(auto, using(crate::proofs::Ended::table_lines, crate::proofs::Ended::lookup_lines))]
 fn put_behind(alloc: Global, out: &mut Vec<u16>, operation: &Operation) -> Result<(), AllocError>
-    ensures { OnOk result (out.new.items ≡ out.old.items ++ text_of_lines (lines_after operation.now)) }
+    ensures { OnOk result
+        (out.new.items ≡ out.old.items ++ text_of_lines (lines_after operation.now)) }
 {
     match operation {
         Operation::Table(lines) => put_table(alloc, out, lines.get()),
@@ -143,7 +152,8 @@ fn put_with<'a>(
     name: Word<'a>,
     operand: Word<'a>,
 ) -> Result<(), AllocError>
-    ensures { OnOk result (out.new.items ≡ out.old.items ++ ended (codes "  " ++ joined (units_in name.entry ∷ units_in operand.entry ∷ []))) }
+    ensures { OnOk result (out.new.items ≡ out.old.items
+        ++ ended (codes "  " ++ joined (units_in name.entry ∷ units_in operand.entry ∷ []))) }
 {
     put_instruction(alloc, out, &[name, operand])
 }
@@ -156,7 +166,8 @@ fn put_with_two<'a>(
     first: Word<'a>,
     second: Word<'a>,
 ) -> Result<(), AllocError>
-    ensures { OnOk result (out.new.items ≡ out.old.items ++ ended (codes "  " ++ joined (units_in name.entry ∷ units_in first.entry ∷ units_in second.entry ∷ []))) }
+    ensures { OnOk result (out.new.items ≡ out.old.items ++ ended (codes "  "
+        ++ joined (units_in name.entry ∷ units_in first.entry ∷ units_in second.entry ∷ []))) }
 {
     put_instruction(alloc, out, &[name, first, second])
 }
@@ -169,7 +180,9 @@ fn put_invoke<'a>(
     how: Invoke,
     method: &'a MethodName,
 ) -> Result<(), AllocError>
-    ensures { OnOk result (out.new.items ≡ out.old.items ++ ended (codes "  " ++ joined (units_in name.entry ∷ (member_word method.now.class method.now.name ++ method.now.descriptor) ∷ count_words how method.now.descriptor))) }
+    ensures { OnOk result (out.new.items ≡ out.old.items ++ ended (codes "  "
+        ++ joined (units_in name.entry ∷ (member_word method.now.class method.now.name
+        ++ method.now.descriptor) ∷ count_words how method.now.descriptor))) }
 {
     let descriptor = method.descriptor.as_slice();
     let called = Word::Method(method.class.as_slice(), method.name.as_slice(), descriptor);
@@ -189,7 +202,9 @@ fn put_field_use<'a>(
     name: Word<'a>,
     field: &'a FieldName,
 ) -> Result<(), AllocError>
-    ensures { OnOk result (out.new.items ≡ out.old.items ++ ended (codes "  " ++ joined (units_in name.entry ∷ member_word field.now.class field.now.name ∷ field.now.descriptor ∷ []))) }
+    ensures { OnOk result
+        (out.new.items ≡ out.old.items ++ ended (codes "  " ++ joined (units_in name.entry
+        ∷ member_word field.now.class field.now.name ∷ field.now.descriptor ∷ []))) }
 {
     let member = Word::Member(field.class.as_slice(), field.name.as_slice());
     let descriptor = Word::Name(field.descriptor.as_slice());
@@ -204,7 +219,8 @@ fn put_increment(
     local: u16,
     by: i16,
 ) -> Result<(), AllocError>
-    ensures { OnOk result (out.new.items ≡ out.old.items ++ ended (codes "  " ++ joined (units_in name.entry ∷ decimal local ∷ signed_decimal by ∷ []))) }
+    ensures { OnOk result (out.new.items ≡ out.old.items ++ ended (codes "  "
+        ++ joined (units_in name.entry ∷ decimal local ∷ signed_decimal by ∷ []))) }
 {
     let local = Word::Number(i64::from(local));
     let by = Word::Number(i64::from(by));
@@ -219,7 +235,8 @@ fn put_array<'a>(
     class: &'a Text,
     dimensions: u8,
 ) -> Result<(), AllocError>
-    ensures { OnOk result (out.new.items ≡ out.old.items ++ ended (codes "  " ++ joined (units_in name.entry ∷ class.now ∷ decimal dimensions ∷ []))) }
+    ensures { OnOk result (out.new.items ≡ out.old.items ++ ended (codes "  "
+        ++ joined (units_in name.entry ∷ class.now ∷ decimal dimensions ∷ []))) }
 {
     let class = Word::Name(class.as_slice());
     let dimensions = Word::Number(i64::from(dimensions));
@@ -234,7 +251,8 @@ fn put_operation<'a>(
     name: Word<'a>,
     operation: &'a Operation,
 ) -> Result<(), AllocError>
-    ensures { OnOk result (out.new.items ≡ out.old.items ++ ended (codes "  " ++ joined (units_in name.entry ∷ operand_words operation.now))) }
+    ensures { OnOk result (out.new.items ≡ out.old.items
+        ++ ended (codes "  " ++ joined (units_in name.entry ∷ operand_words operation.now))) }
 {
     let operand = match operation {
         Operation::Alone(_) | Operation::Lookup(_) => {
@@ -275,7 +293,9 @@ fn put_operation_lines(
     out: &mut Vec<u16>,
     operation: &Operation,
 ) -> Result<(), AllocError>
-    ensures { OnOk result (out.new.items ≡ out.old.items ++ (ended (codes "  " ++ joined (mnemonic (opcode_of operation.now) ∷ operand_words operation.now)) ++ text_of_lines (lines_after operation.now))) }
+    ensures { OnOk result (out.new.items ≡ out.old.items ++ (ended (codes "  "
+        ++ joined (mnemonic (opcode_of operation.now) ∷ operand_words operation.now))
+        ++ text_of_lines (lines_after operation.now))) }
 {
     let name = Word::Ascii(mnemonic(opcode_of(operation)));
     put_operation(alloc, out, name, operation)?;
@@ -299,7 +319,8 @@ pub(crate) fn put_code(
     out: &mut Vec<u16>,
     code: &[CodeItem],
 ) -> Result<(), AllocError>
-    ensures { OnOk result (out.new.items ≡ out.old.items ++ flat_map (λ i. text_of_lines (item_lines i)) code.now) }
+    ensures { OnOk result
+        (out.new.items ≡ out.old.items ++ flat_map (λ i. text_of_lines (item_lines i)) code.now) }
 {
     for item in code {
         put_item(alloc, out, item)?;

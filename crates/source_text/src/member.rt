@@ -22,7 +22,8 @@ fn push_value<'a>(
     words: &mut Vec<Word<'a>>,
     value: &'a Option<FieldConstant>,
 ) -> Result<(), AllocError>
-    ensures { OnOk result (map units_in words.new.items ≡ map units_in words.old.items ++ value_words value.now) }
+    ensures { OnOk result
+        (map units_in words.new.items ≡ map units_in words.old.items ++ value_words value.now) }
 {
     let value = match value {
         None => return Ok(()),
@@ -36,7 +37,9 @@ fn push_value<'a>(
 
 /// Returns the words of a field's line.
 fn words_of_field<'a>(alloc: Global, field: &'a FieldLine) -> Result<Vec<Word<'a>>, AllocError>
-    ensures { IfOk result (λ words. map units_in words.items ≡ codes ".field" ∷ access_names field_words field.now.access ++ (field.now.name ∷ field.now.descriptor ∷ value_words field.now.constant)) }
+    ensures { IfOk result (λ words. map units_in words.items
+        ≡ codes ".field" ∷ access_names field_words field.now.access
+        ++ (field.now.name ∷ field.now.descriptor ∷ value_words field.now.constant)) }
 {
     let mut words = Vec::new(alloc);
     push_word(&mut words, Word::Ascii(".field"))?;
@@ -62,7 +65,8 @@ pub(crate) fn put_fields(
     out: &mut Vec<u16>,
     fields: &[FieldLine],
 ) -> Result<(), AllocError>
-    ensures { OnOk result (out.new.items ≡ out.old.items ++ flat_map (λ f. ended (field_line f)) fields.now) }
+    ensures { OnOk result
+        (out.new.items ≡ out.old.items ++ flat_map (λ f. ended (field_line f)) fields.now) }
 {
     for field in fields {
         put_field(alloc, out, field)?;
@@ -72,7 +76,9 @@ pub(crate) fn put_fields(
 
 /// Returns the words of a method's first line.
 fn words_of_method<'a>(alloc: Global, method: &'a MethodLines) -> Result<Vec<Word<'a>>, AllocError>
-    ensures { IfOk result (λ words. map units_in words.items ≡ codes ".method" ∷ access_names method_words method.now.access ++ (method.now.name ++ method.now.descriptor) ∷ []) }
+    ensures { IfOk result (λ words. map units_in words.items
+        ≡ codes ".method" ∷ access_names method_words method.now.access
+        ++ (method.now.name ++ method.now.descriptor) ∷ []) }
 {
     let mut words = Vec::new(alloc);
     push_word(&mut words, Word::Ascii(".method"))?;
@@ -95,7 +101,8 @@ fn put_thrown(alloc: Global, out: &mut Vec<u16>, name: &Text) -> Result<(), Allo
 
 /// Appends the lines of the exceptions that a method throws.
 fn put_throws(alloc: Global, out: &mut Vec<u16>, names: &[Text]) -> Result<(), AllocError>
-    ensures { OnOk result (out.new.items ≡ out.old.items ++ flat_map (λ name. ended (throws_line name)) names.now) }
+    ensures { OnOk result
+        (out.new.items ≡ out.old.items ++ flat_map (λ name. ended (throws_line name)) names.now) }
 {
     for name in names {
         put_thrown(alloc, out, name)?;
@@ -135,7 +142,8 @@ fn put_catch(alloc: Global, out: &mut Vec<u16>, line: &CatchLine) -> Result<(), 
 
 /// Appends the lines of handlers.
 fn put_catches(alloc: Global, out: &mut Vec<u16>, catches: &[CatchLine]) -> Result<(), AllocError>
-    ensures { OnOk result (out.new.items ≡ out.old.items ++ flat_map (λ c. ended (catch_line c)) catches.now) }
+    ensures { OnOk result
+        (out.new.items ≡ out.old.items ++ flat_map (λ c. ended (catch_line c)) catches.now) }
 {
     for line in catches {
         put_catch(alloc, out, line)?;
@@ -150,7 +158,9 @@ fn put_limits(
     max_stack: u16,
     max_locals: u16,
 ) -> Result<(), AllocError>
-    ensures { OnOk result (out.new.items ≡ out.old.items ++ (ended (joined (codes ".limit" ∷ codes "stack" ∷ decimal max_stack ∷ [])) ++ ended (joined (codes ".limit" ∷ codes "locals" ∷ decimal max_locals ∷ [])))) }
+    ensures { OnOk result (out.new.items
+        ≡ out.old.items ++ (ended (joined (codes ".limit" ∷ codes "stack" ∷ decimal max_stack ∷ []))
+        ++ ended (joined (codes ".limit" ∷ codes "locals" ∷ decimal max_locals ∷ [])))) }
 {
     let stack = Word::Number(i64::from(max_stack));
     let locals = Word::Number(i64::from(max_locals));
@@ -196,7 +206,8 @@ fn put_body_if_any(
 /// Appends the lines of a method.
 #[tactic(auto, using(crate::proofs::Methods::method_pieces))]
 fn put_method(alloc: Global, out: &mut Vec<u16>, method: &MethodLines) -> Result<(), AllocError>
-    ensures { OnOk result (out.new.items ≡ out.old.items ++ text_of_lines (method_text method.now)) }
+    ensures { OnOk result
+        (out.new.items ≡ out.old.items ++ text_of_lines (method_text method.now)) }
 {
     let words = words_of_method(alloc, method)?;
     put_line(alloc, out, &words)?;
@@ -211,7 +222,8 @@ pub(crate) fn put_methods(
     out: &mut Vec<u16>,
     methods: &[MethodLines],
 ) -> Result<(), AllocError>
-    ensures { OnOk result (out.new.items ≡ out.old.items ++ flat_map (λ m. text_of_lines (method_text m)) methods.now) }
+    ensures { OnOk result (out.new.items
+        ≡ out.old.items ++ flat_map (λ m. text_of_lines (method_text m)) methods.now) }
 {
     for method in methods {
         put_method(alloc, out, method)?;

@@ -11,7 +11,8 @@ use shared_data::surrogates::{is_high, is_low};
 #[tactic(auto, unfolding(listing_spec::specs::Printable::is_paired))]
 fn behind_character(units: &[u16]) -> Option<&[u16]>
     requires { units.now ≢ [] }
-    ensures exact { MatchOption result (is_paired units.now ≡ false) (λ behind. is_paired units.now ≡ is_paired behind.now) }
+    ensures exact { MatchOption result (is_paired units.now ≡ false)
+        (λ behind. is_paired units.now ≡ is_paired behind.now) }
     ensures shorter { IfSome result (λ behind. length behind.now < length units.now) }
 {
     match units {

@@ -35,9 +35,11 @@ fn units_of_lines(alloc: Global, source: &Source) -> Result<Vec<u16>, AllocError
 pub fn text_of(alloc: Global, source: &Source) -> Result<String, AllocError>
     requires listable { IsListable source.now }
     requires printable { is_printable source.now ≡ true }
-    ensures exact { IfOk result (λ text. map units_of (lines (string_bytes text)) ≡ printed source.now) }
+    ensures exact { IfOk result
+        (λ text. map units_of (lines (string_bytes text)) ≡ printed source.now) }
     // LF follows each line, the last one included, and nothing else separates them.
-    ensures ended { IfOk result (λ text. units_of (string_bytes text) ≡ text_of_lines (printed source.now)) }
+    ensures ended { IfOk result
+        (λ text. units_of (string_bytes text) ≡ text_of_lines (printed source.now)) }
 {
     let units = units_of_lines(alloc, source)?;
     decoded(alloc, units.as_slice())

@@ -138,7 +138,8 @@ fn put_method(
     name: &[u16],
     descriptor: &[u16],
 ) -> Result<(), AllocError>
-    ensures { OnOk result (out.new.items ≡ out.old.items ++ (member_word class.now name.now ++ descriptor.now)) }
+    ensures { OnOk result
+        (out.new.items ≡ out.old.items ++ (member_word class.now name.now ++ descriptor.now)) }
 {
     put_member(out, class, name)?;
     out.extend_from_slice(descriptor)
@@ -169,7 +170,8 @@ fn put_spaced(alloc: Global, out: &mut Vec<u16>, word: Word<'_>) -> Result<(), A
 
 /// Appends words, each after a space.
 fn put_others(alloc: Global, out: &mut Vec<u16>, words: &[Word<'_>]) -> Result<(), AllocError>
-    ensures { OnOk result (out.new.items ≡ out.old.items ++ flat_map (λ w. 32 ∷ units_in w) words.now) }
+    ensures { OnOk result
+        (out.new.items ≡ out.old.items ++ flat_map (λ w. 32 ∷ units_in w) words.now) }
 {
     for word in words {
         put_spaced(alloc, out, *word)?;
@@ -197,7 +199,8 @@ pub(crate) fn put_line(
     out: &mut Vec<u16>,
     words: &[Word<'_>],
 ) -> Result<(), AllocError>
-    ensures { OnOk result (out.new.items ≡ out.old.items ++ ended (joined (map units_in words.now))) }
+    ensures { OnOk result
+        (out.new.items ≡ out.old.items ++ ended (joined (map units_in words.now))) }
 {
     put_words(alloc, out, words)?;
     out.push(LINE_FEED)?;

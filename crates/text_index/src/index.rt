@@ -54,7 +54,8 @@ impl Index {
 
     /// Stores a reference for a text. Without memory nothing changes.
     fn put_new(&mut self, alloc: Global, units: &[u16], reference: u32) -> Result<(), AllocError>
-        ensures ok { OnOk result ((q : List ℕ) → found self.new q ≡ (if same_text units.now q then Some reference else found self.old q)) }
+        ensures ok { OnOk result ((q : List ℕ) → found self.new q
+            ≡ (if same_text units.now q then Some reference else found self.old q)) }
         ensures err { OnErr result (self.new ≡ self.old) }
     {
         let key = Vec::from_slice(alloc, units)?;
@@ -65,7 +66,8 @@ impl Index {
     /// Stores a reference for a text, unless the text has one. Without memory nothing changes.
     #[tactic(auto, using(crate::proofs::IndexLaws::put_first, crate::proofs::IndexLaws::put_again))]
     pub fn put(&mut self, alloc: Global, units: &[u16], reference: u32) -> Result<(), AllocError>
-        ensures ok { OnOk result ((q : List ℕ) → found self.new q ≡ option_or (found self.old q) (if same_text units.now q then Some reference else None)) }
+        ensures ok { OnOk result ((q : List ℕ) → found self.new q ≡ option_or (found self.old q)
+            (if same_text units.now q then Some reference else None)) }
         ensures err { OnErr result (self.new ≡ self.old) }
     {
         if self.find(units).is_some() {

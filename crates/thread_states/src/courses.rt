@@ -82,7 +82,9 @@ impl ThreadStates {
 
     /// Returns the transaction that ends with the next exit of a thread, if one does.
     pub fn over(&self, thread: ThreadId) -> Option<u64>
-        ensures { result ≡ (if has_atomic self.now.lines (drop 1 (thread_state_in self.now.table thread).methods) then None else (thread_state_in self.now.table thread).transaction) }
+        ensures { result
+            ≡ (if has_atomic self.now.lines (drop 1 (thread_state_in self.now.table thread).methods)
+            then None else (thread_state_in self.now.table thread).transaction) }
     {
         match self.threads.get(&thread) {
             None => None,
@@ -92,7 +94,9 @@ impl ThreadStates {
 
     /// Returns the standing of a thread if the memory that its next item needs is reserved.
     fn ready_standing(&self, thread: ThreadId) -> Option<Standing>
-        ensures { IfSome result (λ s. IsStanding s self.now.lines (thread_state_in self.now.table thread) × HasRoom thread self.now) }
+        ensures { IfSome result
+            (λ s. IsStanding s self.now.lines (thread_state_in self.now.table thread)
+            × HasRoom thread self.now) }
     {
         match self.threads.get(&thread) {
             None => None,
@@ -104,8 +108,11 @@ impl ThreadStates {
     /// changes.
     pub fn ready(&mut self, thread: ThreadId) -> Result<Standing, AllocError>
         ensures lines { self.new.lines ≡ self.old.lines }
-        ensures same { (u : ℕ) → thread_state_in self.new.table u ≡ thread_state_in self.old.table u }
-        ensures ready { IfOk result (λ s. IsStanding s self.new.lines (thread_state_in self.new.table thread) × HasRoom thread self.new) }
+        ensures same { (u : ℕ)
+            → thread_state_in self.new.table u ≡ thread_state_in self.old.table u }
+        ensures ready { IfOk result
+            (λ s. IsStanding s self.new.lines (thread_state_in self.new.table thread)
+            × HasRoom thread self.new) }
     {
         if let Some(standing) = self.ready_standing(thread) {
             return Ok(standing);
@@ -117,7 +124,8 @@ impl ThreadStates {
     /// Reserves the memory that the next item of a thread needs. No thread's state changes.
     pub fn reserve(&mut self, thread: ThreadId) -> Result<(), AllocError>
         ensures lines { self.new.lines ≡ self.old.lines }
-        ensures same { (u : ℕ) → thread_state_in self.new.table u ≡ thread_state_in self.old.table u }
+        ensures same { (u : ℕ)
+            → thread_state_in self.new.table u ≡ thread_state_in self.old.table u }
         ensures room { OnOk result (HasRoom thread self.new) }
     {
         match self.threads.get_mut(&thread) {
@@ -134,7 +142,8 @@ impl ThreadStates {
     pub fn enter(&mut self, thread: ThreadId, method: MethodKey)
         requires { HasRoom thread self.old }
         ensures lines { self.new.lines ≡ self.old.lines }
-        ensures course { IsChanged thread (entered method (thread_state_in self.old.table thread)) self.old.table self.new.table }
+        ensures course { IsChanged thread
+            (entered method (thread_state_in self.old.table thread)) self.old.table self.new.table }
     {
         let is_atomic = self.spec.is_atomic(&method);
         let Some(open) = self.threads.get_mut(&thread) else {
@@ -147,7 +156,8 @@ impl ThreadStates {
     /// method doesn't change.
     pub fn exit(&mut self, thread: ThreadId)
         ensures lines { self.new.lines ≡ self.old.lines }
-        ensures course { IsChanged thread (exited self.old.lines (thread_state_in self.old.table thread)) self.old.table self.new.table }
+        ensures course { IsChanged thread (exited self.old.lines
+            (thread_state_in self.old.table thread)) self.old.table self.new.table }
     {
         let Some(open) = self.threads.get_mut(&thread) else {
             return;
@@ -159,7 +169,10 @@ impl ThreadStates {
     pub fn happened(&mut self, thread: ThreadId, transaction: u64)
         requires { HasRoom thread self.old }
         ensures lines { self.new.lines ≡ self.old.lines }
-        ensures course { IsChanged thread (record (thread_state_in self.old.table thread) { transaction = if has_atomic self.old.lines (thread_state_in self.old.table thread).methods then Some transaction else None }) self.old.table self.new.table }
+        ensures course { IsChanged thread (record (thread_state_in self.old.table thread) {
+          transaction = if has_atomic self.old.lines (thread_state_in self.old.table thread).methods
+              then Some transaction else None;
+        }) self.old.table self.new.table }
     {
         let Some(open) = self.threads.get_mut(&thread) else {
             return;
@@ -170,10 +183,14 @@ impl ThreadStates {
     /// Records an event of a thread whose standing is known. Fast path of `happened`: mostly nothing changes.
     pub fn happened_in(&mut self, thread: ThreadId, standing: Standing, transaction: u64)
         requires room { HasRoom thread self.old }
-        requires standing { IsStanding standing self.old.lines (thread_state_in self.old.table thread) }
+        requires standing { IsStanding standing self.old.lines
+            (thread_state_in self.old.table thread) }
         requires transaction { IfSome standing.transaction (λ t. transaction ≡ t) }
         ensures lines { self.new.lines ≡ self.old.lines }
-        ensures course { IsChanged thread (record (thread_state_in self.old.table thread) { transaction = if has_atomic self.old.lines (thread_state_in self.old.table thread).methods then Some transaction else None }) self.old.table self.new.table }
+        ensures course { IsChanged thread (record (thread_state_in self.old.table thread) {
+          transaction = if has_atomic self.old.lines (thread_state_in self.old.table thread).methods
+              then Some transaction else None;
+        }) self.old.table self.new.table }
     {
         if standing.stays() {
             return;

@@ -112,7 +112,8 @@ impl OpenMethods {
 
     /// Returns the transaction that ends with the exit of the innermost method, if one does.
     pub(crate) fn over(&self) -> Option<u64>
-        ensures { result ≡ (if any_atomic (drop 1 self.now.methods) then None else self.now.transaction) }
+        ensures { result
+            ≡ (if any_atomic (drop 1 self.now.methods) then None else self.now.transaction) }
     {
         if self.stays_in_atomic() {
             None
@@ -123,7 +124,8 @@ impl OpenMethods {
 
     /// Returns the standing of the thread if there is memory for one more method.
     pub(crate) fn ready_standing(&self) -> Option<Standing>
-        ensures { IfSome result (λ s. (s.transaction ≡ self.now.transaction) × (s.is_in_atomic ≡ any_atomic self.now.methods) × (0 < self.now.room)) }
+        ensures { IfSome result (λ s. (s.transaction ≡ self.now.transaction)
+            × (s.is_in_atomic ≡ any_atomic self.now.methods) × (0 < self.now.room)) }
     {
         if self.methods.len() < self.methods.capacity() {
             Some(self.standing())
@@ -144,7 +146,11 @@ impl OpenMethods {
     /// Enters a method.
     pub(crate) fn enter(&mut self, method: MethodKey, is_atomic: bool)
         requires { 0 < self.old.room }
-        ensures methods { self.new.methods ≡ record { method = method; is_atomic = is_atomic; is_inner = any_atomic self.old.methods } ∷ self.old.methods }
+        ensures methods { self.new.methods ≡ record {
+          method = method;
+          is_atomic = is_atomic;
+          is_inner = any_atomic self.old.methods;
+        } ∷ self.old.methods }
         ensures transaction { self.new.transaction ≡ self.old.transaction }
     {
         let is_inner = self.is_in_atomic();
@@ -158,7 +164,8 @@ impl OpenMethods {
     /// Leaves the innermost method. The transaction stays open if an atomic method stays open.
     pub(crate) fn exit(&mut self)
         ensures methods { self.new.methods ≡ drop 1 self.old.methods }
-        ensures transaction { self.new.transaction ≡ (if any_atomic (drop 1 self.old.methods) then self.old.transaction else None) }
+        ensures transaction { self.new.transaction
+            ≡ (if any_atomic (drop 1 self.old.methods) then self.old.transaction else None) }
     {
         if !self.stays_in_atomic() {
             self.transaction = None;
@@ -169,7 +176,8 @@ impl OpenMethods {
     /// Records an event of the thread in a transaction. The transaction stays open if an atomic method is open.
     pub(crate) fn happened(&mut self, transaction: u64)
         ensures methods { self.new.methods ≡ self.old.methods }
-        ensures transaction { self.new.transaction ≡ (if any_atomic self.old.methods then Some transaction else None) }
+        ensures transaction { self.new.transaction
+            ≡ (if any_atomic self.old.methods then Some transaction else None) }
     {
         self.transaction = if self.is_in_atomic() {
             Some(transaction)

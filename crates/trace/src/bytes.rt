@@ -24,7 +24,8 @@ pub trait ByteOut {
     fn write_all(&mut self, bytes: &[u8]) -> Result<(), DeviceFailure>
         ensures bytes { OnOk result (Appends (written self.old) (written self.new) bytes.now) }
         ensures count { OnOk result (failures self.new ≡ failures self.old) }
-        ensures beginning { OnErr result (AppendsBeginning (written self.old) (written self.new) bytes.now) }
+        ensures beginning { OnErr result
+            (AppendsBeginning (written self.old) (written self.new) bytes.now) }
         ensures failed { OnErr result (failures self.new ≡ failures self.old + 1) };
 }
 
@@ -39,7 +40,8 @@ pub trait ByteIn {
     /// Reads some bytes into the buffer and returns their count. It is 0 only at the end or if the buffer is empty.
     fn read(&mut self, buffer: &mut [u8]) -> Result<usize, DeviceFailure>
         ensures within { IfOk result (λ n. n ≤ length buffer.new) }
-        ensures bytes { IfOk result (λ n. Consumes (left self.old) (left self.new) (take n buffer.new)) }
+        ensures bytes { IfOk result
+            (λ n. Consumes (left self.old) (left self.new) (take n buffer.new)) }
         ensures end { IfOk result (λ n. n ≡ 0 → 0 < length buffer.new → IsAtEnd (left self.new)) }
         ensures count { OnOk result (failures self.new ≡ failures self.old) }
         ensures kept { OnErr result (Keeps (left self.old) (left self.new)) }
@@ -72,8 +74,10 @@ impl<T, L: Ledger> Counted<T, L> {
 
 /// Writes all of the bytes. Repeats a write that a signal interrupts.
 fn write_whole<W: Write>(writer: &mut W, bytes: &[u8]) -> Result<(), DeviceFailure>
-    ensures bytes { OnOk result (Appends (W.contents writer.old) (W.contents writer.new) bytes.now) }
-    ensures beginning { OnErr result (AppendsBeginning (W.contents writer.old) (W.contents writer.new) bytes.now) }
+    ensures bytes { OnOk result
+        (Appends (W.contents writer.old) (W.contents writer.new) bytes.now) }
+    ensures beginning { OnErr result
+        (AppendsBeginning (W.contents writer.old) (W.contents writer.new) bytes.now) }
 {
     let mut at = 0;
     for _ in 0..u64::MAX {
@@ -96,8 +100,10 @@ fn write_whole<W: Write>(writer: &mut W, bytes: &[u8]) -> Result<(), DeviceFailu
 /// Reads some bytes. Repeats a read that a signal interrupts.
 fn read_some<R: Read>(reader: &mut R, buffer: &mut [u8]) -> Result<usize, DeviceFailure>
     ensures within { IfOk result (λ n. n ≤ length buffer.new) }
-    ensures bytes { IfOk result (λ n. Consumes (R.remaining reader.old) (R.remaining reader.new) (take n buffer.new)) }
-    ensures end { IfOk result (λ n. n ≡ 0 → 0 < length buffer.new → IsAtEnd (R.remaining reader.new)) }
+    ensures bytes { IfOk result
+        (λ n. Consumes (R.remaining reader.old) (R.remaining reader.new) (take n buffer.new)) }
+    ensures end { IfOk result (λ n. n ≡ 0 → 0 < length buffer.new
+        → IsAtEnd (R.remaining reader.new)) }
     ensures kept { OnErr result (Keeps (R.remaining reader.old) (R.remaining reader.new)) }
 {
     for _ in 0..u64::MAX {

@@ -29,14 +29,18 @@ pub fn check<W: ByteOut>(
     output: &mut W,
 ) -> Result<Verdict, CheckFault>
     // The verdict is that of the items of the text. Exactly its line was written, followed by the requested details.
-    ensures exact { IfOk result (Wrote spec text.now details (W.written output.old) (W.written output.new)) }
+    ensures exact { IfOk result
+        (Wrote spec text.now details (W.written output.old) (W.written output.new)) }
     ensures count { OnOk result (W.failures output.new ≡ W.failures output.old) }
     // The fault is the first one in the text, unless memory ran out or the writer failed.
     ensures fault { IfErr result (IsFault spec text.now) }
-    ensures untouched { IfErr result (λ fault. fault ≢ CheckFault.Output → output.new ≡ output.old) }
+    ensures untouched { IfErr result
+        (λ fault. fault ≢ CheckFault.Output → output.new ≡ output.old) }
     // The fault is `Output` only if the writer failed. Then a prefix was written.
-    ensures failed { IsErrOf result CheckFault.Output → W.failures output.new ≡ W.failures output.old + 1 }
-    ensures beginning { IsErrOf result CheckFault.Output → WroteBeginning spec text.now details (W.written output.old) (W.written output.new) }
+    ensures failed { IsErrOf result CheckFault.Output
+        → W.failures output.new ≡ W.failures output.old + 1 }
+    ensures beginning { IsErrOf result CheckFault.Output
+        → WroteBeginning spec text.now details (W.written output.old) (W.written output.new) }
 {
     let checked = say(alloc, spec, text, details)?;
     output.write_all(checked.text.as_bytes())?;

@@ -13,7 +13,8 @@ use std::alloc::Global;
 /// Returns a checker that was fed all items. Fails at the first item that it refuses.
 pub(crate) fn fed(alloc: Global, spec: Spec, items: &[Item]) -> Result<Checker, CheckFault>
     ensures taken { IfOk result (λ checker. first_refused (fed_nothing spec) 1 items.now ≡ None) }
-    ensures checker { IfOk result (λ checker. checker ≡ record { lines = spec; items = items.now }) }
+    ensures checker { IfOk result
+        (λ checker. checker ≡ record { lines = spec; items = items.now }) }
     ensures fault { IfErr result (IsRefused (first_refused (fed_nothing spec) 1 items.now)) }
 {
     let mut checker = Checker::new(alloc, spec)?;

@@ -28,7 +28,8 @@ pub struct Checked {
 /// Returns the lines of the events of an atomic trace in a serial order.
 fn atomic_part(alloc: Global, checker: &Checker, items: &[Item]) -> Result<String, AllocError>
     requires { AreAtomic (walk_of checker.now).events }
-    ensures { IfOk result (λ part. AreSerialLines (walk_of checker.now) items.now (string_bytes part)) }
+    ensures { IfOk result
+        (λ part. AreSerialLines (walk_of checker.now) items.now (string_bytes part)) }
 {
     match checker.serial()? {
         Some(numbers) => serial_lines(alloc, items, numbers.as_slice()),
@@ -62,7 +63,8 @@ fn explained_part(
     explains: bool,
     verdict: &Verdict,
 ) -> Result<String, AllocError>
-    ensures { IfOk result (λ part. string_bytes part ≡ explained_part checker.now explains verdict.now) }
+    ensures { IfOk result
+        (λ part. string_bytes part ≡ explained_part checker.now explains verdict.now) }
 {
     if explains {
         explain(alloc, checker, &[], verdict)
@@ -114,7 +116,8 @@ pub(crate) fn say(
     text: &str,
     details: Details,
 ) -> Result<Checked, CheckFault>
-    ensures exact { IfOk result (λ c. IsChecked spec text.now details c.verdict (string_bytes c.text)) }
+    ensures exact { IfOk result
+        (λ c. IsChecked spec text.now details c.verdict (string_bytes c.text)) }
     ensures fault { IfErr result (IsFault spec text.now) }
     ensures quiet { IfErr result (λ fault. fault ≢ CheckFault.Output) }
 {

@@ -17,7 +17,8 @@ use Rattle.escapes.proofs.Cutting.{one_cut}
 use Rattle.escapes.proofs.Members.{AreParts, SameParts, one_cutting, parts_along, has_append, spelled_no_low}
 use Rattle.trace_text.specs.declared.word.Word.{Word}
 use Rattle.trace_text.specs.declared.word.Word.TheVariants as word
-use Rattle.trace_text.specs.Items.{IsNumber, IsVariable, IsItem, IsTouched, variable_text, word_of, thread_of, touched_text, item_text}
+use Rattle.jvms_machine.specs.Events.{thread_of}
+use Rattle.trace_text.specs.Items.{IsNumber, IsVariable, IsItem, IsTouched, variable_text, word_of, touched_text, item_text}
 use Rattle.trace_text.specs.Parts.{word_text, kind_of, IsWord, IsItemOf}
 use Rattle.trace_text.specs.Traces.{item_line, BeginsWithNoItem}
 use Rattle.trace_text.proofs.Numbers.{number_below, one_number}

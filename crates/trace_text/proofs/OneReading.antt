@@ -15,7 +15,8 @@ use Rattle.escapes.proofs.Cutting.{one_cut}
 use Rattle.escapes.proofs.Members.{SameParts, one_member}
 use Rattle.trace_text.specs.declared.fault.TraceFault.{TraceFault}
 use Rattle.trace_text.specs.declared.fault.TraceFault.TheVariants as fault
-use Rattle.trace_text.specs.Items.{IsNumber, IsVariable, IsItem, variable_text, word_of, thread_of, touched_text, item_text}
+use Rattle.jvms_machine.specs.Events.{thread_of}
+use Rattle.trace_text.specs.Items.{IsNumber, IsVariable, IsItem, variable_text, word_of, touched_text, item_text}
 use Rattle.trace_text.specs.Parts.{word_text, kind_of, dots_of}
 use Rattle.trace_text.specs.Traces.{item_line, trace_text, IsTextOf, IsFaulty, BeginsWithNoItem, IsRead}
 use Rattle.trace_text.proofs.Numbers.{one_number, number_below, number_above}

@@ -5,6 +5,7 @@ use Rattle.jvms_machine.specs.declared.trace.Item.{Item}
 use Rattle.jvms_machine.specs.declared.trace.Item.TheVariants as item
 use Rattle.jvms_machine.specs.declared.trace.Variable.{Variable}
 use Rattle.jvms_machine.specs.declared.trace.Variable.TheVariants as variable
+use Rattle.jvms_machine.specs.Events.{thread_of}
 use Rattle.escapes.specs.Keys.{IsFieldKey, IsMethodKey, field_text, method_text}
 
 -- Returns the text of a variable: `R.C.x.D` for an instance field, `C.x.D` for a static one, and `R[i]` for an element.
@@ -23,17 +24,6 @@ word_of (item.Fork t u) = codes "fork"
 word_of (item.Join t u) = codes "join"
 word_of (item.Enter t m) = codes "enter"
 word_of (item.Exit t m) = codes "exit"
-
--- Returns the thread of an item.
-abbrev pub thread_of : Item → ℕ
-thread_of (item.Read t v) = t
-thread_of (item.Write t v) = t
-thread_of (item.Acquire t r) = t
-thread_of (item.Release t r) = t
-thread_of (item.Fork t u) = t
-thread_of (item.Join t u) = t
-thread_of (item.Enter t m) = t
-thread_of (item.Exit t m) = t
 
 -- Returns the text of what an item touches: a variable, an object, a thread or a method.
 abbrev pub touched_text : Item → List ℕ

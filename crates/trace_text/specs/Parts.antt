@@ -6,7 +6,8 @@ use Rattle.jvms_machine.specs.declared.trace.Variable.{Variable}
 use Rattle.jvms_machine.specs.declared.trace.Variable.TheVariants as variable
 use Rattle.trace_text.specs.declared.word.Word.{Word}
 use Rattle.trace_text.specs.declared.word.Word.TheVariants as word
-use Rattle.trace_text.specs.Items.{IsItem, IsVariable, thread_of}
+use Rattle.jvms_machine.specs.Events.{thread_of}
+use Rattle.trace_text.specs.Items.{IsItem, IsVariable}
 
 abbrev pub word_text : Word → List ℕ
 word_text word.Read = codes "rd"

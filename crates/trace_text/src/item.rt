@@ -5,7 +5,8 @@ ghost use Rattle.std.specs.Fmt.{decimal};
 ghost use Rattle.std.specs.Io.{StartsWith};
 ghost use Rattle.std.specs.String.{string_bytes};
 ghost use Rattle.escapes.specs.Readings.{IsReadAs};
-ghost use Rattle.trace_text.specs.Items.{IsItem, item_text, touched_text, thread_of};
+ghost use Rattle.jvms_machine.specs.Events.{thread_of};
+ghost use Rattle.trace_text.specs.Items.{IsItem, item_text, touched_text};
 ghost use Rattle.trace_text.specs.Parts.{IsItemOf, word_text, kind_of};
 
 use crate::members::Keys;
@@ -53,7 +54,8 @@ fn thread_of(item: &Item) -> ThreadId
 
 /// Appends what an item touches to a text. On an error a part of it may have been appended.
 fn put_touched(out: &mut String, item: &Item) -> Result<(), AllocError>
-    ensures exact { OnOk result (string_bytes out.new ≡ string_bytes out.old ++ touched_text item.now) }
+    ensures exact { OnOk result
+        (string_bytes out.new ≡ string_bytes out.old ++ touched_text item.now) }
     ensures behind { OnErr result (StartsWith (string_bytes out.new) (string_bytes out.old)) }
 {
     match item {
@@ -69,7 +71,8 @@ fn put_touched(out: &mut String, item: &Item) -> Result<(), AllocError>
 
 /// Appends an item to a text, without the LF that ends its line. On an error a part of it may have been appended.
 pub(crate) fn put_item(out: &mut String, item: &Item) -> Result<(), AllocError>
-    ensures exact { OnOk result (string_bytes out.new ≡ string_bytes out.old ++ item_text item.now) }
+    ensures exact { OnOk result
+        (string_bytes out.new ≡ string_bytes out.old ++ item_text item.now) }
     ensures behind { OnErr result (StartsWith (string_bytes out.new) (string_bytes out.old)) }
 {
     out.push_str(kind_of(item).text())?;

@@ -47,7 +47,8 @@ impl<'t, M: Member> Model for Known<'t, M> {
 impl<'t, M: Member> Known<'t, M> {
     /// Returns a clone of the member if the text is its text.
     fn of(&self, text: &[u8]) -> Result<Option<M>, AllocError>
-        ensures { IfOk result (λ o. MatchOption o (Unit {0}) (λ m. M.may_stand m × (text.now ≡ M.text_of m))) }
+        ensures { IfOk result
+            (λ o. MatchOption o (Unit {0}) (λ m. M.may_stand m × (text.now ≡ M.text_of m))) }
     {
         if self.text == text {
             Ok(Some(self.member.share()?))
@@ -102,14 +103,16 @@ impl<'t, M: Member> Members<'t, M> {
 
     /// Returns the member of a text, if the text was read before and its slot still has it.
     pub(crate) fn known(&self, text: &[u8]) -> Result<Option<M>, AllocError>
-        ensures { IfOk result (λ o. MatchOption o (Unit {0}) (λ m. M.may_stand m × (text.now ≡ M.text_of m))) }
+        ensures { IfOk result
+            (λ o. MatchOption o (Unit {0}) (λ m. M.may_stand m × (text.now ≡ M.text_of m))) }
     {
         self.known_in(slot_of(text), text)
     }
 
     /// Returns the member in a slot if the text is its text.
     fn known_in(&self, slot: usize, text: &[u8]) -> Result<Option<M>, AllocError>
-        ensures { IfOk result (λ o. MatchOption o (Unit {0}) (λ m. M.may_stand m × (text.now ≡ M.text_of m))) }
+        ensures { IfOk result
+            (λ o. MatchOption o (Unit {0}) (λ m. M.may_stand m × (text.now ≡ M.text_of m))) }
     {
         match self.known.get(slot) {
             Some(Some(known)) => known.of(text),

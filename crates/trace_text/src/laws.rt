@@ -10,12 +10,14 @@ ghost use Rattle.trace_text.specs.Traces.{trace_text, IsTextOf, IsFaulty, IsRead
 
 /// Proves that a text is that of one list of items at most.
 pub fn a_text_is_of_one_trace()
-    ensures { (a b : List Item) → AllByRecursion IsItem a → AllByRecursion IsItem b → trace_text a ≡ trace_text b → a ≡ b }
+    ensures { (a b : List Item) → AllByRecursion IsItem a
+        → AllByRecursion IsItem b → trace_text a ≡ trace_text b → a ≡ b }
 {}
 
 /// Proves that the text of items has no faulty line.
 pub fn a_text_of_items_has_no_fault()
-    ensures { (text : List ℕ) (items : List Item) (line : ℕ) → IsTextOf text items → IsFaulty text line → ⊥ }
+    ensures { (text : List ℕ) (items : List Item) (line : ℕ)
+        → IsTextOf text items → IsFaulty text line → ⊥ }
 {}
 
 /// Proves that a text has at most one first faulty line.
@@ -26,5 +28,7 @@ pub fn a_text_has_one_first_fault()
 /// Proves that reading the text of items returns the same items, unless memory runs out. The names and descriptors of
 /// the items must be well formed, and their numbers must have 32 bits.
 pub fn what_is_written_is_read_again()
-    ensures { (items : List Item) (answer : Result (List Item) TraceFault) → AllByRecursion IsItem items → IsRead (trace_text items) answer → (answer ≡ Ok items) ⊎ (answer ≡ Err fault.Memory) }
+    ensures { (items : List Item) (answer : Result (List Item) TraceFault)
+        → AllByRecursion IsItem items → IsRead (trace_text items) answer
+        → (answer ≡ Ok items) ⊎ (answer ≡ Err fault.Memory) }
 {}

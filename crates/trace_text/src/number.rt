@@ -23,7 +23,8 @@ pub(crate) fn put_number(out: &mut String, number: u32) -> Result<(), AllocError
 
 /// Returns the value of a decimal digit, or `None` for another byte.
 fn digit_of(byte: u8) -> Option<u64>
-    ensures { MatchOption result ((d : ℕ) → d < 10 → byte ≢ 48 + d) (λ d. (d < 10) × (byte ≡ 48 + d)) }
+    ensures { MatchOption result ((d : ℕ) → d < 10 → byte ≢ 48 + d)
+        (λ d. (d < 10) × (byte ≡ 48 + d)) }
 {
     match byte {
         b'0'..=b'9' => Some(u64::from(byte - b'0')),

@@ -21,7 +21,8 @@ const CLOSE: u8 = b']';
 
 /// Appends an element to a text: `R[i]`. On an error a part of it may have been appended.
 fn put_element(out: &mut String, reference: u32, index: u32) -> Result<(), AllocError>
-    ensures exact { OnOk result (string_bytes out.new ≡ string_bytes out.old ++ variable_text (Variable.Element reference index)) }
+    ensures exact { OnOk result (string_bytes out.new
+        ≡ string_bytes out.old ++ variable_text (Variable.Element reference index)) }
     ensures behind { OnErr result (StartsWith (string_bytes out.new) (string_bytes out.old)) }
 {
     put_number(out, reference)?;
@@ -32,7 +33,8 @@ fn put_element(out: &mut String, reference: u32, index: u32) -> Result<(), Alloc
 
 /// Appends a variable to a text: `R.C.x.D`, `C.x.D` or `R[i]`. On an error a part of it may have been appended.
 pub(crate) fn put_variable(out: &mut String, variable: &Variable) -> Result<(), AllocError>
-    ensures exact { OnOk result (string_bytes out.new ≡ string_bytes out.old ++ variable_text variable.now) }
+    ensures exact { OnOk result
+        (string_bytes out.new ≡ string_bytes out.old ++ variable_text variable.now) }
     ensures behind { OnErr result (StartsWith (string_bytes out.new) (string_bytes out.old)) }
 {
     match variable {
@@ -93,7 +95,8 @@ fn begins_with_digit(text: &[u8]) -> bool {
 
 /// Fast path of `variable_of`: returns the static field if the text was read before, else mostly `None`.
 fn known_static<'t>(keys: &Keys<'t>, text: &[u8]) -> Result<Option<Variable>, AllocError>
-    ensures { IfOk result (λ o. MatchOption o (Unit {0}) (λ v. IsVariable v × (text.now ≡ variable_text v))) }
+    ensures { IfOk result
+        (λ o. MatchOption o (Unit {0}) (λ v. IsVariable v × (text.now ≡ variable_text v))) }
 {
     if begins_with_digit(text) {
         return Ok(None);

@@ -12,7 +12,8 @@ use trace::Trace;
 
 /// Appends an item and LF. On an error a part of them may have been appended.
 fn put_parts(out: &mut String, item: &Item) -> Result<(), AllocError>
-    ensures exact { OnOk result (string_bytes out.new ≡ string_bytes out.old ++ item_line item.now) }
+    ensures exact { OnOk result
+        (string_bytes out.new ≡ string_bytes out.old ++ item_line item.now) }
     ensures behind { OnErr result (StartsWith (string_bytes out.new) (string_bytes out.old)) }
 {
     put_item(out, item)?;
@@ -21,7 +22,8 @@ fn put_parts(out: &mut String, item: &Item) -> Result<(), AllocError>
 
 /// Appends the line of an item, with its LF, to a text.
 pub fn put_line(out: &mut String, item: &Item) -> Result<(), AllocError>
-    ensures exact { OnOk result (string_bytes out.new ≡ string_bytes out.old ++ item_line item.now) }
+    ensures exact { OnOk result
+        (string_bytes out.new ≡ string_bytes out.old ++ item_line item.now) }
     // Without memory nothing changes.
     ensures kept { OnErr result (string_bytes out.new ≡ string_bytes out.old) }
 {

@@ -13,5 +13,6 @@ ghost use Rattle.listing_spec.specs.TreeOf.{tree_of};
 /// Proves that the tree that a class file is listed as means the class that the class file means, if bytes spell the
 /// class file.
 pub fn listed_tree_means_its_class()
-    ensures { (bytes : List ℕ) (c : ClassFile) (tree : Source) → Spells bytes c → tree_of c ≡ Ok tree → denote tree ≡ meaning c }
+    ensures { (bytes : List ℕ) (c : ClassFile) (tree : Source)
+        → Spells bytes c → tree_of c ≡ Ok tree → denote tree ≡ meaning c }
 {}

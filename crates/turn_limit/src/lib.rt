@@ -29,7 +29,8 @@ impl Model for TurnLimit {
 impl TurnLimit {
     /// Returns the limit of a number of turns, or `None` if that is more than 100,000,000.
     pub fn new(turns: u64) -> Option<TurnLimit>
-        ensures { MatchOption result (100000000 < turns) (λ limit. (limit ≡ turns) × (turns ≤ 100000000)) }
+        ensures { MatchOption result (100000000 < turns)
+            (λ limit. (limit ≡ turns) × (turns ≤ 100000000)) }
     {
         if turns > MOST_TURNS {
             return None;

@@ -77,7 +77,8 @@ fn popped_decision<'p>(
     thread: &Thread,
     frame: &Frame,
 ) -> Decided<'p>
-    ensures { seen result ≡ popped_decision parts.now.limits parts.now.state t frame.now (drop 1 thread.now.frames) }
+    ensures { seen result
+        ≡ popped_decision parts.now.limits parts.now.state t frame.now (drop 1 thread.now.frames) }
 {
     match parts.unlocking(t, frame) {
         Unlocking::Fails => parts.fails_to_unlock(thread, frame),
@@ -99,7 +100,8 @@ fn handler_decision<'p>(
     reference: u32,
     class: &[u16],
 ) -> Decided<'p>
-    ensures { seen result ≡ handler_decision parts.now.limits parts.now.state t frame.now (drop 1 thread.now.frames) reference (handler_of parts.now.program class.now frame.now) }
+    ensures { seen result ≡ handler_decision parts.now.limits parts.now.state t frame.now
+        (drop 1 thread.now.frames) reference (handler_of parts.now.program class.now frame.now) }
 {
     match handler_of(parts.program(), class, frame) {
         None => popped_decision(parts, t, thread, frame),
@@ -126,7 +128,8 @@ fn is_replaced(parts: &Parts, called: bool, class: &[u16]) -> bool
 /// Returns the exception that is pending after a class's failed initialisation.
 #[tactic(auto, using(crate::proofs::FailedClasses::failed_anew, crate::proofs::FailedClasses::failed_still))]
 fn failed_with(parts: &Parts, called: bool, reference: u32, class: &[u16]) -> Exception
-    ensures { (o : Object) → class.now ≡ class_of o → result ≡ failed_with parts.now.program parts.now.limits parts.now.state called reference o }
+    ensures { (o : Object) → class.now ≡ class_of o → result
+        ≡ failed_with parts.now.program parts.now.limits parts.now.state called reference o }
 {
     if is_replaced(parts, called, class) {
         parts.exception_of(Thrown::ExceptionInInitializerError)
@@ -143,7 +146,8 @@ fn unwound_by_top<'p>(
     reference: u32,
     class: &[u16],
 ) -> Decided<'p>
-    ensures { (o : Object) → class.now ≡ class_of o → seen result ≡ top_decision parts.now.program parts.now.limits parts.now.state t thread.now.frames reference o }
+    ensures { (o : Object) → class.now ≡ class_of o → seen result ≡ top_decision parts.now.program
+        parts.now.limits parts.now.state t thread.now.frames reference o }
 {
     match thread.frame(0) {
         None => never_seen(),
@@ -173,7 +177,8 @@ pub fn unwinding_decision<'p>(
     thread: &Thread,
     reference: u32,
 ) -> Decided<'p>
-    ensures { seen result ≡ unwinding_decision parts.now.program parts.now.limits parts.now.state t thread.now reference }
+    ensures { seen result ≡ unwinding_decision parts.now.program
+        parts.now.limits parts.now.state t thread.now reference }
 {
     match parts.heap.class_of(reference) {
         None => never_seen(),
@@ -183,7 +188,8 @@ pub fn unwinding_decision<'p>(
 
 /// Decides the throw of the object of a reference. Stops with `Kind` if it is no Throwable.
 fn throwable_decision<'p>(parts: &Parts<'p>, thread: &Thread, reference: u32) -> Decided<'p>
-    ensures { seen result ≡ with_object_of parts.now.limits parts.now.state thread.now (value.Reference reference) (throwable_decision parts.now.program) }
+    ensures { seen result ≡ with_object_of parts.now.limits parts.now.state thread.now
+        (value.Reference reference) (throwable_decision parts.now.program) }
 {
     match parts.heap.class_of(reference) {
         None => never_seen(),
@@ -200,7 +206,8 @@ fn throwable_decision<'p>(parts: &Parts<'p>, thread: &Thread, reference: u32) ->
 /// Decides JVMS 6.5 `athrow`. It tests the depth and null, then that the object is a Throwable.
 #[tactic(auto, unfolding(jvms_machine::specs::Unwinding::throw_decision))]
 pub fn throw_decision<'p>(parts: &Parts<'p>, thread: &Thread, frame: &Frame) -> Decided<'p>
-    ensures { seen result ≡ throw_decision parts.now.program parts.now.limits parts.now.state thread.now frame.now }
+    ensures { seen result
+        ≡ throw_decision parts.now.program parts.now.limits parts.now.state thread.now frame.now }
 {
     if !has_depth(frame, 1, 0) {
         return bad(BadCause::Depth);

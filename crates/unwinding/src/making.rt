@@ -50,11 +50,14 @@ pub fn unwind(
     unlock: Option<MonitorUse>,
     trace: &mut Recording,
 ) -> Result<(), AllocError>
-    ensures state { OnOk result (parts.new ≡ after parts.old t (action.Unwinds method last unlock)) }
-    ensures items { OnOk result (trace.new ≡ recorded trace.old (items_of parts.old.program t (action.Unwinds method last unlock))) }
+    ensures state { OnOk result
+        (parts.new ≡ after parts.old t (action.Unwinds method last unlock)) }
+    ensures items { OnOk result (trace.new
+        ≡ recorded trace.old (items_of parts.old.program t (action.Unwinds method last unlock))) }
     ensures kept { OnErr result (parts.new ≡ parts.old) }
     ensures no_items { OnErr result (trace.new ≡ trace.old) }
-    ensures none { items_of parts.old.program t (action.Unwinds method last unlock) ≡ [] → IsOk result }
+    ensures none { items_of parts.old.program t (action.Unwinds method last unlock) ≡ []
+        → IsOk result }
 {
     parts.record_exit(t, method, unlock, trace)?;
     parts.unlock(unlock);
@@ -76,11 +79,15 @@ pub fn fail_to_unlock(
     trace: &mut Recording,
 ) -> Result<(), AllocError>
     requires { HasReference parts.old.state }
-    ensures state { OnOk result (parts.new ≡ after parts.old t (action.FailsToUnlock method exception last)) }
-    ensures items { OnOk result (trace.new ≡ recorded trace.old (items_of parts.old.program t (action.FailsToUnlock method exception last))) }
+    ensures state { OnOk result
+        (parts.new ≡ after parts.old t (action.FailsToUnlock method exception last)) }
+    ensures items { OnOk result (trace.new ≡ recorded trace.old
+        (items_of parts.old.program t (action.FailsToUnlock method exception last))) }
     ensures kept { OnErr result (parts.new ≡ parts.old) }
     ensures no_items { OnErr result (trace.new ≡ trace.old) }
-    ensures none { IsTrue (is_held exception) → items_of parts.old.program t (action.FailsToUnlock method exception last) ≡ [] → IsOk result }
+    ensures none { IsTrue (is_held exception)
+        → items_of parts.old.program t (action.FailsToUnlock method exception last) ≡ []
+        → IsOk result }
 {
     let item = parts.exit_item(t, method)?;
     let before = trace.len();
@@ -110,7 +117,8 @@ pub fn fail_initialisation(
     last: bool,
 ) -> Result<(), AllocError>
     requires { HasReference parts.old.state }
-    ensures state { OnOk result (parts.new ≡ after parts.old t (action.FailsInitialisation class exception last)) }
+    ensures state { OnOk result
+        (parts.new ≡ after parts.old t (action.FailsInitialisation class exception last)) }
     ensures kept { OnErr result (parts.new ≡ parts.old) }
     ensures none { IsTrue (is_held exception) → IsOk result }
 {

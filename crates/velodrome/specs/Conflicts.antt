@@ -5,17 +5,7 @@ use Rattle.jvms_machine.specs.declared.trace.Item.{Item}
 use Rattle.jvms_machine.specs.declared.trace.Item.TheVariants as item
 use Rattle.jvms_machine.specs.declared.trace.Variable.{Variable}
 use Rattle.jvms_machine.specs.declared.trace.Variable.TheVariants as variable
-
--- Returns the thread that an item belongs to.
-abbrev pub thread_of : Item → ℕ
-thread_of (item.Read t v) = t
-thread_of (item.Write t v) = t
-thread_of (item.Acquire t r) = t
-thread_of (item.Release t r) = t
-thread_of (item.Fork t u) = t
-thread_of (item.Join t u) = t
-thread_of (item.Enter t m) = t
-thread_of (item.Exit t m) = t
+use Rattle.jvms_machine.specs.Events.{thread_of}
 
 -- Returns the object whose monitor an event enters or leaves.
 abbrev pub monitor_of : Item → Option ℕ

@@ -7,7 +7,7 @@ use Rattle.jvms_file.specs.Names.{same_text}
 use Rattle.jvms_program.specs.declared.key.MethodKey.{MethodKey}
 use Rattle.jvms_machine.specs.declared.trace.Item.{Item}
 use Rattle.jvms_machine.specs.declared.trace.Item.TheVariants as item
-use Rattle.velodrome.specs.Conflicts.{thread_of}
+use Rattle.jvms_machine.specs.Events.{thread_of}
 use Rattle.velodrome.specs.Specification.{Specification, is_atomic}
 
 -- An event of a trace, with its number and the number of its transaction. Both count from 1.

@@ -20,7 +20,8 @@ impl Graph {
     /// distance of a transaction with a link into y.
     fn distance(&self, y: u64, start: u64, distances: &BTreeMap<u64, usize>) -> Option<usize>
         requires fits { (x n : ℕ) → distance_in distances.now.entries x ≡ Some n → n + 1 < 2 ^ 64 }
-        ensures { MatchOption result ((y ≢ start) × AreFar (into_in self.now y) distances.now.entries)
+        ensures { MatchOption result
+            ((y ≢ start) × AreFar (into_in self.now y) distances.now.entries)
             (IsNext start y (into_in self.now y) distances.now.entries) }
     {
         if y == start {
@@ -37,7 +38,8 @@ impl Graph {
         requires place { place < length self.now.live }
         requires there { get_or self.now.live place 0 ≡ transaction }
         requires usable { IsUsable self.now }
-        ensures { IfOk result (λ m. AreDistances self.now.live (into_in self.now) transaction m.entries) }
+        ensures { IfOk result
+            (λ m. AreDistances self.now.live (into_in self.now) transaction m.entries) }
     {
         let mut distances = BTreeMap::new(self.alloc);
         for y in self.live_from(place) {
@@ -55,9 +57,11 @@ impl Graph {
         start: Near,
         distances: &BTreeMap<u64, usize>,
     ) -> Result<Vec<Link>, AllocError>
-        requires distances { AreDistances self.now.live (into_in self.now) transaction distances.now.entries }
+        requires distances { AreDistances self.now.live
+            (into_in self.now) transaction distances.now.entries }
         requires start { distance_in distances.now.entries start.link.from ≡ Some start.distance }
-        ensures way { IfOk result (λ v. IsTrail self.now.live (into_in self.now) transaction start.link.from v.items) }
+        ensures way { IfOk result
+            (λ v. IsTrail self.now.live (into_in self.now) transaction start.link.from v.items) }
         ensures long { IfOk result (λ v. length v.items ≡ start.distance) }
     {
         let mut trail = Vec::new(self.alloc);
@@ -84,7 +88,8 @@ impl Graph {
         requires place { place < length self.now.live }
         requires there { get_or self.now.live place 0 ≡ transaction }
         requires usable { IsUsable self.now }
-        ensures { IfOk result (λ o. MatchOption o (ClosesNone transaction links.now self.now) (ClosesCycle transaction links.now self.now)) }
+        ensures { IfOk result (λ o. MatchOption o (ClosesNone transaction links.now self.now)
+            (ClosesCycle transaction links.now self.now)) }
     {
         let distances = self.distances(transaction, place)?;
         match nearest(links, &distances) {

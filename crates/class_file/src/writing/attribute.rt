@@ -30,7 +30,8 @@ pub(crate) fn write_kept_attributes(
     out: &mut Vec<u8>,
     attributes: &[KeptAttribute],
 ) -> Result<(), AllocError>
-    ensures { OnOk result (out.new.items ≡ out.old.items ++ counted_bytes kept_bytes attributes.now) }
+    ensures { OnOk result
+        (out.new.items ≡ out.old.items ++ counted_bytes kept_bytes attributes.now) }
 {
     write_count(out, attributes.len())?;
     for attribute in attributes {

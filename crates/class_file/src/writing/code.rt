@@ -32,7 +32,8 @@ fn write_handler(out: &mut Vec<u8>, layout: &Layout, handler: &Handler) -> Resul
 
 /// Appends exception_table_length and the entries of the table.
 fn write_table(out: &mut Vec<u8>, layout: &Layout, handlers: &[Handler]) -> Result<(), AllocError>
-    ensures { OnOk result (out.new.items ≡ out.old.items ++ counted_bytes (handler_bytes layout.now) handlers.now) }
+    ensures { OnOk result
+        (out.new.items ≡ out.old.items ++ counted_bytes (handler_bytes layout.now) handlers.now) }
 {
     write_count(out, handlers.len())?;
     for handler in handlers {

@@ -41,7 +41,8 @@ fn write_field_attributes(
     out: &mut Vec<u8>,
     attributes: &[FieldAttribute],
 ) -> Result<(), AllocError>
-    ensures { OnOk result (out.new.items ≡ out.old.items ++ counted_bytes field_attribute_bytes attributes.now) }
+    ensures { OnOk result
+        (out.new.items ≡ out.old.items ++ counted_bytes field_attribute_bytes attributes.now) }
 {
     write_count(out, attributes.len())?;
     for attribute in attributes {
@@ -101,7 +102,8 @@ fn write_method_attributes(
     out: &mut Vec<u8>,
     attributes: &[MethodAttribute],
 ) -> Result<(), AllocError>
-    ensures { OnOk result (out.new.items ≡ out.old.items ++ counted_bytes method_attribute_bytes attributes.now) }
+    ensures { OnOk result
+        (out.new.items ≡ out.old.items ++ counted_bytes method_attribute_bytes attributes.now) }
 {
     write_count(out, attributes.len())?;
     for attribute in attributes {
@@ -125,7 +127,8 @@ pub(crate) fn write_methods(
     out: &mut Vec<u8>,
     methods: &[MethodInfo],
 ) -> Result<(), AllocError>
-    ensures { OnOk result (out.new.items ≡ out.old.items ++ counted_bytes method_bytes methods.now) }
+    ensures { OnOk result
+        (out.new.items ≡ out.old.items ++ counted_bytes method_bytes methods.now) }
 {
     write_count(out, methods.len())?;
     for method in methods {

@@ -42,7 +42,8 @@ fn load_from<'p>(
     n: i32,
     reference: u32,
 ) -> Decided<'p>
-    ensures { seen result ≡ loads_from parts.now.limits parts.now.state thread.now frame.now kind n reference }
+    ensures { seen result
+        ≡ loads_from parts.now.limits parts.now.state thread.now frame.now kind n reference }
 {
     let Some(class) = parts.heap.class_of(reference) else {
         return never_seen();
@@ -70,7 +71,8 @@ pub(crate) fn load_decision<'p>(
     frame: &Frame,
     kind: ArrayKind,
 ) -> Decided<'p>
-    ensures { seen result ≡ if_deep frame.now 2 (element_size kind) (load_operands parts.now.limits parts.now.state thread.now frame.now kind frame.now.activation.operands) }
+    ensures { seen result ≡ if_deep frame.now 2 (element_size kind) (load_operands parts.now.limits
+        parts.now.state thread.now frame.now kind frame.now.activation.operands) }
 {
     if !has_depth(frame, 2, element_size(kind)) {
         return bad(BadCause::Depth);
@@ -112,7 +114,8 @@ fn store_to<'p>(
     reference: u32,
 ) -> Decided<'p>
     requires { frame.now.activation.place + 1 < 2 ^ 64 }
-    ensures { seen result ≡ stores_to parts.now.limits parts.now.state thread.now parts.now.program frame.now.activation kind value n reference }
+    ensures { seen result ≡ stores_to parts.now.limits parts.now.state thread.now
+        parts.now.program frame.now.activation kind value n reference }
 {
     let Some(class) = parts.heap.class_of(reference) else {
         return never_seen();
@@ -149,7 +152,9 @@ fn store_below<'p>(
 ) -> Decided<'p>
     requires place { frame.now.activation.place + 1 < 2 ^ 64 }
     requires there { 2 + element_size kind ≤ length frame.now.activation.operands }
-    ensures { seen result ≡ store_below parts.now.program parts.now.limits parts.now.state thread.now frame.now.activation kind value (drop (element_size kind) frame.now.activation.operands) }
+    ensures { seen result
+        ≡ store_below parts.now.program parts.now.limits parts.now.state thread.now
+        frame.now.activation kind value (drop (element_size kind) frame.now.activation.operands) }
 {
     let (array, Value::Int(n)) = frame.two_below(usize::from(element_size(kind))) else {
         return bad(BadCause::Kind);
@@ -171,7 +176,9 @@ pub(crate) fn store_decision<'p>(
     kind: ArrayKind,
 ) -> Decided<'p>
     requires { frame.now.activation.place + 1 < 2 ^ 64 }
-    ensures { seen result ≡ if_deep frame.now (2 + element_size kind) 0 (store_operands parts.now.program parts.now.limits parts.now.state thread.now frame.now.activation kind (top_value (kind_of_elements kind) frame.now.activation.operands)) }
+    ensures { seen result ≡ if_deep frame.now (2 + element_size kind) 0 (store_operands
+        parts.now.program parts.now.limits parts.now.state thread.now frame.now.activation kind
+        (top_value (kind_of_elements kind) frame.now.activation.operands)) }
 {
     if !has_depth(frame, 2 + element_size(kind), 0) {
         return bad(BadCause::Depth);

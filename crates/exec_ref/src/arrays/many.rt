@@ -114,7 +114,8 @@ fn any_is_negative(lengths: &[Value]) -> bool
 /// exact ones.
 #[tactic(auto, using(crate::proofs::CountLaws::room_counted))]
 fn has_room_for_counted(parts: &Parts, objects: usize, elements: usize) -> bool
-    ensures exact { (whole more : ℕ) → objects ≡ capped whole → elements ≡ capped more → result ≡ has_room_for_elements whole more parts.now.limits parts.now.state }
+    ensures exact { (whole more : ℕ) → objects ≡ capped whole → elements ≡ capped more
+        → result ≡ has_room_for_elements whole more parts.now.limits parts.now.state }
     ensures number { IsTrue result → length parts.now.state.heap + objects < 2 ^ 32 }
 {
     let _objects = parts.limits.objects;
@@ -132,7 +133,8 @@ fn new_arrays_room<'p>(
     lengths: &[Value],
 ) -> Decided<'p>
     requires { length lengths.now ≡ dimensions }
-    ensures { seen result ≡ new_arrays_room parts.now.limits parts.now.state thread.now class.now dimensions (map length_of_value lengths.now) }
+    ensures { seen result ≡ new_arrays_room parts.now.limits parts.now.state
+        thread.now class.now dimensions (map length_of_value lengths.now) }
 {
     if !has_dimensions(class.as_slice(), dimensions) {
         return never_seen();
@@ -155,7 +157,8 @@ fn lengths_decision<'p>(
     lengths: &[Value],
 ) -> Decided<'p>
     requires { length lengths.now ≡ dimensions }
-    ensures { seen result ≡ lengths_decision parts.now.program parts.now.limits parts.now.state thread.now class.now dimensions lengths.now }
+    ensures { seen result ≡ lengths_decision parts.now.program parts.now.limits
+        parts.now.state thread.now class.now dimensions lengths.now }
 {
     if !are_ints(lengths) {
         return bad(BadCause::Kind);
@@ -178,7 +181,8 @@ pub fn new_arrays_decision<'p>(
     class: &'p Text,
     dimensions: u8,
 ) -> Decided<'p>
-    ensures { seen result ≡ new_arrays_decision parts.now.program parts.now.limits parts.now.state thread.now frame.now class.now dimensions }
+    ensures { seen result ≡ new_arrays_decision parts.now.program parts.now.limits
+        parts.now.state thread.now frame.now class.now dimensions }
 {
     if !has_depth(frame, dimensions, 1) {
         return bad(BadCause::Depth);

@@ -61,7 +61,8 @@ impl<'p> Frame<'p> {
     #[tactic(auto, using(crate::proofs::Locals::set_beyond))]
     fn unset_after(&mut self, n: u16)
         requires { n < self.old.body.max_locals }
-        ensures { self.new ≡ with_locals self.old (slice_set self.old.activation.locals (n + 1) value.Unset) }
+        ensures { self.new
+            ≡ with_locals self.old (slice_set self.old.activation.locals (n + 1) value.Unset) }
     {
         // The count is a 16-bit number.
         let _count = self.head.body.max_locals;
@@ -92,7 +93,8 @@ impl<'p> Frame<'p> {
     #[inline(always)]
     fn store_one(&mut self, n: u16, value: Value)
         requires { n < self.old.body.max_locals }
-        ensures { self.new ≡ with_locals self.old (slice_set (without_long_at n self.old.activation.locals) n value) }
+        ensures { self.new ≡ with_locals self.old
+            (slice_set (without_long_at n self.old.activation.locals) n value) }
     {
         self.part_long(n);
         self.set_local(n, value);
@@ -102,7 +104,8 @@ impl<'p> Frame<'p> {
     #[inline(always)]
     fn store_long(&mut self, n: u16, long: i64)
         requires { n + 2 ≤ self.old.body.max_locals }
-        ensures { self.new ≡ with_locals self.old (with_stored self.old.activation.locals n (value.Long long)) }
+        ensures { self.new
+            ≡ with_locals self.old (with_stored self.old.activation.locals n (value.Long long)) }
     {
         // The count is a 16-bit number.
         let last = self.head.body.max_locals - 1;

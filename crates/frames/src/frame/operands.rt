@@ -94,7 +94,8 @@ impl<'p> Frame<'p> {
     fn replace_by_one(&mut self, takes: usize, value: Value)
         requires there { takes ≤ length self.old.activation.operands }
         requires room { length self.old.activation.operands - takes < self.old.body.max_stack }
-        ensures { self.new ≡ with_operands self.old (value ∷ drop takes self.old.activation.operands) }
+        ensures { self.new
+            ≡ with_operands self.old (value ∷ drop takes self.old.activation.operands) }
     {
         match takes {
             0 => self.push(value),
@@ -115,7 +116,8 @@ impl<'p> Frame<'p> {
     fn replace_by_long(&mut self, takes: usize, long: i64)
         requires there { takes ≤ length self.old.activation.operands }
         requires room { length self.old.activation.operands - takes + 2 ≤ self.old.body.max_stack }
-        ensures { self.new ≡ with_operands self.old (put_on (value.Long long) (drop takes self.old.activation.operands)) }
+        ensures { self.new ≡ with_operands self.old
+            (put_on (value.Long long) (drop takes self.old.activation.operands)) }
     {
         self.drop_operands(takes);
         self.push(Value::Long(long));
@@ -126,8 +128,10 @@ impl<'p> Frame<'p> {
     #[inline(always)]
     pub fn replace(&mut self, takes: usize, value: Value)
         requires there { takes ≤ length self.old.activation.operands }
-        requires room { length self.old.activation.operands - takes + value_size value ≤ self.old.body.max_stack }
-        ensures { self.new ≡ with_operands self.old (put_on value (drop takes self.old.activation.operands)) }
+        requires room { length self.old.activation.operands - takes + value_size value
+            ≤ self.old.body.max_stack }
+        ensures { self.new
+            ≡ with_operands self.old (put_on value (drop takes self.old.activation.operands)) }
     {
         match value {
             Value::Long(long) => self.replace_by_long(takes, long),
@@ -155,7 +159,8 @@ impl<'p> Frame<'p> {
     #[tactic(auto, using(crate::proofs::Tops::two_after))]
     pub fn two_below(&self, count: usize) -> (Value, Value)
         requires { count + 2 ≤ length self.now.activation.operands }
-        ensures { drop count self.now.activation.operands ≡ result.1 ∷ result.0 ∷ drop (count + 2) self.now.activation.operands }
+        ensures { drop count self.now.activation.operands
+            ≡ result.1 ∷ result.0 ∷ drop (count + 2) self.now.activation.operands }
     {
         // The height is a 16-bit number.
         let height = usize::from(self.height());
@@ -189,7 +194,8 @@ impl<'p> Frame<'p> {
     #[tactic(auto, using(crate::proofs::Tops::two_on_top))]
     pub fn top_two(&self) -> (Value, Value)
         requires { 2 ≤ length self.now.activation.operands }
-        ensures { self.now.activation.operands ≡ result.1 ∷ result.0 ∷ drop 2 self.now.activation.operands }
+        ensures { self.now.activation.operands
+            ≡ result.1 ∷ result.0 ∷ drop 2 self.now.activation.operands }
     {
         (self.operand(1), self.operand(0))
     }
@@ -199,7 +205,8 @@ impl<'p> Frame<'p> {
     #[tactic(auto, using(crate::proofs::Tops::three_on_top))]
     pub fn top_three(&self) -> (Value, Value, Value)
         requires { 3 ≤ length self.now.activation.operands }
-        ensures { self.now.activation.operands ≡ result.2 ∷ result.1 ∷ result.0 ∷ drop 3 self.now.activation.operands }
+        ensures { self.now.activation.operands
+            ≡ result.2 ∷ result.1 ∷ result.0 ∷ drop 3 self.now.activation.operands }
     {
         (self.operand(2), self.operand(1), self.operand(0))
     }
@@ -209,7 +216,8 @@ impl<'p> Frame<'p> {
     #[tactic(auto, using(crate::proofs::Tops::four_on_top))]
     pub fn top_four(&self) -> (Value, Value, Value, Value)
         requires { 4 ≤ length self.now.activation.operands }
-        ensures { self.now.activation.operands ≡ result.3 ∷ result.2 ∷ result.1 ∷ result.0 ∷ drop 4 self.now.activation.operands }
+        ensures { self.now.activation.operands
+            ≡ result.3 ∷ result.2 ∷ result.1 ∷ result.0 ∷ drop 4 self.now.activation.operands }
     {
         (
             self.operand(3),

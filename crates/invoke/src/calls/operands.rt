@@ -42,7 +42,9 @@ fn given(t: &ResultType) -> usize
 
 /// Returns the number of operands that a call takes, if they are present and the result fits `max_stack`.
 pub(crate) fn taken_from(frame: &Frame, how: Invoke, t: &MethodType) -> Option<u16>
-    ensures { MatchOption result (has_depth frame.now.body (taken how t.now) (result_length t.now.result) frame.now.activation ≡ false) (λ takes. Takes frame.now how t.now takes) }
+    ensures { MatchOption result (has_depth frame.now.body (taken how t.now)
+        (result_length t.now.result) frame.now.activation ≡ false)
+        (λ takes. Takes frame.now how t.now takes) }
 {
     let arguments = parameter_units(t);
     let height = usize::from(frame.height());

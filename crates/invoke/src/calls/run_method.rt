@@ -29,7 +29,9 @@ fn selected_run<'p>(
     receiver: u32,
     selected: Option<(usize, usize)>,
 ) -> Decided<'p>
-    ensures { (what : Option ResolvedMethod) → LocatesItem (IsMethodAt parts.now.program) what selected → seen result ≡ selected_run parts.now.program parts.now.limits parts.now.state t thread.now receiver what }
+    ensures { (what : Option ResolvedMethod)
+        → LocatesItem (IsMethodAt parts.now.program) what selected → seen result ≡ selected_run
+        parts.now.program parts.now.limits parts.now.state t thread.now receiver what }
 {
     let Some(place) = selected else {
         return parts.throws(thread, Thrown::AbstractMethodError);
@@ -47,7 +49,8 @@ fn selected_run<'p>(
 
 /// Decides the call of `run` for the object of a reference.
 fn run_of_object<'p>(parts: &Parts<'p>, t: ThreadId, thread: &Thread, reference: u32) -> Decided<'p>
-    ensures { seen result ≡ run_of_object parts.now.program parts.now.limits parts.now.state t thread.now reference (object_at parts.now.state.heap reference) }
+    ensures { seen result ≡ run_of_object parts.now.program parts.now.limits
+        parts.now.state t thread.now reference (object_at parts.now.state.heap reference) }
 {
     match parts.heap.class_of(reference) {
         None => never_seen(),
@@ -63,7 +66,8 @@ fn run_of_object<'p>(parts: &Parts<'p>, t: ThreadId, thread: &Thread, reference:
 
 /// Decides the call of `run` for the thread's object.
 pub(crate) fn run_decision<'p>(parts: &Parts<'p>, t: ThreadId, thread: &Thread) -> Decided<'p>
-    ensures { seen result ≡ run_decision parts.now.program parts.now.limits parts.now.state t thread.now thread.now.object }
+    ensures { seen result ≡ run_decision parts.now.program
+        parts.now.limits parts.now.state t thread.now thread.now.object }
 {
     match thread.object() {
         None => never_seen(),

@@ -37,7 +37,8 @@ fn locked_reference(lock: Lock) -> Option<u32>
 #[inline(always)]
 fn push_call<'p>(parts: &mut Parts<'p>, t: ThreadId, frame: Frame<'p>) -> Result<(), AllocError>
     requires { t < length parts.old.state.threads }
-    ensures ok { OnOk result (parts.new ≡ with_state parts.old (with_changed parts.old.state t (pushed frame.entry))) }
+    ensures ok { OnOk result
+        (parts.new ≡ with_state parts.old (with_changed parts.old.state t (pushed frame.entry))) }
     ensures err { OnErr result (parts.new ≡ parts.old) }
 {
     parts.threads[t as usize].push_call(frame)
@@ -64,7 +65,8 @@ fn note_first_call(parts: &mut Parts, t: ThreadId)
 /// Removes the topmost `takes` operands of the frame below a thread's top, which pass to the call on top.
 #[inline(always)]
 fn give_operands(parts: &mut Parts, t: ThreadId, takes: u16)
-    requires { IfSome (slice_get parts.old.state.threads t) (λ x. takes ≤ length (top_operands (drop 1 x.frames))) }
+    requires { IfSome (slice_get parts.old.state.threads t)
+        (λ x. takes ≤ length (top_operands (drop 1 x.frames))) }
     ensures { parts.new ≡ with_state parts.old (with_changed parts.old.state t (gives takes)) }
 {
     if let Some(thread) = parts.threads.get_mut(t as usize) {
@@ -84,8 +86,10 @@ fn lock_marked(
     trace: &mut Recording,
 ) -> Result<(), AllocError>
     requires { CanBeLocked parts.old.state lock }
-    ensures state { OnOk result (parts.new ≡ with_state parts.old (with_lock parts.old.program parts.old.state t lock)) }
-    ensures items { OnOk result (trace.new ≡ recorded trace.old (enter_items parts.old.program t method ++ lock_items t lock)) }
+    ensures state { OnOk result
+        (parts.new ≡ with_state parts.old (with_lock parts.old.program parts.old.state t lock)) }
+    ensures items { OnOk result (trace.new
+        ≡ recorded trace.old (enter_items parts.old.program t method ++ lock_items t lock)) }
     ensures kept { OnErr result (parts.new ≡ parts.old) }
     ensures no_items { OnErr result (trace.new ≡ trace.old) }
 {
@@ -107,7 +111,9 @@ fn first_frame<'p>(
     lock: Lock,
 ) -> Result<Frame<'p>, AllocError>
     requires { IsReady parts.now.start parts.now.state t (action.Enters method code.now lock) }
-    ensures { IfOk result (λ frame. IfSome (slice_get parts.now.state.threads t) (λ thread. frame ≡ entered method code.now (locked_reference lock) (first_arguments parts.now.start thread))) }
+    ensures { IfOk result (λ frame. IfSome (slice_get parts.now.state.threads t)
+        (λ thread. frame ≡ entered method code.now (locked_reference lock)
+        (first_arguments parts.now.start thread))) }
 {
     let monitor = locked_reference(lock);
     match parts.threads[t as usize].object() {
@@ -141,8 +147,10 @@ pub fn enter<'p>(
     trace: &mut Recording,
 ) -> Result<(), AllocError>
     requires { IsReady parts.old.start parts.old.state t (action.Enters method code.now lock) }
-    ensures state { OnOk result (parts.new ≡ after parts.old t (action.Enters method code.now lock)) }
-    ensures items { OnOk result (trace.new ≡ recorded trace.old (items_of parts.old.program t (action.Enters method code.now lock))) }
+    ensures state { OnOk result
+        (parts.new ≡ after parts.old t (action.Enters method code.now lock)) }
+    ensures items { OnOk result (trace.new
+        ≡ recorded trace.old (items_of parts.old.program t (action.Enters method code.now lock))) }
     ensures kept { OnErr result (parts.new ≡ parts.old) }
     ensures no_items { OnErr result (trace.new ≡ trace.old) }
 {
@@ -167,7 +175,9 @@ fn push_called<'p>(
     lock: Lock,
 ) -> Result<(), AllocError>
     requires { IsReady parts.old.start parts.old.state t (action.Calls method code.now takes lock) }
-    ensures ok { OnOk result (parts.new ≡ with_state parts.old (with_changed parts.old.state t (pushed (entered method code.now (locked_reference lock) (arguments_of takes (slice_get parts.old.state.threads t)))))) }
+    ensures ok { OnOk result (parts.new
+        ≡ with_state parts.old (with_changed parts.old.state t (pushed (entered method code.now
+        (locked_reference lock) (arguments_of takes (slice_get parts.old.state.threads t)))))) }
     ensures err { OnErr result (parts.new ≡ parts.old) }
 {
     let alloc = parts.alloc;
@@ -189,8 +199,10 @@ pub fn call<'p>(
     trace: &mut Recording,
 ) -> Result<(), AllocError>
     requires { IsReady parts.old.start parts.old.state t (action.Calls method code.now takes lock) }
-    ensures state { OnOk result (parts.new ≡ after parts.old t (action.Calls method code.now takes lock)) }
-    ensures items { OnOk result (trace.new ≡ recorded trace.old (items_of parts.old.program t (action.Calls method code.now takes lock))) }
+    ensures state { OnOk result
+        (parts.new ≡ after parts.old t (action.Calls method code.now takes lock)) }
+    ensures items { OnOk result (trace.new ≡ recorded trace.old
+        (items_of parts.old.program t (action.Calls method code.now takes lock))) }
     ensures kept { OnErr result (parts.new ≡ parts.old) }
     ensures no_items { OnErr result (trace.new ≡ trace.old) }
 {
@@ -214,13 +226,17 @@ pub fn return_below(
     unlock: Option<MonitorUse>,
     trace: &mut Recording,
 ) -> Result<(), AllocError>
-    requires ready { IsReady parts.old.start parts.old.state t (action.Returns method value unlock) }
+    requires ready { IsReady parts.old.start parts.old.state t
+        (action.Returns method value unlock) }
     requires caller { HasCaller parts.old.state t (action.Returns method value unlock) }
-    ensures state { OnOk result (parts.new ≡ after parts.old t (action.Returns method value unlock)) }
-    ensures items { OnOk result (trace.new ≡ recorded trace.old (items_of parts.old.program t (action.Returns method value unlock))) }
+    ensures state { OnOk result
+        (parts.new ≡ after parts.old t (action.Returns method value unlock)) }
+    ensures items { OnOk result (trace.new
+        ≡ recorded trace.old (items_of parts.old.program t (action.Returns method value unlock))) }
     ensures kept { OnErr result (parts.new ≡ parts.old) }
     ensures no_items { OnErr result (trace.new ≡ trace.old) }
-    ensures none { items_of parts.old.program t (action.Returns method value unlock) ≡ [] → IsOk result }
+    ensures none { items_of parts.old.program t (action.Returns method value unlock) ≡ []
+        → IsOk result }
 {
     parts.record_exit(t, method, unlock, trace)?;
     parts.unlock(unlock);
@@ -248,10 +264,12 @@ pub fn end(
     trace: &mut Recording,
 ) -> Result<(), AllocError>
     ensures state { OnOk result (parts.new ≡ after parts.old t (action.Ends method value unlock)) }
-    ensures items { OnOk result (trace.new ≡ recorded trace.old (items_of parts.old.program t (action.Ends method value unlock))) }
+    ensures items { OnOk result (trace.new
+        ≡ recorded trace.old (items_of parts.old.program t (action.Ends method value unlock))) }
     ensures kept { OnErr result (parts.new ≡ parts.old) }
     ensures no_items { OnErr result (trace.new ≡ trace.old) }
-    ensures none { items_of parts.old.program t (action.Ends method value unlock) ≡ [] → IsOk result }
+    ensures none { items_of parts.old.program t (action.Ends method value unlock) ≡ []
+        → IsOk result }
 {
     parts.record_exit(t, method, unlock, trace)?;
     parts.unlock(unlock);

@@ -63,7 +63,8 @@ fn begin_frame(
     texts: &[Text],
 ) -> Result<(), AllocError>
     requires { length parts.old.state.heap + length texts.now < 2 ^ 32 }
-    ensures ok { OnOk result (parts.new ≡ with_state parts.old (with_changed (with_texts parts.old.state texts.now) t (begun class))) }
+    ensures ok { OnOk result (parts.new ≡ with_state parts.old
+        (with_changed (with_texts parts.old.state texts.now) t (begun class))) }
     ensures err { OnErr result (parts.new ≡ parts.old) }
 {
     match parts.threads.get_mut(t as usize) {
@@ -130,8 +131,10 @@ pub fn initialise<'p>(
     trace: &mut Recording,
 ) -> Result<(), AllocError>
     requires { IsReady parts.old.start parts.old.state t (action.Initialises method code.now) }
-    ensures state { OnOk result (parts.new ≡ after parts.old t (action.Initialises method code.now)) }
-    ensures items { OnOk result (trace.new ≡ recorded trace.old (items_of parts.old.program t (action.Initialises method code.now))) }
+    ensures state { OnOk result
+        (parts.new ≡ after parts.old t (action.Initialises method code.now)) }
+    ensures items { OnOk result (trace.new
+        ≡ recorded trace.old (items_of parts.old.program t (action.Initialises method code.now))) }
     ensures kept { OnErr result (parts.new ≡ parts.old) }
     ensures no_items { OnErr result (trace.new ≡ trace.old) }
 {

@@ -58,7 +58,8 @@ impl Machine<'_> {
 
     /// Returns the UTF-16 code units of a string, or `None` if the object is no string.
     pub fn text(&self, reference: u32) -> Option<&[u16]>
-        ensures { option_map (λ units. units.now) result ≡ asked units_of self.now.state.heap reference }
+        ensures { option_map (λ units. units.now) result
+            ≡ asked units_of self.now.state.heap reference }
     {
         let units = self.parts.heap.units_of(reference)?;
         Some(units.as_slice())
@@ -66,7 +67,8 @@ impl Machine<'_> {
 
     /// Returns the name of the class that a class object stands for, or `None` if the object is none.
     pub fn class_object(&self, reference: u32) -> Option<&[u16]>
-        ensures { option_map (λ name. name.now) result ≡ asked named_by self.now.state.heap reference }
+        ensures { option_map (λ name. name.now) result
+            ≡ asked named_by self.now.state.heap reference }
     {
         let name = self.parts.heap.name_of(reference)?;
         Some(name.as_slice())
@@ -81,7 +83,8 @@ impl Machine<'_> {
 
     /// Returns the threads that wait for an object and weren't notified, the longest wait first.
     pub fn waiters(&self, alloc: Global, reference: u32) -> Result<Vec<ThreadId>, AllocError>
-        ensures { IfOk result (λ threads. threads.items ≡ waiters_of reference self.now.state.waiters) }
+        ensures { IfOk result
+            (λ threads. threads.items ≡ waiters_of reference self.now.state.waiters) }
     {
         self.parts.waiters.of(alloc, reference)
     }

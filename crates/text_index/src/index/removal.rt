@@ -9,14 +9,16 @@ use super::Index;
 impl Index {
     /// Removes the reference of a text.
     fn remove(&mut self, units: &[u16])
-        ensures { (q : List ℕ) → found self.new q ≡ (if same_text units.now q then None else found self.old q) }
+        ensures { (q : List ℕ)
+            → found self.new q ≡ (if same_text units.now q then None else found self.old q) }
     {
         let _ = self.references.remove(units);
     }
 
     /// Removes the reference of a text, if it is this one.
     pub fn remove_matching(&mut self, units: &[u16], reference: usize)
-        ensures taken { found self.old units.now ≡ Some reference → (q : List ℕ) → found self.new q ≡ (if same_text units.now q then None else found self.old q) }
+        ensures taken { found self.old units.now ≡ Some reference → (q : List ℕ)
+            → found self.new q ≡ (if same_text units.now q then None else found self.old q) }
         ensures other { found self.old units.now ≢ Some reference → self.new ≡ self.old }
     {
         match self.find(units) {

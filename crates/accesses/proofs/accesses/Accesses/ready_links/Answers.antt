@@ -1,5 +1,5 @@
 use Rattle.std.proofs.Common.{ℕ, List, ◌∷◌, [], Option, refl, sym, ap, subst, ◌∙◌}
-use Rattle.velodrome.specs.Conflicts.{thread_of}
+use Rattle.jvms_machine.specs.Events.{thread_of}
 use Rattle.atom_order.specs.declared.link.Link.{Link}
 use Rattle.accesses.specs.Accesses.{OfThread, accesses_beside, main_at}
 use Rattle.accesses.specs.Links.{AreAdded}

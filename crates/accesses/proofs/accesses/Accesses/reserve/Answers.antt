@@ -1,5 +1,5 @@
 use Rattle.std.proofs.Common.{ℕ, subst, sym}
-use Rattle.velodrome.specs.Conflicts.{thread_of}
+use Rattle.jvms_machine.specs.Events.{thread_of}
 use Rattle.accesses.specs.Accesses.{OfThread, main_at}
 use Rattle.accesses.specs.Rooms.{IsEntryOf, IsReady, Remembered}
 use Rattle.accesses.proofs.Entries.{on_ok, ready_main}
