@@ -5,7 +5,8 @@
 
 Prints each name that doesn't exist, with its line of the document, and ends with 1 if there is one. The gate runs it.
 The head of docs/DEFINITIONS.md says how the names are written. Checks too that docs/PROOFS.md and docs/ARCHITECTURE.md
-have each crate, that each entry of PROOFS.md is a crate's, and that the wrong bodies and the laws that it names exist.
+have each crate, that each entry of PROOFS.md is a crate's, that the wrong bodies and the laws that it names exist, and
+that it names each must-fail edit of the gate.
 """
 import re
 import sys
@@ -139,6 +140,13 @@ def has_title(name, title):
     return any(f"== {title}\n" in one.read_text() + "\n" for one in case_files(name))
 
 
+def edit_faults(crate, name):
+    """Yields a must-fail edit that is neither the gate's nor in bench/edits."""
+    folders = (ROOT / "crates" / crate / "must-fail", ROOT / "bench" / "edits" / crate)
+    if not any((one / f"{name}.edit").exists() for one in folders):
+        yield f"{crate}/{name}"
+
+
 def test_part_faults(part):
     """Yields what is missing of one part of a cell of tests."""
     cases = re.fullmatch(r'(\w+\.cases)(?: of (\w+))?(?:, "(.*)")?', part)
@@ -152,6 +160,8 @@ def test_part_faults(part):
             yield part
     elif functions and functions[1] in CRATES:
         yield from (one for one in functions[2].split(", ") if not is_in_code(functions[1], one))
+    elif "/" in part:
+        yield from edit_faults(*part.split("/", 1))
     elif part not in CRATES | {"none", "none: it is proved"}:
         yield part
 
@@ -190,12 +200,18 @@ def proof_faults(lines):
         if line.startswith("### "):
             yield from ((number, one) for one in entry_faults(line))
         for crate, name in re.findall(r"`(\w+)/(\w+)`", line):
-            folders = (ROOT / "crates" / crate / "must-fail", ROOT / "bench" / "edits" / crate)
-            if crate in CRATES and not any((one / f"{name}.edit").exists() for one in folders):
-                yield number, f"{crate}/{name}"
+            if crate in CRATES:
+                yield from ((number, one) for one in edit_faults(crate, name))
         for name in re.findall(r"\(`(\w+)`\)", line):
             if not any(is_in_code(crate, name) for crate in CRATES):
                 yield number, name
+
+
+def unnamed_edits(text):
+    """Returns the must-fail edits of the gate that a page doesn't name."""
+    edits = sorted((ROOT / "crates").glob("*/must-fail/*.edit"))
+    names = [f"{edit.parent.parent.name}/{edit.stem}" for edit in edits]
+    return [name for name in names if f"`{name}`" not in text]
 
 
 def left_out(text):
@@ -213,7 +229,10 @@ def main():
     missing = [(page, one) for page, text in pages.items() for one in left_out(text)]
     for page, name in missing:
         print(f"docs/{page}: the crate {name} isn't named")
-    return 1 if faults or missing else 0
+    unnamed = unnamed_edits(named)
+    for name in unnamed:
+        print(f"docs/PROOFS.md: the edit {name} isn't named")
+    return 1 if faults or missing or unnamed else 0
 
 
 if __name__ == "__main__":
