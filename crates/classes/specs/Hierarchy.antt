@@ -12,25 +12,25 @@ abbrev pub to_list : Option ℕ → List ℕ
 to_list None = []
 to_list (Some n) = n ∷ []
 
--- The numbers of the classes of these names that are there.
+-- Returns the numbers of the classes of these names that are there.
 abbrev pub numbers_of : List Class → List (List ℕ) → List ℕ
 numbers_of program names = flat_map (λ name. to_list (class_number program name)) names
 
--- The numbers of a class's superinterfaces and of its superclass.
+-- Returns the numbers of a class's superinterfaces and of its superclass.
 abbrev pub super_numbers : List Class → Class → List ℕ
 super_numbers program c = numbers_of program (supers_of c)
 
--- The numbers of the superinterfaces and the superclass of each class of the program.
+-- Returns the numbers of the superinterfaces and the superclass of each class of the program.
 abbrev pub super_rows : List Class → List (List ℕ)
 super_rows program = map (super_numbers program) program
 
 -- ---- The order
 
--- The place of a class in the order.
+-- Returns the place of a class in the order.
 abbrev pub rank : List ℕ → ℕ → ℕ
 rank ranks number = unwrap_or (slice_get ranks number) 0
 
--- The superinterfaces and the superclass of a class are there, and come before it.
+-- Decides whether the superinterfaces and the superclass of a class are there, and come before it.
 abbrev pub come_before : List (List ℕ) → List ℕ → ℕ → Bool
 come_before rows ranks m = list_all (λ n. nat_lt n (length rows) && nat_lt (rank ranks n) (rank ranks m)) (slice_index_or rows m [])
 

@@ -6,6 +6,6 @@ use Rattle.std.specs.List.{list_any}
 abbrev pub is_marked : List ℕ → ℕ → Bool
 is_marked marks number = bit_at (unwrap_or (slice_get marks (number / 64)) 0) (number % 64) == 1
 
--- A number is among some.
+-- Decides whether a number is among some.
 abbrev pub is_in : List ℕ → ℕ → Bool
 is_in numbers n = list_any (nat_eq n) numbers

@@ -9,25 +9,25 @@ use Rattle.jvms_program.specs.Program.{class_number}
 use Rattle.jvms_program.specs.Slots.{keys_where, same_key, slot_of, static_slot_of}
 use Rattle.classes.specs.declared.slot_starts.FieldStarts.{FieldStarts}
 
--- A field is static, or it isn't, as asked.
+-- Decides whether a field is static, or isn't, as asked.
 abbrev pub is_static_or_not : Bool → Field → Bool
 is_static_or_not true f = f.is_static
 is_static_or_not false f = not f.is_static
 
--- The place of the field of a key among a class's static fields, or among its instance fields.
+-- Returns the place of the field of a key among a class's static fields, or among its instance fields.
 abbrev pub place_among : Bool → FieldKey → Class → Option ℕ
 place_among static key c = position_from (λ k. same_key k key) 0 (keys_where (is_static_or_not static) c)
 
--- The number of a class's static fields, or of its instance fields.
+-- Returns the number of a class's static fields, or of its instance fields.
 abbrev pub count_of : Bool → Class → ℕ
 count_of static c = count_by (is_static_or_not static) c.fields
 
--- The slot of an instance field in a chain with one more topmost superclass, from its slot without that class. The
--- fields of the topmost superclass come first.
+-- Returns the slot of an instance field in a chain with one more topmost superclass, from its slot without that class.
+-- The fields of the topmost superclass come first.
 abbrev pub slot_under : FieldKey → Option ℕ → Class → Option ℕ
 slot_under key slot top = option_or (place_among false key top) (option_map (λ n. n + count_of false top) slot)
 
--- The number of slots up to one.
+-- Returns the number of slots up to one.
 abbrev pub up_to : Option ℕ → ℕ
 up_to None = 0
 up_to (Some slot) = slot + 1
@@ -40,17 +40,17 @@ pub record AreCountable (program : List Class) : Type 0 where
 
 -- ---- The first slots of each class's fields
 
--- The number of static fields of classes, or of their instance fields.
+-- Returns the number of static fields of classes, or of their instance fields.
 abbrev pub count_of_all : Bool → List Class → ℕ
 count_of_all static [] = 0
 count_of_all static (c ∷ cs) = count_of static c + count_of_all static cs
 
--- The total of the class of a number, if there is one.
+-- Returns the total of the class of a number, if there is one.
 abbrev pub total_or_zero : List ℕ → Option ℕ → ℕ
 total_or_zero totals None = 0
 total_or_zero totals (Some number) = unwrap_or (slice_get totals number) 0
 
--- The total of a superclass, or 0.
+-- Returns the total of a superclass, or 0.
 abbrev pub total_above : List Class → List ℕ → Option (List ℕ) → ℕ
 total_above program totals None = 0
 total_above program totals (Some superclass) = total_or_zero totals (class_number program superclass)

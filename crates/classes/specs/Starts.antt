@@ -7,7 +7,7 @@ use Rattle.jvms_program.specs.Resolution.{ancestry, chain}
 use Rattle.classes.specs.declared.ancestors.Start.{Start}
 use Rattle.classes.specs.declared.ancestors.Start.TheVariants as start
 
--- The ancestries of a class's superinterfaces.
+-- Returns the ancestries of a class's superinterfaces.
 abbrev pub interfaces_above : List Class → Option Class → List Class
 interfaces_above program None = []
 interfaces_above program (Some c) = flat_map (ancestry program) c.interfaces
@@ -17,7 +17,7 @@ name_of (start.Class name) = name.now
 name_of (start.Interfaces name) = name.now
 name_of (start.InterfacesUp name) = name.now
 
--- The classes that a search passes, in order.
+-- Returns the classes that a search passes, in order.
 abbrev pub classes_from : List Class → Start → List Class
 classes_from program (start.Class name) = ancestry program name.now
 classes_from program (start.Interfaces name) = interfaces_above program (class_named program name.now)

@@ -22,6 +22,7 @@ use crate::lookup::numbered;
 use crate::marks::{first_marked, is_any_marked, is_marked, mark, mark_all, mark_if};
 use crate::ranked::Ranked;
 use crate::walk::Look;
+use jvms_program::number::ClassNumber;
 use jvms_program::program::Class;
 use shared_data::shared::Text;
 
@@ -32,7 +33,7 @@ const FEW_WORDS: usize = 64;
 const ALL_WORDS: usize = 16_384;
 
 /// Marks a class and all classes above it.
-fn mark_above(ranked: &Ranked, class: usize, reached: &mut [u64])
+fn mark_above(ranked: &Ranked, class: ClassNumber, reached: &mut [u64])
     requires class { class < length ranked.now.classes.now }
     requires room { length ranked.now.classes.now ≤ 64 * length reached.old }
     requires none { (n : ℕ) → is_marked reached.old n ≡ false }
@@ -51,7 +52,7 @@ fn mark_above(ranked: &Ranked, class: usize, reached: &mut [u64])
 
 /// Returns whether there is a match in the ancestry of a class. `useful` marks those above it in whose ancestry there
 /// is one.
-fn is_useful<L: Look>(ranked: &Ranked, class: usize, look: &L, useful: &[u64]) -> bool
+fn is_useful<L: Look>(ranked: &Ranked, class: ClassNumber, look: &L, useful: &[u64]) -> bool
     requires { class < length ranked.now.classes.now }
     ensures { (c : SeenClass) → slice_get ranked.now.classes.now class ≡ Some c
         → result ≡ (is_some (L.gives look.now class c)
@@ -64,7 +65,7 @@ fn is_useful<L: Look>(ranked: &Ranked, class: usize, look: &L, useful: &[u64]) -
 /// Marks those of the reached classes in whose ancestry there is a match.
 fn mark_useful<L: Look>(
     ranked: &Ranked,
-    class: usize,
+    class: ClassNumber,
     look: &L,
     reached: &[u64],
     useful: &mut [u64],
@@ -88,7 +89,7 @@ fn mark_useful<L: Look>(
 /// Returns the first match in the ancestry of a class that was reached, by the marks.
 fn first_above<L: Look>(
     ranked: &Ranked,
-    class: usize,
+    class: ClassNumber,
     look: &L,
     reached: &[u64],
     useful: &[u64],
@@ -142,7 +143,7 @@ fn first_of_names<L: Look>(
 /// Marks a class with all classes above it, and those of them in whose ancestry there is a match.
 fn mark_for<L: Look>(
     program: &Classes,
-    class: usize,
+    class: ClassNumber,
     look: &L,
     reached: &mut [u64],
     useful: &mut [u64],

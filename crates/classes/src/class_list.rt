@@ -10,6 +10,7 @@ ghost use Rattle.classes.specs.Slots.{AreCountable};
 
 use crate::numbers::numbers_by_name;
 use built_in::{built_in_classes, is_built_in};
+use jvms_program::number::ClassNumber;
 use jvms_program::program::{Class, ClassKind};
 use std::alloc::{AllocError, Global};
 use std::collections::BTreeMap;
@@ -158,7 +159,7 @@ impl ClassList {
     }
 
     /// Returns the number of the class of a name: its place in the list.
-    pub fn class_number(&self, name: &[u16]) -> Option<usize>
+    pub fn class_number(&self, name: &[u16]) -> Option<ClassNumber>
         ensures { result ≡ class_number self.now name.now }
     {
         self.by_name.get(name).copied()

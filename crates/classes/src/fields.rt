@@ -8,40 +8,37 @@ use crate::ancestors::first_in_ancestry;
 use crate::exists::class_exists;
 use crate::list::Classes;
 use crate::look::DeclaredField;
-use crate::lookup::field_at;
+use crate::lookup::{field_at, field_number_at};
 use crate::names::members_class;
+use jvms_program::number::FieldNumber;
 use jvms_program::program::FieldReference;
 use jvms_program::thrown::Thrown;
 
 /// Finds the field that a reference names.
-fn reference_field(program: &Classes, r: &FieldReference) -> Option<(usize, usize)>
+fn reference_field(program: &Classes, r: &FieldReference) -> Option<FieldNumber>
     ensures { LocatesItem (IsFieldAt program.now) (reference_field program.now r.now) result }
 {
     let look = DeclaredField {
         name: r.name.as_slice(),
         descriptor: r.descriptor.as_slice(),
     };
-    first_in_ancestry(program, members_class(r.class.as_slice()), &look)
+    field_number_at(first_in_ancestry(program, members_class(r.class.as_slice()), &look))
 }
 
 impl Classes {
-    /// Resolves a field reference (JVMS 5.4.3.2) to the numbers of its class and of the field in that class. Returns
-    /// the exception that resolution throws if there is no such field.
-    pub fn resolve_field(
-        &self,
-        is_static: bool,
-        r: &FieldReference,
-    ) -> Result<(usize, usize), Thrown>
+    /// Resolves a field reference (JVMS 5.4.3.2) to its number. Returns the exception that resolution throws if
+    /// there is no such field.
+    pub fn resolve_field(&self, is_static: bool, r: &FieldReference) -> Result<FieldNumber, Thrown>
         ensures { Resolves (IsFieldAt self.now) (resolved_field self.now is_static r.now) result }
     {
         if !class_exists(self, r.class.as_slice()) {
             return Err(Thrown::NoClassDefFoundError);
         }
-        let Some(place) = reference_field(self, r) else {
+        let Some(n) = reference_field(self, r) else {
             return Err(Thrown::NoSuchFieldError);
         };
-        match field_at(self, place) {
-            Some(field) if field.is_static == is_static => Ok(place),
+        match field_at(self, n) {
+            Some(field) if field.is_static == is_static => Ok(n),
             _ => Err(Thrown::IncompatibleClassChangeError),
         }
     }

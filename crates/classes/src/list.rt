@@ -13,7 +13,7 @@ use crate::hierarchy::{Hierarchy, hierarchy_of};
 use crate::lookup::method_of;
 use crate::ranked::Ranked;
 use jvms_program::key::MethodKey;
-use jvms_program::number::MethodNumber;
+use jvms_program::number::{ClassNumber, MethodNumber};
 use jvms_program::program::{Class, Method};
 use std::alloc::{AllocError, Global};
 use std::marker::Model;
@@ -124,7 +124,7 @@ impl Classes {
     }
 
     /// Returns the number of the class of a name: its place in the list.
-    pub fn class_number(&self, name: &[u16]) -> Option<usize>
+    pub fn class_number(&self, name: &[u16]) -> Option<ClassNumber>
         ensures { result ≡ class_number self.now name.now }
     {
         self.list.class_number(name)

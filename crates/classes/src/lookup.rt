@@ -4,11 +4,11 @@ ghost use Rattle.std.specs.Prelude.{◌≡◌, ◌&&◌, IfSome, option_copied, 
 ghost use Rattle.std.specs.Option.{option_map};
 ghost use Rattle.jvms_file.specs.Names.{same_text};
 ghost use Rattle.jvms_program.specs.Program.{class_named, class_number, declared_field_number, declared_number, method_at};
-ghost use Rattle.classes.specs.Places.{class_place, field_at};
+ghost use Rattle.classes.specs.Places.{class_place, field_at, field_number_at, method_number_at};
 
 use crate::list::Classes;
 use descriptor::same_text;
-use jvms_program::number::MethodNumber;
+use jvms_program::number::{ClassNumber, FieldNumber, MethodNumber};
 use jvms_program::program::{Class, Field, Method};
 
 /// Returns the number of a class's method of this name and descriptor: its place in the class's list.
@@ -42,7 +42,7 @@ pub fn declared_field_number(class: &Class, name: &[u16], descriptor: &[u16]) ->
 
 /// Returns the class of a name, with its number.
 #[tactic(auto, using(crate::proofs::PlaceLaws::found_by_number))]
-pub fn numbered<'a>(program: &'a Classes, name: &[u16]) -> Option<(usize, &'a Class)>
+pub fn numbered<'a>(program: &'a Classes, name: &[u16]) -> Option<(ClassNumber, &'a Class)>
     ensures class { option_map (λ found. found.1.now) result ≡ class_named program.now name.now }
     ensures number { option_map (λ found. found.0) result ≡ class_number program.now name.now }
     ensures place { IfSome result (λ found. found.0 ≡ class_place program.now found.1.now) }
@@ -60,10 +60,26 @@ pub(crate) fn method_of(classes: &[Class], n: MethodNumber) -> Option<&Method>
     class.methods.as_slice().get(n.method)
 }
 
-/// Returns the field of these numbers: that of its class, and its own in that class.
-pub(crate) fn field_at(program: &Classes, place: (usize, usize)) -> Option<&Field>
-    ensures { option_copied result ≡ field_at program.now place }
+/// Returns the field of a number.
+pub(crate) fn field_at(program: &Classes, n: FieldNumber) -> Option<&Field>
+    ensures { option_copied result ≡ field_at program.now n }
 {
-    let class = program.class(place.0)?;
-    class.fields.as_slice().get(place.1)
+    let class = program.class(n.class)?;
+    class.fields.as_slice().get(n.field)
+}
+
+/// Returns the number of the method that a search found: that of its class, and its own in that class.
+pub(crate) fn method_number_at(place: Option<(usize, usize)>) -> Option<MethodNumber>
+    ensures { result ≡ option_map method_number_at place }
+{
+    let (class, method) = place?;
+    Some(MethodNumber { class, method })
+}
+
+/// Returns the number of the field that a search found: that of its class, and its own in that class.
+pub(crate) fn field_number_at(place: Option<(usize, usize)>) -> Option<FieldNumber>
+    ensures { result ≡ option_map field_number_at place }
+{
+    let (class, field) = place?;
+    Some(FieldNumber { class, field })
 }

@@ -4,6 +4,8 @@ ghost use Rattle.std.specs.Prelude.{◌≡◌, ◌*◌, ◌<◌, ◌&&◌, ◌||
 ghost use Rattle.std.specs.List.{find, list_all, list_any};
 ghost use Rattle.classes.specs.Marks.{is_in, is_marked};
 
+use jvms_program::number::ClassNumber;
+
 /// Returns the word at a place, or a word without marks if there is none.
 fn word_at(words: &[u64], place: usize) -> u64
     ensures { result ≡ unwrap_or (slice_get words.now place) 0 }
@@ -12,14 +14,14 @@ fn word_at(words: &[u64], place: usize) -> u64
 }
 
 /// Returns whether a class is marked.
-pub(crate) fn is_marked(words: &[u64], class: usize) -> bool
+pub(crate) fn is_marked(words: &[u64], class: ClassNumber) -> bool
     ensures { result ≡ is_marked words.now class }
 {
     (word_at(words, class / 64) >> (class % 64)) & 1 == 1
 }
 
 /// Marks a class.
-pub(crate) fn mark(words: &mut [u64], class: usize)
+pub(crate) fn mark(words: &mut [u64], class: ClassNumber)
     requires { class < 64 * length words.old }
     ensures { (n : ℕ) → is_marked words.new n ≡ (nat_eq n class || is_marked words.old n) }
 {
@@ -27,7 +29,7 @@ pub(crate) fn mark(words: &mut [u64], class: usize)
 }
 
 /// Marks a class if `is` is true.
-pub(crate) fn mark_if(words: &mut [u64], class: usize, is: bool)
+pub(crate) fn mark_if(words: &mut [u64], class: ClassNumber, is: bool)
     requires { class < 64 * length words.old }
     ensures { (n : ℕ) → is_marked words.new n ≡ ((is && nat_eq n class) || is_marked words.old n) }
 {

@@ -8,11 +8,12 @@ ghost use Rattle.classes.specs.Places.{IsMethodAt, LocatesItem};
 
 use crate::list::Classes;
 use crate::look::DeclaredMethod;
-use crate::lookup::numbered;
+use crate::lookup::{method_number_at, numbered};
 use crate::names::members_class;
 use crate::order::{first_for_class, first_for_interface};
 use crate::walk::Look;
 use descriptor::is_constructor_name;
+use jvms_program::number::MethodNumber;
 
 /// A method by its names: the parts of a reference that resolution needs.
 #[derive(Clone, Copy)]
@@ -25,7 +26,7 @@ pub struct MethodNames<'a> {
 }
 
 /// Finds the method that a reference names, in the order of resolution.
-fn method_in_order(program: &Classes, r: MethodNames) -> Option<(usize, usize)>
+fn method_in_order(program: &Classes, r: MethodNames) -> Option<MethodNumber>
     ensures { LocatesItem (IsMethodAt program.now)
         (method_in_order program.now (reference r.entry)) result }
 {
@@ -34,14 +35,14 @@ fn method_in_order(program: &Classes, r: MethodNames) -> Option<(usize, usize)>
         descriptor: r.descriptor,
     };
     if r.is_interface {
-        first_for_interface(program, r.class, &look)
+        method_number_at(first_for_interface(program, r.class, &look))
     } else {
-        first_for_class(program, members_class(r.class), &look)
+        method_number_at(first_for_class(program, members_class(r.class), &look))
     }
 }
 
 /// Finds the method that a reference names. A constructor is searched in the named class alone.
-pub(crate) fn reference_method(program: &Classes, r: MethodNames) -> Option<(usize, usize)>
+pub(crate) fn reference_method(program: &Classes, r: MethodNames) -> Option<MethodNumber>
     ensures { LocatesItem (IsMethodAt program.now)
         (reference_method program.now (reference r.entry)) result }
 {
@@ -53,5 +54,5 @@ pub(crate) fn reference_method(program: &Classes, r: MethodNames) -> Option<(usi
         name: r.name,
         descriptor: r.descriptor,
     };
-    look.look(number, class)
+    method_number_at(look.look(number, class))
 }

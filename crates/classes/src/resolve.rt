@@ -12,9 +12,9 @@ use jvms_program::program::MethodReference;
 use jvms_program::thrown::Thrown;
 
 impl Classes {
-    /// Resolves a method's names (JVMS 5.4.3.3, 5.4.3.4) to the numbers of its class and of the method in that class.
-    /// Returns the exception that resolution throws if there is no such method. Allocates no memory.
-    pub fn resolve_named(&self, is_static: bool, r: MethodNames) -> Result<(usize, usize), Thrown>
+    /// Resolves a method's names (JVMS 5.4.3.3, 5.4.3.4) to its number. Returns the exception that resolution
+    /// throws if there is no such method. Allocates no memory.
+    pub fn resolve_named(&self, is_static: bool, r: MethodNames) -> Result<MethodNumber, Thrown>
         ensures { Resolves (IsMethodAt self.now)
             (resolved_method self.now is_static (reference r.entry)) result }
     {
@@ -24,26 +24,22 @@ impl Classes {
         if r.is_interface != self.names_interface(r.class) {
             return Err(Thrown::IncompatibleClassChangeError);
         }
-        let Some(place) = reference_method(self, r) else {
+        let Some(n) = reference_method(self, r) else {
             return Err(Thrown::NoSuchMethodError);
         };
-        let number = MethodNumber {
-            class: place.0,
-            method: place.1,
-        };
-        match self.method(number) {
-            Some(method) if method.flags.is_static == is_static => Ok(place),
+        match self.method(n) {
+            Some(method) if method.flags.is_static == is_static => Ok(n),
             _ => Err(Thrown::IncompatibleClassChangeError),
         }
     }
 
-    /// Resolves a method reference (JVMS 5.4.3.3, 5.4.3.4) to the numbers of its class and of the method in that class.
-    /// Returns the exception that resolution throws if there is no such method.
+    /// Resolves a method reference (JVMS 5.4.3.3, 5.4.3.4) to its number. Returns the exception that resolution
+    /// throws if there is no such method.
     pub fn resolve_method(
         &self,
         is_static: bool,
         r: &MethodReference,
-    ) -> Result<(usize, usize), Thrown>
+    ) -> Result<MethodNumber, Thrown>
         ensures { Resolves (IsMethodAt self.now) (resolved_method self.now is_static r.now) result }
     {
         let named = MethodNames {

@@ -7,6 +7,7 @@ ghost use Rattle.classes.specs.Places.{IsMethodAt, LocatesItem};
 use crate::chain::superclass_name;
 use crate::list::Classes;
 use crate::look::{ClassNamed, Selectable};
+use crate::lookup::method_number_at;
 use crate::names::members_class;
 use crate::walk::first_up;
 use descriptor::{is_constructor_name, same_text};
@@ -35,57 +36,52 @@ impl Classes {
         is_up(self, name, class)
     }
 
-    /// Selects the method for a call of the method at a place, from the class of a name up its superclasses. A private
+    /// Selects the method for a call of the method of a number, from the class of a name up its superclasses. A private
     /// method is itself selected.
-    pub fn select_from(&self, class: &[u16], place: (usize, usize)) -> Option<(usize, usize)>
-        ensures { (found : ResolvedMethod) → IsMethodAt self.now found place
+    pub fn select_from(&self, class: &[u16], n: MethodNumber) -> Option<MethodNumber>
+        ensures { (found : ResolvedMethod) → IsMethodAt self.now found n
             → LocatesItem (IsMethodAt self.now) (selected_from self.now class.now found) result }
     {
-        let number = MethodNumber {
-            class: place.0,
-            method: place.1,
-        };
-        let method = self.method(number)?;
+        let method = self.method(n)?;
         if method.flags.is_private {
-            return Some(place);
+            return Some(n);
         }
         self.select_named(class, method.name.as_slice(), method.descriptor.as_slice())
     }
 
     /// Returns the first method of a name and a descriptor that is neither static nor private, from the class of a name
     /// up its superclasses.
-    #[tactic(auto, using(crate::proofs::PlaceLaws::named_up))]
     pub fn select_named(
         &self,
         class: &[u16],
         name: &[u16],
         descriptor: &[u16],
-    ) -> Option<(usize, usize)>
+    ) -> Option<MethodNumber>
         ensures { LocatesItem (IsMethodAt self.now)
             (first_in (selectable_in name.now descriptor.now)
             (chain self.now (members_class class.now))) result }
     {
-        first_up(self, members_class(class), &Selectable { name, descriptor })
+        method_number_at(first_up(self, members_class(class), &Selectable { name, descriptor }))
     }
 
-    /// Selects the method for an invokespecial in the class `current` (JVMS 6.5 invokespecial). That is the one at the
-    /// place if it is a constructor, or if its named class is no superclass of `current`. Else it is selected from the
+    /// Selects the method for an invokespecial in the class `current` (JVMS 6.5 invokespecial). That is the one of
+    /// the number if it is a constructor, or if its named class is no superclass of `current`. Else it is selected from the
     /// superclass of `current` on.
     pub fn select_special(
         &self,
         current: &[u16],
         r: &MethodReference,
-        place: (usize, usize),
-    ) -> Option<(usize, usize)>
-        ensures { (found : ResolvedMethod) → IsMethodAt self.now found place → LocatesItem
+        n: MethodNumber,
+    ) -> Option<MethodNumber>
+        ensures { (found : ResolvedMethod) → IsMethodAt self.now found n → LocatesItem
             (IsMethodAt self.now) (selected_special self.now current.now r.now found) result }
     {
         if is_constructor_name(r.name.as_slice())
             || !is_superclass(self, r.class.as_slice(), current)
         {
-            return Some(place);
+            return Some(n);
         }
         let class = self.class_named(current)?;
-        self.select_from(superclass_name(class)?, place)
+        self.select_from(superclass_name(class)?, n)
     }
 }

@@ -6,29 +6,9 @@ ghost use Rattle.jvms_file.specs.declared.descriptor.Element.TheVariants as elem
 ghost use Rattle.descriptor.specs.Scanning.{element_of};
 ghost use Rattle.jvms_machine.specs.Profile.{is_outside_element, is_outside_result, is_outside_method, is_outside_class, is_outside_kind, is_outside_component, is_outside_array, is_never_new, is_outside_use};
 
-use descriptor::{ParsedElement, field_in, is_array_name, same_text};
+use descriptor::{ParsedElement, field_in, is_array_name, is_named};
 use jvms_file::descriptor::{Element, FieldType, MethodType, Primitive, ResultType};
 use jvms_file::insn::{ArrayInsn, ArrayKind, ArrayType, ClassUse};
-
-/// `java/lang/String`
-const STRING: [u16; 16] = [
-    106, 97, 118, 97, 47, 108, 97, 110, 103, 47, 83, 116, 114, 105, 110, 103,
-];
-
-/// `java/lang/Class`
-const CLASS: [u16; 15] = [
-    106, 97, 118, 97, 47, 108, 97, 110, 103, 47, 67, 108, 97, 115, 115,
-];
-
-/// `java/lang/System`
-const SYSTEM: [u16; 16] = [
-    106, 97, 118, 97, 47, 108, 97, 110, 103, 47, 83, 121, 115, 116, 101, 109,
-];
-
-/// `java/io/PrintStream`
-const PRINT_STREAM: [u16; 19] = [
-    106, 97, 118, 97, 47, 105, 111, 47, 80, 114, 105, 110, 116, 83, 116, 114, 101, 97, 109,
-];
 
 #[inline(always)]
 fn is_outside_primitive(primitive: Primitive) -> bool
@@ -124,10 +104,10 @@ pub fn is_outside_array(what: ArrayInsn) -> bool
 fn is_never_new(name: &[u16]) -> bool
     ensures { result ≡ is_never_new name.now }
 {
-    same_text(name, &STRING)
-        || same_text(name, &CLASS)
-        || same_text(name, &SYSTEM)
-        || same_text(name, &PRINT_STREAM)
+    is_named(name, "java/lang/String")
+        || is_named(name, "java/lang/Class")
+        || is_named(name, "java/lang/System")
+        || is_named(name, "java/io/PrintStream")
 }
 
 /// Decides whether an instruction on the class of a name is outside the profile.

@@ -2,4 +2,4 @@ pub mod Affecting
 pub mod Asked
 pub mod Counting
 pub mod Events
-pub mod Telling
+pub mod InstanceTests

@@ -16,7 +16,7 @@ ghost use Rattle.jvms_program.specs.declared.program.Loadable.TheVariants as loa
 ghost use Rattle.jvms_machine.specs.State.{class_reference, text_reference};
 ghost use Rattle.machine_parts.specs.Decided.{seen, object_value};
 ghost use Rattle.machine_parts.specs.Sites.{IsSite};
-ghost use Rattle.exec_ref.specs.Telling.{by_instance_test};
+ghost use Rattle.exec_ref.specs.InstanceTests.{by_instance_test};
 
 use crate::arrays::{making, new_class_array_decision};
 use frames::Frame;
@@ -24,6 +24,7 @@ use jvms_file::insn::ClassUse;
 use jvms_machine::action::{Effect, FrameAction, NewObject};
 use jvms_machine::machine::{BadCause, ThreadId};
 use jvms_machine::value::Value;
+use jvms_program::number::ClassNumber;
 use jvms_program::program::{Class, ClassKind, Loadable};
 use jvms_program::thrown::Thrown;
 use machine_parts::{ActionText, Decided, Parts, bad, has_depth, never_seen, reaches, taking};
@@ -32,7 +33,7 @@ use shared_data::shared::Text;
 
 /// The result of testing the topmost operand against a class.
 #[derive(Clone, Copy)]
-pub(crate) enum Told<'p> {
+pub(crate) enum InstanceTest<'p> {
     /// The operand is null.
     Null,
     /// The object is an instance of the class, or isn't.
@@ -80,7 +81,7 @@ fn instance_of_number<'p>(
     parts: &Parts<'p>,
     t: ThreadId,
     thread: &Thread,
-    class: usize,
+    class: ClassNumber,
 ) -> Decided<'p>
     ensures { seen result ≡ instance_of_number parts.now.program
         parts.now.limits parts.now.state t thread.now (Some class) }
@@ -135,33 +136,38 @@ fn new_instance_decision<'p>(
 }
 
 /// Tests the object of a reference against a named class, which is resolved first.
-fn tested_object<'p>(parts: &Parts<'p>, thread: &Thread, name: &[u16], reference: u32) -> Told<'p>
-    ensures { (null : TurnDecision) → (told : Bool → TurnDecision)
-        → by_instance_test null told result ≡ with_class_of parts.now.program parts.now.limits
-        parts.now.state thread.now name.now (value.Reference reference ∷ []) null told }
+fn test_object<'p>(
+    parts: &Parts<'p>,
+    thread: &Thread,
+    name: &[u16],
+    reference: u32,
+) -> InstanceTest<'p>
+    ensures { (null : TurnDecision) → (on_result : Bool → TurnDecision)
+        → by_instance_test null on_result result ≡ with_class_of parts.now.program parts.now.limits
+        parts.now.state thread.now name.now (value.Reference reference ∷ []) null on_result }
 {
     let Some(class) = parts.heap.class_of(reference) else {
-        return Told::Stops(never_seen());
+        return InstanceTest::Stops(never_seen());
     };
     if parts.program().has_class(name) {
-        Told::IsInstance(parts.program().fits(class, name))
+        InstanceTest::IsInstance(parts.program().fits(class, name))
     } else {
-        Told::Stops(parts.throws(thread, Thrown::NoClassDefFoundError))
+        InstanceTest::Stops(parts.throws(thread, Thrown::NoClassDefFoundError))
     }
 }
 
 /// Tests the topmost operand against a named class. Null is tested before the class is resolved.
-fn top_told<'p>(parts: &Parts<'p>, thread: &Thread, frame: &Frame, name: &[u16]) -> Told<'p>
+fn test_top<'p>(parts: &Parts<'p>, thread: &Thread, frame: &Frame, name: &[u16]) -> InstanceTest<'p>
     requires { 1 ≤ length frame.now.activation.operands }
-    ensures { (null : TurnDecision) → (told : Bool → TurnDecision)
-        → by_instance_test null told result ≡ with_class_of parts.now.program parts.now.limits
-        parts.now.state thread.now name.now frame.now.activation.operands null told }
+    ensures { (null : TurnDecision) → (on_result : Bool → TurnDecision)
+        → by_instance_test null on_result result ≡ with_class_of parts.now.program parts.now.limits
+        parts.now.state thread.now name.now frame.now.activation.operands null on_result }
 {
     match frame.top() {
-        Value::Null => Told::Null,
-        Value::Reference(reference) => tested_object(parts, thread, name, reference),
+        Value::Null => InstanceTest::Null,
+        Value::Reference(reference) => test_object(parts, thread, name, reference),
         Value::Int(_) | Value::Long(_) | Value::Second | Value::ReturnAddress(_) | Value::Unset => {
-            Told::Stops(bad(BadCause::Kind))
+            InstanceTest::Stops(bad(BadCause::Kind))
         }
     }
 }
@@ -177,10 +183,13 @@ fn cast_decision<'p>(parts: &Parts<'p>, thread: &Thread, frame: &Frame, name: &[
     if !has_depth(frame, 1, 1) {
         return bad(BadCause::Depth);
     }
-    match top_told(parts, thread, frame, name) {
-        Told::Stops(decision) => decision,
-        Told::Null | Told::IsInstance(true) => reaches(Effect::Nothing, taking(0, frame)),
-        Told::IsInstance(false) => parts.throws(thread, Thrown::ClassCastException),
+    match test_top(parts, thread, frame, name) {
+        InstanceTest::Stops(decision) => decision,
+        InstanceTest::Null | InstanceTest::IsInstance(true) => reaches(
+            Effect::Nothing,
+            taking(0, frame),
+        ),
+        InstanceTest::IsInstance(false) => parts.throws(thread, Thrown::ClassCastException),
     }
 }
 
@@ -198,10 +207,10 @@ fn instance_test_decision<'p>(
     if !has_depth(frame, 1, 1) {
         return bad(BadCause::Depth);
     }
-    match top_told(parts, thread, frame, name) {
-        Told::Stops(decision) => decision,
-        Told::Null => instance_test_result(false),
-        Told::IsInstance(is_instance) => instance_test_result(is_instance),
+    match test_top(parts, thread, frame, name) {
+        InstanceTest::Stops(decision) => decision,
+        InstanceTest::Null => instance_test_result(false),
+        InstanceTest::IsInstance(is_instance) => instance_test_result(is_instance),
     }
 }
 

@@ -6,10 +6,10 @@ use Rattle.jvms_program.specs.declared.program.Field.{Field}
 use Rattle.jvms_machine.specs.declared.value.Value.{Value}
 use Rattle.jvms_machine.specs.State.{default_value}
 
--- The first values of these fields, without the static ones.
+-- Returns the first values of these fields, without the static ones.
 abbrev pub own_values : List Field → List Value
 own_values fields = map (λ f. default_value f.field_type) (filter (λ f. not f.is_static) fields)
 
--- The first values of a class's own fields, in reverse order.
+-- Returns the first values of a class's own fields, in reverse order.
 abbrev pub values_down : Class → List Value
 values_down c = reverse (own_values c.fields)

@@ -13,17 +13,17 @@ use Rattle.text_index.specs.Found.{found}
 use Rattle.heap.specs.declared.held_object.StoredObject.{StoredObject}
 use Rattle.heap.specs.declared.held_object.StoredObject.TheVariants as held
 
--- The name of the class of a number.
+-- Returns the name of the class of a number.
 abbrev pub name_at : List Class → ℕ → List ℕ
 name_at program class = unwrap_or (option_map (λ c. c.name) (slice_get program class)) []
 
--- Fields with these values, in order.
+-- Returns fields with these values, in order.
 abbrev pub with_values : List (FieldKey × Value) → List Value → List (FieldKey × Value)
 with_values [] vs = []
 with_values (f ∷ fields) [] = f ∷ with_values fields []
 with_values (f ∷ fields) (v ∷ vs) = (f.0, v) ∷ with_values fields vs
 
--- The object that is stored.
+-- Returns the object that a stored one is.
 abbrev pub shown : List Class → StoredObject → Object
 shown program (held.Instance class values) = instance (name_at program class) (with_values (instance_fields program (name_at program class)) values.items)
 shown program (held.Array class elements) = array class (values_of elements)

@@ -12,11 +12,11 @@ use Rattle.jvms_machine.specs.Heap.{component_type, stored_as, value_of}
 use Rattle.array_elements.specs.declared.kind.Kind.TheVariants as kind
 use Rattle.array_elements.specs.Kinds.{kind_of, IsOfKind}
 
--- The class of the object of a reference.
+-- Returns the class of the object of a reference.
 abbrev pub class_at : List Object → ℕ → Option (List ℕ)
 class_at heap r = option_map class_of (object_at heap r)
 
--- A part of the object of a reference.
+-- Returns a part of the object of a reference.
 abbrev pub asked : {A : Type 0} → (Object → Option A) → List Object → ℕ → Option A
 asked {A} part heap r = option_and_then part (object_at heap r)
 
@@ -25,32 +25,32 @@ abbrev pub IfThere : (Object → Type 0) → Option Object → Type 0
 IfThere P None = ⊥
 IfThere P (Some o) = P o
 
--- The class of an instance.
+-- Returns the class of an instance.
 abbrev pub instance_class : Object → Option (List ℕ)
 instance_class (instance class fields) = Some class
 instance_class _ = None
 
--- The class of an array.
+-- Returns the class of an array.
 abbrev pub array_class : Object → Option (List ℕ)
 array_class (array class elements) = Some class
 array_class _ = None
 
--- The number of elements of an array.
+-- Returns the number of elements of an array.
 abbrev pub length_of : Object → Option ℕ
 length_of (array class elements) = Some (length elements)
 length_of _ = None
 
--- An array's element.
+-- Returns an array's element.
 abbrev pub element_of : ℕ → Object → Option Value
 element_of index (array class elements) = slice_get elements index
 element_of index _ = None
 
--- The units of a string.
+-- Returns the units of a string.
 abbrev pub units_of : Object → Option (List ℕ)
 units_of (text units) = Some units
 units_of _ = None
 
--- The name of the class whose class object an object is.
+-- Returns the name of the class whose class object an object is.
 abbrev pub named_by : Object → Option (List ℕ)
 named_by (class_object name) = Some name
 named_by _ = None
@@ -80,28 +80,28 @@ HasDimensions class (n ∷ m ∷ lengths) = (kind_of (component_type class) ≡ 
 
 -- ---- Fields
 
--- The value of an instance's field.
+-- Returns the value of an instance's field.
 abbrev pub field_of : FieldKey → Object → Option Value
 field_of key (instance class fields) = value_of key fields
 field_of key _ = None
 
--- The slot of an instance's field.
+-- Returns the slot of an instance's field.
 abbrev pub slot_in : List Class → FieldKey → Object → Option ℕ
 slot_in program key (instance class fields) = slot_of program class key
 slot_in program key _ = None
 
--- The value of the field of a slot.
+-- Returns the value of the field of a slot.
 abbrev pub value_in : ℕ → Object → Option Value
 value_in slot (instance class fields) = option_map (λ f. f.1) (slice_get fields slot)
 value_in slot _ = None
 
--- The fields with a value in the one of a slot.
+-- Returns the fields with a value in the one of a slot.
 abbrev pub with_value_in : ℕ → Value → List (FieldKey × Value) → List (FieldKey × Value)
 with_value_in slot v [] = []
 with_value_in zero v (f ∷ fields) = (f.0, v) ∷ fields
 with_value_in (suc slot) v (f ∷ fields) = f ∷ with_value_in slot v fields
 
--- An instance with a value in the field of a slot.
+-- Returns an instance with a value in the field of a slot.
 abbrev pub with_slot : ℕ → Value → Object → Object
 with_slot slot v (instance class fields) = instance class (with_value_in slot v fields)
 with_slot slot v o = o
@@ -114,10 +114,10 @@ pub record Heap : Type 0 where
   pub objects : List Object
   pub elements : ℕ
 
--- A heap with new objects.
+-- Returns a heap with new objects.
 abbrev pub with_new : List Object → Heap → Heap
 with_new new h = record h { objects = h.objects ++ new }
 
--- A heap with new arrays, which have `count` elements.
+-- Returns a heap with new arrays, which have `count` elements.
 abbrev pub with_arrays : List Object → ℕ → Heap → Heap
 with_arrays new count h = record h { objects = h.objects ++ new; elements = h.elements + count }

@@ -14,10 +14,10 @@ pub record Statics : Type 0 where
   pub program : List Class
   pub fields : List (FieldKey × Value)
 
--- The value of a class's static field at the opening.
+-- Returns the value of a class's static field at the opening.
 abbrev pub opening_value : Class → Field → Value
 opening_value c f = (opening_static (field_key c f, default_value f.field_type)).1
 
--- The values of a class's static fields among these at the opening.
+-- Returns the values of a class's static fields among these at the opening.
 abbrev pub opening_values : Class → List Field → List Value
 opening_values c fields = map (opening_value c) (filter (λ f. f.is_static) fields)

@@ -10,6 +10,7 @@ ghost use Rattle.heap.specs.Held.{name_at};
 use classes::superclass_name;
 use jvms_file::descriptor::{Element, FieldType, Primitive};
 use jvms_machine::value::Value;
+use jvms_program::number::ClassNumber;
 use jvms_program::program::Field;
 use program::Program;
 use std::alloc::{AllocError, Global};
@@ -81,7 +82,11 @@ fn put_by_name(program: &Program, name: &[u16], values: &mut Vec<Value>) -> Resu
 
 /// Appends the first values of the fields of an instance of the class of a number, in reverse order. It follows the
 /// numbers of superclasses as far as the program has them. On an error some may have been appended.
-fn put_by_number(program: &Program, class: usize, values: &mut Vec<Value>) -> Result<(), AllocError>
+fn put_by_number(
+    program: &Program,
+    class: ClassNumber,
+    values: &mut Vec<Value>,
+) -> Result<(), AllocError>
     ensures { OnOk result (values.new.items ≡ values.old.items
         ++ flat_map values_down (chain program.now (name_at program.now class))) }
 {
@@ -104,7 +109,7 @@ fn put_by_number(program: &Program, class: usize, values: &mut Vec<Value>) -> Re
 pub(crate) fn first_values(
     alloc: Global,
     program: &Program,
-    class: usize,
+    class: ClassNumber,
 ) -> Result<Vec<Value>, AllocError>
     ensures { IfOk result
         (λ v. v.items ≡ map (λ f. f.1) (instance_fields program.now (name_at program.now class))) }

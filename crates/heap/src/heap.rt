@@ -13,6 +13,7 @@ use crate::held_object::StoredObject;
 use crate::primitive_arrays::PrimitiveArrays;
 use jvms_file::insn::{ArrayKind, ArrayType};
 use jvms_machine::value::Value;
+use jvms_program::number::ClassNumber;
 use program::Program;
 use shared_data::shared::Text;
 use std::alloc::Global;
@@ -113,7 +114,7 @@ impl<'p> Heap<'p> {
     }
 
     /// Returns the number of the class of an instance.
-    pub fn instance_class(&self, reference: u32) -> Option<usize>
+    pub fn instance_class(&self, reference: u32) -> Option<ClassNumber>
         ensures { option_map (name_at self.now.program) result
             ≡ asked instance_class self.now.objects reference }
     {

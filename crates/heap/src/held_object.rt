@@ -11,6 +11,7 @@ ghost use Rattle.heap.specs.Held.{name_at, shown, AreAlike, IsKept, AcceptsStore
 use array_elements::Elements;
 use jvms_file::insn::ArrayKind;
 use jvms_machine::value::Value;
+use jvms_program::number::ClassNumber;
 use program::Program;
 use shared_data::shared::Text;
 use std::alloc::{AllocError, Global};
@@ -29,9 +30,15 @@ const CLASS: [u16; 15] = [
 #[derive(Debug, Drop)]
 pub enum StoredObject {
     /// An instance of the class of a number, with the values of its fields by their slots.
-    Instance { class: usize, values: Vec<Value> },
+    Instance {
+        class: ClassNumber,
+        values: Vec<Value>,
+    },
     /// An array of a class.
-    Array { class: Text, elements: Elements },
+    Array {
+        class: Text,
+        elements: Elements,
+    },
     /// A string.
     Text(Text),
     /// The object of the class of this name.
@@ -202,7 +209,7 @@ impl StoredObject {
     }
 
     /// Returns the number of the class of an instance.
-    pub(crate) fn instance_class(&self) -> Option<usize>
+    pub(crate) fn instance_class(&self) -> Option<ClassNumber>
         ensures { (program : List Class)
             → option_map (name_at program) result ≡ instance_class (shown program self.now) }
     {

@@ -10,12 +10,13 @@ use crate::first_values::first_values;
 use crate::heap::Heap;
 use crate::held_object::StoredObject;
 use array_elements::{Elements, kind_of_array};
+use jvms_program::number::ClassNumber;
 use program::Program;
 use shared_data::shared::Text;
 use std::alloc::AllocError;
 
 /// Returns the name of the class of a number.
-pub(crate) fn name_at(program: &Program, class: usize) -> &[u16]
+pub(crate) fn name_at(program: &Program, class: ClassNumber) -> &[u16]
     ensures { result.now ≡ name_at program.now class }
 {
     match program.class(class) {
@@ -38,7 +39,7 @@ impl Heap<'_> {
     }
 
     /// Creates an instance of the class of a number. Without memory nothing changes.
-    pub fn new_instance(&mut self, class: usize) -> Result<(), AllocError>
+    pub fn new_instance(&mut self, class: ClassNumber) -> Result<(), AllocError>
         ensures ok { OnOk result (self.new ≡ with_new
             (first_instance self.old.program (name_at self.old.program class) ∷ []) self.old) }
         ensures err { OnErr result (self.new ≡ self.old) }

@@ -9,7 +9,7 @@ ghost use Rattle.machine_parts.specs.Decided.{seen};
 use classes::declared_number;
 use jvms_machine::action::{Action, Decision};
 use jvms_machine::machine::ThreadId;
-use jvms_program::number::MethodNumber;
+use jvms_program::number::{ClassNumber, MethodNumber};
 use jvms_program::program::{Class, ClassKind};
 use jvms_program::thrown::Thrown;
 use machine_parts::{Decided, Parts, never_seen};
@@ -30,7 +30,7 @@ fn initializer_of(class: &Class) -> Option<usize>
 }
 
 /// Returns the number of the superclass that initialisation requires. An interface requires none.
-fn asked_superclass(program: &Program, class: &Class) -> Option<usize>
+fn asked_superclass(program: &Program, class: &Class) -> Option<ClassNumber>
     ensures { result ≡ asked_superclass program.now class.now }
 {
     if matches!(class.kind, ClassKind::Interface) {
@@ -45,7 +45,7 @@ fn initializer_call<'p>(
     parts: &Parts<'p>,
     thread: &Thread,
     c: &'p Class,
-    class: usize,
+    class: ClassNumber,
     number: usize,
 ) -> Decided<'p>
     ensures { seen result ≡ initializer_decision parts.now.limits
@@ -75,7 +75,7 @@ fn initializer_decision<'p>(
     parts: &Parts<'p>,
     thread: &Thread,
     c: &'p Class,
-    class: usize,
+    class: ClassNumber,
 ) -> Decided<'p>
     ensures { seen result ≡ initializer_decision parts.now.limits
         parts.now.state thread.now c.now class (initializer_of c.now) }
@@ -91,7 +91,7 @@ fn superclass_decision<'p>(
     parts: &Parts<'p>,
     t: ThreadId,
     thread: &Thread,
-    superclass: Option<usize>,
+    superclass: Option<ClassNumber>,
 ) -> Option<Decided<'p>>
     ensures { (go_on : TurnDecision) → first_or go_on result ≡ superclass_decision parts.now.program
         parts.now.limits parts.now.state t thread.now superclass go_on }
@@ -107,7 +107,7 @@ pub fn initialisation_decision<'p>(
     parts: &Parts<'p>,
     t: ThreadId,
     thread: &Thread,
-    class: usize,
+    class: ClassNumber,
     called: bool,
 ) -> Decided<'p>
     ensures { seen result ≡ initialisation_decision parts.now.program parts.now.limits

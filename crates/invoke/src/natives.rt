@@ -10,36 +10,16 @@ ghost use Rattle.machine_parts.specs.Ready.{AreNumbered};
 
 use crate::threads::thread_native_decision;
 use crate::waiting::object_native_decision;
-use descriptor::same_text;
+use descriptor::is_named;
 use frames::Frame;
 use jvms_machine::action::{Effect, Printed};
 use jvms_machine::machine::{BadCause, ThreadId};
 use jvms_machine::value::Value;
+use jvms_program::number::ClassNumber;
 use jvms_program::program::Method;
 use jvms_program::thrown::Thrown;
 use machine_parts::{Decided, Parts, bad, never_seen, reaches, taking};
 use machine_thread::Thread;
-
-/// `java/io/PrintStream`
-const PRINT_STREAM: [u16; 19] = [
-    106, 97, 118, 97, 47, 105, 111, 47, 80, 114, 105, 110, 116, 83, 116, 114, 101, 97, 109,
-];
-
-/// `java/lang/Thread`
-const THREAD: [u16; 16] = [
-    106, 97, 118, 97, 47, 108, 97, 110, 103, 47, 84, 104, 114, 101, 97, 100,
-];
-
-/// `java/lang/Object`
-const OBJECT: [u16; 16] = [
-    106, 97, 118, 97, 47, 108, 97, 110, 103, 47, 79, 98, 106, 101, 99, 116,
-];
-
-/// `println`
-const PRINTLN: [u16; 7] = [112, 114, 105, 110, 116, 108, 110];
-
-/// `()V`, the descriptor of a method without parameters and result.
-const NOTHING: [u16; 3] = [40, 41, 86];
 
 /// Returns the decision to print. It takes all operands of the call: the receiver, and the printed value, if there is
 /// one.
@@ -110,8 +90,8 @@ fn print_decision<'p>(parts: &Parts<'p>, frame: &Frame, takes: u16, method: &Met
     requires { frame.now.activation.place + 1 < 2 ^ 64 }
     ensures { seen result ≡ print_decision parts.now.state frame.now.activation takes method.now }
 {
-    let ends_line = same_text(method.name.as_slice(), &PRINTLN);
-    if ends_line && same_text(method.descriptor.as_slice(), &NOTHING) {
+    let ends_line = is_named(method.name.as_slice(), "println");
+    if ends_line && is_named(method.descriptor.as_slice(), "()V") {
         prints(frame, takes, Printed::Nothing, true)
     } else {
         value_printed(parts, frame, takes, ends_line)
@@ -127,7 +107,7 @@ pub(crate) fn native_decision<'p>(
     frame: &Frame,
     takes: u16,
     method: &Method,
-    class: usize,
+    class: ClassNumber,
 ) -> Decided<'p>
     requires place { frame.now.activation.place + 1 < 2 ^ 64 }
     requires numbered { AreNumbered parts.now.state }
@@ -137,13 +117,13 @@ pub(crate) fn native_decision<'p>(
     let Some(c) = parts.program().class(class) else {
         return never_seen();
     };
-    if same_text(c.name.as_slice(), &PRINT_STREAM) {
+    if is_named(c.name.as_slice(), "java/io/PrintStream") {
         return print_decision(parts, frame, takes, method);
     }
-    if same_text(c.name.as_slice(), &THREAD) {
+    if is_named(c.name.as_slice(), "java/lang/Thread") {
         return thread_native_decision(parts, thread, frame, method);
     }
-    if same_text(c.name.as_slice(), &OBJECT) {
+    if is_named(c.name.as_slice(), "java/lang/Object") {
         return object_native_decision(parts, t, thread, frame, method);
     }
     parts.throws(thread, Thrown::UnsatisfiedLinkError)

@@ -6,7 +6,7 @@ ghost use Rattle.std.specs.Prelude.{Some};
 ghost use Rattle.machine_parts.specs.Decided.{seen};
 ghost use Rattle.machine_parts.specs.Ready.{AreNumbered};
 
-use descriptor::same_text;
+use descriptor::is_named;
 use frames::Frame;
 use jvms_machine::action::{Decision, Effect};
 use jvms_machine::machine::{BlockedOn, Outcome};
@@ -15,9 +15,6 @@ use jvms_program::program::Method;
 use jvms_program::thrown::Thrown;
 use machine_parts::{Decided, Parts, never_seen, reaches, taking};
 use machine_thread::Thread;
-
-/// `start`
-const START: [u16; 5] = [115, 116, 97, 114, 116];
 
 /// Decides the start of a Thread object. It tests that the object wasn't started before, then the room for one more
 /// thread.
@@ -85,7 +82,7 @@ pub(crate) fn thread_native_decision<'p>(
     let Value::Reference(reference) = frame.top() else {
         return never_seen();
     };
-    if same_text(method.name.as_slice(), &START) {
+    if is_named(method.name.as_slice(), "start") {
         start_decision(parts, thread, frame, reference)
     } else {
         join_decision(parts, frame, parts.thread_of(reference))

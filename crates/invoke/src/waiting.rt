@@ -10,7 +10,7 @@ ghost use Rattle.machine_parts.specs.Machine.{after};
 ghost use Rattle.machine_parts.specs.Ready.{AreNumbered, HasCaller};
 ghost use Rattle.trace.specs.Recording.{recorded};
 
-use descriptor::same_text;
+use descriptor::is_named;
 use frames::Frame;
 use jvms_machine::action::{Action, Decision, Effect};
 use jvms_machine::machine::{BlockedOn, Outcome, ThreadId};
@@ -23,24 +23,18 @@ use machine_thread::Thread;
 use std::alloc::AllocError;
 use trace::Recording;
 
-/// `wait`
-const WAIT: [u16; 4] = [119, 97, 105, 116];
-
-/// `notifyAll`
-const NOTIFY_ALL: [u16; 9] = [110, 111, 116, 105, 102, 121, 65, 108, 108];
-
 /// Decides the wait of the monitor's owner, with its entry count, or a notification.
 fn waits_or_notifies<'p>(frame: &Frame, method: &Method, wait: Wait) -> Decided<'p>
     requires { frame.now.activation.place + 1 < 2 ^ 64 }
     ensures { seen result
         ≡ waits_or_notifies frame.now.activation method.now wait.reference wait.count }
 {
-    if same_text(method.name.as_slice(), &WAIT) {
+    if is_named(method.name.as_slice(), "wait") {
         return Decision::Makes(Action::Waits(wait));
     }
     let effect = Effect::Notifies {
         reference: wait.reference,
-        all: same_text(method.name.as_slice(), &NOTIFY_ALL),
+        all: is_named(method.name.as_slice(), "notifyAll"),
     };
     reaches(effect, taking(1, frame))
 }

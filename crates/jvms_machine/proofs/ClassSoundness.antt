@@ -74,15 +74,15 @@ module _ (program : List Class) (limits : Limits) (start : Start) (s : State) (t
 
   -- ---- checkcast and instanceof
 
-  class_of_by : (name : List ℕ) (r : ℕ) (o : Option Object) (others : List Value) (null : TurnDecision) (told : Bool → TurnDecision) → o ≡ object_at s.heap r → ((b : Bool) → KeepsSound (told b)) → KeepsSound (with_class_of program limits s thread name (value.Reference r ∷ others) null told)
-  class_of_by name r None others null told e keeps = rw (← e) (still t stands.sound)
-  class_of_by name r (Some o) others null told e keeps =
+  class_of_by : (name : List ℕ) (r : ℕ) (o : Option Object) (others : List Value) (null : TurnDecision) (on_result : Bool → TurnDecision) → o ≡ object_at s.heap r → ((b : Bool) → KeepsSound (on_result b)) → KeepsSound (with_class_of program limits s thread name (value.Reference r ∷ others) null on_result)
+  class_of_by name r None others null on_result e keeps = rw (← e) (still t stands.sound)
+  class_of_by name r (Some o) others null on_result e keeps =
       rw (← e) (cond_both (class_exists program name) _ _ KeepsSound (λ _. keeps (fits program (class_of o) name)) (λ _. throws_keeps start stands thrown.NoClassDefFoundError))
 
-  with_class_keeps : (name : List ℕ) (operands : List Value) (null : TurnDecision) (told : Bool → TurnDecision) → KeepsSound null → ((b : Bool) → KeepsSound (told b)) → KeepsSound (with_class_of program limits s thread name operands null told)
-  with_class_keeps name (value.Null ∷ others) null told null_keeps keeps = null_keeps
-  with_class_keeps name (value.Reference r ∷ others) null told null_keeps keeps = class_of_by name r (object_at s.heap r) others null told refl keeps
-  with_class_keeps name _ null told null_keeps keeps = still t stands.sound
+  with_class_keeps : (name : List ℕ) (operands : List Value) (null : TurnDecision) (on_result : Bool → TurnDecision) → KeepsSound null → ((b : Bool) → KeepsSound (on_result b)) → KeepsSound (with_class_of program limits s thread name operands null on_result)
+  with_class_keeps name (value.Null ∷ others) null on_result null_keeps keeps = null_keeps
+  with_class_keeps name (value.Reference r ∷ others) null on_result null_keeps keeps = class_of_by name r (object_at s.heap r) others null on_result refl keeps
+  with_class_keeps name _ null on_result null_keeps keeps = still t stands.sound
 
   goes_on_keeps : KeepsSound (reaches effect.Nothing (taking 0 frame.activation))
   goes_on_keeps =

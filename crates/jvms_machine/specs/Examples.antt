@@ -18,7 +18,7 @@ use Rattle.jvms_machine.specs.Run.{RunResult, run}
 abbrev pub default_limits : Limits
 default_limits = record { objects = 1000000; elements = 10000000; threads = 64; frames = 1024 }
 
--- The entry `G.gcd.(II)I` with 48 and 36.
+-- Returns the entry `G.gcd.(II)I` with 48 and 36.
 abbrev pub gcd_entry : Entry
 gcd_entry = entry.Static (codes "G") (codes "gcd") (codes "(II)I") (argument.Int (pos 48) ∷ argument.Int (pos 36) ∷ [])
 

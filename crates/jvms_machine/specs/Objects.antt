@@ -54,14 +54,14 @@ new_instance_decision program limits s t thread name (Some c) =
 
 -- Tests the topmost operand against a class. Null is tested before the class is resolved.
 abbrev pub with_class_of : List Class → Limits → State → Thread → List ℕ → List Value → TurnDecision → (Bool → TurnDecision) → TurnDecision
-with_class_of program limits s thread name (value.Null ∷ below) null told = null
-with_class_of program limits s thread name (value.Reference r ∷ below) null told = at (object_at s.heap r)
+with_class_of program limits s thread name (value.Null ∷ below) null on_result = null
+with_class_of program limits s thread name (value.Reference r ∷ below) null on_result = at (object_at s.heap r)
   where
     at : Option Object → TurnDecision
     at None = never_seen
     at (Some o) =
-        if class_exists program name then told (fits program (class_of o) name) else throws limits s thread thrown.NoClassDefFoundError
-with_class_of program limits s thread name _ null told = bad cause.Kind
+        if class_exists program name then on_result (fits program (class_of o) name) else throws limits s thread thrown.NoClassDefFoundError
+with_class_of program limits s thread name _ null on_result = bad cause.Kind
 
 abbrev pub cast : Limits → State → Thread → MethodFrame → Bool → TurnDecision
 cast limits s thread frame true = reaches effect.Nothing (taking 0 frame.activation)

@@ -4,7 +4,7 @@ use crate::machine::{BadCause, Outcome, ThreadId};
 use crate::state::Wait;
 use crate::value::Value;
 use jvms_file::insn::StackForm;
-use jvms_program::number::{FieldNumber, MethodNumber};
+use jvms_program::number::{ClassNumber, FieldNumber, MethodNumber};
 use jvms_program::thrown::Thrown;
 use std::alloc::AllocError;
 
@@ -49,7 +49,7 @@ pub enum Exception {
 #[derive(Copy)]
 pub enum NewObject<T> {
     /// An instance of a class.
-    Instance { class: usize },
+    Instance { class: ClassNumber },
     /// An array of a class with `length` elements.
     Array { class: T, length: u32 },
     /// An array of a class and the arrays in it, whose lengths are the topmost `dimensions` operands.
@@ -94,7 +94,7 @@ pub enum Lock {
     /// The monitor of an existing object.
     Monitor(MonitorUse),
     /// The monitor of the object of a class, which is created with this reference.
-    NewClass { class: usize, reference: u32 },
+    NewClass { class: ClassNumber, reference: u32 },
 }
 
 /// The effect of an instruction beside the action on its frame.
@@ -167,11 +167,11 @@ pub enum Action<C, T> {
     Reaches(Effect<T>, FrameAction),
     /// Begins the initialisation of a class, and pushes its frame.
     Begins {
-        class: usize,
+        class: ClassNumber,
     },
     /// Finishes the initialisation of a class, and pops its frame.
     Finishes {
-        class: usize,
+        class: ClassNumber,
     },
     /// Makes the first call of the thread, of this method with this code.
     Enters {
@@ -228,7 +228,7 @@ pub enum Action<C, T> {
     /// Pops the initialisation of a class because of the pending exception. The class is then erroneous, and this
     /// exception is pending. The thread ends with its last frame.
     FailsInitialisation {
-        class: usize,
+        class: ClassNumber,
         exception: Exception,
         last: bool,
     },

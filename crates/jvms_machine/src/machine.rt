@@ -1,5 +1,6 @@
 //! The inputs of the machine, and its answers.
 
+use jvms_program::number::ClassNumber;
 use shared_data::items::Items;
 
 /// A thread's number. Thread 0 runs the entry.
@@ -47,7 +48,7 @@ pub struct Limits {
 pub enum BlockedOn {
     Monitor { reference: u32, owner: ThreadId },
     /// The initialisation of the class at this index of the program's list.
-    Initialisation { class: usize, owner: ThreadId },
+    Initialisation { class: ClassNumber, owner: ThreadId },
     Join { thread: ThreadId },
     /// A notification of the threads that wait for the object of this reference.
     Wait { reference: u32 },

@@ -1,6 +1,7 @@
 //! Parts of the machine's state (JVMS 2.5, 2.6, 5.5).
 
 use crate::machine::ThreadId;
+use jvms_program::number::ClassNumber;
 
 /// The state of a class's initialisation (JVMS 5.5).
 #[derive(Clone, Copy, Debug, PartialEq, Eq)]
@@ -31,5 +32,5 @@ pub struct Wait {
 #[derive(Drop)]
 pub enum StackFrame<F> {
     Call(F),
-    Initialisation { class: usize, called: bool },
+    Initialisation { class: ClassNumber, called: bool },
 }

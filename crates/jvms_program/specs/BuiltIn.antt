@@ -44,7 +44,7 @@ abbrev pub method : List ℕ → List ℕ → MethodFlags → Option Body → Me
 method name descriptor flags body =
     record { name = name; descriptor = descriptor; method_type = method_type descriptor; flags = flags; throws = []; body = body }
 
--- A method with code, with a stack of 2 and 2 locals.
+-- Returns a method with code, with a stack of 2 and 2 locals.
 abbrev pub coded : List ℕ → List ℕ → List Instruction → Method
 coded name descriptor code =
     method name descriptor no_flags (Some (record { max_stack = 2; max_locals = 2; instructions = code; handlers = [] }))
@@ -98,8 +98,8 @@ abbrev pub call_run : Instruction
 call_run =
     instruction.Invoke invoke.Interface (record { is_interface = true; class = codes "java/lang/Runnable"; name = codes "run"; descriptor = codes "()V"; method_type = method_type (codes "()V") })
 
--- The class of threads. run calls the target's run if there is a target. Else it continues at its last instruction, at
--- place 6.
+-- Returns the class of threads. run calls the target's run if there is a target. Else it continues at its last
+-- instruction, at place 6.
 abbrev pub thread_class : Class
 thread_class =
     class_with object (codes "java/lang/Runnable" ∷ []) (field false (codes "target") (codes "Ljava/lang/Runnable;") ∷ [])
@@ -115,7 +115,7 @@ thread_class =
 abbrev pub message_field : FieldUse → Instruction
 message_field how = field_insn how (codes "java/lang/Throwable") (codes "message") (codes "Ljava/lang/String;")
 
--- The constructors of Throwable and of each class below it.
+-- Returns the constructors of Throwable and of each class below it.
 abbrev pub throwable_constructors : List Method
 throwable_constructors =
     coded (codes "<init>") (codes "()V") (return_void ∷ [])
@@ -138,7 +138,7 @@ print_stream_class =
     ∷ native (codes "println") (codes "()V") ∷ [])
     (codes "java/io/PrintStream")
 
--- A class below Throwable, with its superclass.
+-- Returns a class below Throwable, with its superclass.
 abbrev pub throwable_below : List ℕ → List ℕ → Class
 throwable_below superclass name = class_with superclass [] [] throwable_constructors name
 
@@ -188,10 +188,10 @@ with_ordinary_classes classes =
     ∷ interface_with [] (codes "java/io/Serializable")
     ∷ classes
 
--- The built-in classes.
+-- Returns the built-in classes.
 unfoldable pub built_in_classes : List Class
 built_in_classes = with_ordinary_classes throwable_classes
 
--- A class of this name is built in.
+-- Decides whether a class of this name is built in.
 unfoldable pub is_built_in : List ℕ → Bool
 is_built_in name = list_any (λ c. same_text c.name name) built_in_classes

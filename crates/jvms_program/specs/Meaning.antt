@@ -34,8 +34,8 @@ use Rattle.jvms_file.specs.Descriptors.{field_type, method_type}
 use Rattle.jvms_file.specs.ConstantPool.{entry, utf8_at, class_name_at, name_and_type_at}
 use Rattle.jvms_file.specs.Members.{is_private, is_static, is_synchronized, is_native, is_abstract, is_interface, is_initializer}
 
--- The text of a number. In a class that bytes spell, each number that is looked up names what it has to. The default
--- for another number is never used.
+-- Returns the text of a number. In a class that bytes spell, each number that is looked up names what it has to. The
+-- default for another number is never used.
 abbrev pub text_of : List Constant → ℕ → List ℕ
 text_of pool n = unwrap_or (utf8_at pool n) []
 
@@ -102,7 +102,7 @@ code_of (method_attribute.Code name c ∷ others) = Some c
 code_of (method_attribute.Exceptions name classes ∷ others) = code_of others
 code_of (method_attribute.Kept a ∷ others) = code_of others
 
--- The classes of the first Exceptions attribute (JVMS 4.7.5), by their numbers.
+-- Returns the classes of the first Exceptions attribute (JVMS 4.7.5), by their numbers.
 abbrev pub exceptions_of : List MethodAttribute → List ℕ
 exceptions_of [] = []
 exceptions_of (method_attribute.Exceptions name classes ∷ others) = classes
@@ -112,8 +112,8 @@ exceptions_of (method_attribute.Kept a ∷ others) = exceptions_of others
 abbrev pub throws_of : List Constant → List MethodAttribute → List (List ℕ)
 throws_of pool attributes = map (class_text pool) (exceptions_of attributes)
 
--- The flags of a method (JVMS 4.6). <clinit> keeps no flag: it is called as a static method that is neither native,
--- abstract nor synchronized.
+-- Returns the flags of a method (JVMS 4.6). <clinit> keeps no flag: it is called as a static method that is neither
+-- native, abstract nor synchronized.
 abbrev pub flags_of : Bool → ℕ → MethodFlags
 flags_of initializer access =
     record {
@@ -140,7 +140,7 @@ constant_of pool [] = None
 constant_of pool (field_attribute.ConstantValue name value ∷ others) = Some (loadable_of pool (entry pool value))
 constant_of pool (field_attribute.Kept a ∷ others) = constant_of pool others
 
--- A field of a class or an interface. The fields of an interface count as static.
+-- Returns a field of a class or an interface. The fields of an interface count as static.
 abbrev pub field_of : List Constant → Bool → FieldInfo → Field
 field_of pool interface f =
     record {
@@ -155,7 +155,7 @@ field_of pool interface f =
 abbrev pub kind_of : ℕ → ClassKind
 kind_of access = if is_interface access then kind.Interface else (if is_abstract access then kind.Abstract else kind.Neither)
 
--- The class of a program that a class file means.
+-- Returns the class of a program that a class file means.
 unfoldable pub meaning : ClassFile → Class
 meaning c =
     record {

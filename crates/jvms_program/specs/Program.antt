@@ -17,7 +17,7 @@ use Rattle.jvms_file.specs.Descriptors.{field_type, method_type}
 use Rattle.jvms_program.specs.Meaning.{meaning}
 use Rattle.jvms_program.specs.BuiltIn.{built_in_classes, no_flags}
 
--- The program of class files: the built-in classes, then theirs in order.
+-- Returns the program of class files: the built-in classes, then theirs in order.
 unfoldable pub program_of : List ClassFile → List Class
 program_of files = built_in_classes ++ map meaning files
 
@@ -47,29 +47,29 @@ pub record IsProgram (program : List Class) : Type 0 where
   pub spelled : AllByRecursion IsSpelledClass program
   pub initializers : AllByRecursion (λ c. AllByRecursion HasItsFlags c.methods) program
 
--- The class of a name.
+-- Returns the class of a name.
 abbrev pub class_named : List Class → List ℕ → Option Class
 class_named program name = find (λ c. same_text c.name name) program
 
--- The number of the class of a name: its place in the list.
+-- Returns the number of the class of a name: its place in the list.
 abbrev pub class_number : List Class → List ℕ → Option ℕ
 class_number program name = position (λ c. same_text c.name name) program
 
--- The number of a class's method of this name and descriptor.
+-- Returns the number of a class's method of this name and descriptor.
 abbrev pub declared_number : Class → List ℕ → List ℕ → Option ℕ
 declared_number c name descriptor =
     position (λ m. same_text m.name name && same_text m.descriptor descriptor) c.methods
 
--- The number of a class's field of this name and descriptor.
+-- Returns the number of a class's field of this name and descriptor.
 abbrev pub declared_field_number : Class → List ℕ → List ℕ → Option ℕ
 declared_field_number c name descriptor =
     position (λ f. same_text f.name name && same_text f.descriptor descriptor) c.fields
 
--- The key of a field: the class that declares it, its name and its descriptor.
+-- Returns the key of a field: the class that declares it, its name and its descriptor.
 abbrev pub field_key : Class → Field → FieldKey
 field_key c f = record { class = c.name; name = f.name; descriptor = f.descriptor }
 
--- The field of a number.
+-- Returns the field of a number.
 abbrev pub field_at : List Class → FieldNumber → Option Field
 field_at program n = option_and_then (λ c. slice_get c.fields n.field) (slice_get program n.class)
 
@@ -77,11 +77,11 @@ abbrev pub field_key_at : List Class → FieldNumber → Option FieldKey
 field_key_at program n =
     option_and_then (λ c. option_map (field_key c) (slice_get c.fields n.field)) (slice_get program n.class)
 
--- The method of a number.
+-- Returns the method of a number.
 abbrev pub method_at : List Class → MethodNumber → Option Method
 method_at program n = option_and_then (λ c. slice_get c.methods n.method) (slice_get program n.class)
 
--- The key of a method in a trace: the class that declares it, its name and its descriptor.
+-- Returns the key of a method in a trace: the class that declares it, its name and its descriptor.
 abbrev pub key_in : Class → Method → MethodKey
 key_in c m = record { class = c.name; name = m.name; descriptor = m.descriptor }
 

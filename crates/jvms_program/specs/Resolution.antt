@@ -30,7 +30,7 @@ use Rattle.jvms_program.specs.BuiltIn.{object}
 
 -- ---- Ancestors
 
--- A class, its superclass, and so on, at most `most` classes.
+-- Returns a class, its superclass, and so on, at most `most` classes.
 unfoldable pub chain_within : ℕ → List Class → List ℕ → List Class
 chain_within zero program name = []
 chain_within (suc most) program name = from_class (class_named program name) (λ super. chain_within most program super)
@@ -46,7 +46,7 @@ chain_within (suc most) program name = from_class (class_named program name) (λ
 abbrev pub chain : List Class → List ℕ → List Class
 chain program name = chain_within (length program) program name
 
--- A class, followed by the ancestries of its superinterfaces in order, followed by that of its superclass.
+-- Returns a class, followed by the ancestries of its superinterfaces in order, followed by that of its superclass.
 unfoldable pub ancestry_within : ℕ → List Class → List ℕ → List Class
 ancestry_within zero program name = []
 ancestry_within (suc most) program name = from_class (class_named program name) (λ super. ancestry_within most program super)
@@ -62,7 +62,7 @@ ancestry_within (suc most) program name = from_class (class_named program name) 
 abbrev pub ancestry : List Class → List ℕ → List Class
 ancestry program name = ancestry_within (length program) program name
 
--- The names of a class's superinterfaces and of its superclass.
+-- Returns the names of a class's superinterfaces and of its superclass.
 abbrev pub supers_of : Class → List (List ℕ)
 supers_of c = c.interfaces ++ listed c.superclass
   where
@@ -75,7 +75,7 @@ names_class name classes = list_any (λ c. same_text c.name name) classes
 
 -- ---- Subtypes (JVMS 4.10.1.2, 6.5 checkcast)
 
--- The classes of which every array is a subtype (JVMS 4.10.1.2).
+-- Decides whether a class is one of which every array is a subtype (JVMS 4.10.1.2).
 abbrev pub is_array_ancestor : List ℕ → Bool
 is_array_ancestor name =
     same_text name object || same_text name (codes "java/lang/Cloneable") || same_text name (codes "java/io/Serializable")
@@ -90,14 +90,14 @@ abbrev pub is_array_ancestor_element : Element → Bool
 is_array_ancestor_element (element.Primitive p) = false
 is_array_ancestor_element (element.Object name) = is_array_ancestor name
 
--- A type is a subtype of another. If it has more dimensions, the other's element has to be a supertype of arrays. If it
--- has equally many, its element has to be a subtype of the other's.
+-- Decides whether a type is a subtype of another. If it has more dimensions, the other's element has to be a supertype
+-- of arrays. If it has equally many, its element has to be a subtype of the other's.
 abbrev pub is_type_subtype : List Class → FieldType → FieldType → Bool
 is_type_subtype program a b =
     if nat_lt b.dimensions a.dimensions then is_array_ancestor_element b.element
     else (if a.dimensions == b.dimensions then is_element_subtype program a.element b.element else false)
 
--- The type of a class by its name, which may be an array's descriptor.
+-- Returns the type of a class by its name, which may be an array's descriptor.
 abbrev pub class_type : List ℕ → Option FieldType
 class_type name = if is_array_name name then field_type_of name else Some (record { dimensions = 0; element = element.Object name })
 
@@ -105,27 +105,27 @@ abbrev pub are_subtypes : List Class → Option FieldType → Option FieldType �
 are_subtypes program (Some a) (Some b) = is_type_subtype program a b
 are_subtypes program _ _ = false
 
--- The class of the first name is a subtype of the class of the second.
+-- Decides whether the class of the first name is a subtype of the class of the second.
 unfoldable pub fits : List Class → List ℕ → List ℕ → Bool
 fits program a b = are_subtypes program (class_type a) (class_type b)
 
 -- ---- Resolution (JVMS 5.4.3)
 
--- An instruction uses a static field.
+-- Decides whether an instruction uses a static field.
 abbrev pub is_static_use : FieldUse → Bool
 is_static_use field_use.GetStatic = true
 is_static_use field_use.PutStatic = true
 is_static_use field_use.Get = false
 is_static_use field_use.Put = false
 
--- An instruction calls a static method.
+-- Decides whether an instruction calls a static method.
 abbrev pub is_static_call : Invoke → Bool
 is_static_call invoke.Static = true
 is_static_call invoke.Virtual = false
 is_static_call invoke.Special = false
 is_static_call invoke.Interface = false
 
--- A class is there. For an array that is the class of its elements.
+-- Decides whether a class is there. For an array that is the class of its elements.
 abbrev pub type_exists : List Class → FieldType → Bool
 type_exists program t = element_exists t.element
   where
@@ -140,7 +140,7 @@ class_exists program name = exists (class_type name)
     exists None = false
     exists (Some t) = type_exists program t
 
--- The class whose members a class has. An array has those of Object.
+-- Returns the class whose members a class has. An array has those of Object.
 abbrev pub members_class : List ℕ → List ℕ
 members_class name = if is_array_name name then object else name
 
@@ -164,7 +164,7 @@ declared_method name descriptor c =
     option_map (λ m. record { class = c; method = m })
     (find (λ m. same_text m.name name && same_text m.descriptor descriptor) c.methods)
 
--- The first result of the test that any of the classes gives, in their order.
+-- Returns the first result of the test that any of the classes gives, in their order.
 abbrev pub first_in : {A : Type 0} → (Class → Option A) → List Class → Option A
 first_in look [] = None
 first_in look (c ∷ cs) = or_else (look c) (first_in look cs)
@@ -173,7 +173,7 @@ first_in look (c ∷ cs) = or_else (look c) (first_in look cs)
     or_else None other = other
     or_else (Some x) other = Some x
 
--- The field that a reference names (JVMS 5.4.3.2): the first in the class's ancestry that declares it.
+-- Returns the field that a reference names (JVMS 5.4.3.2): the first in the class's ancestry that declares it.
 abbrev pub reference_field : List Class → FieldReference → Option ResolvedField
 reference_field program r = first_in (declared_field r.name r.descriptor) (ancestry program (members_class r.class))
 
@@ -196,14 +196,14 @@ names_interface program name = is_it (class_named program name)
     is_it None = false
     is_it (Some c) = is_interface_kind c.kind
 
--- The order of the search for a class's method (JVMS 5.4.3.3): the class's chain, followed by the ancestries of the
--- superinterfaces of each class in it.
+-- Returns the order of the search for a class's method (JVMS 5.4.3.3): the class's chain, followed by the ancestries of
+-- the superinterfaces of each class in it.
 abbrev pub class_method_order : List Class → List ℕ → List Class
 class_method_order program name =
     chain program name ++ flat_map (λ c. flat_map (ancestry program) c.interfaces) (chain program name)
 
--- The order of the search for an interface's method (JVMS 5.4.3.4): the interface, Object, and the ancestries of the
--- interface's superinterfaces.
+-- Returns the order of the search for an interface's method (JVMS 5.4.3.4): the interface, Object, and the ancestries
+-- of the interface's superinterfaces.
 abbrev pub interface_method_order : List Class → List ℕ → List Class
 interface_method_order program name = order (class_named program name)
   where
@@ -220,7 +220,7 @@ method_in_order program r =
     first_in (declared_method r.name r.descriptor)
     (if r.is_interface then interface_method_order program r.class else class_method_order program (members_class r.class))
 
--- The method that a reference names. A constructor is searched in the named class alone.
+-- Returns the method that a reference names. A constructor is searched in the named class alone.
 abbrev pub reference_method : List Class → MethodReference → Option ResolvedMethod
 reference_method program r =
     if is_constructor_name r.name
@@ -247,36 +247,37 @@ selectable_in name descriptor c = keep (declared_method name descriptor c)
     keep None = None
     keep (Some found) = if is_selectable found.method then Some found else None
 
--- The method that a call selects for an object of a class (JVMS 6.5 invokevirtual). A private method is itself
+-- Returns the method that a call selects for an object of a class (JVMS 6.5 invokevirtual). A private method is itself
 -- selected. Else it is the first in the class's chain with this name and descriptor that is neither static nor private.
 abbrev pub selected_from : List Class → List ℕ → ResolvedMethod → Option ResolvedMethod
 selected_from program class m =
     if m.method.flags.is_private then Some m
     else first_in (selectable_in m.method.name m.method.descriptor) (chain program (members_class class))
 
--- A class is a proper superclass of another.
+-- Decides whether a class is a proper superclass of another.
 abbrev pub is_superclass : List Class → List ℕ → List ℕ → Bool
 is_superclass program super class = not (same_text super class) && names_class super (chain program class)
 
 abbrev pub superclass_of : List Class → List ℕ → Option (List ℕ)
 superclass_of program class = option_and_then (λ c. c.superclass) (class_named program class)
 
--- The method that invokespecial calls (JVMS 6.5 invokespecial). That is the resolved one if it is a constructor, or if
--- the named class is no superclass of the current one. Else it is selected from the current class's superclass on.
+-- Returns the method that invokespecial calls (JVMS 6.5 invokespecial). That is the resolved one if it is a
+-- constructor, or if the named class is no superclass of the current one. Else it is selected from the current class's
+-- superclass on.
 abbrev pub selected_special : List Class → List ℕ → MethodReference → ResolvedMethod → Option ResolvedMethod
 selected_special program current r m =
     if not (is_constructor_name r.name) && is_superclass program r.class current
     then option_and_then (λ super. selected_from program super m) (superclass_of program current)
     else Some m
 
--- The number of a field that was resolved.
+-- Returns the number of a field that was resolved.
 abbrev pub field_number : List Class → ResolvedField → Option FieldNumber
 field_number program f =
     option_and_then
     (λ class. option_map (λ field. record { class = class; field = field }) (declared_field_number f.class f.field.name f.field.descriptor))
     (class_number program f.class.name)
 
--- The number of a method that was resolved.
+-- Returns the number of a method that was resolved.
 abbrev pub method_number : List Class → ResolvedMethod → Option MethodNumber
 method_number program m =
     option_and_then

@@ -1,15 +1,18 @@
-//! The numbers of methods and fields.
+//! The numbers of classes, methods and fields.
 
-/// The number of a method: its class's place in the program's list, and its own place in the class's list.
+/// The number of a class: its place in the program's list.
+pub type ClassNumber = usize;
+
+/// The number of a method: that of its class, and its own place in the class's list.
 #[derive(Clone, Copy, Debug, PartialEq, Eq)]
 pub struct MethodNumber {
-    pub class: usize,
+    pub class: ClassNumber,
     pub method: usize,
 }
 
-/// The number of a field: its class's place in the program's list, and its own place in the class's list.
+/// The number of a field: that of its class, and its own place in the class's list.
 #[derive(Clone, Copy, Debug, PartialEq, Eq)]
 pub struct FieldNumber {
-    pub class: usize,
+    pub class: ClassNumber,
     pub field: usize,
 }

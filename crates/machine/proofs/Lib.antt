@@ -8,4 +8,4 @@ mod Others
 pub mod RunLaws
 mod Sites
 mod StatusLaws
-mod Told
+mod FastDecisions

@@ -106,12 +106,8 @@ pub(crate) fn start_of(program: &Program, entry: &Entry) -> Option<MethodNumber>
     if !takes_arguments(entry) {
         return None;
     }
-    let Ok(place) = program.by_name().resolve_named(true, names(entry)) else {
+    let Ok(number) = program.by_name().resolve_named(true, names(entry)) else {
         return None;
-    };
-    let number = MethodNumber {
-        class: place.0,
-        method: place.1,
     };
     let method = program.method(number)?;
     if is_initializer_name(method.name.as_slice()) {

@@ -11,6 +11,7 @@ use classes::FieldName;
 use jvms_machine::machine::Limits;
 use jvms_machine::state::Initialisation;
 use jvms_machine::value::Value;
+use jvms_program::number::ClassNumber;
 use program::Program;
 pub use threads::FrameView;
 
@@ -30,7 +31,7 @@ impl<'p> Machine<'p> {
     }
 
     /// Returns the state of the initialisation of a class (JVMS 5.5).
-    pub fn initialisation(&self, class: usize) -> Option<Initialisation>
+    pub fn initialisation(&self, class: ClassNumber) -> Option<Initialisation>
         ensures { result ≡ slice_get self.now.state.initialisations class }
     {
         self.parts.initialisation(class)

@@ -16,6 +16,7 @@ use classes::FieldName;
 use descriptor::same_text;
 use jvms_file::descriptor::FieldType;
 use jvms_machine::value::Value;
+use jvms_program::number::ClassNumber;
 use jvms_program::program::{Class, Field, Loadable};
 use shared_data::shared::Text;
 use std::alloc::AllocError;
@@ -124,7 +125,7 @@ impl<'p> Parts<'p> {
     }
 
     /// Returns the strings for which the initialisation of a class creates objects.
-    pub fn texts_to_make(&self, class: usize) -> Result<Vec<Text>, AllocError>
+    pub fn texts_to_make(&self, class: ClassNumber) -> Result<Vec<Text>, AllocError>
         ensures { IfOk result (λ texts. texts.items
             ≡ texts_to_make self.now.state.heap (slice_get self.now.program class)) }
     {

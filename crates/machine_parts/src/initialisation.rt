@@ -12,12 +12,13 @@ use crate::parts::Parts;
 use jvms_machine::action::{Action, Decision};
 use jvms_machine::machine::{BlockedOn, Outcome, ThreadId};
 use jvms_machine::state::Initialisation;
+use jvms_program::number::ClassNumber;
 use jvms_program::thrown::Thrown;
 use machine_thread::Thread;
 
 impl<'p> Parts<'p> {
     /// Returns the state of the initialisation of a class.
-    pub fn initialisation(&self, class: usize) -> Option<Initialisation>
+    pub fn initialisation(&self, class: ClassNumber) -> Option<Initialisation>
         ensures { result ≡ slice_get self.now.state.initialisations class }
     {
         self.initialisations.as_slice().get(class).copied()
@@ -25,7 +26,7 @@ impl<'p> Parts<'p> {
 
     /// Fast path of `asking`: reports that a turn which requires the initialisation of a class continues.
     #[inline(always)]
-    pub fn goes_on(&self, t: ThreadId, class: usize) -> bool
+    pub fn goes_on(&self, t: ThreadId, class: ClassNumber) -> bool
         ensures { (thread : SeenThread) (go_on : TurnDecision) → IsTrue result
             → asking self.now.program self.now.limits self.now.state t thread class go_on ≡ go_on }
     {
@@ -38,7 +39,7 @@ impl<'p> Parts<'p> {
 
     /// Decides the start of a class's initialisation. Throws if there is no room for the strings of its constants, or
     /// for its frame.
-    fn begin_decision(&self, thread: &Thread, class: usize) -> Decided<'p>
+    fn begin_decision(&self, thread: &Thread, class: ClassNumber) -> Decided<'p>
         ensures { seen result ≡ begin_decision self.now.limits self.now.state thread.now class
             (slice_get self.now.program class) }
     {
@@ -56,7 +57,7 @@ impl<'p> Parts<'p> {
 
     /// Decides a turn that requires the initialisation of a class. Returns `None` if the turn continues, else the
     /// decision instead of it.
-    pub fn asking(&self, t: ThreadId, thread: &Thread, class: usize) -> Option<Decided<'p>>
+    pub fn asking(&self, t: ThreadId, thread: &Thread, class: ClassNumber) -> Option<Decided<'p>>
         ensures { (go_on : TurnDecision) → first_or go_on result
             ≡ asking self.now.program self.now.limits self.now.state t thread.now class go_on }
     {

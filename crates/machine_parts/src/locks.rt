@@ -15,6 +15,7 @@ use crate::parts::Parts;
 use jvms_machine::action::{Lock, MonitorUse};
 use jvms_machine::machine::ThreadId;
 use jvms_machine::trace::Item;
+use jvms_program::number::ClassNumber;
 use shared_data::items::Items;
 use shared_data::shared::{Shared, Text};
 use std::alloc::AllocError;
@@ -62,7 +63,7 @@ pub(crate) fn unlock_item(thread: ThreadId, unlock: Option<MonitorUse>) -> Optio
 
 impl Parts<'_> {
     /// Returns the name of the class of a number, or an empty text if there is no such class.
-    fn class_name(&self, class: usize) -> Result<Text, AllocError>
+    fn class_name(&self, class: ClassNumber) -> Result<Text, AllocError>
         ensures { IfOk result (λ name. name ≡ class_name_at self.now.program class) }
     {
         match self.program().class(class) {
@@ -76,7 +77,7 @@ impl Parts<'_> {
     fn lock_new_class(
         &mut self,
         t: ThreadId,
-        class: usize,
+        class: ClassNumber,
         reference: u32,
     ) -> Result<(), AllocError>
         requires { CanBeLocked self.old.state (locks.NewClass class reference) }

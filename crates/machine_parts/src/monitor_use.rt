@@ -17,7 +17,7 @@ use frames::Frame;
 use jvms_machine::action::{Action, Decision, Lock, MonitorUse};
 use jvms_machine::machine::{BlockedOn, Outcome, ThreadId};
 use jvms_machine::state::Hold;
-use jvms_program::number::MethodNumber;
+use jvms_program::number::{ClassNumber, MethodNumber};
 use jvms_program::program::Method;
 use jvms_program::thrown::Thrown;
 use machine_thread::Thread;
@@ -119,7 +119,7 @@ impl<'p> Parts<'p> {
         &self,
         t: ThreadId,
         thread: &Thread,
-        class: usize,
+        class: ClassNumber,
         held: Option<u32>,
     ) -> Locking<'p>
         ensures { (make : Locked → TurnDecision) → turn_by_lock make result
@@ -139,7 +139,7 @@ impl<'p> Parts<'p> {
     }
 
     /// Returns the object of the class of a number, if it exists.
-    fn class_object(&self, class: usize) -> Option<u32>
+    fn class_object(&self, class: ClassNumber) -> Option<u32>
         ensures { result
             ≡ class_reference self.now.state.heap (class_name_at self.now.program class) }
     {

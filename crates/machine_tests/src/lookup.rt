@@ -5,7 +5,7 @@ use built_in::is_built_in;
 use classes::OBJECT;
 use fixtures::members::{field_reference, method_reference};
 use fixtures::texts::units;
-use jvms_program::number::MethodNumber;
+use jvms_program::number::{FieldNumber, MethodNumber};
 use jvms_program::thrown::Thrown;
 use program::Program;
 use std::alloc::Global;
@@ -25,6 +25,12 @@ const SOURCES: [&str; 4] = [
     ".interface I\n.implements java/lang/Runnable",
     ".class C\n.super A\n.implements I",
 ];
+
+/// The method `up` of B.
+const UP: MethodNumber = MethodNumber {
+    class: 38,
+    method: 0,
+};
 
 /// Returns the number of classes, the number of class A, and whether it and its method are found.
 fn found(program: &Program) -> (usize, Option<usize>, bool, bool) {
@@ -58,7 +64,7 @@ fn resolves_methods(rt: &impl Abort, alloc: Global, program: &Program) -> Result
         program.resolve_method(true, &up),
     );
     let wrong = Err(Thrown::IncompatibleClassChangeError);
-    assert_eq!(rt; found, (Ok((38, 0)), wrong));
+    assert_eq!(rt; found, (Ok(UP), wrong));
     Ok(())
 }
 
@@ -69,7 +75,8 @@ fn resolves_fields(rt: &impl Abort, alloc: Global, program: &Program) -> Result<
         program.resolve_field(false, &out),
     );
     let wrong = Err(Thrown::IncompatibleClassChangeError);
-    assert_eq!(rt; found, (Ok((3, 0)), wrong));
+    let out = FieldNumber { class: 3, field: 0 };
+    assert_eq!(rt; found, (Ok(out), wrong));
     Ok(())
 }
 
@@ -85,14 +92,13 @@ fn knows_what_fits(rt: &impl Abort, alloc: Global, program: &Program) -> Result<
 }
 
 fn selects_methods(rt: &impl Abort, alloc: Global, program: &Program) -> Result<(), Fail> {
-    let up = (38, 0);
     let named = method_reference(alloc, false, "B", "up", "()V")?;
     let selected = (
-        program.select_from(&A, up),
-        program.select_from(&OBJECT, up),
-        program.select_special(&A, &named, up),
+        program.select_from(&A, UP),
+        program.select_from(&OBJECT, UP),
+        program.select_special(&A, &named, UP),
     );
-    assert_eq!(rt; selected, (Some(up), None, Some(up)));
+    assert_eq!(rt; selected, (Some(UP), None, Some(UP)));
     Ok(())
 }
 

@@ -20,18 +20,18 @@ use Rattle.machine_text.specs.Values.{value_text}
 
 -- ---- Fields
 
--- The line `C.x.D = V` of a field, with its value in a list of fields.
+-- Returns the line `C.x.D = V` of a field, with its value in a list of fields.
 abbrev pub field_line : List (FieldKey × Value) → FieldKey → List ℕ
 field_line fields key = field_text key ++ codes " = " ++ value_text (unwrap_or (value_of key fields) value.Unset) ++ codes "\n"
 
 -- ---- Objects
 
--- The line `[i] = V` of an array's element.
+-- Returns the line `[i] = V` of an array's element.
 abbrev pub element_line : ℕ × Value → List ℕ
 element_line e = codes "[" ++ decimal e.0 ++ codes "] = " ++ value_text e.1 ++ codes "\n"
 
--- The lines of an object, after its reference and a space. An instance has a line for each field, those of superclasses
--- first, and an array has one for each element.
+-- Returns the lines of an object, after its reference and a space. An instance has a line for each field, those of
+-- superclasses first, and an array has one for each element.
 abbrev pub object_lines : Object → List ℕ
 object_lines (instance class fields) = spelled class ++ codes "\n" ++ flat_map (field_line fields) (keys fields)
 object_lines (array class elements) =
@@ -39,7 +39,7 @@ object_lines (array class elements) =
 object_lines (text units) = codes "text \"" ++ spelled units ++ codes "\"\n"
 object_lines (class_object name) = codes "class " ++ spelled name ++ codes "\n"
 
--- The line `owned by T count N` of a held monitor.
+-- Returns the line `owned by T count N` of a held monitor.
 abbrev pub hold_line : Option Hold → List ℕ
 hold_line None = []
 hold_line (Some hold) = codes "owned by " ++ decimal hold.owner ++ codes " count " ++ decimal hold.count ++ codes "\n"
@@ -47,7 +47,7 @@ hold_line (Some hold) = codes "owned by " ++ decimal hold.owner ++ codes " count
 abbrev pub waiter_text : ℕ → List ℕ
 waiter_text thread = codes " " ++ decimal thread
 
--- The line `waiting T T ..` of the threads that wait, the longest wait first. It is empty if none waits.
+-- Returns the line `waiting T T ..` of the threads that wait, the longest wait first. It is empty if none waits.
 abbrev pub waiting_line : List ℕ → List ℕ
 waiting_line [] = []
 waiting_line (t ∷ threads) = codes "waiting" ++ flat_map waiter_text (t ∷ threads) ++ codes "\n"
@@ -58,7 +58,7 @@ lines_of m r (Some object) =
     codes "R:" ++ decimal r ++ codes " " ++ object_lines object ++ hold_line (monitor_at m.state.monitors r)
     ++ waiting_line (waiters_of r m.state.waiters)
 
--- The text of the object of a reference.
+-- Returns the text of the object of a reference.
 abbrev pub object_text : Machine → ℕ → List ℕ
 object_text m r = lines_of m r (object_at m.state.heap r)
 
@@ -76,7 +76,7 @@ class_lines m c (Some class) =
     codes "class " ++ spelled class.name ++ initialisation_text (unwrap_or (slice_get m.state.initialisations c) initialisation.NotBegun) ++ codes "\n"
     ++ flat_map (λ f. field_line m.state.statics (field_key class f)) (filter (λ f. f.is_static) class.fields)
 
--- The text of the class of a number, with each static field that it declares.
+-- Returns the text of the class of a number, with each static field that it declares.
 abbrev pub class_text : Machine → ℕ → List ℕ
 class_text m c = class_lines m c (slice_get m.program c)
 
@@ -89,6 +89,6 @@ abbrev pub bytes_text : List ℕ → List ℕ
 bytes_text [] = []
 bytes_text (b ∷ bytes) = codes " " ++ flat_map byte_text (b ∷ bytes)
 
--- The line `output N`, followed by the bytes in hexadecimal, if there are any.
+-- Returns the line `output N`, followed by the bytes in hexadecimal, if there are any.
 abbrev pub output_text : Machine → List ℕ
 output_text m = codes "output " ++ decimal (length m.state.output) ++ bytes_text m.state.output ++ codes "\n"

@@ -25,7 +25,7 @@ cause_text bad_cause.Depth = codes "Depth"
 cause_text bad_cause.Kind = codes "Kind"
 cause_text bad_cause.Local = codes "Local"
 
--- The text `monitor R by U`, `init C by U`, `join U` or `wait R` of what a blocked thread waits for.
+-- Returns the text `monitor R by U`, `init C by U`, `join U` or `wait R` of what a blocked thread waits for.
 abbrev pub blocked_text : List Class → BlockedOn → List ℕ
 blocked_text program (blocked_on.Monitor reference owner) = codes "monitor " ++ decimal reference ++ codes " by " ++ decimal owner
 blocked_text program (blocked_on.Initialisation class owner) = codes "init " ++ class_name_text program class ++ codes " by " ++ decimal owner

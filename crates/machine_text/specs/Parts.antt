@@ -19,27 +19,27 @@ use Rattle.machine_text.specs.Objects.{field_line}
 use Rattle.machine_text.specs.Outcomes.{outcome_text}
 use Rattle.machine_text.specs.Threads.{pending_text, top_text}
 
--- The text of an optional value, or nothing.
+-- Returns the text of an optional value, or nothing.
 abbrev pub if_there : {X : Type 0} → (X → List ℕ) → Option X → List ℕ
 if_there text_of None = []
 if_there text_of (Some x) = text_of x
 
 -- ---- Threads
 
--- The line of a thread, by its parts.
+-- Returns the line of a thread, by its parts.
 abbrev pub line_of_thread : Machine → ℕ → List ℕ
 line_of_thread m t =
     codes "thread " ++ decimal t ++ codes " " ++ outcome_text m.program (transition_of m t).outcome
     ++ top_text m.program (frame_at m t 0) ++ pending_text (option_and_then (λ x. x.pending) (thread_at m t)) ++ codes "\n"
 
--- The frames of a thread, if it was started.
+-- Returns the frames of a thread, if it was started.
 abbrev pub frames_of : Option Thread → List Frame
 frames_of None = []
 frames_of (Some thread) = thread.frames
 
 -- ---- Objects
 
--- The elements of an array. Another object has none.
+-- Returns the elements of an array. Another object has none.
 abbrev pub elements_of : Option Object → List Value
 elements_of (Some (array class elements)) = elements
 elements_of _ = []
@@ -47,7 +47,7 @@ elements_of _ = []
 abbrev pub elements_at : Machine → ℕ → List Value
 elements_at m r = elements_of (object_at m.state.heap r)
 
--- The fields of an instance. Another object has none.
+-- Returns the fields of an instance. Another object has none.
 abbrev pub fields_of : Option Object → List (FieldKey × Value)
 fields_of (Some (instance class fields)) = fields
 fields_of _ = []
@@ -71,11 +71,11 @@ abbrev pub is_in : Keeper → Field → Bool
 is_in keeper.Classes f = f.is_static
 is_in (keeper.Instance r) f = not f.is_static
 
--- The fields of the keeper, with their values.
+-- Returns the fields of the keeper, with their values.
 abbrev pub fields_in : Machine → Keeper → List (FieldKey × Value)
 fields_in m keeper.Classes = m.state.statics
 fields_in m (keeper.Instance r) = fields_at m r
 
--- The lines of a class's fields that are the keeper's.
+-- Returns the lines of a class's fields that are the keeper's.
 abbrev pub fields_text : Machine → Keeper → Class → List ℕ
 fields_text m k class = flat_map (λ f. field_line (fields_in m k) (field_key class f)) (filter (is_in k) class.fields)

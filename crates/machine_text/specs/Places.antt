@@ -8,10 +8,10 @@ use Rattle.jvms_program.specs.Program.{key_of}
 use Rattle.escapes.specs.Escapes.{spelled}
 use Rattle.escapes.specs.Keys.{method_text}
 
--- The name of the class of a number.
+-- Returns the name of the class of a number.
 abbrev pub class_name_text : List Class → ℕ → List ℕ
 class_name_text program c = unwrap_or (option_map (λ class. spelled class.name) (slice_get program c)) []
 
--- The text `C.m.D @i` of an instruction of a method.
+-- Returns the text `C.m.D @i` of an instruction of a method.
 abbrev pub place_text : List Class → MethodNumber → ℕ → List ℕ
 place_text program n i = unwrap_or (option_map method_text (key_of program n)) [] ++ codes " @" ++ decimal i

@@ -13,7 +13,7 @@ use Rattle.machine_text.specs.Values.{values_text}
 
 -- ---- Threads
 
--- The text `C.m.D @i` of a call, or `init C`.
+-- Returns the text `C.m.D @i` of a call, or `init C`.
 abbrev pub frame_text : List Class → Frame → List ℕ
 frame_text program (stack_frame.Call f) = place_text program f.method f.activation.place
 frame_text program (stack_frame.Initialisation class called) = codes "init " ++ class_name_text program class
@@ -26,7 +26,7 @@ abbrev pub pending_text : Option ℕ → List ℕ
 pending_text None = []
 pending_text (Some r) = codes " pending " ++ decimal r
 
--- The line of a thread, with the outcome of its next turn, its top frame and its pending exception.
+-- Returns the line of a thread, with the outcome of its next turn, its top frame and its pending exception.
 abbrev pub thread_line : Machine → ℕ → Thread → List ℕ
 thread_line m t thread =
     codes "thread " ++ decimal t ++ codes " " ++ outcome_text m.program (transition_of m t).outcome
@@ -37,7 +37,7 @@ threads_text m = flat_map (λ numbered. thread_line m numbered.0 numbered.1) (en
 
 -- ---- Frames
 
--- The line of a frame. A call has its local variables and its operands, the topmost last.
+-- Returns the line of a frame. A call has its local variables and its operands, the topmost last.
 abbrev pub frame_line : List Class → Frame → List ℕ
 frame_line program (stack_frame.Call f) =
     frame_text program (stack_frame.Call f) ++ codes " locals" ++ values_text f.activation.locals
@@ -48,6 +48,6 @@ abbrev pub frame_lines : List Class → Option Thread → List ℕ
 frame_lines program None = []
 frame_lines program (Some thread) = flat_map (frame_line program) thread.frames
 
--- The lines of a thread's frames, from the top.
+-- Returns the lines of a thread's frames, from the top.
 abbrev pub frames_text : Machine → ℕ → List ℕ
 frames_text m t = frame_lines m.program (thread_at m t)

@@ -9,6 +9,7 @@ use crate::fields::{Keeper, put_fields};
 use crate::value::put_counted;
 use escapes::put_name;
 use jvms_machine::state::Initialisation;
+use jvms_program::number::ClassNumber;
 use jvms_program::program::Class;
 use machine::Machine;
 use std::alloc::{AllocError, Global};
@@ -47,7 +48,11 @@ fn put_class(
 }
 
 /// Returns the lines of the class of a number, or an empty text if there is no such class.
-pub fn class_text(alloc: Global, machine: &Machine, class: usize) -> Result<String, AllocError>
+pub fn class_text(
+    alloc: Global,
+    machine: &Machine,
+    class: ClassNumber,
+) -> Result<String, AllocError>
     ensures { IfOk result (λ s. string_bytes s ≡ class_text machine.now class) }
 {
     let mut text = String::new(alloc);

@@ -9,12 +9,12 @@ ghost use Rattle.machine_text.specs.Places.{class_name_text, place_text};
 
 use crate::value::put_counted;
 use escapes::{put_method, put_name};
-use jvms_program::number::MethodNumber;
+use jvms_program::number::{ClassNumber, MethodNumber};
 use program::Program;
 use std::alloc::{AllocError, Global};
 
 /// Appends the name of the class of a number. Appends nothing if there is no such class.
-fn put_class_name(out: &mut String, program: &Program, class: usize) -> Result<(), AllocError>
+fn put_class_name(out: &mut String, program: &Program, class: ClassNumber) -> Result<(), AllocError>
     ensures { OnOk result (string_bytes out.new ≡ string_bytes out.old
         ++ class_name_text program.now class) }
 {
@@ -28,7 +28,7 @@ fn put_class_name(out: &mut String, program: &Program, class: usize) -> Result<(
 pub(crate) fn put_initialisation(
     out: &mut String,
     program: &Program,
-    class: usize,
+    class: ClassNumber,
 ) -> Result<(), AllocError>
     ensures { OnOk result (string_bytes out.new ≡ string_bytes out.old
         ++ (codes "init " ++ class_name_text program.now class)) }

@@ -42,28 +42,18 @@ fn constant_error(program: &Program, constant: &Loadable) -> Option<Thrown>
     }
 }
 
-/// Returns the error of a resolution that failed.
-fn error_of(resolved: Result<(usize, usize), Thrown>) -> Option<Thrown>
-    ensures { result ≡ result_err resolved }
-{
-    match resolved {
-        Ok(_) => None,
-        Err(error) => Some(error),
-    }
-}
-
 /// Returns the error that is thrown if a field can't be resolved.
 fn field_error(program: &Program, how: FieldUse, field: &FieldReference) -> Option<Thrown>
     ensures { result ≡ result_err (resolved_field program.now (is_static_use how) field.now) }
 {
-    error_of(program.resolve_field(is_static_use(how), field))
+    program.resolve_field(is_static_use(how), field).err()
 }
 
 /// Returns the error that is thrown if a method can't be resolved.
 fn method_error(program: &Program, how: Invoke, method: &MethodReference) -> Option<Thrown>
     ensures { result ≡ result_err (resolved_method program.now (is_static_call how) method.now) }
 {
-    error_of(program.resolve_method(is_static_call(how), method))
+    program.resolve_method(is_static_call(how), method).err()
 }
 
 /// Returns the error that is thrown if resolution of what an instruction names fails.

@@ -9,7 +9,7 @@ ghost use Rattle.jvms_program.specs.Resolution.{class_exists, fits};
 use crate::tables::{Tables, tables_of};
 use classes::Classes;
 use jvms_program::key::MethodKey;
-use jvms_program::number::MethodNumber;
+use jvms_program::number::{ClassNumber, MethodNumber};
 use jvms_program::program::{Class, Method};
 use std::alloc::{AllocError, Global};
 use std::marker::Model;
@@ -92,7 +92,7 @@ impl Program {
     }
 
     /// Returns the number of the class of a name: its place in the list.
-    pub fn class_number(&self, name: &[u16]) -> Option<usize>
+    pub fn class_number(&self, name: &[u16]) -> Option<ClassNumber>
         ensures { result ≡ class_number self.now name.now }
     {
         self.by_name.class_number(name)

@@ -5,6 +5,7 @@ ghost use Rattle.std.specs.Option.{option_copied};
 ghost use Rattle.source_lines.specs.SourceLines.{file_of};
 
 use jvms_file::class_file::ClassFile;
+use jvms_program::number::ClassNumber;
 use jvms_program::program::Class;
 
 /// The class files of the last classes of a linked program. Those before them are built in.
@@ -28,7 +29,7 @@ impl<'f> SourceFiles<'f> {
     }
 
     /// Returns the class file of the class with this number, if it has one.
-    pub(crate) fn file_of(&self, class: usize) -> Option<&'f ClassFile>
+    pub(crate) fn file_of(&self, class: ClassNumber) -> Option<&'f ClassFile>
         ensures { option_copied result ≡ file_of self.now.first self.now.files.now class }
     {
         if class < self.first {

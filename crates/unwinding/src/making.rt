@@ -13,7 +13,7 @@ use invoke::mark;
 use jvms_machine::action::{Exception, MonitorUse};
 use jvms_machine::machine::ThreadId;
 use jvms_machine::state::Initialisation;
-use jvms_program::number::MethodNumber;
+use jvms_program::number::{ClassNumber, MethodNumber};
 use machine_parts::{Parts, push_listed};
 use std::alloc::AllocError;
 use trace::Recording;
@@ -112,7 +112,7 @@ pub fn fail_to_unlock(
 pub fn fail_initialisation(
     parts: &mut Parts,
     t: ThreadId,
-    class: usize,
+    class: ClassNumber,
     exception: Exception,
     last: bool,
 ) -> Result<(), AllocError>

@@ -8,9 +8,9 @@ ghost use Rattle.jvms_machine.specs.State.{object_at};
 ghost use Rattle.std.specs.Prelude.{Option};
 ghost use Rattle.machine_parts.specs.Decided.{seen};
 
-use super::invoke::number_at;
 use super::{Given, first_call};
 use jvms_machine::machine::ThreadId;
+use jvms_program::number::MethodNumber;
 use jvms_program::thrown::Thrown;
 use machine_parts::{Decided, Parts, never_seen};
 use machine_thread::Thread;
@@ -27,16 +27,15 @@ fn selected_run<'p>(
     t: ThreadId,
     thread: &Thread,
     receiver: u32,
-    selected: Option<(usize, usize)>,
+    selected: Option<MethodNumber>,
 ) -> Decided<'p>
     ensures { (what : Option ResolvedMethod)
         → LocatesItem (IsMethodAt parts.now.program) what selected → seen result ≡ selected_run
         parts.now.program parts.now.limits parts.now.state t thread.now receiver what }
 {
-    let Some(place) = selected else {
+    let Some(n) = selected else {
         return parts.throws(thread, Thrown::AbstractMethodError);
     };
-    let n = number_at(place);
     let given = Given {
         receiver: Some(receiver),
         arguments: 1,

@@ -16,7 +16,7 @@ use heap::Heap;
 use jvms_machine::machine::ThreadId;
 use jvms_machine::state::Initialisation;
 use jvms_machine::trace::Item;
-use jvms_program::number::MethodNumber;
+use jvms_program::number::{ClassNumber, MethodNumber};
 use jvms_program::program::Body;
 use machine_parts::{Parts, push_listed};
 use machine_thread::Thread;
@@ -27,7 +27,7 @@ use trace::Recording;
 /// Pushes the frame of an initialisation on a thread, and creates strings. If there is no memory, nothing changes.
 fn begin_with_texts(
     thread: &mut Thread<'_>,
-    class: usize,
+    class: ClassNumber,
     heap: &mut Heap<'_>,
     texts: &[Text],
 ) -> Result<(), AllocError>
@@ -46,7 +46,7 @@ fn begin_with_texts(
 }
 
 /// Sets the state of the initialisation of a class.
-pub fn mark(parts: &mut Parts, class: usize, how: Initialisation)
+pub fn mark(parts: &mut Parts, class: ClassNumber, how: Initialisation)
     ensures { parts.new ≡ with_state parts.old (with_initialisation parts.old.state class how) }
 {
     if let Some(slot) = parts.initialisations.get_mut(class) {
@@ -59,7 +59,7 @@ pub fn mark(parts: &mut Parts, class: usize, how: Initialisation)
 fn begin_frame(
     parts: &mut Parts,
     t: ThreadId,
-    class: usize,
+    class: ClassNumber,
     texts: &[Text],
 ) -> Result<(), AllocError>
     requires { length parts.old.state.heap + length texts.now < 2 ^ 32 }
@@ -75,7 +75,7 @@ fn begin_frame(
 
 /// Begins the initialisation of a class, and stores its constants. If there is no memory, nothing changes.
 #[tactic(auto, unfolding(jvms_machine::specs::Actions::applied_to))]
-pub fn begin(parts: &mut Parts, t: ThreadId, class: usize) -> Result<(), AllocError>
+pub fn begin(parts: &mut Parts, t: ThreadId, class: ClassNumber) -> Result<(), AllocError>
     requires { HasTextsToMake parts.old class }
     ensures ok { OnOk result (parts.new ≡ after parts.old t (action.Begins class)) }
     ensures err { OnErr result (parts.new ≡ parts.old) }
@@ -91,7 +91,7 @@ pub fn begin(parts: &mut Parts, t: ThreadId, class: usize) -> Result<(), AllocEr
 
 /// Finishes the initialisation of a class, and removes its frame.
 #[tactic(auto, unfolding(jvms_machine::specs::Actions::applied_to))]
-pub fn finish(parts: &mut Parts, t: ThreadId, class: usize)
+pub fn finish(parts: &mut Parts, t: ThreadId, class: ClassNumber)
     ensures { parts.new ≡ after parts.old t (action.Finishes class) }
 {
     if let Some(thread) = parts.threads.get_mut(t as usize) {

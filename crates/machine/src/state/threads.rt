@@ -8,6 +8,7 @@ use crate::machine::Machine;
 use frames::Frame;
 use jvms_machine::machine::ThreadId;
 use jvms_machine::state::StackFrame;
+use jvms_program::number::ClassNumber;
 use machine_thread::Thread;
 
 /// A frame on a thread's stack.
@@ -17,7 +18,7 @@ pub enum FrameView<'m, 'p> {
     /// `Frame::operand` counts from 0 at the top.
     Call(&'m Frame<'p>),
     /// The initialisation of a class, and whether its `<clinit>` was called.
-    Initialisation { class: usize, called: bool },
+    Initialisation { class: ClassNumber, called: bool },
 }
 
 /// Returns the view of a frame.

@@ -6,6 +6,6 @@ use Rattle.needs.proofs.lack.field_error.Goals as goal
 
 pub returns : goal.returns
 returns c =
-    c.error_of.ensures
+    c.err.ensures.value
     ∙ same_error _ _ c.resolve_field.result c.resolve_field.ensures
     ∙ ap (λ static. result_err (resolved_field c.args.program.now static c.args.field.now)) c.is_static_use.ensures

@@ -6,6 +6,6 @@ use Rattle.needs.proofs.lack.method_error.Goals as goal
 
 pub returns : goal.returns
 returns c =
-    c.error_of.ensures
+    c.err.ensures.value
     ∙ same_error _ _ c.resolve_method.result c.resolve_method.ensures
     ∙ ap (λ static. result_err (resolved_method c.args.program.now static c.args.method.now)) c.is_static_call.ensures
