@@ -14,7 +14,7 @@ use Rattle.machine.specs.Views.{frame_at}
 use Rattle.source_lines.specs.SourceLines.{source_place}
 use Rattle.explaining.specs.Places.{call_part, need_part}
 
--- The thread waits for another one, or the instruction table has no turn for it.
+-- Decides whether the thread waits for another one, or the instruction table has no turn for it.
 abbrev pub is_stopped : Outcome → Bool
 is_stopped (outcome.Blocked on) = true
 is_stopped (outcome.Bad cause) = true

@@ -16,7 +16,7 @@ pub record ThrowLine : Type 0 where
   pub exception : ℕ
   pub line : List ℕ
 
--- There is no throw. No reference is 0.
+-- Returns the line of no throw. No reference is 0.
 abbrev pub no_throw : ThrowLine
 no_throw = record { exception = 0; line = [] }
 

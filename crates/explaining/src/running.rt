@@ -1,12 +1,8 @@
 //! Runs a program and explains the run.
 
-ghost use Rattle.std.specs.Prelude.{◌≡◌, IfErr, IfOk, OnErr, OnOk, Ok};
+ghost use Rattle.std.specs.Prelude.{◌≡◌, IfOk, OnErr, Ok};
 ghost use Rattle.std.specs.String.{string_bytes};
-ghost use Rattle.judge.specs.Judgement.{IsJudgementOn};
-ghost use Rattle.judge.specs.Runs.{IsRunOf};
-ghost use Rattle.judge.specs.Shown.{program_judged};
-ghost use Rattle.program_runs.specs.Faults.{IsProgramFault};
-ghost use Rattle.program_runs.specs.Shown.{HasEnding, program_chooser_left, view_of_program};
+ghost use Rattle.judge.specs.Runs.{IsProgramRunOf, IsRunOf};
 ghost use Rattle.explaining.specs.Explanations.{explanation_of_inputs, program_explanation};
 
 use crate::judging::explain_items;
@@ -45,17 +41,11 @@ fn explain_program(
     most: TurnLimit,
     spec: Option<Spec>,
 ) -> Result<ExplainedRun, ProgramFault>
-    ensures ending { IfOk result (λ run.
-        HasEnding (program_judged most chooser.old limits program.now entry.now) run.ending) }
-    ensures judged { IfOk result (λ run. IsJudgementOn spec
-        (program_judged most chooser.old limits program.now entry.now) run.judgement) }
+    ensures run { IsProgramRunOf (λ run. run.ending) (λ run. run.judgement)
+        spec most chooser.old chooser.new limits program.now entry.now result }
     ensures explained { IfOk result
         (λ run. program_explanation sources.now.first sources.now.files.now spec run.judgement
         most chooser.old limits program.now entry.now ≡ Ok (string_bytes run.explanation)) }
-    ensures chooser { OnOk result
-        (program_chooser_left most chooser.old limits program.now entry.now ≡ Ok chooser.new) }
-    ensures fault { IfErr result (λ fault.
-        IsProgramFault fault (view_of_program most chooser.old limits program.now entry.now)) }
 {
     program.program_invariant();
     let traced = trace_program(alloc, program, limits, entry, chooser, most.turns())?;

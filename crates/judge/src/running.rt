@@ -1,11 +1,7 @@
 //! Runs a program, keeps only the end, and judges the run.
 
-ghost use Rattle.std.specs.Prelude.{◌≡◌, IfOk, IfErr, OnOk, OnErr, Ok};
-ghost use Rattle.judge.specs.Judgement.{IsJudgementOn};
-ghost use Rattle.judge.specs.Runs.{IsRunOf};
-ghost use Rattle.judge.specs.Shown.{program_judged};
-ghost use Rattle.program_runs.specs.Faults.{IsProgramFault};
-ghost use Rattle.program_runs.specs.Shown.{HasEnding, program_chooser_left, view_of_program};
+ghost use Rattle.std.specs.Prelude.{◌≡◌, OnErr};
+ghost use Rattle.judge.specs.Runs.{IsProgramRunOf, IsRunOf};
 
 use crate::fault::JudgeFault;
 use crate::reading::program_of;
@@ -36,14 +32,8 @@ fn run_and_check(
     most: TurnLimit,
     spec: Option<Spec>,
 ) -> Result<RunSummary, ProgramFault>
-    ensures ending { IfOk result (λ run.
-        HasEnding (program_judged most chooser.old limits program.now entry.now) run.ending) }
-    ensures judged { IfOk result (λ run. IsJudgementOn spec
-        (program_judged most chooser.old limits program.now entry.now) run.judgement) }
-    ensures chooser { OnOk result
-        (program_chooser_left most chooser.old limits program.now entry.now ≡ Ok chooser.new) }
-    ensures fault { IfErr result (λ fault.
-        IsProgramFault fault (view_of_program most chooser.old limits program.now entry.now)) }
+    ensures run { IsProgramRunOf (λ run. run.ending) (λ run. run.judgement)
+        spec most chooser.old chooser.new limits program.now entry.now result }
 {
     let Some(spec) = spec else {
         let ending = run_program(alloc, program, limits, entry, chooser, most.turns())?;

@@ -68,7 +68,7 @@ taken_none m chooser most items choices outcomes no_choice no_outcome =
       ran = run_none m items;
     }
 
--- The turns behind one more turn are one fewer.
+-- One fewer turn is left after a turn.
 one_later : (made n : ℕ) → made + suc n ≡ made + 1 + n
 one_later made n = omega arith
 
@@ -119,7 +119,8 @@ pub taken_next : (before : Machine) (first : Chooser) (most : ℕ) (items_before
 taken_next before first most items_before made choices outcomes m chooser items taken after later more are below is =
     taken_more before first most items_before made choices outcomes m chooser items taken.0 taken.1 after later more are below is.0 is.3 is.1 is.2 is.4
 
--- What a chooser left or gave is what is left of the first chooser after as many choices as were taken, or after one more.
+-- What a chooser left or gave is what is left of the first chooser after as many choices as were taken, or after one
+-- more.
 given_here : (first : Chooser) (before : Machine) (made : ℕ) (m : Machine) (chooser later : Chooser)
     → ((n : ℕ) → chooser_after_choices n chooser m ≡ chooser_after_choices (made + n) first before) → MayHaveGiven chooser m later
     → (later ≡ chooser_after_choices made first before) ⊎ (later ≡ chooser_after_choices (suc made) first before)

@@ -32,9 +32,13 @@ IsTurnOf m chooser items taken after later more =
     (choice_of chooser m ≡ Some taken.0) × (taken.1 ≡ (transition_of m taken.0).outcome)
     × (after ≡ after_turn m taken.0) × (later ≡ chooser_after chooser m) × (more ≡ recorded items (transition_of m taken.0).items)
 
+-- The machine, the chooser and the items are unchanged.
+abbrev pub IsUnchanged : Machine → Chooser → Option (List Item) → Machine → Chooser → Option (List Item) → Type 0
+IsUnchanged m chooser items after later more = (after ≡ m) × (later ≡ chooser) × (more ≡ items)
+
 -- The turn of the chooser's next choice was taken, or no turn was taken and nothing has changed.
 abbrev pub IsTurn : Machine → Chooser → Option (List Item) → Option (ℕ × Outcome) → Machine → Chooser → Option (List Item) → Type 0
-IsTurn m chooser items None after later more = (after ≡ m) × (later ≡ chooser) × (more ≡ items)
+IsTurn m chooser items None after later more = IsUnchanged m chooser items after later more
 IsTurn m chooser items (Some taken) after later more = IsTurnOf m chooser items taken after later more
 
 -- The turn of the chooser's next choice was taken. If there is no choice, the machine and the items are unchanged.
@@ -74,6 +78,10 @@ chooser_after_choices (suc most) chooser m =
 -- A chooser is unchanged, or has given its next choice in a machine.
 abbrev pub MayHaveGiven : Chooser → Machine → Chooser → Type 0
 MayHaveGiven chooser m later = (later ≡ chooser) ⊎ (later ≡ chooser_after chooser m)
+
+-- No turn was taken: the machine and the items are unchanged, but the chooser may have given its next choice.
+abbrev pub IsUntaken : Machine → Chooser → Option (List Item) → Machine → Chooser → Option (List Item) → Type 0
+IsUntaken m chooser items after later more = (after ≡ m) × MayHaveGiven chooser m later × (more ≡ items)
 
 -- A run of at most this number of turns broke off after some first turns, maybe none or all.
 pub record BrokeOff (before : Machine) (first : Chooser) (most : ℕ) (after : Machine) (later : Chooser) (items_before : Option (List Item)) (items_after : Option (List Item)) : Type 0 where

@@ -2,7 +2,7 @@
 
 ghost use Rattle.std.specs.Prelude.{◌≡◌, ◌≤◌, true, length, IfOk, IsTrue, OnErr, OnOk};
 ghost use Rattle.jvms_machine.specs.Status.{is_enabled};
-ghost use Rattle.runs.specs.Choices.{AreConsecutiveTurns, IsNextTurn, IsTurn, MayHaveGiven};
+ghost use Rattle.runs.specs.Choices.{AreConsecutiveTurns, IsNextTurn, IsTurn, IsUnchanged, IsUntaken};
 ghost use Rattle.runs.specs.Kept.{IsKept};
 ghost use Rattle.schedule.specs.Choosers.{is_seeded};
 ghost use Rattle.schedule.specs.Enabled.{can_go_on};
@@ -74,9 +74,8 @@ fn take_candidate(
     ensures taken { IfOk result (λ taken.
         IsTurn machine.old chooser.old recording.old taken machine.new chooser.new recording.new) }
     ensures enabled { OnOk result (IsKept machine.new kept.new) }
-    ensures kept { OnErr result (machine.new ≡ machine.old) }
-    ensures chooser { OnErr result (chooser.new ≡ chooser.old) }
-    ensures no_items { OnErr result (recording.new ≡ recording.old) }
+    ensures kept { OnErr result (IsUnchanged machine.old chooser.old recording.old
+        machine.new chooser.new recording.new) }
 {
     let Some(thread) = chooser.candidate_beside(machine, kept.idle.as_slice()) else {
         return Ok(None);
@@ -104,9 +103,8 @@ fn take_either_candidate(
     ensures taken { IfOk result (λ taken.
         IsTurn machine.old chooser.old recording.old taken machine.new chooser.new recording.new) }
     ensures enabled { OnOk result (IsKept machine.new kept.new) }
-    ensures kept { OnErr result (machine.new ≡ machine.old) }
-    ensures chooser { OnErr result (chooser.new ≡ chooser.old) }
-    ensures no_items { OnErr result (recording.new ≡ recording.old) }
+    ensures kept { OnErr result (IsUnchanged machine.old chooser.old recording.old
+        machine.new chooser.new recording.new) }
 {
     let taken = take_candidate(machine, chooser, kept, recording)?;
     if taken.is_some() {
@@ -147,9 +145,8 @@ fn take_by_word(
     ensures taken { IfOk result (λ taken. IsNextTurn machine.old chooser.old
         recording.old taken machine.new chooser.new recording.new) }
     ensures enabled { OnOk result (IsKept machine.new kept.new) }
-    ensures kept { OnErr result (machine.new ≡ machine.old) }
-    ensures given { OnErr result (MayHaveGiven chooser.old machine.old chooser.new) }
-    ensures no_items { OnErr result (recording.new ≡ recording.old) }
+    ensures untaken { OnErr result (IsUntaken machine.old chooser.old recording.old
+        machine.new chooser.new recording.new) }
 {
     kept.forget_idle();
     kept.refresh(machine)?;
@@ -164,8 +161,8 @@ fn take_by_word(
     Ok(Some((thread, turn.outcome)))
 }
 
-/// Takes the turn of the chooser's next choice, and returns the choice and the outcome. Returns `None` if there is
-/// no choice. Then, as on an error, the machine and the items are unchanged. On an error, the chooser may have given its
+/// Takes the turn of the chooser's next choice, and returns the choice and the outcome. Returns `None` if there is no
+/// choice. Then, as on an error, the machine and the items are unchanged. On an error, the chooser may have given its
 /// next choice.
 #[inline(always)]
 #[tactic(auto, using(crate::proofs::KeptThreads::nothing_kept))]
@@ -179,9 +176,8 @@ pub(crate) fn take_turn(
     ensures taken { IfOk result (λ taken. IsNextTurn machine.old chooser.old
         recording.old taken machine.new chooser.new recording.new) }
     ensures enabled { OnOk result (IsKept machine.new kept.new) }
-    ensures kept { OnErr result (machine.new ≡ machine.old) }
-    ensures given { OnErr result (MayHaveGiven chooser.old machine.old chooser.new) }
-    ensures no_items { OnErr result (recording.new ≡ recording.old) }
+    ensures untaken { OnErr result (IsUntaken machine.old chooser.old recording.old
+        machine.new chooser.new recording.new) }
 {
     if chooser.is_seeded() {
         return take_by_word(machine, chooser, kept, recording);

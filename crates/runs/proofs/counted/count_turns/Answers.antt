@@ -77,8 +77,8 @@ pub returns-in_err-_taken-clause-broken : goal.returns-in_err-_taken-clause-brok
 returns-in_err-_taken-clause-broken c =
     let now = counted_on _ _ _ _ _ _ _ _ _ _ _ _ _ c.loop-made.invariant.counted c.take_consecutive_turns-on.ensures.most c.take_consecutive_turns-on.ensures.taken in
     let failed = err_from_is_err_and c.from_residual.result c.from_residual.ensures.1 in
-    rw (failed.1, c.in_err-_taken.ensures.kept, c.in_err-_taken.ensures.no_items)
-    (counted_broken _ _ _ _ _ _ _ _ _ now c.in_err-_taken.ensures.given)
+    let untaken = c.in_err-_taken.ensures.untaken in
+    rw (failed.1, untaken.0, untaken.2) (counted_broken _ _ _ _ _ _ _ _ _ now untaken.1)
 
 pub returns-clause-count : goal.returns-clause-count
 returns-clause-count c = (counted_all_made _ _ _ _ _ _ _ _ c.loop-made.invariant.counted c.loop-made-test.false).many

@@ -17,10 +17,4 @@ pub returns-clause-kept : goal.returns-clause-kept
 returns-clause-kept c =
     let none : is_some c.in_ok-taken.taken ≡ false = search rules in
     let same = untaken _ _ _ _ _ _ c.in_ok-taken.taken none c.in_ok-taken.ensures.taken in
-    rw same.0 at c.take_candidate-2.ensures.kept
-
-pub returns-clause-no_items : goal.returns-clause-no_items
-returns-clause-no_items c =
-    let none : is_some c.in_ok-taken.taken ≡ false = search rules in
-    let same = untaken _ _ _ _ _ _ c.in_ok-taken.taken none c.in_ok-taken.ensures.taken in
-    rw same.2 at c.take_candidate-2.ensures.no_items
+    rw (same.0, same.1, same.2) at c.take_candidate-2.ensures.kept

@@ -72,8 +72,8 @@ pub returns-in_err-thread-clause-broken : goal.returns-in_err-thread-clause-brok
 returns-in_err-thread-clause-broken c =
     let now = noted_on _ _ _ _ _ _ _ _ _ _ _ _ _ _ _ _ _ c.loop-made.invariant.taken c.take_consecutive_turns-on.ensures.most c.take_consecutive_turns-on.ensures.taken c.in_ok-put_choices.ensures c.in_ok-push_ran.ensures.ok in
     let failed = err_from_is_err_and c.from_residual-in_err-thread.result c.from_residual-in_err-thread.ensures.1 in
-    rw (failed.1, c.in_err-thread.ensures.kept, c.in_err-thread.ensures.no_items)
-    (broken_here _ _ _ _ _ _ _ _ _ _ _ now c.in_err-thread.ensures.given)
+    let untaken = c.in_err-thread.ensures.untaken in
+    rw (failed.1, untaken.0, untaken.2) (broken_here _ _ _ _ _ _ _ _ _ _ _ now untaken.1)
 
 pub returns-in_default-clause-choices : goal.returns-in_default-clause-choices
 returns-in_default-clause-choices c =
