@@ -61,8 +61,8 @@ class Failed(Exception):
 class Record(NamedTuple):
     """What a program was built from."""
 
-    program: str  # its own sum, since `rt` may put another in its place
-    sources: str  # the sum of the sources
+    program: str  # its own hash, since `rt` may put another in its place
+    sources: str  # the hash of the sources
     origin: str  # "commit d0a9e17"
 
 
@@ -81,13 +81,13 @@ class Build(NamedTuple):
         if not self.program.exists() or not self.record_file().exists():
             return None
         lines = self.record_file().read_text().splitlines()
-        if len(lines) != len(Record._fields) or lines[0] != checkout.sum_of_file(self.program):
+        if len(lines) != len(Record._fields) or lines[0] != checkout.hash_of_file(self.program):
             return None
         return Record(*lines)
 
     def keep_record(self, sources, origin):
         """Writes down what the program was built from."""
-        lines = Record(checkout.sum_of_file(self.program), sources, origin)
+        lines = Record(checkout.hash_of_file(self.program), sources, origin)
         self.record_file().write_text("\n".join([*lines, ""]))
 
     def is_current(self):
@@ -97,7 +97,7 @@ class Build(NamedTuple):
             return False
         if checkout.is_newest(self.program):
             return True
-        if record.sources != checkout.sum_of_sources():
+        if record.sources != checkout.hash_of_sources():
             return False
         with contextlib.suppress(OSError):
             os.utime(self.program, (begin, begin))
@@ -130,7 +130,7 @@ class Progress:
         self.ended = threading.Event()
         self.thread = threading.Thread(target=self.show, daemon=True)
 
-    def tell(self, step):
+    def report(self, step):
         """Changes what is shown as done."""
         self.step = step
 
@@ -184,22 +184,22 @@ def need_kit():
 def origin():
     """Returns where the sources are from. In an archive, a change shows only after the first build."""
     found, record = checkout.origin(), UNCHECKED.record()
-    if not checkout.has_git() and record and record.sources != checkout.sum_of_sources():
+    if not checkout.has_git() and record and record.sources != checkout.hash_of_sources():
         return found._replace(doubt="changed since the first build")
     return found
 
 
 def prove():
     """Proves and builds the program, and returns its path."""
-    begin, sources, name = time.time(), checkout.sum_of_sources(), checkout.origin().name
+    begin, sources, name = time.time(), checkout.hash_of_sources(), checkout.origin().name
     with Progress("proving") as progress:
-        said = proved.build("jvmx", progress.tell)
+        said = proved.build("jvmx", progress.report)
     if said:
         LOG.write_text(said)
         raise Failed(f"the program isn't proved; what was said is in {LOG}", said.rstrip())
     # rt may have left an older program, if nothing changed since. It counts as one of the time at which this began.
     os.utime(PROVED.program, (begin, begin))
-    if checkout.sum_of_sources() != sources:
+    if checkout.hash_of_sources() != sources:
         raise Failed("a source changed while the program was proved: call again")
     PROVED.keep_record(sources, name)
     return PROVED.program
@@ -209,19 +209,19 @@ def make(kind, folder, progress):
     """Makes the program in a folder without a proof, and returns its place there."""
     LOG.write_bytes(b"")
     if kind == CHECKED:
-        return quick.build("jvmx", folder, LOG, with_checks=True, tell=progress.tell)
-    return quick.build_and_run("jvmx", folder, LOG, progress.tell)
+        return quick.build("jvmx", folder, LOG, with_checks=True, report=progress.report)
+    return quick.build_and_run("jvmx", folder, LOG, progress.report)
 
 
 def build():
     """Builds the program without a proof, and returns its path. Where the kit isn't as expected, proves instead."""
-    begin, sources, found = time.time(), checkout.sum_of_sources(), origin()
+    begin, sources, found = time.time(), checkout.hash_of_sources(), origin()
     kind, line = (CHECKED, CHECKED_BUILD) if found.doubt else (UNCHECKED, QUICK_BUILD)
     say(line.format(**found._asdict()))
     try:
         with empty_folder() as folder, Progress("building") as progress:
             made = make(kind, folder, progress)
-            if checkout.sum_of_sources() != sources:
+            if checkout.hash_of_sources() != sources:
                 raise Failed("a source changed while the program was built: call again")
             kind.install(made, begin, sources, found.name)
     except quick.Refused as refusal:
@@ -239,7 +239,7 @@ def is_proved():
     if not checkout.is_newest(PROVED.program):
         return False
     with contextlib.suppress(OSError):
-        PROVED.keep_record(checkout.sum_of_sources(), checkout.origin().name)
+        PROVED.keep_record(checkout.hash_of_sources(), checkout.origin().name)
     return True
 
 
@@ -296,7 +296,7 @@ def build_as(name, file, with_checks=False):
     with turn(), empty_folder() as folder, Progress(f"building {name}") as progress:
         LOG.write_bytes(b"")
         try:
-            shutil.move(quick.build(name, folder, LOG, with_checks, progress.tell), file)
+            shutil.move(quick.build(name, folder, LOG, with_checks, progress.report), file)
         except quick.Refused as refusal:
             raise Failed(f"the sources don't compile; what was said is in {LOG}", str(refusal)) from None
         except quick.UnknownKit as cause:
@@ -319,7 +319,7 @@ def answer(words):
 
 def guarded(work):
     """Does some work, and ends with one line and a status where it fails."""
-    # So that commands are ended and folders removed where this program is told to stop.
+    # So that commands are ended and folders removed if this program gets a signal to stop.
     for one in (signal.SIGTERM, signal.SIGHUP):
         signal.signal(one, lambda number, _: sys.exit(128 + number))
     try:

@@ -4,7 +4,7 @@ second of judging it, bytes a second of its text, and the memory that both take 
 
     bench/checker.py [--jvmx PROGRAM] [--events PROGRAM] [--most EVENTS] [SHAPE...]
 
-Reading alone is timed by the same text with a faulty line behind it, which is refused before an item is judged. With the
+Reading alone is timed by the same text with a faulty line after it, which is refused before an item is judged. With the
 program of crates/bench_events, which feeds a checker without a text and keeps no items, it times that instead: a text of
 10,000,000 events is past 64 MiB.
 """
@@ -110,8 +110,8 @@ def main():
     head = "feed: s  M ev/s  bytes/ev" if words.events else "read: s    MB/s  judge: s  M ev/s  bytes/ev"
     print(f"shape     threads    events  {head}")
     with tempfile.TemporaryDirectory() as folder:
-        for told in lines(words, Path(folder)):
-            print(told, flush=True)
+        for line in lines(words, Path(folder)):
+            print(line, flush=True)
 
 
 if __name__ == "__main__":

@@ -1,6 +1,6 @@
 #!/usr/bin/env python3
 """Times what a turn costs under a schedule, by the number of threads: a program whose threads all count in loops runs for
-so many turns by `rr:1`, by `rr:1000` and by `seed:1:2`. The nanoseconds of a turn, with its choice, are printed.
+N turns by `rr:1`, by `rr:1000` and by `seed:1:2`. The nanoseconds of a turn, with its choice, are printed.
 
     bench/choices.py [--jvmx PROGRAM] [--turns N]
 """

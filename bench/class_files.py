@@ -120,11 +120,11 @@ def many_branches(count):
 
 
 def large_switch(pairs):
-    # iconst_0, lookupswitch at byte 1 with 2 pads; all pairs lead to the return behind it.
+    # iconst_0, lookupswitch at byte 1 with 2 pads; all pairs lead to the return after it.
     pool = Pool()
-    behind = 3 + 8 + 8 * pairs
-    body = b"\x03\xab\x00\x00" + u4(behind) + u4(pairs)
-    body += b"".join(u4(n) + u4(behind) for n in range(pairs)) + GIVE_7
+    after = 3 + 8 + 8 * pairs
+    body = b"\x03\xab\x00\x00" + u4(after) + u4(pairs)
+    body += b"".join(u4(n) + u4(after) for n in range(pairs)) + GIVE_7
     return class_file(pool, "Switch", [method(pool, "f", "()I", 1, 0, body)], [])
 
 

@@ -1,6 +1,6 @@
 #!/usr/bin/env python3
-"""Runs the commands that the sources of `examples` name in their comments, and compares what each prints with what stands
-behind it there: `;   ./jvmx eval .. examples/G.j       12`.
+"""Runs the commands that the sources of `examples` name in their comments, and compares what each prints with what
+follows it there: `;   ./jvmx eval .. examples/G.j       12`.
 """
 import re
 import subprocess
@@ -19,7 +19,7 @@ def main():
             if printed != wanted.strip():
                 failed += 1
                 print(f"{source.name}: {command}: {printed!r} for {wanted.strip()!r}")
-    print(f"{ran - failed} of {ran} commands print what stands there")
+    print(f"{ran - failed} of {ran} commands print what their comments say")
     return 1 if failed or not ran else 0
 
 

@@ -53,9 +53,9 @@ KNOWN = {
     "missing_fields",
     "missing_methods",
     "missing_in_interfaces",
-    # The end of a transaction visits all live ones behind it (atom_order::graph, close_at).
+    # The end of a transaction visits all live ones after it (atom_order::graph, close_at).
     "open_in_order",
-    # A link that leads back moves all live ones behind it (atom_order::graph, link_at).
+    # A link that leads back moves all live ones after it (atom_order::graph, link_at).
     "moved_back",
     # A turn of instanceof walks up all interfaces above (classes::subtypes): no square, but beyond a cache it grows threefold.
     "tests_of_interfaces",

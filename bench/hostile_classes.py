@@ -60,13 +60,13 @@ def long_method(pool, name, body):
 
 @shape()
 def random_bytes(size, random):
-    """random bytes behind a right magic, a version and the largest pool"""
+    """random bytes after a right magic, a version and the largest pool"""
     return list_of(u4(0xCAFEBABE) + u4(49) + u2(MOST) + random.randbytes(size))
 
 
 @shape("C01")
 def random_texts(size, random):
-    """texts of random ASCII of random lengths behind a right magic, until the file ends"""
+    """texts of random ASCII of random lengths after a right magic, until the file ends"""
     data = bytearray(u4(0xCAFEBABE) + u4(49) + u2(MOST))
     for _ in range(MOST - 2):
         data += b"\1" + u2(size // MOST) + bytes(65 + b % 26 for b in random.randbytes(size // MOST))
@@ -111,7 +111,7 @@ def many_attributes(size, _):
 
 
 def filled(name, part, pads=0):
-    """Returns a class whose pool is filled with entries by their numbers, behind an entry of each kind that they may name."""
+    """Returns a class whose pool is filled with entries by their numbers, after an entry of each kind that they may name."""
     pool = Pool()
     pool.name(OBJECT), pool.text("name"), pool.text("I")
     pool.put(b"\x0c" + u2(3) + u2(4)), pool.put(b"\x0c" + u2(3) + u2(pool.text("()V")))

@@ -85,7 +85,7 @@ def many_frames_shown(size, _):
 
 @shape("0")
 def steps_beside_heap(size, _):
-    """lines of step 1 behind a run that made a thousand objects"""
+    """lines of step 1 after a run that made a thousand objects"""
     body = "LOOP:\nnew M\npop\niinc 1 1\niload 1\nsipush 1000\nif_icmplt LOOP\nL:\nnop\ngoto L\n"
     return session("goto 7000\n" + "step 1\n" * (size // 7 // 64), {"M.j": main_of("iconst_0\nistore 1\n" + body)})
 

@@ -4,7 +4,7 @@ from hostile_classes import MOST, MOST_FILES, OBJECT, eval_of, filling, list_of,
 from hostile_shapes import shape
 
 INTERFACE = 0x0600
-# What begins the names of things that differ only behind it.
+# What begins the names of things that differ only after it.
 PREFIX = "p" * 1000
 # The fingerprint of const_pool::firsts: FNV-1a of 64 bits over units of 16 bits.
 FACTOR, BASIS = 0x100000001B3, 0xCBF29CE484222325

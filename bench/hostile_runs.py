@@ -12,7 +12,7 @@ MOST_TURNS = 100_000_000
 
 
 def turns(size, a_mib):
-    """Returns how many turns stand for a size, so many for a MiB."""
+    """Returns the number of turns for a size, at `a_mib` turns for a MiB."""
     return min(MOST_TURNS, max(1, size * a_mib // MIB))
 
 

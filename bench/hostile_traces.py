@@ -134,7 +134,7 @@ def grid(size, _):
 
 @shape("0")
 def grid_below_open(size, _):
-    """the same, behind what an open transaction wrote"""
+    """the same, after what an open transaction wrote"""
     rows = [opened(t, grid_row(t)) for t in range(1, 64)]
     return checked(ATOMIC, f"enter 0 {METHOD}\nwr 0 C.x0.I\n" + until(size, lambda n: rows[n % 63]))
 
@@ -171,7 +171,7 @@ def open_in_reverse(size, _):
 
 @shape("0")
 def moved_back(size, _):
-    """an open transaction that many follow, and links that each move it and them behind a new one"""
+    """an open transaction that many follow, and links that each move it and them after a new one"""
     count = size // 64 // 65
     begin = f"enter 1 {METHOD}\nwr 1 C.a.I\nenter 2 {METHOD}\nwr 2 C.b.I\n"
     after = "".join(f"rd {t} C.a.I\n" for t in range(10, 10 + count))
@@ -189,7 +189,7 @@ def long_cycle(size, _):
 
 @shape("0")
 def long_row(size, _):
-    """transactions in a row behind an open one"""
+    """transactions in a row after an open one"""
 
     def row(number):
         thread = number % 9 + 1

@@ -20,7 +20,7 @@ getstatic putstatic getfield putfield invokevirtual invokespecial invokestatic i
 new newarray anewarray arraylength athrow checkcast instanceof monitorenter monitorexit wide multianewarray
 ifnull ifnonnull goto_w jsr_w""".split()
 
-# What stands behind an opcode, as struct has it; the first is the operand that instructions() gives.
+# What follows an opcode, as struct has it; the first is the operand that instructions() gives.
 OPERANDS = {name: ">h" for name in OPCODES if name.startswith("if") or name in ("goto", "jsr", "sipush")}
 OPERANDS |= {kind + name: ">B" for kind in "ilfda" for name in ("load", "store")}
 OPERANDS |= {name: ">B" for name in ("ldc", "newarray", "ret")}

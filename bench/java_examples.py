@@ -24,7 +24,7 @@ import profile  # noqa: E402
 
 HERE = Path(__file__).resolve().parent
 FOLDER = HERE.parent / "examples" / "java"
-# Of each version, the language and the target that ecj is told.
+# The language and the target of each version, as options of ecj.
 VERSIONS = {45: ("1.3", "1.1"), 48: ("1.4", "1.4"), 49: ("1.5", "1.5"), 50: ("1.6", "1.6")}
 
 

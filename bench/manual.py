@@ -20,7 +20,7 @@ OPTION = re.compile(r"(?<![-\w])--[a-z]+")
 PAGE = r""".\" Made by bench/manual.py from the texts of jvmx help.
 .TH JVMX 1 "" "jvmx" "User Commands"
 .SH NAME
-jvmx \- runs Java class files turn by turn, and tells whether methods were atomic
+jvmx \- runs Java class files turn by turn, and reports whether methods were atomic
 """
 
 COMPLETION = """# Completion of jvmx for bash. Made by bench/manual.py from the texts of jvmx help.
@@ -50,7 +50,7 @@ def help_texts(source):
 
 
 def usage_of(text):
-    """Returns the words behind `Usage:`, which may take several lines."""
+    """Returns the words after `Usage:`, which may take several lines."""
     return re.search(r"^Usage: (.*(?:\n +.*)*)", text, re.M)[1]
 
 

@@ -1,6 +1,6 @@
 #!/usr/bin/env python3
 """Prints what the program of crates/random_traces has to print: the verdicts on small random traces, and what is live
-behind many writes of one thread.
+after many writes of one thread.
 
     bench/plain_reading.py > crates/random_traces/stdout
 

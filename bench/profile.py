@@ -1,5 +1,5 @@
 #!/usr/bin/env python3
-"""Tells of class files what in them is beyond what jvmx runs: classes and members that are neither in the files nor built
+"""Reports what class files have that is beyond what jvmx runs: classes and members that are neither in the files nor built
 in, instructions, types and versions, attributes that would matter. The files are taken as one program.
 
     bench/profile.py [--needs] [--unused] FILE.class...
@@ -57,7 +57,7 @@ NEVER_MADE = {"java/lang/String", "java/lang/Class", "java/lang/System", "java/i
 OF_OTHER_TYPES = {name for name in java_class.OPCODES if name[0] in "fd" and not name.startswith("dup")}
 BEYOND = OF_OTHER_TYPES | {"i2f", "i2d", "l2f", "l2d", "invokedynamic"}
 
-# Attributes that tell nothing of what a program does.
+# Attributes that say nothing of what a program does.
 IDLE = set("""SourceFile LineNumberTable LocalVariableTable LocalVariableTypeTable InnerClasses EnclosingMethod Synthetic
 Signature Deprecated StackMapTable""".split())
 READ = {"ConstantValue", "Code", "Exceptions"}

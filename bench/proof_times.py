@@ -1,5 +1,5 @@
 #!/usr/bin/env python3
-"""Watches the checks that run on this machine, and tells what they took: for each crate the seconds of a processor and the
+"""Watches the checks that run on this machine, and reports what they took: for each crate the seconds of a processor and the
 most memory of its proof, its tests and its must-fail edits, and of `rt check`; and which functions were the slowest of a
 crate.
 

@@ -14,7 +14,7 @@ def method(name, lines):
 
 
 def methods(lines, size):
-    """As many methods of these lines as fit in so many letters, and at most 65,535."""
+    """Returns as many methods of these lines as fit in `size` letters, and at most 65,535."""
     text = [".class Source\n"]
     room = size
     for number in range(65535):

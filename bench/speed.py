@@ -24,7 +24,7 @@ import java_examples  # noqa: E402
 
 HERE = Path(__file__).resolve().parent
 AT_MOST = {"Loops": 8, "Longs": 8, "Sieve": 8, "Objects": 4, "Matrices": 8, "Throws": 6, "Locks": 5}
-# The schedules of programs with threads. Of the last of them it is told how slow a program may be.
+# The schedules of programs with threads. `AT_MOST` says of the last of them how slow a program may be.
 SCHEDULES = {"Locks": ["rr:1", "rr:1000"]}
 LEAST_SECONDS = 0.0005
 

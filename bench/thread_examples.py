@@ -1,7 +1,7 @@
 #!/usr/bin/env python3
 """Runs each program of examples/threads under three schedules, and prints what it writes, how it ends and, with the
 specification beside it, whether it was atomic. Where all three write the same, it is compared with what `java -Xint` writes for
-the class that `jvmx asm` makes of the source; a program that doesn't end there within ten seconds is told.
+the class that `jvmx asm` makes of the source; a program that doesn't end there within ten seconds is reported.
 
     bench/thread_examples.py [--jvmx PROGRAM]
 """

@@ -67,8 +67,8 @@ def source_files():
     return sorted(found)
 
 
-def sum_of_sources():
-    """Returns a sum of the names and bytes of all sources."""
+def hash_of_sources():
+    """Returns a hash of the names and bytes of all sources."""
     found = hashlib.sha256()
     for path in source_files():
         text = path.read_bytes()
@@ -77,8 +77,8 @@ def sum_of_sources():
     return found.hexdigest()
 
 
-def sum_of_file(path):
-    """Returns a sum of the bytes of a file."""
+def hash_of_file(path):
+    """Returns a hash of the bytes of a file."""
     return hashlib.sha256(path.read_bytes()).hexdigest()
 
 

@@ -1,8 +1,8 @@
 """Splits the module of a program in two, so that two processors compile it at once.
 
 The second half has the functions of `DOORS` and all that they reach; the first half has all that `main` reaches without
-them. A function that both reach stands in both. A run calls the doors once or a few times. So each turn is optimised as
-in one module: its functions stand together.
+them. A function that both reach is in both. A run calls the doors once or a few times. So each turn is optimised as in
+one module: its functions are together.
 """
 import re
 
@@ -29,7 +29,7 @@ def names_in(text):
 
 
 def sections(lines):
-    """Yields each function of a module as its name and its text, and what stands between two functions as None and a text."""
+    """Yields each function of a module as its name and its text, and what is between two functions as None and a text."""
     name, text = None, []
     for line in lines:
         if line.startswith("define"):

@@ -21,8 +21,8 @@ NEARLY = 0.85
 
 def crates():
     """Returns the repository's crates, each with those of them that its own line in crates.txt names."""
-    told = [line.partition("#")[0].partition(":") for line in (ROOT / "crates.txt").read_text().splitlines()]
-    named = {name.split()[0]: words.split() for name, _, words in told if name.strip()}
+    lines = [line.partition("#")[0].partition(":") for line in (ROOT / "crates.txt").read_text().splitlines()]
+    named = {name.split()[0]: words.split() for name, _, words in lines if name.strip()}
     return {name: [one for one in words if one in named] for name, words in named.items()}
 
 
@@ -85,7 +85,7 @@ def build_library(root, name, jobs):
     return said_if_failed(["rt", "lib", "--jobs", str(jobs)], root / "crates" / name)
 
 
-def build_side_by_side(needed, below, copies, tell):
+def build_side_by_side(needed, below, copies, report):
     """Builds libraries in copies of the sources, each after those that it depends on, those with the longest way first.
     Those with nearly the longest way of all get two processors, since the program waits for them."""
     way = ways(needed, below)
@@ -107,11 +107,11 @@ def build_side_by_side(needed, below, copies, tell):
                     return one.result()
                 done.add(name)
                 free.append(root)
-                tell(f"proving, {len(done)} of {len(needed) + 1} crates are done")
+                report(f"proving, {len(done)} of {len(needed) + 1} crates are done")
     return None
 
 
-def build_over_copies(program, tell):
+def build_over_copies(program, report):
     """Builds libraries side by side, and the program over them here. Returns what was said if that failed."""
     below = crates()
     with tempfile.TemporaryDirectory(prefix="jvmx-build-") as folder:
@@ -119,7 +119,7 @@ def build_over_copies(program, tell):
         for one in copies:
             one.mkdir()
             copy_sources(one)
-        failed = build_side_by_side(closure(program, below), below, copies, tell)
+        failed = build_side_by_side(closure(program, below), below, copies, report)
         return failed or build_here(program)
 
 
@@ -128,9 +128,9 @@ def build_here(program):
     return said_if_failed(["rt", "run", "--", "--version"], ROOT / "crates" / program)
 
 
-def build(program, tell):
+def build(program, report):
     """Proves and builds the program of a crate, which becomes its out/NAME. Returns what was said where that fails, else
-    None. `tell` gets what is done, in words."""
+    None. `report` gets what is done, in words."""
     if workers() > 1 and store_is_usable():
-        return build_over_copies(program, tell)
+        return build_over_copies(program, report)
     return build_here(program)

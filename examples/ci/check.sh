@@ -23,7 +23,7 @@ first_in_table() {
     awk '$1 == "job" && ($3 == "cycle" || !/ status Finished /) { print $2; exit }' "$out/table"
 }
 
-# Prints the number of the first job whose run ends with 1. A campaign doesn't tell uncaught exceptions, a run does.
+# Prints the number of the first job whose run ends with 1. A campaign doesn't report uncaught exceptions, a run does.
 first_by_run() {
     for ((k = 0; k < jobs; k++)); do
         "$jvmx" run --entry "$entry" --sched "seed:0:$k" "${files[@]}" >/dev/null 2>&1 || { echo "$k"; return; }

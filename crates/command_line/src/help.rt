@@ -3,18 +3,18 @@
 /// The text of `jvmx --help`.
 pub const HELP: &str = "\
 jvmx: runs Java class files and sources in Jasmin, one turn of one thread at a
-time, and tells whether methods were atomic in a run
+time, and reports whether methods were atomic in a run
 
 Usage: jvmx COMMAND WORDS
 
   eval           runs a static method on numbers and prints what it gives
-  run            runs a program and prints what it writes; with --spec, tells
+  run            runs a program and prints what it writes; with --spec, reports
                  whether methods were atomic in that run
   trace          runs a program and prints what its threads did
   debug          goes forward and back along the turns of a run
-  campaign       runs a program under many schedules and tells in which runs
+  campaign       runs a program under many schedules and reports in which runs
                  methods were atomic
-  check          reads what threads did and tells whether methods were atomic
+  check          reads what threads did and reports whether methods were atomic
   picture        draws a trace: threads, transactions, and the cycle
   asm            writes the class file of a source
   list           prints a class file as a source
@@ -23,7 +23,7 @@ Usage: jvmx COMMAND WORDS
   help           prints this text; help COMMAND, how that command is used;
                  help CODE, what the code of a refusal means; help P04 -- WORDS,
                  why these words are refused
-  -h, --help     prints this text; behind a command, how that command is used
+  -h, --help     prints this text; after a command, how that command is used
   -V, --version  prints the program's name and version
 
 Exit status: 0; 1 where a run didn't finish, an exception wasn't caught, methods
@@ -57,15 +57,15 @@ Usage: jvmx eval --entry C.m.D [--args N,N] FILE...
                  least one): a source in Jasmin where the name ends in .j, else
                  a class file
 
-Options and FILEs stand in any order. --args=48,36 is --args 48,36, and behind
--- all words are FILEs.
+Options and FILEs stand in any order. --args=48,36 is --args 48,36, and after --
+all words are FILEs.
 
 The method runs as thread 0, which takes all turns, at most 1000000: threads
 that it starts take none. jvmx run lets them run. A run has at most 1000000
 objects, 10000000 elements of arrays, 64 threads and 1024 frames a thread.
 
-All instructions run but those of float and double: a thread stands still before
-one of these, and where no thread can go on, the status is Stalled.
+All instructions run but those of float and double: a thread stops before one of
+these, and where no thread can go on, the status is Stalled.
 
 Standard output: the result and a line end, an int or a long in decimal, a
 reference as null or R:n. Where there is no result, standard error: uncaught T C
@@ -104,13 +104,13 @@ Usage: jvmx run --entry E [--args N,N] [--sched S] [--max N] [--spec F]
               examples: --sched list:0,0,1, --sched rr:2, --sched seed:42:54
   --max N     how many turns may be taken: decimal digits, at most 100000000
               (default: 1000000)
-  --spec F    which methods are to be atomic, as jvmx help check says: tells
+  --spec F    which methods are to be atomic, as jvmx help check says: reports
               whether they were
-  --explain   tells more on standard error, as said below
+  --explain   prints more on standard error, as said below
   FILE...     the classes of the program, as jvmx help eval says
 
-Options and FILEs stand in any order. --max=9 is --max 9, and behind -- all
-words are FILEs.
+Options and FILEs stand in any order. --max=9 is --max 9, and after -- all words
+are FILEs.
 
 Threads have numbers from 0, in the order of their starts; the entry runs as
 thread 0. A thread is enabled where it can go on: it hasn't ended, waits for no
@@ -174,7 +174,7 @@ M is C.m.D, a class, a method's name and its descriptor. V is C.x.D for a static
 field, R.C.x.D for a field of object R, and R[i] for an element of array R, with
 C the class that declares the field. Names are written as in --entry. Methods
 and fields of built-in classes have no lines. A monitor that a thread owns
-already is neither taken nor given up. A call of wait has two lines: rel as the
+already is neither taken nor released. A call of wait has two lines: rel as the
 thread begins to wait, and acq as it takes the monitor again. Calls of notify
 and notifyAll have none.
 
@@ -212,12 +212,12 @@ program writes isn't printed.
   output          shows what the program wrote so far: how many bytes, and these
 
 step, back, goto, continue, rcontinue and pick answer 'at P of N STATUS, thread
-T OUTCOME': the position, the number of turns, the machine's status, and what
-the last turn before the position came to. A line that can't be carried out is
-answered by 'fault CODE NAME' and changes nothing. jvmx help CODE explains it.
-The end of standard input, at a terminal Ctrl-D, ends the session. At a terminal
-standard error shows where the thread of the next turn is, with the line of the
-source if the class file has it, and a prompt with the position.
+T OUTCOME': the position, the number of turns, the machine's status, and the
+outcome of the last turn before the position. A line that can't be carried out
+is answered by 'fault CODE NAME' and changes nothing. jvmx help CODE explains
+it. The end of standard input, at a terminal Ctrl-D, ends the session. At a
+terminal standard error shows where the thread of the next turn is, with the
+line of the source if the class file has it, and a prompt with the position.
 
 Exit status: 0, whatever the session shows; 2 and 3 as jvmx --help says.
 
@@ -229,7 +229,7 @@ threads' | jvmx debug --entry LostUpdate examples/threads/LostUpdate.j
 
 /// The text of `jvmx campaign --help`.
 pub const CAMPAIGN_HELP: &str = "\
-jvmx campaign: runs a program under many schedules and tells in which runs
+jvmx campaign: runs a program under many schedules and reports in which runs
 methods were atomic
 
 Usage: jvmx campaign --entry E [--args N,N] --spec F --jobs N [--first K]
@@ -253,7 +253,7 @@ Usage: jvmx campaign --entry E [--args N,N] --spec F --jobs N [--first K]
   --summary    prints the summary also where standard error is no terminal
   FILE...      the classes of the program, as jvmx help eval says
 
-Options and FILEs stand in any order. --jobs=9 is --jobs 9, and behind -- all
+Options and FILEs stand in any order. --jobs=9 is --jobs 9, and after -- all
 words are FILEs.
 
 Standard output: the table, a line for each job and then one for all of them,
@@ -264,10 +264,11 @@ with S one of Finished, Running, Stalled, Deadlocked. The first E of the M
 events are the fewest with a cycle. jvmx help check says what atomic means, and
 what events are.
 
-UNCAUGHT EXCEPTIONS ARE NOT TOLD, neither by the table nor by the exit status: a
-job in which a thread died of one may well be Finished. To find them, call jvmx
-run --sched seed:0:K for each K, and look at its exit status; or let the program
-loop for ever where a check of its own fails, so that the status is Running.
+UNCAUGHT EXCEPTIONS ARE NOT REPORTED, neither by the table nor by the exit
+status: a job in which a thread died of one may well be Finished. To find them,
+call jvmx run --sched seed:0:K for each K, and look at its exit status; or let
+the program loop for ever where a check of its own fails, so that the status is
+Running.
 
 Standard error, at a terminal: while jobs run, how many are done. Then the
 summary: the lines of the specification that match no method; for the first job
@@ -283,7 +284,7 @@ Example: jvmx campaign --entry LostUpdate --spec examples/threads/atomic.spec \\
 
 /// The text of `jvmx check --help`.
 pub const CHECK_HELP: &str = "\
-jvmx check: reads what threads did and tells whether methods were atomic
+jvmx check: reads what threads did and reports whether methods were atomic
 
 Usage: jvmx check --spec F [--serial] [--explain] TRACE
 
@@ -302,7 +303,7 @@ Usage: jvmx check --spec F [--serial] [--explain] TRACE
             that conflict, as jvmx help run says; turns aren't known
   TRACE     the trace, as jvmx trace prints it (jvmx help trace has its lines)
 
-Options and TRACE stand in any order. --spec=F is --spec F, and behind -- a word
+Options and TRACE stand in any order. --spec=F is --spec F, and after -- a word
 is TRACE. Each file is in UTF-8 and has at most 67108864 bytes.
 
 Events are all lines but enter and exit, numbered from 1. What a thread does
@@ -318,7 +319,7 @@ Standard output: one line,
   cycle at E events N transactions M: A B ..
 where N events are in M transactions, the first E events are the fewest with a
 cycle, and A, B .. are the transactions of one, numbered by their first events;
-A is that of event E. With --serial, behind an atomic verdict, a line an event:
+A is that of event E. With --serial, after an atomic verdict, a line an event:
 its number, a space, and its line of the trace.
 
 Exit status: 0 where the trace is atomic, 1 where a cycle was found; 2 and 3 as
@@ -426,7 +427,7 @@ Usage: jvmx needs [--spec F] FILE...
             that match no method of the FILEs
   FILE...   the classes of the program, as jvmx help eval says
 
-Options and FILEs stand in any order. --spec=F is --spec F, and behind -- all
+Options and FILEs stand in any order. --spec=F is --spec F, and after -- all
 words are FILEs.
 
 Standard output: a line for each instruction that can't run, in the order of the

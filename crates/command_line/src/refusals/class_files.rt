@@ -136,9 +136,9 @@ own byte.
         "\
 C14 Handler
 
-A row of an exception table has an empty range, or a start, an end or a handler
-that is no instruction's start. Only an end may be the code's. Correct the
-table.
+An entry of an exception table has an empty range, or a start, an end or a
+handler that is no instruction's start. Only an end may be the code's. Correct
+the table.
 ",
     ),
     (
@@ -155,8 +155,8 @@ instruction, or split it.
         "\
 C16 Trailing
 
-Bytes stand behind the class: two files were joined, or a count is too small.
-Cut the file, or correct the count.
+Bytes follow the class: two files were joined, or a count is too small. Cut the
+file, or correct the count.
 ",
     ),
     (

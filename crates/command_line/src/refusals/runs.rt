@@ -28,7 +28,7 @@ in its FILE too. jvmx needs FILE.. prints the names of all that aren't there.
 K03 Circular
 
 The class is its own superclass or superinterface, over one or more steps: FILEs
-of different versions were mixed. The FILE shown is the first that stands on
+of different versions were mixed. The FILE shown is the first that is part of
 such a circle, not one that only leads to it. Compile the classes together.
 ",
     ),
@@ -41,8 +41,8 @@ The class extends an interface, or String, Class, System or PrintStream, or
 nothing at all; or it implements a class; or it is an interface and extends
 another class than java/lang/Object. A class became an interface, or the other
 way round, and the FILE wasn't compiled again; or a tool wrote the wrong flags.
-Compile it again. An interface's superinterfaces stand where a class's do, not
-as its superclass.
+Compile it again. An interface's superinterfaces are listed where a class's are,
+not as its superclass.
 ",
     ),
     (

@@ -26,7 +26,7 @@ No directive has this name. They are .bytecode .source .class .interface .super
 J03 UnknownInstruction
 
 No instruction has this name. wide is added by itself where it is needed. A
-directive behind a label on one line is read as an instruction.
+directive after a label on one line is read as an instruction.
 ",
     ),
     (
@@ -34,7 +34,7 @@ directive behind a label on one line is read as an instruction.
         "\
 J04 OutOfPlace
 
-The statement may not stand here: a field before .class, .super behind
+The statement isn't allowed here: a field before .class, .super after
 .implements, a label or an instruction outside of a method, an instruction in a
 native or abstract method, a directive within a switch.
 ",
@@ -44,8 +44,8 @@ native or abstract method, a directive within a switch.
         "\
 J05 Number
 
-No number stands where one has to, or it is out of range: bipush takes -128 to
-127, limits and locals 0 to 65,535, .bytecode 45.0 to 50.65535. A tableswitch
+No number is given where one is needed, or it is out of range: bipush takes -128
+to 127, limits and locals 0 to 65,535, .bytecode 45.0 to 50.65535. A tableswitch
 has too many labels for its lowest value.
 ",
     ),
@@ -119,7 +119,7 @@ There was no memory for the source. Free memory, and run again.
 A01 UndefinedLabel
 
 A label that an instruction or a .catch names isn't defined in its method, or
-stands behind the last instruction. Only the to of a .catch may stand there.
+follows the last instruction. Only the to of a .catch may follow it.
 ",
     ),
     (
@@ -179,7 +179,7 @@ of a method, or bytes of a text. Split what is too long.
         "\
 A08 CatchRange
 
-The from of a .catch doesn't stand before its to. Exchange them.
+The from of a .catch isn't before its to. Exchange them.
 ",
     ),
     (

@@ -59,7 +59,7 @@ Make room, and run again.
         "\
 H01 Syntax
 
-The word behind --sched is no schedule: it is list: and threads parted by
+The word after --sched is no schedule: it is list: and threads parted by
 commas, maybe none; rr:Q with Q from 1 to 1,000,000; or seed:S:K with S and K
 below 2 to the 64. Numbers are decimal digits. White space, a comma at the end
 and capitals aren't taken. K and K + 9,223,372,036,854,775,808 give the same
@@ -75,7 +75,7 @@ E01 Syntax line N
 
 Line N of the specification is neither empty, nor begins with #, nor is atomic
 or plain, one space, and *, C.*, C.m or C.m.D. Write a class a.b.C as a/b/C, and
-put nothing behind the pattern, no carriage return either.
+put nothing after the pattern, no carriage return either.
 ",
     ),
     (
@@ -92,7 +92,7 @@ There was no memory for the specification. Free memory, and run again.
 X01 Syntax line N
 
 Line N of the trace is no item, or the file ends without a line end. jvmx help
-trace shows the lines. Parts stand behind one space each, and numbers have no
+trace shows the lines. Single spaces separate the parts, and numbers have no
 leading zeros. jvmx trace writes such a file: it was edited, cut, or saved with
 carriage returns.
 ",
