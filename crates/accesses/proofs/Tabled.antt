@@ -12,7 +12,7 @@ use Rattle.accesses.specs.OnePlace.{keys_equiv, one_place, same_keys}
 use Rattle.accesses.specs.Ordered.{cmp_is_same, place_cmp}
 use Rattle.accesses.specs.Places.{place_of}
 use Rattle.accesses.specs.Rooms.{IsEntryOf, set_value_at}
-use Rattle.accesses.specs.Tables.{IsIndexed, Tells}
+use Rattle.accesses.specs.Tables.{IsIndexed, IsEntryOrNone}
 use Rattle.accesses.specs.declared.lasts.PlaceAccesses.{PlaceAccesses}
 use Rattle.accesses.specs.declared.place.Place.{Place as Key}
 use Rattle.accesses.proofs.Entries.{found_in, keeps_place, stays_found}
@@ -30,13 +30,13 @@ pub indexed_none : (m : Map) → m.entries ≡ [] → IsIndexed m []
 unfolding IsDistinct
 indexed_none m none = record {
   unique = tt;
-  tells = λ q. subst (λ (o : Option ℕ). Tells [] q o) (sym (ap (λ (es : List (Key × ℕ)). lookup (is_at (place_cmp q)) es) none)) refl;
+  entry_is = λ q. subst (λ (o : Option ℕ). IsEntryOrNone [] q o) (sym (ap (λ (es : List (Key × ℕ)). lookup (is_at (place_cmp q)) es) none)) refl;
 }
 
 pub indexed_by : (m n : Map) (es fs : Table) → IsIndexed m es → n.entries ≡ m.entries → fs ≡ es → IsIndexed n fs
 indexed_by m n es fs is same one = subst (λ (gs : Table). IsIndexed n gs) (sym one) (record {
   unique = is.unique;
-  tells = λ q. subst (λ (o : Option ℕ). Tells es q o) (sym (ap (λ (fs : List (Key × ℕ)). lookup (is_at (place_cmp q)) fs) same)) (is.tells q);
+  entry_is = λ q. subst (λ (o : Option ℕ). IsEntryOrNone es q o) (sym (ap (λ (fs : List (Key × ℕ)). lookup (is_at (place_cmp q)) fs) same)) (is.entry_is q);
 })
 
 -- All that is remembered for the place of an entry.
@@ -63,14 +63,14 @@ none_with q (e ∷ es) (suc i) l is = by (same_keys q e.0) (none_with q es i l) 
     by true rest none = none
     by false rest none = rest none
 
-tells_with : (es : Table) (i : ℕ) (l : PlaceAccesses) (q : Key) (o : Option ℕ) → Tells es q o → Tells (set_value_at es i l) q o
-tells_with es i l q None is = none_with q es i l is
-tells_with es i l q (Some n) is = keeps_place es i l n (place_of q) is
+entry_with : (es : Table) (i : ℕ) (l : PlaceAccesses) (q : Key) (o : Option ℕ) → IsEntryOrNone es q o → IsEntryOrNone (set_value_at es i l) q o
+entry_with es i l q None is = none_with q es i l is
+entry_with es i l q (Some n) is = keeps_place es i l n (place_of q) is
 
 pub indexed_with : (m : Map) (es : Table) (i : ℕ) (l : PlaceAccesses) → IsIndexed m es → IsIndexed m (set_value_at es i l)
 indexed_with m es i l is = record {
   unique = subst (λ (ks : List Key). IsDistinct same_keys ks) (sym (keys_kept es i l)) is.unique;
-  tells = λ q. tells_with es i l q (get place_cmp m q) (is.tells q);
+  entry_is = λ q. entry_with es i l q (get place_cmp m q) (is.entry_is q);
 }
 
 pub read_entry : (es : Table) (i : ℕ) (e : Key × PlaceAccesses) → i < length es → e ≡ get_or es i e → slice_get es i ≡ Some e
@@ -109,19 +109,19 @@ none_any q (e ∷ es) is = by (same_keys q e.0) (none_any q es) is
     by true rest none = absurd (none-some e.1 (sym none))
     by false rest none = rest none
 
-tells_pushed : (es : Table) (e : Key × PlaceAccesses) (q : Key) (o : Option ℕ) → same_keys q e.0 ≡ false → Tells es q o → Tells (es ++ e ∷ []) q o
+tells_pushed : (es : Table) (e : Key × PlaceAccesses) (q : Key) (o : Option ℕ) → same_keys q e.0 ≡ false → IsEntryOrNone es q o → IsEntryOrNone (es ++ e ∷ []) q o
 tells_pushed es e q None apart is = none_pushed q es e apart is
 tells_pushed es e q (Some n) apart is = stays_found (λ f. place_of f.0 ≡ place_of q) es (e ∷ []) n is
 
-tells_new : (m : Map) (es : Table) (p : Key) (l : PlaceAccesses) (q : Key) (b : Bool) → is_at (place_cmp p) q ≡ b → Tells es q (get place_cmp m q) → Tells (es ++ (p, l) ∷ []) q (cond b (Some (length es)) (get place_cmp m q))
-tells_new m es p l q true same is =
+entry_new : (m : Map) (es : Table) (p : Key) (l : PlaceAccesses) (q : Key) (b : Bool) → is_at (place_cmp p) q ≡ b → IsEntryOrNone es q (get place_cmp m q) → IsEntryOrNone (es ++ (p, l) ∷ []) q (cond b (Some (length es)) (get place_cmp m q))
+entry_new m es p l q true same is =
     found_in (λ e. place_of e.0 ≡ place_of q) (es ++ (p, l) ∷ []) (length es) (p, l) (last_entry es (p, l)) (one_place (place_of p) (place_of q) (cmp_is_same p q ∙ same))
-tells_new m es p l q false apart is = tells_pushed es (p, l) q (get place_cmp m q) (keys_equiv.symm q p ∙ cmp_is_same p q ∙ apart) is
+entry_new m es p l q false apart is = tells_pushed es (p, l) q (get place_cmp m q) (keys_equiv.symm q p ∙ cmp_is_same p q ∙ apart) is
 
 pub indexed_pushed : (m n : Map) (es : Table) (p : Key) (l : PlaceAccesses) → IsIndexed m es → lookup (same_keys p) es ≡ None → Updates place_cmp m n p (Some (length es)) → IsIndexed n (es ++ (p, l) ∷ [])
 indexed_pushed m n es p l is none updates = record {
   unique = subst (λ (ks : List Key). IsDistinct same_keys ks) (sym (keys_pushed es (p, l))) (IsDistinct-push keys_equiv (keys_of es) p is.unique (none_any p es none));
-  tells = λ q. subst (λ (o : Option ℕ). Tells (es ++ (p, l) ∷ []) q o) (sym (updates.0 q)) (tells_new m es p l q (is_at (place_cmp p) q) refl (is.tells q));
+  entry_is = λ q. subst (λ (o : Option ℕ). IsEntryOrNone (es ++ (p, l) ∷ []) q o) (sym (updates.0 q)) (entry_new m es p l q (is_at (place_cmp p) q) refl (is.entry_is q));
 }
 
 pub pushed_at : (es : Table) (p : Key) (l : PlaceAccesses) → IsEntryOf (es ++ (p, l) ∷ []) (length es) (place_of p)

@@ -45,7 +45,7 @@ accesses_beside _ = []
 unfoldable pub accesses_of : Item → List Access
 accesses_of i = main_at (OfThread (thread_of i)) ∷ accesses_beside i
 
--- Two accesses conflict if they are to one place and one of them is main.
+-- Decides whether two accesses conflict: they are to one place and one of them is main.
 abbrev pub against : Access → Access → Bool
 against x y = same_place x.place y.place && (x.is_main || y.is_main)
 

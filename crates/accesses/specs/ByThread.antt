@@ -20,7 +20,7 @@ notes_of ns = map (λ (n : Node). n.noted) ns
 abbrev pub next_of : Node → Bool → ℕ
 next_of n is_odd = if is_odd then n.odd else n.even
 
--- The lowest bit of the number is 1.
+-- Decides whether the lowest bit of the number is 1.
 abbrev pub is_odd : ℕ → Bool
 is_odd bits = bits % 2 == 1
 

@@ -44,7 +44,7 @@ field_of (key.OfVariable (variable.Instance r k)) = k
 field_of (key.OfVariable (variable.Static k)) = k
 field_of (key.OfVariable (variable.Element r i)) = no_field
 
--- The parts determine the key.
+-- Returns the key that the parts determine.
 built : ℕ → ℕ → ℕ → FieldKey → Key
 built zero f s k = key.OfThread f
 built (suc zero) f s k = key.OfMonitor f

@@ -15,11 +15,11 @@ pub record Entries : Type 0 where
   pub entries : List (Key × PlaceAccesses)
 
 -- The result is the entry of the key's place, or there is none.
-abbrev pub Tells : List (Key × PlaceAccesses) → Key → Option ℕ → Type 0
-Tells es q None = lookup (same_keys q) es ≡ None
-Tells es q (Some i) = IsEntryOf es i (place_of q)
+abbrev pub IsEntryOrNone : List (Key × PlaceAccesses) → Key → Option ℕ → Type 0
+IsEntryOrNone es q None = lookup (same_keys q) es ≡ None
+IsEntryOrNone es q (Some i) = IsEntryOf es i (place_of q)
 
 -- No place has two entries, and the index finds each entry.
 pub record IsIndexed (m : BTreeMap Key ℕ) (es : List (Key × PlaceAccesses)) : Type 0 where
   pub unique : IsDistinct same_keys (keys_of es)
-  pub tells : (q : Key) → Tells es q (get place_cmp m q)
+  pub entry_is : (q : Key) → IsEntryOrNone es q (get place_cmp m q)

@@ -95,8 +95,8 @@ impl Accesses {
         }
     }
 
-    /// Reserves the memory that `ready_links` and `note` need for an item. The remembered accesses don't change. `hash` is
-    /// the hash of what the item touches: with any other number it takes longer.
+    /// Reserves the memory that `ready_links` and `note` need for an item. The remembered accesses don't change. `hash`
+    /// is the hash of what the item touches: with any other number it takes longer.
     pub fn reserve(&mut self, hash: u32, item: &Item) -> Result<(), AllocError>
         ensures same { kept_of self.new ≡ kept_of self.old }
         ensures room { OnOk result (HasRoom self.new item.now) }

@@ -11,7 +11,7 @@ ghost use Rattle.accesses.specs.OnePlace.{same_keys};
 ghost use Rattle.accesses.specs.Ordered.{place_cmp};
 ghost use Rattle.accesses.specs.Places.{place_of};
 ghost use Rattle.accesses.specs.Rooms.{HasRoomAt, IsEntryOf, IsNotedAt};
-ghost use Rattle.accesses.specs.Tables.{IsIndexed, Tells};
+ghost use Rattle.accesses.specs.Tables.{IsIndexed, IsEntryOrNone};
 ghost use Rattle.accesses.specs.declared.place.Place.{Place as Key};
 
 use crate::lasts::{Noted, PlaceAccesses};
@@ -54,7 +54,7 @@ impl Table {
 
     /// Returns the index of a place's entry, if it has one.
     pub fn index_of(&self, place: &Place) -> Option<usize>
-        ensures { Tells self.now.entries place.now result }
+        ensures { IsEntryOrNone self.now.entries place.now result }
     {
         self.index.get(place).copied()
     }

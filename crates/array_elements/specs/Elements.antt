@@ -7,7 +7,7 @@ use Rattle.array_elements.specs.declared.kind.Kind.TheVariants as kind
 use Rattle.array_elements.specs.declared.elements.Elements.{Elements}
 use Rattle.array_elements.specs.declared.elements.Elements.TheVariants as held
 
--- The value of a reference that is stored as its number. Null is stored as 0.
+-- Returns the value of a reference that is stored as its number. Null is stored as 0.
 abbrev pub reference_value : ℕ → Value
 reference_value zero = value.Null
 reference_value (suc r) = value.Reference (suc r)

@@ -23,11 +23,11 @@ kind_of_element (element.Primitive primitive.Float) = kind.Nothing
 kind_of_element (element.Primitive primitive.Double) = kind.Nothing
 kind_of_element (element.Primitive primitive.Long) = kind.Long
 
--- The kind of the values of a type.
+-- Returns the kind of the values of a type.
 abbrev pub kind_of : FieldType → Kind
 kind_of t = if t.dimensions == 0 then kind_of_element t.element else kind.Reference
 
--- The first value of an element of a kind.
+-- Returns the first value of an element of a kind.
 abbrev pub first_of : Kind → Value
 first_of kind.Long = value.Long (pos 0)
 first_of kind.Reference = value.Null

@@ -34,7 +34,7 @@ pub record HasRoomFor (thread : ℕ) (a : StoredTrace) : Type 0 where
   pub items : vec_len a.items < vec_capacity a.items
   pub transactions : vec_len a.transactions < vec_capacity a.transactions
 
--- A thread's next event begins a transaction, or continues the one that it is in.
+-- Decides whether a thread's next event begins a transaction, or continues the one that it is in.
 abbrev pub stay_of : Option ℕ → Bool → Stay
 stay_of None is_open = stay.Begins is_open
 stay_of (Some t) is_open = stay.KeepsGoing

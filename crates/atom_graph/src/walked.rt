@@ -43,8 +43,8 @@ impl StoredTrace {
         }
     }
 
-    /// Reserves the memory that the entry of a method by a thread needs, and returns a shared item equal to it. `sum` is
-    /// the hash of what the item touches: with any other number the cache misses.
+    /// Reserves the memory that the entry of a method by a thread needs, and returns a shared item equal to it. `sum`
+    /// is the hash of what the item touches: with any other number the cache misses.
     pub(crate) fn prepare(
         &mut self,
         thread: ThreadId,
@@ -70,8 +70,8 @@ impl StoredTrace {
         self.repeats.once_more(sum, item)
     }
 
-    /// Reserves the memory that an event of a thread needs. Returns the thread's standing, and a shared item equal to the
-    /// event.
+    /// Reserves the memory that an event of a thread needs. Returns the thread's standing, and a shared item equal to
+    /// the event.
     pub(crate) fn prepare_event(
         &mut self,
         thread: ThreadId,

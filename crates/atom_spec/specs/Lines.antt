@@ -36,7 +36,7 @@ line_text l = word_text l.is_atomic ++ 32 ∷ pattern_text l.pattern
 abbrev pub IsLine : SpecificationLine → Type 0
 IsLine l = IsPattern l.pattern
 
--- A line is skipped if it is empty or begins with `#`.
+-- Decides whether a line is skipped: it is empty or begins with `#`.
 abbrev pub is_skipped : List ℕ → Bool
 is_skipped [] = true
 is_skipped (b ∷ bs) = b == 35

@@ -8,7 +8,7 @@ use Rattle.campaign_book.specs.declared.row.Row.{Row}
 use Rattle.campaign_book.specs.Books.{IsBook}
 use Rattle.campaign_book.specs.Rows.{IsStoring}
 
--- A stored entry adds 1, and any other answer adds nothing.
+-- Returns the count after an answer. A stored entry adds 1, and any other answer adds nothing.
 abbrev pub after_answer : ℕ → Result (Unit {0}) StoreFault → ℕ
 after_answer n answer = n + cond (is_ok answer) 1 0
 
@@ -18,7 +18,7 @@ IsAnswer program plan row answer =
     (old : List Row) × (new : List Row)
     × IsBook program plan old × IsBook program plan new × IsStoring plan old row answer new
 
--- The program and the plan of `Brand`. A call that names a campaign by it chooses its own.
+-- Return the program and the plan of `Brand`. A call that names a campaign by it chooses its own.
 abbrev pub no_program : List Class
 no_program = []
 

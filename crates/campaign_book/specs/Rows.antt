@@ -16,17 +16,17 @@ abbrev pub number_of : Row → ℕ
 number_of (Done number result) = number
 number_of (Skipped number because) = number
 
--- The row is a result with a cycle.
+-- Decides whether the row is a result with a cycle.
 abbrev pub is_cycle : Row → Bool
 is_cycle (Done number result) = has_cycle result.atomicity
 is_cycle (Skipped number because) = false
 
--- The row is a result.
+-- Decides whether the row is a result.
 abbrev pub is_done : Row → Bool
 is_done (Done number result) = true
 is_done (Skipped number because) = false
 
--- The row has this number.
+-- Decides whether the row has this number.
 abbrev pub is_at : ℕ → Row → Bool
 is_at number row = number_of row == number
 
@@ -34,16 +34,16 @@ is_at number row = number_of row == number
 abbrev pub row_at : ℕ → List Row → Option Row
 row_at number rows = find (is_at number) rows
 
--- One of the rows has this number.
+-- Decides whether one of the rows has this number.
 abbrev pub has_number : ℕ → List Row → Bool
 has_number number rows = is_some (row_at number rows)
 
--- There is a row, and it is a result with a cycle.
+-- Decides whether there is a row, and it is a result with a cycle.
 abbrev pub is_some_cycle : Option Row → Bool
 is_some_cycle None = false
 is_some_cycle (Some row) = is_cycle row
 
--- A row has this number, and the first such row is a result with a cycle.
+-- Decides whether a row has this number, and the first such row is a result with a cycle.
 abbrev pub has_cycle_at : ℕ → List Row → Bool
 has_cycle_at number rows = is_some_cycle (row_at number rows)
 
@@ -56,8 +56,8 @@ with_row t row =
       cycles = t.cycles + cond (is_cycle row) 1 0;
     }
 
--- The row is a result, or it may skip its number. It may if the plan stops, and it names a smaller number whose row
--- is a result with a cycle.
+-- Decides whether the row is a result, or may skip its number. It may if the plan stops, and it names a smaller number
+-- whose row is a result with a cycle.
 abbrev pub is_skippable : Plan → List Row → Row → Bool
 is_skippable plan rows (Done number result) = true
 is_skippable plan rows (Skipped number because) = plan.stop && (nat_lt because number && has_cycle_at because rows)

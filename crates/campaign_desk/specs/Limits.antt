@@ -1,11 +1,11 @@
 -- Defines how many jobs and workers a desk may have.
 use Rattle.std.specs.Prelude.{ℕ, ◌<◌, ◌≤◌}
 
--- The maximum number of jobs of a desk.
+-- Returns the maximum number of jobs of a desk.
 abbrev pub most_jobs : ℕ
 most_jobs = 1000000
 
--- The maximum number of workers of a desk.
+-- Returns the maximum number of workers of a desk.
 abbrev pub most_workers : ℕ
 most_workers = 64
 

@@ -24,7 +24,7 @@ other_seats (seat ∷ seats) = seats
 abbrev pub joined_seats : List Knowledge → List Knowledge → List Knowledge
 joined_seats seats others = others ++ seats
 
--- A view has no seats after another view took them.
+-- Returns the seats of a view after another view took them: none.
 abbrev pub no_seats : List Knowledge
 no_seats = []
 

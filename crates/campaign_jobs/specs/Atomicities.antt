@@ -12,7 +12,7 @@ abbrev pub IsAtomicityOf : List Event → Atomicity → Type 0
 IsAtomicityOf events atomicity.Atomic = AreAtomic events
 IsAtomicityOf events (atomicity.Cycle first_at) = IsFirstAt events first_at
 
--- The run has a cycle.
+-- Decides whether the run has a cycle.
 abbrev pub has_cycle : Atomicity → Bool
 has_cycle atomicity.Atomic = false
 has_cycle (atomicity.Cycle first_at) = true

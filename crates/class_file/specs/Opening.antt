@@ -11,7 +11,7 @@ use Rattle.jvms_file.specs.Members.{fields_at, methods_at, kept_attributes_at}
 use Rattle.jvms_file.specs.ClassFile.{is_proper_class, is_empty, interfaces_at}
 use Rattle.class_file.specs.declared.class.Head.{Head}
 
--- The class, from the bytes after the superclass.
+-- Reads the class from the bytes after the superclass.
 abbrev pub members_after_superclass : ClassFault → List Constant → Head → List ℕ → Result ClassFile ClassFault
 members_after_superclass cut pool head bytes = do
   interfaces ← interfaces_at pool cut bytes
@@ -21,7 +21,7 @@ members_after_superclass cut pool head bytes = do
   _ ← want (is_empty attributes.1) fault.Trailing
   Ok (record { minor = head.minor; major = head.major; pool = pool; access = head.access; this_class = head.this_class; super_class = head.super_class; interfaces = interfaces.0; fields = fields.0; methods = methods.0; attributes = attributes.0 })
 
--- The class, from the bytes after the constant pool.
+-- Reads the class from the bytes after the constant pool.
 abbrev pub class_after_pool : ClassFault → ℕ → ℕ → List Constant → List ℕ → Result ClassFile ClassFault
 class_after_pool cut minor major pool bytes = do
   access ← u2_at cut bytes
@@ -31,7 +31,7 @@ class_after_pool cut minor major pool bytes = do
   _ ← want (super_class.0 == 0 || is_proper_class pool super_class.0) fault.Index
   members_after_superclass cut pool (record { minor = minor; major = major; access = access.0; this_class = this_class.0; super_class = super_class.0 }) super_class.1
 
--- The class, from the bytes after the versions.
+-- Reads the class from the bytes after the versions.
 abbrev pub class_after_versions : ClassFault → ℕ → ℕ → List ℕ → Result ClassFile ClassFault
 class_after_versions cut minor major bytes = do
   pool ← pool_at cut bytes

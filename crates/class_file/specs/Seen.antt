@@ -12,7 +12,7 @@ use Rattle.jvms_file.specs.Members.{is_same_field, is_same_method}
 use Rattle.const_pool.specs.Texts.{canonical}
 use Rattle.class_file.specs.declared.seen.Seen.{Seen}
 
--- The order of pairs: by the first number, then by the second.
+-- Compares pairs by the first number, then by the second.
 abbrev pub pair_cmp : ℕ × ℕ → ℕ × ℕ → Ordering
 pair_cmp a b = ordering_then (nat_cmp a.0 b.0) (nat_cmp a.1 b.1)
 
@@ -20,7 +20,7 @@ abbrev pub has_pair : Seen → Option (ℕ × ℕ) → Bool
 has_pair seen None = false
 has_pair seen (Some pair) = sorted.contains pair_cmp seen.pairs pair
 
--- A name and a descriptor are among those of the members.
+-- Decides whether a name and a descriptor are among those of the members.
 abbrev pub is_seen : List Constant → Seen → ℕ → ℕ → Bool
 is_seen pool seen name descriptor = has_pair seen (both (canonical pool name) (canonical pool descriptor))
 

@@ -17,19 +17,20 @@ use Rattle.jvms_file.specs.Members.{is_text_with, is_interface, is_abstract, is_
 use Rattle.const_pool.specs.declared.forms.Forms.{Forms}
 use Rattle.class_file.specs.declared.method.Head.{Head}
 
--- A number has to be that of a text that passes the test.
+-- Tests that a number is that of a text that passes the test.
 abbrev pub text_wanted : (List ℕ → Bool) → List Constant → ℕ → Result (Unit {0}) ClassFault
 text_wanted test pool n = do
   _ ← want (is_utf8 pool n) fault.Index
   want (is_text_with test (utf8_at pool n)) fault.Descriptor
 
--- attributes_count and the attributes of a field.
+-- Reads attributes_count and the attributes of a field.
 abbrev pub field_attributes_at : List Constant → ClassFault → ℕ → List ℕ → Result (List FieldAttribute × List ℕ) ClassFault
 field_attributes_at pool cut descriptor bytes = do
   count ← u2_at cut bytes
   part_list_onto (field_attribute_at pool cut descriptor) [] count.0 count.1
 
--- A text of these forms is the descriptor of a method that is called on an object, or on none (JVMS 4.3.3).
+-- Decides whether a text of these forms is the descriptor of a method that is called on an object, or on none (JVMS
+-- 4.3.3).
 abbrev pub is_formed_descriptor : Bool → Forms → Bool
 is_formed_descriptor on_none forms = is_few forms.method_units
   where
@@ -37,44 +38,44 @@ is_formed_descriptor on_none forms = is_few forms.method_units
     is_few None = false
     is_few (Some units) = nat_le units (if on_none then 255 else 254)
 
--- The bytes of instructions, after their length.
+-- Reads the bytes of instructions, after their length.
 abbrev pub code_bytes_at : ClassFault → ℕ → List ℕ → Result (List ℕ × List ℕ) ClassFault
 code_bytes_at cut code_length bytes = do
   _ ← want (is_code_length code_length) fault.CodeLength
   bytes_at cut code_length bytes
 
--- exception_table_length and the entries of the table.
+-- Reads exception_table_length and the entries of the table.
 abbrev pub exception_table_at : List Constant → ClassFault → List ℕ → Result (List Handler × List ℕ) ClassFault
 exception_table_at pool cut bytes = do
   count ← u2_at cut bytes
   counted (handler_at pool cut) count.0 count.1
 
--- An entry of the table with places for bytes.
+-- Returns an entry of the table with places for bytes.
 abbrev pub handler_placed : List ℕ → ℕ → Handler → Result Handler ClassFault
 handler_placed starts code_length handler = present (handler_places starts code_length handler) fault.Handler
 
--- number_of_exceptions and the numbers of their classes.
+-- Reads number_of_exceptions and the numbers of their classes.
 abbrev pub classes_at : List Constant → ClassFault → List ℕ → Result (List ℕ × List ℕ) ClassFault
 classes_at pool cut bytes = do
   count ← u2_at cut bytes
   counted (class_number_at pool cut) count.0 count.1
 
--- A Code attribute, after its name.
+-- Reads a Code attribute, after its name.
 abbrev pub code_attribute_at : List Constant → ℕ → ClassFault → ℕ → List ℕ → Result (MethodAttribute × List ℕ) ClassFault
 code_attribute_at pool major cut name bytes = do
   frame ← frame_at cut bytes
   c ← code_at pool major frame
   Ok (method_attribute.Code name c.0, c.1)
 
--- An Exceptions attribute, after its name.
+-- Reads an Exceptions attribute, after its name.
 abbrev pub exceptions_attribute_at : List Constant → ClassFault → ℕ → List ℕ → Result (MethodAttribute × List ℕ) ClassFault
 exceptions_attribute_at pool cut name bytes = do
   frame ← frame_at cut bytes
   classes ← exceptions_at pool frame
   Ok (method_attribute.Exceptions name classes.0, classes.1)
 
--- The attributes of a method, after its access flags, name and descriptor. The method has Code exactly if `code` is
--- true.
+-- Reads the attributes of a method, after its access flags, name and descriptor. The method has Code exactly if `code`
+-- is true.
 abbrev pub method_after : List Constant → ℕ → ClassFault → Head → Bool → List ℕ → Result (MethodInfo × List ℕ) ClassFault
 method_after pool major cut head code bytes = do
   count ← u2_at cut bytes
@@ -82,7 +83,7 @@ method_after pool major cut head code bytes = do
   _ ← want (not code || list_any is_code attributes.0) fault.CodePresence
   Ok (record { access = head.access; name = head.name; descriptor = head.descriptor; attributes = attributes.0 }, attributes.1)
 
--- A method, after its access flags and name. `seen` are the methods before it.
+-- Reads a method, after its access flags and name. `seen` are the methods before it.
 abbrev pub named_method_at : List Constant → ℕ → ClassFault → ℕ → ℕ → List MethodInfo → List ℕ → Result (MethodInfo × List ℕ) ClassFault
 named_method_at pool major cut access name seen bytes = do
   descriptor ← u2_at cut bytes
@@ -91,6 +92,6 @@ named_method_at pool major cut access name seen bytes = do
   _ ← want (not (list_any (is_same_method pool name descriptor.0) seen)) fault.RepeatedMember
   method_after pool major cut (record { access = access; name = name; descriptor = descriptor.0 }) (needs_code (is_initializer pool name) access) descriptor.1
 
--- A method of an interface is abstract, except its initializer.
+-- Tests that a method of an interface is abstract, except its initializer.
 abbrev pub is_placed_method : ℕ → Bool → ℕ → Bool
 is_placed_method class_access initializer access = not (is_interface class_access) || initializer || is_abstract access

@@ -12,7 +12,7 @@ use Rattle.const_pool.specs.declared.entry.Entry.TheVariants as entry
 use Rattle.const_pool.specs.declared.builder.PoolFault.{PoolFault}
 use Rattle.const_pool.specs.declared.builder.PoolFault.TheVariants as pool_fault
 
--- An entry as a class file has it.
+-- Returns an entry as a class file has it.
 abbrev pub constant_of : Entry → Constant
 constant_of (entry.Utf8 text) = constant.Utf8 text.items
 constant_of (entry.Integer n) = constant.Integer n
@@ -26,7 +26,7 @@ constant_of (entry.Method class name_and_type) = constant.Method class name_and_
 constant_of (entry.InterfaceMethod class name_and_type) = constant.InterfaceMethod class name_and_type
 constant_of (entry.NameAndType name descriptor) = constant.NameAndType name descriptor
 
--- Two entries are equal: they have the same tag and the same content.
+-- Decides whether two entries are equal: they have the same tag and the same content.
 abbrev pub is_same : Entry → Entry → Bool
 is_same (entry.Utf8 a) (entry.Utf8 b) = same_text a.items b.items
 is_same (entry.Integer a) (entry.Integer b) = int_eq a b
@@ -41,23 +41,23 @@ is_same (entry.InterfaceMethod a m) (entry.InterfaceMethod b n) = a == b && m ==
 is_same (entry.NameAndType a m) (entry.NameAndType b n) = a == b && m == n
 is_same _ _ = false
 
--- The count of numbers that an entry takes (JVMS 4.4.5).
+-- Returns the count of numbers that an entry takes (JVMS 4.4.5).
 abbrev pub width : Entry → ℕ
 width e = if takes_two (constant_of e) then 2 else 1
 
--- The count of numbers that entries take.
+-- Returns the count of numbers that entries take.
 abbrev pub taken : List Entry → ℕ
 taken [] = 0
 taken (e ∷ es) = width e + taken es
 
--- The number of an entry among entries that are numbered from n on.
+-- Returns the number of an entry among entries that are numbered from n on.
 abbrev pub number_from : ℕ → List Entry → Entry → Option ℕ
 number_from n [] e = None
 number_from n (x ∷ xs) e = if is_same e x then Some n else number_from (n + width x) xs e
 
--- The number of an entry in a pool of these, and the entries of the pool with it. An entry that is there keeps its
--- number. A new one takes the next, and a second one after it if it is a long or a double. No number is above 65534,
--- since constant_pool_count is at most 65535 (JVMS 4.1).
+-- Returns the number of an entry in a pool of these, and the entries of the pool with it. An entry that is there keeps
+-- its number. A new one takes the next, and a second one after it if it is a long or a double. No number is above
+-- 65534, since constant_pool_count is at most 65535 (JVMS 4.1).
 unfoldable pub interned : List Entry → Entry → Result (ℕ × List Entry) PoolFault
 interned es e = at_or_next (number_from 1 es e)
   where
@@ -65,15 +65,15 @@ interned es e = at_or_next (number_from 1 es e)
     at_or_next (Some n) = Ok (n, es)
     at_or_next None = if nat_le (taken es + width e) 65534 then Ok (taken es + 1, es ++ e ∷ []) else Err pool_fault.PoolFull
 
--- The constants of an entry in a pool: itself, and an unusable one after a long or a double (JVMS 4.4.5).
+-- Returns the constants of an entry in a pool: itself, and an unusable one after a long or a double (JVMS 4.4.5).
 abbrev pub constants_of : Entry → List Constant
 constants_of e = if takes_two (constant_of e) then constant_of e ∷ constant.Unusable ∷ [] else constant_of e ∷ []
 
--- The pool that has these entries.
+-- Returns the pool that has these entries.
 abbrev pub pool_of : List Entry → List Constant
 pool_of es = flat_map constants_of es
 
--- Entries with their numbers, from n on.
+-- Returns entries with their numbers, from n on.
 abbrev pub numbered_from : ℕ → List Entry → List (Entry × ℕ)
 numbered_from n [] = []
 numbered_from n (e ∷ es) = (e, n) ∷ numbered_from (n + width e) es

@@ -4,6 +4,6 @@ use Rattle.jvms_file.specs.declared.class_file.Constant.{Constant}
 use Rattle.jvms_file.specs.declared.class_file.Constant.TheVariants as constant
 use Rattle.jvms_file.specs.ConstantPool.{takes_two}
 
--- An entry, followed by an unusable one after a long or a double, if a number is left for it.
+-- Returns an entry, followed by an unusable one after a long or a double, if a number is left for it.
 abbrev pub numbered : Constant → ℕ → List Constant
 numbered c left = if takes_two c && nat_lt 1 left then c ∷ constant.Unusable ∷ [] else c ∷ []

@@ -11,7 +11,7 @@ use Rattle.const_pool.specs.declared.scanned.Text.{Text}
 
 -- ---- Forms
 
--- The units of a method's parameters, if the text is a method's descriptor.
+-- Returns the units of a method's parameters, if the text is a method's descriptor.
 abbrev pub method_units_of : List ℕ → Option ℕ
 method_units_of text = option_map parameter_units (method_type_of text)
 
@@ -26,7 +26,7 @@ forms_of text =
       method_units = method_units_of text;
     }
 
--- Texts of these forms are a method's name and descriptor, or a field's (JVMS 4.4.6).
+-- Decides whether texts of these forms are a method's name and descriptor, or a field's (JVMS 4.4.6).
 abbrev pub is_formed_member : Forms → Forms → Bool
 is_formed_member name descriptor =
     if descriptor.method_sort
@@ -35,37 +35,37 @@ is_formed_member name descriptor =
 
 -- ---- Equal texts
 
--- An entry is this text.
+-- Decides whether an entry is this text.
 abbrev pub is_this : List ℕ → Constant → Bool
 is_this text c = is_text_with (same_text text) (utf8_of c)
 
--- The number of the first entry that is this text. n is the number of the first of these entries.
+-- Returns the number of the first entry that is this text. n is the number of the first of these entries.
 abbrev pub first_from : ℕ → List Constant → List ℕ → Option ℕ
 first_from n [] text = None
 first_from n (c ∷ cs) text = if is_this text c then Some n else first_from (n + 1) cs text
 
--- The least number of an entry that is this text.
+-- Returns the least number of an entry that is this text.
 abbrev pub first_number : List Constant → List ℕ → Option ℕ
 first_number pool text = first_from 1 pool text
 
--- The number of a text after one more entry of number n: the one that it has, else n if the entry is the text.
+-- Returns the number of a text after one more entry of number n: the one that it has, else n if the entry is the text.
 abbrev pub known_after : Option ℕ → ℕ → List ℕ → Constant → Option ℕ
 known_after (Some m) n text c = Some m
 known_after None n text c = if is_this text c then Some n else None
 
--- An entry's text, if it is one, with a number and its forms.
+-- Returns an entry's text, if it is one, with a number and its forms.
 abbrev pub text_with : (List ℕ → ℕ) → Constant → Option Text
 text_with number c = option_map (λ text. record { canonical = number text; forms = forms_of text }) (utf8_of c)
 
--- The first number and the forms of an entry's text, if it is one.
+-- Returns the first number and the forms of an entry's text, if it is one.
 abbrev pub text_of : List Constant → Constant → Option Text
 text_of pool c = text_with (λ text. unwrap_or (first_number pool text) 0) c
 
--- The least number of an entry whose text equals that of this number.
+-- Returns the least number of an entry whose text equals that of this number.
 abbrev pub canonical : List Constant → ℕ → Option ℕ
 canonical pool n = option_map (λ text. unwrap_or (first_number pool text) 0) (utf8_at pool n)
 
--- Two numbers are there, and they are equal.
+-- Decides whether two numbers are there and equal.
 abbrev pub is_one_number : Option ℕ → Option ℕ → Bool
 is_one_number (Some m) (Some n) = m == n
 is_one_number _ _ = false

@@ -7,12 +7,12 @@ use Rattle.jvms_file.specs.declared.class_file.Constant.TheVariants as constant
 use Rattle.jvms_file.specs.Texts.{encoded}
 use Rattle.jvms_file.specs.Spelling.{u2, u4, u8}
 
--- A text: the length of its Modified UTF-8, and its bytes (JVMS 4.4.7).
+-- Returns the bytes of a text: the length of its Modified UTF-8, and its bytes (JVMS 4.4.7).
 abbrev pub text_bytes : List ℕ → List ℕ
 text_bytes text = 1 ∷ (u2 (length (encoded text)) ++ encoded text)
 
--- An entry: its tag (JVMS table 4.4-A), and its content. A signed number is written as two's complement. The number
--- after a long or a double names nothing, and has no bytes (JVMS 4.4.5).
+-- Returns the bytes of an entry: its tag (JVMS table 4.4-A), and its content. A signed number is written as two's
+-- complement. The number after a long or a double names nothing, and has no bytes (JVMS 4.4.5).
 unfoldable pub constant_bytes : Constant → List ℕ
 constant_bytes (constant.Utf8 text) = text_bytes text
 constant_bytes (constant.Integer n) = 3 ∷ u4 (cast_unsigned w32 n)
@@ -27,6 +27,6 @@ constant_bytes (constant.InterfaceMethod class name_and_type) = 11 ∷ (u2 class
 constant_bytes (constant.NameAndType name descriptor) = 12 ∷ (u2 name ++ u2 descriptor)
 constant_bytes constant.Unusable = []
 
--- constant_pool_count, which is one more than the last number, and the entries in order (JVMS 4.1).
+-- Returns constant_pool_count, which is one more than the last number, and the entries in order (JVMS 4.1).
 abbrev pub pool_bytes : List Constant → List ℕ
 pool_bytes pool = u2 (length pool + 1) ++ flat_map constant_bytes pool

@@ -31,7 +31,7 @@ pub record IsSession (x : Session) : Type 0 where
   pub next : 0 < x.next
   pub numbers : All (λ b. b.number < x.next) x.breakpoints
 
--- A session begins before the first choice, without a breakpoint.
+-- Returns a session that begins before the first choice, without a breakpoint.
 abbrev pub opened : List ℕ → Session
 opened choices = record { choices = choices; position = 0; breakpoints = []; next = 1 }
 

@@ -15,6 +15,6 @@ abbrev pub IsCutTwice : ℕ → List ℕ → Option (List ℕ × List ℕ × Lis
 IsCutTwice b bytes (Some x) = (bytes ≡ x.0 ++ b ∷ (x.1 ++ b ∷ x.2)) × (has b x.0 ≡ false) × (has b x.1 ≡ false)
 IsCutTwice b bytes None = (xs ys zs : List ℕ) → has b xs ≡ false → has b ys ≡ false → bytes ≢ xs ++ b ∷ (ys ++ b ∷ zs)
 
--- The number of dots in a text.
+-- Returns the number of dots in a text.
 abbrev pub dots_in : List ℕ → ℕ
 dots_in text = count_by (λ b. b == 46) text

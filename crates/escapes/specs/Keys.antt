@@ -9,7 +9,7 @@ use Rattle.escapes.specs.declared.sort.NameSort.{NameSort}
 use Rattle.escapes.specs.declared.sort.NameSort.TheVariants as sort
 use Rattle.escapes.specs.Escapes.{spelled}
 
--- A text is a name of this sort (JVMS 4.2), or a descriptor (JVMS 4.3).
+-- Decides whether a text is a name of this sort (JVMS 4.2), or a descriptor (JVMS 4.3).
 abbrev pub is_of : NameSort → List ℕ → Bool
 is_of sort.Class us = is_class_name us
 is_of sort.Field us = is_name us
@@ -34,14 +34,14 @@ IsFieldKey f = IsMember sort.Field sort.FieldDescriptor f.class f.name f.descrip
 abbrev pub IsMethodKey : MethodKey → Type 0
 IsMethodKey m = IsMember sort.Method sort.MethodDescriptor m.class m.name m.descriptor
 
--- A member as it is written: its class, its name and its descriptor, separated by dots.
+-- Returns a member as it is written: its class, its name and its descriptor, separated by dots.
 abbrev pub member_text : List ℕ → List ℕ → List ℕ → List ℕ
 member_text class name descriptor = spelled class ++ 46 ∷ spelled name ++ 46 ∷ spelled descriptor
 
--- A field as it is written: `C.x.D`.
+-- Returns a field as it is written: `C.x.D`.
 abbrev pub field_text : FieldKey → List ℕ
 field_text f = member_text f.class f.name f.descriptor
 
--- A method as it is written: `C.m.D`.
+-- Returns a method as it is written: `C.m.D`.
 abbrev pub method_text : MethodKey → List ℕ
 method_text m = member_text m.class m.name m.descriptor

@@ -13,6 +13,6 @@ placed_of l = record { pc = l.pc; insn = l.insn }
 abbrev pub all_placed : List InsnAt → List InsnAtByte
 all_placed ls = map placed_of ls
 
--- One instruction with places for targets, or the fault of its targets.
+-- Returns one instruction with places for targets, or the fault of its targets.
 abbrev pub resolved_one : List ℕ → InsnAtByte → Result Insn ClassFault
 resolved_one pcs i = present (with_places pcs i.insn) (fault.Target i.pc)

@@ -14,56 +14,56 @@ use Rattle.jvms_file.specs.Bytes.{u1_at, u2_at, u4_at, signed}
 use Rattle.jvms_file.specs.ConstantPool.{entry}
 use Rattle.jvms_file.specs.Instructions.{Read, constant_insn, passes, is_loadable, is_wide_loadable, target_of, is_above}
 
--- The instruction bipush (JVMS 6.5 bipush).
+-- Reads the instruction bipush (JVMS 6.5 bipush).
 abbrev pub push_byte_insn : ClassFault → List ℕ → Read
 push_byte_insn cut bytes = do
   n ← u1_at cut bytes
   Ok (insn.Simple (simple.Push (push.Int (signed w8 n.0))), n.1)
 
--- The instruction sipush (JVMS 6.5 sipush).
+-- Reads the instruction sipush (JVMS 6.5 sipush).
 abbrev pub push_short_insn : ClassFault → List ℕ → Read
 push_short_insn cut bytes = do
   n ← u2_at cut bytes
   Ok (insn.Simple (simple.Push (push.Int (signed w16 n.0))), n.1)
 
--- The instruction ldc (JVMS 6.5 ldc).
+-- Reads the instruction ldc (JVMS 6.5 ldc).
 abbrev pub narrow_constant_insn : ClassFault → List Constant → ℕ → List ℕ → Read
 narrow_constant_insn cut pool major bytes = do
   n ← u1_at cut bytes
   constant_insn cut (passes (is_loadable major) (entry pool n.0)) n.0 n.1
 
--- The instruction ldc_w (JVMS 6.5 ldc_w).
+-- Reads the instruction ldc_w (JVMS 6.5 ldc_w).
 abbrev pub wide_constant_insn : ClassFault → List Constant → ℕ → List ℕ → Read
 wide_constant_insn cut pool major bytes = do
   n ← u2_at cut bytes
   constant_insn cut (passes (is_loadable major) (entry pool n.0)) n.0 n.1
 
--- The instruction ldc2_w (JVMS 6.5 ldc2_w).
+-- Reads the instruction ldc2_w (JVMS 6.5 ldc2_w).
 abbrev pub long_constant_insn : ClassFault → List Constant → List ℕ → Read
 long_constant_insn cut pool bytes = do
   n ← u2_at cut bytes
   constant_insn cut (passes is_wide_loadable (entry pool n.0)) n.0 n.1
 
--- A load, a store or ret with a local's number of one byte (JVMS 6.5 iload, istore, ret).
+-- Reads a load, a store or ret with a local's number of one byte (JVMS 6.5 iload, istore, ret).
 abbrev pub local_insn : ClassFault → LocalUse → List ℕ → Read
 local_insn cut how bytes = do
   n ← u1_at cut bytes
   Ok (insn.Simple (simple.Local how n.0), n.1)
 
--- The instruction iinc (JVMS 6.5 iinc).
+-- Reads the instruction iinc (JVMS 6.5 iinc).
 abbrev pub increment_insn : ClassFault → List ℕ → Read
 increment_insn cut bytes = do
   n ← u1_at cut bytes
   by ← u1_at cut n.1
   Ok (insn.Simple (simple.Increment n.0 (signed w8 by.0)), by.1)
 
--- One target of a switch.
+-- Reads one target of a switch.
 unfoldable pub target_at : ClassFault → ℕ → List ℕ → Result (ℕ × List ℕ) ClassFault
 target_at cut pc bytes = do
   offset ← u4_at cut bytes
   Ok (target_of pc (signed w32 offset.0), offset.1)
 
--- One case of a lookupswitch, whose value is above the one before it.
+-- Reads one case of a lookupswitch, whose value is above the one before it.
 unfoldable pub case_at : ClassFault → ℕ → Option ℤ → List ℕ → Result (SwitchCase × List ℕ) ClassFault
 case_at cut pc last bytes = do
   value ← u4_at cut bytes

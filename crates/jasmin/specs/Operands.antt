@@ -126,7 +126,7 @@ descriptor_of w = drop (position_or_len is_parenthesis w) w
 abbrev pub Access : Type 0
 Access = List (List ℕ × ℕ)
 
--- The access words of classes, fields and methods with their flags (JVMS tables 4.1-A, 4.5-A, 4.6-A).
+-- Return the access words of classes, fields and methods with their flags (JVMS tables 4.1-A, 4.5-A, 4.6-A).
 abbrev pub class_words : Access
 class_words = (codes "public", 1) ∷ (codes "final", 16) ∷ (codes "abstract", 1024) ∷ (codes "interface", 512) ∷ (codes "super", 32) ∷ []
 

@@ -254,7 +254,7 @@ with_line r line = lexed (tokens_of line)
     lexed None = Err flaw.Lexeme
     lexed (Some ts) = with_lexemes r (lexemes ts)
 
--- The state of the reader before the first line.
+-- Returns the state of the reader before the first line.
 abbrev pub empty_reading : Reading
 empty_reading =
     record { part = part.Beginning; has_bytecode = false; has_source = false; access = 0; name = None; superclass = None; interfaces = []; fields = []; methods = []; method = None }

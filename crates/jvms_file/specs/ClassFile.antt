@@ -10,7 +10,8 @@ use Rattle.jvms_file.specs.Descriptors.{is_array_name}
 use Rattle.jvms_file.specs.ConstantPool.{pool_at, entries_fault, class_name_at}
 use Rattle.jvms_file.specs.Members.{fields_at, methods_at, kept_attributes_at}
 
--- A number is that of a class entry that names no array. this_class, super_class and each interface have to name one.
+-- Decides whether a number is that of a class entry that names no array. this_class, super_class and each interface
+-- have to name one.
 abbrev pub is_proper_class : List Constant → ℕ → Bool
 is_proper_class pool n = is_proper (class_name_at pool n)
   where
@@ -18,18 +19,18 @@ is_proper_class pool n = is_proper (class_name_at pool n)
     is_proper None = false
     is_proper (Some name) = not (is_array_name name)
 
--- Versions 45 to 50, with any minor version (JVMS 4.1).
+-- Decides whether a major version is 45 to 50, with any minor version (JVMS 4.1).
 abbrev pub is_version : ℕ → Bool
 is_version major = nat_le 45 major && nat_le major 50
 
--- The number of an interface's class entry (JVMS 4.1).
+-- Reads the number of an interface's class entry (JVMS 4.1).
 abbrev pub interface_at : List Constant → ClassFault → List ℕ → Result (ℕ × List ℕ) ClassFault
 interface_at pool cut bytes = do
   n ← u2_at cut bytes
   _ ← want (is_proper_class pool n.0) fault.Index
   Ok (n.0, n.1)
 
--- interfaces_count and the interfaces (JVMS 4.1).
+-- Reads interfaces_count and the interfaces (JVMS 4.1).
 abbrev pub interfaces_at : List Constant → ClassFault → List ℕ → Result (List ℕ × List ℕ) ClassFault
 interfaces_at pool cut bytes = do
   count ← u2_at cut bytes
@@ -39,7 +40,7 @@ abbrev pub is_empty : List ℕ → Bool
 is_empty [] = true
 is_empty (b ∷ bytes) = false
 
--- The class that bytes spell, or their first fault. `cut` is the fault of missing bytes.
+-- Returns the class that bytes spell, or their first fault. `cut` is the fault of missing bytes.
 unfoldable pub class_at : ClassFault → List ℕ → Result ClassFile ClassFault
 class_at cut bytes = do
   magic ← u4_at cut bytes
@@ -61,6 +62,7 @@ class_at cut bytes = do
   _ ← want (is_empty attributes.1) fault.Trailing
   Ok (record { minor = minor.0; major = major.0; pool = pool.0; access = access.0; this_class = this_class.0; super_class = super_class.0; interfaces = interfaces.0; fields = fields.0; methods = methods.0; attributes = attributes.0 })
 
--- The class that bytes spell, or their first fault. Truncated bytes have their length as the place of the fault.
+-- Returns the class that bytes spell, or their first fault. Truncated bytes have their length as the place of the
+-- fault.
 abbrev pub read : List ℕ → Result ClassFile ClassFault
 read bytes = class_at (fault.Truncated (length bytes)) bytes

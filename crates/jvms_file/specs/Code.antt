@@ -19,8 +19,8 @@ pub record InsnAtByte : Type 0 where
   pub pc : ℕ
   pub insn : Insn
 
--- The instructions of bytes, of which the first is byte pc of a method. Each takes at least one byte, so `most` = the
--- number of bytes is enough, and the second case never applies.
+-- Reads the instructions of bytes, of which the first is byte pc of a method. Each takes at least one byte, so `most` =
+-- the number of bytes is enough, and the second case never applies.
 unfoldable pub insns_at_bytes_from : ℕ → List Constant → ℕ → ℕ → List ℕ → Result (List InsnAtByte) ClassFault
 insns_at_bytes_from most pool major pc [] = Ok []
 insns_at_bytes_from zero pool major pc (b ∷ bytes) = Ok []
@@ -32,15 +32,15 @@ insns_at_bytes_from (suc most) pool major pc (b ∷ bytes) = do
 abbrev pub placed : List Constant → ℕ → List ℕ → Result (List InsnAtByte) ClassFault
 placed pool major bytes = insns_at_bytes_from (length bytes) pool major 0 bytes
 
--- The bytes at which instructions start.
+-- Returns the bytes at which instructions start.
 abbrev pub starts : List InsnAtByte → List ℕ
 starts is = map (λ i. i.pc) is
 
--- The place of the instruction that starts at a byte.
+-- Returns the place of the instruction that starts at a byte.
 abbrev pub place_of : List ℕ → ℕ → Option ℕ
 place_of pcs pc = position (λ q. q == pc) pcs
 
--- The places of targets, if an instruction starts at each (JVMS 4.9.1).
+-- Returns the places of targets, if an instruction starts at each (JVMS 4.9.1).
 abbrev pub places_of : List ℕ → List ℕ → Option (List ℕ)
 places_of pcs [] = Some []
 places_of pcs (t ∷ ts) = option_and_then (λ p. option_map (λ ps. p ∷ ps) (places_of pcs ts)) (place_of pcs t)
@@ -64,7 +64,7 @@ lookup_places pcs s =
     (λ d. option_map (λ cs. record { default = d; cases = cs }) (case_places pcs s.cases))
     (place_of pcs s.default)
 
--- An instruction with places for targets, if an instruction starts at each (JVMS 4.9.1).
+-- Returns an instruction with places for targets, if an instruction starts at each (JVMS 4.9.1).
 unfoldable pub with_places : List ℕ → Insn → Option Insn
 with_places pcs (insn.Branch how target) = option_map (λ p. insn.Branch how p) (place_of pcs target)
 with_places pcs (insn.Table s) = option_map (λ t. insn.Table t) (table_places pcs s)
@@ -76,12 +76,12 @@ with_places pcs (insn.Invoke how n) = Some (insn.Invoke how n)
 with_places pcs (insn.Class how n) = Some (insn.Class how n)
 with_places pcs (insn.MultiNewArray n count) = Some (insn.MultiNewArray n count)
 
--- The instructions with places for targets. The fault is that of the first branching instruction with a target at which
--- no instruction starts.
+-- Returns the instructions with places for targets. The fault is that of the first branching instruction with a target
+-- at which no instruction starts.
 abbrev pub resolved : List ℕ → List InsnAtByte → Result (List Insn) ClassFault
 resolved pcs is = collected (λ i. present (with_places pcs i.insn) (fault.Target i.pc)) is
 
--- The instructions of a method's bytes. All opcodes and operands are tested before any target.
+-- Returns the instructions of a method's bytes. All opcodes and operands are tested before any target.
 unfoldable pub insns_of : List Constant → ℕ → List ℕ → Result (List ℕ × List Insn) ClassFault
 insns_of pool major bytes = do
   is ← placed pool major bytes
@@ -95,12 +95,12 @@ is_switch (insn.Table s) = true
 is_switch (insn.Lookup s) = true
 is_switch _ = false
 
--- The bytes, with n of them set to 0 from a place on.
+-- Returns the bytes, with n of them set to 0 from a place on.
 unfoldable pub zeroed : ℕ → ℕ → List ℕ → List ℕ
 zeroed zero place bytes = bytes
 zeroed (suc n) place bytes = zeroed n (suc place) (slice_set bytes place 0)
 
--- The bytes of code with all pads set to 0. Pads follow the opcode of a switch (JVMS 6.5 tableswitch).
+-- Returns the bytes of code with all pads set to 0. Pads follow the opcode of a switch (JVMS 6.5 tableswitch).
 unfoldable pub with_zero_pads : List ℕ → List Insn → List ℕ → List ℕ
 with_zero_pads (pc ∷ pcs) (i ∷ is) bytes =
     with_zero_pads pcs is (if is_switch i then zeroed (pad_length pc) (suc pc) bytes else bytes)
@@ -109,12 +109,12 @@ with_zero_pads _ _ bytes = bytes
 abbrev pub layout_of : List ℕ → List Insn → List ℕ → Layout
 layout_of pcs is bytes = record { bytes = with_zero_pads pcs is bytes; starts = pcs }
 
--- The place of a range's end: that of an instruction, or the place after the last (JVMS 4.7.3, end_pc).
+-- Returns the place of a range's end: that of an instruction, or the place after the last (JVMS 4.7.3, end_pc).
 abbrev pub end_place_of : List ℕ → ℕ → ℕ → Option ℕ
 end_place_of pcs code_length pc = if pc == code_length then Some (length pcs) else place_of pcs pc
 
--- A handler with places for bytes (JVMS 4.7.3). The range must not be empty, and an instruction must start at its start
--- and at the handler.
+-- Returns a handler with places for bytes (JVMS 4.7.3). The range must not be empty, and an instruction must start at
+-- its start and at the handler.
 abbrev pub handler_places : List ℕ → ℕ → Handler → Option Handler
 handler_places pcs code_length h =
     if nat_lt h.start h.end

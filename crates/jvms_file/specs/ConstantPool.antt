@@ -12,7 +12,7 @@ use Rattle.jvms_file.specs.Texts.{decoded}
 use Rattle.jvms_file.specs.Names.{is_name, is_method_name, begins_with}
 use Rattle.jvms_file.specs.Descriptors.{field_type_of, method_type_of, is_class_entry_name}
 
--- The entry of a number. Entries count from 1.
+-- Returns the entry of a number. Entries count from 1.
 abbrev pub entry : List Constant → ℕ → Option Constant
 entry pool zero = None
 entry pool (suc i) = slice_get pool i
@@ -21,7 +21,7 @@ abbrev pub utf8_of : Constant → Option (List ℕ)
 utf8_of (constant.Utf8 text) = Some text
 utf8_of _ = None
 
--- The text of a Utf8 entry (JVMS 4.4.7).
+-- Returns the text of a Utf8 entry (JVMS 4.4.7).
 abbrev pub utf8_at : List Constant → ℕ → Option (List ℕ)
 utf8_at pool n = option_and_then utf8_of (entry pool n)
 
@@ -35,7 +35,7 @@ class_name_number _ = None
 abbrev pub is_class : List Constant → ℕ → Bool
 is_class pool n = is_some (option_and_then class_name_number (entry pool n))
 
--- The name of a Class entry (JVMS 4.4.1).
+-- Returns the name of a Class entry (JVMS 4.4.1).
 abbrev pub class_name_at : List Constant → ℕ → Option (List ℕ)
 class_name_at pool n =
     option_and_then (utf8_at pool) (option_and_then class_name_number (entry pool n))
@@ -52,7 +52,7 @@ both (Some x) (Some y) = Some (x, y)
 both None y = None
 both (Some x) None = None
 
--- The name and the descriptor of a NameAndType entry (JVMS 4.4.6).
+-- Returns the name and the descriptor of a NameAndType entry (JVMS 4.4.6).
 abbrev pub name_and_type_at : List Constant → ℕ → Option (List ℕ × List ℕ)
 name_and_type_at pool n =
     option_and_then
@@ -93,7 +93,7 @@ eight_bytes_at make cut bytes = do
   a ← u8_at cut bytes
   Ok (make a.0, a.1)
 
--- The entry after a tag (JVMS table 4.4-A).
+-- Reads the entry after a tag (JVMS table 4.4-A).
 abbrev pub tagged_at : ℕ → ClassFault → List ℕ → Result (Constant × List ℕ) ClassFault
 tagged_at tag cut bytes =
     if tag == 1 then utf8_constant_at cut bytes
@@ -114,13 +114,13 @@ constant_at cut bytes = do
   tag ← u1_at cut bytes
   tagged_at tag.0 cut tag.1
 
--- A long or a double takes two numbers (JVMS 4.4.5).
+-- Decides whether an entry takes two numbers, as a long or a double does (JVMS 4.4.5).
 abbrev pub takes_two : Constant → Bool
 takes_two (constant.Long n) = true
 takes_two (constant.Double n) = true
 takes_two _ = false
 
--- The entries of n numbers.
+-- Reads the entries of n numbers.
 unfoldable pub entries_at : ClassFault → ℕ → List ℕ → Result (List Constant × List ℕ) ClassFault
 entries_at cut zero bytes = Ok ([], bytes)
 entries_at cut (suc zero) bytes = do
@@ -132,7 +132,7 @@ entries_at cut (suc (suc left)) bytes = do
       then (entries_at cut left c.1 >>= λ cs. Ok (c.0 ∷ constant.Unusable ∷ cs.0, cs.1))
       else (entries_at cut (suc left) c.1 >>= λ cs. Ok (c.0 ∷ cs.0, cs.1)))
 
--- constant_pool_count, and entries for one number fewer (JVMS 4.1).
+-- Reads constant_pool_count, and entries for one number fewer (JVMS 4.1).
 abbrev pub pool_at : ClassFault → List ℕ → Result (List Constant × List ℕ) ClassFault
 pool_at cut bytes = do
   count ← u2_at cut bytes
@@ -140,19 +140,19 @@ pool_at cut bytes = do
 
 -- ---- The form of entries.
 
--- A descriptor that begins with a parenthesis is a method's.
+-- Decides whether a descriptor is a method's: it begins with a parenthesis.
 abbrev pub begins_as_method : List ℕ → Bool
 begins_as_method us = begins_with 40 us
 
--- A method's name goes with a method's descriptor, and a field's name with a field's (JVMS 4.4.6).
+-- Decides whether a name goes with a descriptor: a method's with a method's, and a field's with a field's (JVMS 4.4.6).
 abbrev pub is_member : List ℕ → List ℕ → Bool
 is_member name descriptor =
     if begins_as_method descriptor
     then is_method_name name && is_some (method_type_of descriptor)
     else is_name name && is_some (field_type_of descriptor)
 
--- A NameAndType entry names a method, or a field, as asked. It also passes if its numbers name no texts, because that
--- is a fault of its own.
+-- Decides whether a NameAndType entry names a method, or a field, as asked. It also passes if its numbers name no
+-- texts, because that is a fault of its own.
 abbrev pub names_sort : Bool → List Constant → ℕ → Bool
 names_sort method pool n = right (name_and_type_at pool n)
   where
@@ -173,8 +173,8 @@ reference_fault method pool class name_and_type = do
   _ ← want (is_class pool class && is_name_and_type pool name_and_type) fault.Index
   want (names_sort method pool name_and_type) fault.Descriptor
 
--- The fault of an entry (JVMS 4.4.1 to 4.4.6). First, its numbers name entries of the right kinds. Then its name or
--- descriptor is well formed. `behind` are the entries after it.
+-- Returns the fault of an entry (JVMS 4.4.1 to 4.4.6). First, its numbers have to name entries of the right kinds. Then
+-- its name or descriptor has to be well formed. `behind` are the entries after it.
 unfoldable pub entry_fault : List Constant → Constant → List Constant → Result (Unit {0}) ClassFault
 entry_fault pool (constant.Utf8 text) behind = Ok tt
 entry_fault pool (constant.Integer n) behind = Ok tt
@@ -193,7 +193,7 @@ entry_fault pool (constant.NameAndType name descriptor) behind = do
   want (is_entry_member (both (utf8_at pool name) (utf8_at pool descriptor))) fault.Descriptor
 entry_fault pool constant.Unusable behind = Ok tt
 
--- The first fault of entries, in rising order of their numbers.
+-- Returns the first fault of entries, in rising order of their numbers.
 unfoldable pub entries_fault : List Constant → List Constant → Result (Unit {0}) ClassFault
 entries_fault pool [] = Ok tt
 entries_fault pool (c ∷ behind) = do

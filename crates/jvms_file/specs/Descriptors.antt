@@ -12,7 +12,7 @@ use Rattle.jvms_file.specs.declared.descriptor.ResultType.TheVariants as result_
 use Rattle.jvms_file.specs.declared.descriptor.MethodType.{MethodType}
 use Rattle.jvms_file.specs.Names.{is_class_name, same_text, begins_with}
 
--- The letter of a primitive type (JVMS table 4.3-A).
+-- Returns the letter of a primitive type (JVMS table 4.3-A).
 abbrev pub letter_of : Primitive → ℕ
 letter_of primitive.Byte = 66
 letter_of primitive.Char = 67
@@ -35,21 +35,21 @@ primitive_of u =
     else (if u == 90 then Some primitive.Boolean
     else None)))))))
 
--- The text of a type without its brackets: a letter, or L, a class's name and a semicolon (JVMS 4.3.2).
+-- Returns the text of a type without its brackets: a letter, or L, a class's name and a semicolon (JVMS 4.3.2).
 abbrev pub element_text : Element → List ℕ
 element_text (element.Primitive p) = letter_of p ∷ []
 element_text (element.Object name) = 76 ∷ name ++ 59 ∷ []
 
--- The descriptor of a field (JVMS 4.3.2).
+-- Returns the descriptor of a field (JVMS 4.3.2).
 abbrev pub field_text : FieldType → List ℕ
 field_text t = replicate t.dimensions 91 ++ element_text t.element
 
--- The descriptor of a method's result (JVMS 4.3.3).
+-- Returns the descriptor of a method's result (JVMS 4.3.3).
 abbrev pub result_text : ResultType → List ℕ
 result_text result_type.Void = 86 ∷ []
 result_text (result_type.Value t) = field_text t
 
--- The descriptor of a method (JVMS 4.3.3): the parameters' texts in parentheses, and the result's.
+-- Returns the descriptor of a method (JVMS 4.3.3): the parameters' texts in parentheses, and the result's.
 abbrev pub method_text : MethodType → List ℕ
 method_text t = 40 ∷ flat_map field_text t.parameters ++ 41 ∷ result_text t.result
 
@@ -66,17 +66,17 @@ abbrev pub IsResultType : ResultType → Type 0
 IsResultType result_type.Void = Unit {0}
 IsResultType (result_type.Value t) = IsFieldType t
 
--- A long or a double, which has two units (JVMS 4.3.3).
+-- Decides whether a type is long or double, which have two units (JVMS 4.3.3).
 abbrev pub is_wide : Element → Bool
 is_wide (element.Primitive primitive.Long) = true
 is_wide (element.Primitive primitive.Double) = true
 is_wide _ = false
 
--- The number of units of a parameter (JVMS 4.3.3).
+-- Returns the number of units of a parameter (JVMS 4.3.3).
 abbrev pub units_of : FieldType → ℕ
 units_of t = if t.dimensions == 0 && is_wide t.element then 2 else 1
 
--- The number of units of a method's parameters, without the object that it is called on (JVMS 4.3.3).
+-- Returns the number of units of a method's parameters, without the object that it is called on (JVMS 4.3.3).
 abbrev pub parameter_units : MethodType → ℕ
 parameter_units t = sum_by units_of t.parameters
 
@@ -93,7 +93,7 @@ SpellsMethodType text t = IsMethodType t × (text ≡ method_text t)
 
 -- ---- The type that a text spells, if it spells one.
 
--- The class's type after the L, up to the semicolon, with d brackets before it, and the text after it.
+-- Reads the class's type after the L, up to the semicolon, with d brackets before it. Returns it and the text after it.
 abbrev pub object_type_from : ℕ → List ℕ → Option (FieldType × List ℕ)
 object_type_from d us =
     let name = before_first (λ u. u == 59) us in
@@ -101,7 +101,7 @@ object_type_from d us =
     then Some (record { dimensions = d; element = element.Object name }, after_first (λ u. u == 59) us)
     else None
 
--- The type at the front of a text that follows d brackets, and the text after it.
+-- Reads the type at the front of a text that follows d brackets. Returns it and the text after it.
 unfoldable pub field_type_from : ℕ → List ℕ → Option (FieldType × List ℕ)
 field_type_from d [] = None
 field_type_from d (u ∷ us) =
@@ -117,8 +117,8 @@ without_rest (Some (x, u ∷ us)) = None
 abbrev pub field_type_of : List ℕ → Option FieldType
 field_type_of text = without_rest (field_type_from 0 text)
 
--- The parameters up to the closing parenthesis, and the text after it. A text of n units has at most n parameters, so
--- `most` = n is enough.
+-- Reads the parameters up to the closing parenthesis. Returns them and the text after it. A text of n units has at most
+-- n parameters, so `most` = n is enough.
 unfoldable pub parameters_from : ℕ → List ℕ → Option (List FieldType × List ℕ)
 parameters_from most [] = None
 parameters_from zero (u ∷ us) = None
@@ -147,14 +147,14 @@ method_type_of (u ∷ us) =
     (parameters_from (length us) us)
     else None
 
--- A class entry's name (JVMS 4.4.1): a class's name, or an array's descriptor.
+-- Decides whether a class entry's name (JVMS 4.4.1) is an array's descriptor, not a class's name.
 abbrev pub is_array_name : List ℕ → Bool
 is_array_name us = begins_with 91 us
 
 abbrev pub is_class_entry_name : List ℕ → Bool
 is_class_entry_name us = if is_array_name us then is_some (field_type_of us) else is_class_name us
 
--- The number of dimensions of the class with this name, or 0 if it is no array.
+-- Returns the number of dimensions of the class with this name, or 0 if it is no array.
 abbrev pub dimensions_of : List ℕ → ℕ
 dimensions_of us = prefix_len (λ u. u == 91) us
 

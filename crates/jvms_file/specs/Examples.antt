@@ -11,7 +11,7 @@ use Rattle.jvms_file.specs.declared.insn.IntInsn.TheVariants as int_insn
 use Rattle.jvms_file.specs.declared.insn.Division.TheVariants as division
 use Rattle.jvms_file.specs.declared.insn.ReturnInsn.TheVariants as returns
 
--- examples/G.class, 115 bytes.
+-- Returns examples/G.class, 115 bytes.
 abbrev pub gcd_bytes : List ℕ
 gcd_bytes =
     0xca ∷ 0xfe ∷ 0xba ∷ 0xbe ∷ 0x00 ∷ 0x00 ∷ 0x00 ∷ 0x31 ∷ 0x00 ∷ 0x08 ∷ 0x01 ∷ 0x00 ∷ 0x01 ∷ 0x47 ∷ 0x07 ∷ 0x00 ∷ 0x01
@@ -23,7 +23,7 @@ gcd_bytes =
     ∷ 0x1b ∷ 0x99 ∷ 0x00 ∷ 0x0c ∷ 0x1b ∷ 0x1a ∷ 0x1b ∷ 0x70 ∷ 0x3c ∷ 0x3b ∷ 0xa7 ∷ 0xff ∷ 0xf6 ∷ 0x1a ∷ 0xac
     ∷ 0x00 ∷ 0x00 ∷ 0x00 ∷ 0x00 ∷ 0x00 ∷ 0x00 ∷ []
 
--- The bytes of its code.
+-- Returns the bytes of its code.
 abbrev pub gcd_code : List ℕ
 gcd_code = 0x1b ∷ 0x99 ∷ 0x00 ∷ 0x0c ∷ 0x1b ∷ 0x1a ∷ 0x1b ∷ 0x70 ∷ 0x3c ∷ 0x3b ∷ 0xa7 ∷ 0xff ∷ 0xf6 ∷ 0x1a ∷ 0xac ∷ []
 
@@ -33,7 +33,8 @@ iload n = insn.Simple (simple.Local (local.Load kind.Int) n)
 abbrev pub istore : ℕ → Insn
 istore n = insn.Simple (simple.Local (local.Store kind.Int) n)
 
--- While the second number isn't 0, the two become the second, and the remainder of the first by it.
+-- Returns its instructions. While the second number isn't 0, the two become the second, and the remainder of the first
+-- by it.
 abbrev pub gcd_insns : List Insn
 gcd_insns =
     iload 1 ∷ insn.Branch (branch.IfZero comparison.Equal) 9 ∷ iload 1 ∷ iload 0 ∷ iload 1

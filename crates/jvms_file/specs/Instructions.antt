@@ -35,11 +35,11 @@ use Rattle.jvms_file.specs.ConstantPool.{entry, class_name_at, name_and_type_at}
 abbrev pub Read : Type 0
 Read = Result (Insn × List ℕ) ClassFault
 
--- The byte to which an offset leads, counted from the opcode's byte.
+-- Returns the byte to which an offset leads, counted from the opcode's byte.
 abbrev pub target_of : ℕ → ℤ → ℕ
 target_of pc offset = (pc + cast_unsigned w32 offset) % 2 ^ 32
 
--- The component type of a newarray code (JVMS table 6.5.newarray-A).
+-- Returns the component type of a newarray code (JVMS table 6.5.newarray-A).
 abbrev pub array_type_of : ℕ → Option ArrayType
 array_type_of n =
     if n == 4 then Some array_type.Boolean
@@ -54,7 +54,8 @@ array_type_of n =
 
 -- ---- The entries that a pool number may name.
 
--- An entry that ldc loads (JVMS 6.5 ldc): an int, a float or a string. From version 49 on also a class (JVMS 4.9.1).
+-- Decides whether ldc loads an entry (JVMS 6.5 ldc): an int, a float or a string. From version 49 on also a class (JVMS
+-- 4.9.1).
 abbrev pub is_loadable : ℕ → Constant → Bool
 is_loadable major (constant.Integer n) = true
 is_loadable major (constant.Float n) = true
@@ -62,7 +63,7 @@ is_loadable major (constant.String n) = true
 is_loadable major (constant.Class n) = nat_le 49 major
 is_loadable major _ = false
 
--- An entry that ldc2_w loads (JVMS 6.5 ldc2_w): a long or a double.
+-- Decides whether ldc2_w loads an entry (JVMS 6.5 ldc2_w): a long or a double.
 abbrev pub is_wide_loadable : Constant → Bool
 is_wide_loadable (constant.Long n) = true
 is_wide_loadable (constant.Double n) = true
@@ -76,7 +77,7 @@ abbrev pub is_field : Constant → Bool
 is_field (constant.Field class name_and_type) = true
 is_field _ = false
 
--- The class, and the name and type, of a method's entry of the kind that the instruction accepts. That is an
+-- Returns the class, and the name and type, of a method's entry of the kind that the instruction accepts. That is an
 -- interface's method for invokeinterface, and a class's for the others (JVMS 4.9.1).
 abbrev pub method_numbers : Invoke → Constant → Option (ℕ × ℕ)
 method_numbers invoke.Interface (constant.InterfaceMethod class name_and_type) = Some (class, name_and_type)
@@ -85,14 +86,15 @@ method_numbers invoke.Special (constant.Method class name_and_type) = Some (clas
 method_numbers invoke.Static (constant.Method class name_and_type) = Some (class, name_and_type)
 method_numbers _ _ = None
 
--- The name and the descriptor of the method that a call names.
+-- Returns the name and the descriptor of the method that a call names.
 abbrev pub invoked : List Constant → Invoke → ℕ → Option (List ℕ × List ℕ)
 invoked pool how n =
     option_and_then
     (λ numbers. name_and_type_at pool numbers.1)
     (option_and_then (method_numbers how) (entry pool n))
 
--- A name that begins with an angle bracket is called only if it is <init>, by invokespecial (JVMS 4.9.1).
+-- Decides whether a call may name a method of this name. One that begins with an angle bracket is called only if it is
+-- <init>, by invokespecial (JVMS 4.9.1).
 abbrev pub is_invocable_name : Invoke → List ℕ → Bool
 is_invocable_name invoke.Special name = not (begins_with 60 name) || is_constructor_name name
 is_invocable_name _ name = not (begins_with 60 name)
@@ -101,13 +103,13 @@ abbrev pub is_invocable : Invoke → Option (List ℕ × List ℕ) → Bool
 is_invocable how None = false
 is_invocable how (Some (name, descriptor)) = is_invocable_name how name
 
--- The units of the arguments of an interface's method, including the object.
+-- Returns the units of the arguments of an interface's method, including the object.
 abbrev pub interface_count : Option (List ℕ × List ℕ) → Option ℕ
 interface_count None = None
 interface_count (Some (name, descriptor)) = option_map (λ t. parameter_units t + 1) (method_type_of descriptor)
 
--- A class that the instruction accepts (JVMS 6.5 new, anewarray). For new that is no array. For anewarray it has at
--- most 254 dimensions.
+-- Decides whether the instruction accepts a class (JVMS 6.5 new, anewarray). For new that is no array. For anewarray it
+-- has at most 254 dimensions.
 abbrev pub is_usable_class : ClassUse → List ℕ → Bool
 is_usable_class class_use.New name = not (is_array_name name)
 is_usable_class class_use.NewArray name = nat_lt (dimensions_of name) 255
@@ -117,8 +119,8 @@ abbrev pub names_usable : ClassUse → Option (List ℕ) → Bool
 names_usable how None = false
 names_usable how (Some name) = is_usable_class how name
 
--- A number of dimensions that multianewarray accepts (JVMS 6.5 multianewarray): at least one, and at most those of the
--- class.
+-- Decides whether multianewarray accepts a number of dimensions (JVMS 6.5 multianewarray): at least one, and at most
+-- those of the class.
 abbrev pub is_dimensions : ℕ → Option (List ℕ) → Bool
 is_dimensions count None = false
 is_dimensions count (Some name) = nat_lt 0 count && nat_le count (dimensions_of name)
@@ -149,7 +151,7 @@ multi_new_array_insn cut pool bytes = do
   _ ← want (is_dimensions count.0 (class_name_at pool n.0)) cut
   Ok (insn.MultiNewArray n.0 count.0, count.1)
 
--- The end of an invokeinterface: the count of argument units, and a 0 (JVMS 6.5 invokeinterface).
+-- Reads the end of an invokeinterface: the count of argument units, and a 0 (JVMS 6.5 invokeinterface).
 abbrev pub interface_operands : ClassFault → Option ℕ → List ℕ → Result (List ℕ) ClassFault
 interface_operands cut None bytes = Err cut
 interface_operands cut (Some units) bytes = do
@@ -169,11 +171,11 @@ invoke_insn cut pool how bytes = do
   rest ← after_invoke cut how (invoked pool how n.0) n.1
   Ok (insn.Invoke how n.0, rest)
 
--- The number of pads, 0 to 3. The next byte after them is at a multiple of 4 (JVMS 6.5 tableswitch).
+-- Returns the number of pads, 0 to 3. The next byte after them is at a multiple of 4 (JVMS 6.5 tableswitch).
 abbrev pub pad_length : ℕ → ℕ
 pad_length pc = 3 - pc % 4
 
--- As many targets as the count says, of four bytes each.
+-- Reads as many targets as the count says, of four bytes each.
 unfoldable pub targets_at : ClassFault → ℕ → ℕ → List ℕ → Result (List ℕ × List ℕ) ClassFault
 targets_at cut pc zero bytes = Ok ([], bytes)
 targets_at cut pc (suc left) bytes = do
@@ -181,7 +183,7 @@ targets_at cut pc (suc left) bytes = do
   others ← targets_at cut pc left offset.1
   Ok (target_of pc (signed w32 offset.0) ∷ others.0, others.1)
 
--- The operands of tableswitch (JVMS 6.5 tableswitch): low is at most high, and each value from low to high has a
+-- Reads the operands of tableswitch (JVMS 6.5 tableswitch): low is at most high, and each value from low to high has a
 -- target.
 unfoldable pub table_switch_insn : ClassFault → ℕ → List ℕ → Read
 table_switch_insn cut pc bytes = do
@@ -193,12 +195,12 @@ table_switch_insn cut pc bytes = do
   targets ← targets_at cut pc (unsigned_abs (signed w32 high.0 -ℤ signed w32 low.0) + 1) high.1
   Ok (insn.Table (record { default = target_of pc (signed w32 default.0); low = signed w32 low.0; targets = targets.0 }), targets.1)
 
--- A value is above the one before it, if there is one.
+-- Decides whether a value is above the one before it, if there is one.
 abbrev pub is_above : Option ℤ → ℤ → Bool
 is_above None n = true
 is_above (Some m) n = int_lt m n
 
--- As many pairs of a value and an offset as the count says, in strictly rising order of the values.
+-- Reads as many pairs of a value and an offset as the count says, in strictly rising order of the values.
 unfoldable pub cases_at : ClassFault → ℕ → ℕ → Option ℤ → List ℕ → Result (List SwitchCase × List ℕ) ClassFault
 cases_at cut pc zero last bytes = Ok ([], bytes)
 cases_at cut pc (suc left) last bytes = do
@@ -208,7 +210,7 @@ cases_at cut pc (suc left) last bytes = do
   others ← cases_at cut pc left (Some (signed w32 value.0)) offset.1
   Ok (record { value = signed w32 value.0; target = target_of pc (signed w32 offset.0) } ∷ others.0, others.1)
 
--- The operands of lookupswitch (JVMS 6.5 lookupswitch). The number of pairs isn't negative.
+-- Reads the operands of lookupswitch (JVMS 6.5 lookupswitch). The number of pairs isn't negative.
 unfoldable pub lookup_switch_insn : ClassFault → ℕ → List ℕ → Read
 lookup_switch_insn cut pc bytes = do
   pads ← bytes_at cut (pad_length pc) bytes
@@ -218,8 +220,8 @@ lookup_switch_insn cut pc bytes = do
   cases ← cases_at cut pc count.0 None count.1
   Ok (insn.Lookup (record { default = target_of pc (signed w32 default.0); cases = cases.0 }), cases.1)
 
--- The instruction after `wide` (JVMS 6.5 wide): a load, a store or ret with a local's number of two bytes, or iinc with
--- two bytes for each number.
+-- Reads the instruction after `wide` (JVMS 6.5 wide): a load, a store or ret with a local's number of two bytes, or
+-- iinc with two bytes for each number.
 abbrev pub wide_form : ClassFault → Option Opcode → List ℕ → Read
 wide_form cut (Some (opcode.Local how)) bytes = do
   n ← u2_at cut bytes
@@ -251,7 +253,7 @@ new_array_insn cut bytes = do
   type ← present (array_type_of code.0) cut
   Ok (insn.Simple (simple.Array (array_insn.New type)), code.1)
 
--- The operands after an opcode.
+-- Reads the operands after an opcode.
 unfoldable pub operands_at : List Constant → ℕ → ℕ → Opcode → List ℕ → Read
 operands_at pool major pc (opcode.Alone s) bytes = Ok (insn.Simple s, bytes)
 operands_at pool major pc opcode.PushByte bytes = do
@@ -288,8 +290,8 @@ operands_at pool major pc opcode.Wide bytes = wide_insn (fault.Operand pc) bytes
 operands_at pool major pc opcode.MultiNewArray bytes = multi_new_array_insn (fault.Operand pc) pool bytes
 operands_at pool major pc opcode.Reserved bytes = Err (fault.Opcode pc)
 
--- The instruction at byte pc of a method, read from the bytes from there on. A byte that is no opcode is a fault of its
--- own. All other faults are those of the operands.
+-- Reads the instruction at byte pc of a method, from the bytes from there on. A byte that is no opcode is a fault of
+-- its own. All other faults are those of the operands.
 unfoldable pub insn_at : List Constant → ℕ → ℕ → List ℕ → Read
 insn_at pool major pc bytes = do
   code ← u1_at (fault.Operand pc) bytes

@@ -71,12 +71,12 @@ frame_at cut bytes = do
   count ← u4_at cut bytes
   Ok (framed cut count.0 count.1)
 
--- All of an attribute's content is there and was read.
+-- Tests that all of an attribute's content is there and was read.
 abbrev pub want_all : AttributeFrame → List ℕ → Result (Unit {0}) ClassFault
 want_all frame [] = want frame.whole frame.cut
 want_all frame (b ∷ bytes) = Err frame.cut
 
--- The rest of a kept attribute, after its name (JVMS 4.7).
+-- Reads the rest of a kept attribute, after its name (JVMS 4.7).
 abbrev pub kept_content_at : ClassFault → ℕ → List ℕ → Result (KeptAttribute × List ℕ) ClassFault
 kept_content_at cut name bytes = do
   count ← u4_at cut bytes
@@ -94,7 +94,7 @@ kept_attributes_at pool cut bytes = do
   count ← u2_at cut bytes
   counted (kept_at pool cut) count.0 count.1
 
--- An entry is the text of an attribute's name.
+-- Decides whether an entry is the text of an attribute's name.
 abbrev pub is_named : List Constant → ℕ → List ℕ → Bool
 is_named pool n name = is_same (utf8_at pool n)
   where
@@ -104,7 +104,7 @@ is_named pool n name = is_same (utf8_at pool n)
 
 -- ---- Fields (JVMS 4.5)
 
--- A field's descriptor accepts a constant of this kind (JVMS table 4.7.2-A).
+-- Decides whether a field's descriptor accepts a constant of this kind (JVMS table 4.7.2-A).
 abbrev pub takes_constant : List ℕ → Constant → Bool
 takes_constant descriptor (constant.Integer n) = is_int_descriptor descriptor
   where
@@ -121,7 +121,7 @@ abbrev pub is_constant_of : Option (List ℕ) → Option Constant → Bool
 is_constant_of (Some descriptor) (Some c) = takes_constant descriptor c
 is_constant_of _ _ = false
 
--- The content of a ConstantValue: the number of an entry that the field's descriptor accepts (JVMS 4.7.2).
+-- Reads the content of a ConstantValue: the number of an entry that the field's descriptor accepts (JVMS 4.7.2).
 abbrev pub constant_value_at : List Constant → ℕ → ℕ → AttributeFrame → Result (FieldAttribute × List ℕ) ClassFault
 constant_value_at pool descriptor name frame = do
   value ← u2_at frame.cut frame.content
@@ -133,7 +133,7 @@ abbrev pub is_constant_value : FieldAttribute → Bool
 is_constant_value (field_attribute.ConstantValue name value) = true
 is_constant_value (field_attribute.Kept kept) = false
 
--- The next attribute of a field, after those in `seen`. At most one is a ConstantValue (JVMS 4.5).
+-- Reads the next attribute of a field, after those in `seen`. At most one is a ConstantValue (JVMS 4.5).
 abbrev pub field_attribute_at : List Constant → ClassFault → ℕ → List FieldAttribute → List ℕ → Result (FieldAttribute × List ℕ) ClassFault
 field_attribute_at pool cut descriptor seen bytes = do
   name ← u2_at cut bytes
@@ -145,7 +145,7 @@ field_attribute_at pool cut descriptor seen bytes = do
         constant_value_at pool descriptor name.0 frame)
       else (kept_content_at cut name.0 name.1 >>= λ k. Ok (field_attribute.Kept k.0, k.1)))
 
--- A text is there, and passes the test.
+-- Decides whether a text is there, and passes the test.
 abbrev pub is_text_with : (List ℕ → Bool) → Option (List ℕ) → Bool
 is_text_with test None = false
 is_text_with test (Some text) = test text
@@ -160,7 +160,7 @@ same_entry_text pool m n = is_same (utf8_at pool m) (utf8_at pool n)
 abbrev pub is_same_field : List Constant → ℕ → ℕ → FieldInfo → Bool
 is_same_field pool name descriptor f = same_entry_text pool f.name name && same_entry_text pool f.descriptor descriptor
 
--- The next field, after those in `seen` (JVMS 4.5).
+-- Reads the next field, after those in `seen` (JVMS 4.5).
 unfoldable pub field_at : List Constant → ClassFault → List FieldInfo → List ℕ → Result (FieldInfo × List ℕ) ClassFault
 field_at pool cut seen bytes = do
   access ← u2_at cut bytes
@@ -175,7 +175,7 @@ field_at pool cut seen bytes = do
   attributes ← part_list_onto (field_attribute_at pool cut descriptor.0) [] count.0 count.1
   Ok (record { access = access.0; name = name.0; descriptor = descriptor.0; attributes = attributes.0 }, attributes.1)
 
--- fields_count and the fields (JVMS 4.1).
+-- Reads fields_count and the fields (JVMS 4.1).
 abbrev pub fields_at : List Constant → ClassFault → List ℕ → Result (List FieldInfo × List ℕ) ClassFault
 fields_at pool cut bytes = do
   count ← u2_at cut bytes
@@ -183,7 +183,7 @@ fields_at pool cut bytes = do
 
 -- ---- Methods (JVMS 4.6)
 
--- An entry of the exception table: three bytes in the code, and a class entry or 0 (JVMS 4.7.3).
+-- Reads an entry of the exception table: three bytes in the code, and a class entry or 0 (JVMS 4.7.3).
 abbrev pub handler_at : List Constant → ClassFault → List ℕ → Result (Handler × List ℕ) ClassFault
 handler_at pool cut bytes = do
   start ← u2_at cut bytes
@@ -196,8 +196,8 @@ handler_at pool cut bytes = do
 abbrev pub is_code_length : ℕ → Bool
 is_code_length n = nat_lt 0 n && nat_le n 65535
 
--- The content of a Code attribute (JVMS 4.7.3). After its last byte its length is tested, then its instructions, then
--- its handlers.
+-- Reads the content of a Code attribute (JVMS 4.7.3). After its last byte its length is tested, then its instructions,
+-- then its handlers.
 unfoldable pub code_at : List Constant → ℕ → AttributeFrame → Result (Code × List ℕ) ClassFault
 code_at pool major frame = do
   max_stack ← u2_at frame.cut frame.content
@@ -213,14 +213,14 @@ code_at pool major frame = do
   handlers ← handlers_of insns.0 code_length.0 table.0
   Ok (record { max_stack = max_stack.0; max_locals = max_locals.0; layout = layout_of insns.0 insns.1 bytes.0; insns = insns.1; handlers = handlers; attributes = attributes.0 }, frame.behind)
 
--- The number of a Class entry.
+-- Reads the number of a Class entry.
 abbrev pub class_number_at : List Constant → ClassFault → List ℕ → Result (ℕ × List ℕ) ClassFault
 class_number_at pool cut bytes = do
   n ← u2_at cut bytes
   _ ← want (is_class pool n.0) fault.Index
   Ok (n.0, n.1)
 
--- The content of an Exceptions attribute: class entries (JVMS 4.7.5).
+-- Reads the content of an Exceptions attribute: class entries (JVMS 4.7.5).
 abbrev pub exceptions_at : List Constant → AttributeFrame → Result (List ℕ × List ℕ) ClassFault
 exceptions_at pool frame = do
   count ← u2_at frame.cut frame.content
@@ -236,12 +236,13 @@ abbrev pub is_exceptions : MethodAttribute → Bool
 is_exceptions (method_attribute.Exceptions name classes) = true
 is_exceptions _ = false
 
--- A method has to have Code, unless it is native or abstract. Each <clinit> has to have it (JVMS 4.7.3).
+-- Decides whether a method has to have Code. It has to unless it is native or abstract, and each <clinit> has to (JVMS
+-- 4.7.3).
 abbrev pub needs_code : Bool → ℕ → Bool
 needs_code initializer access = initializer || not (is_native access || is_abstract access)
 
--- The next attribute of a method, after those in `seen`. `code` says whether the method may have Code. At most one is a
--- Code, and at most one an Exceptions (JVMS 4.6).
+-- Reads the next attribute of a method, after those in `seen`. `code` says whether the method may have Code. At most
+-- one is a Code, and at most one an Exceptions (JVMS 4.6).
 abbrev pub method_attribute_at : List Constant → ℕ → ClassFault → Bool → List MethodAttribute → List ℕ → Result (MethodAttribute × List ℕ) ClassFault
 method_attribute_at pool major cut code seen bytes = do
   name ← u2_at cut bytes
@@ -264,8 +265,8 @@ method_attribute_at pool major cut code seen bytes = do
 abbrev pub is_initializer : List Constant → ℕ → Bool
 is_initializer pool name = is_text_with is_initializer_name (utf8_at pool name)
 
--- A method's descriptor has at most 255 units, including the object that the method is called on. A static method and
--- <clinit> are called on none (JVMS 4.3.3).
+-- Decides whether a text is a method's descriptor of at most 255 units, including the object that the method is called
+-- on. A static method and <clinit> are called on none (JVMS 4.3.3).
 abbrev pub is_method_descriptor_for : Bool → List ℕ → Bool
 is_method_descriptor_for on_none text = fits (method_type_of text)
   where
@@ -276,7 +277,7 @@ is_method_descriptor_for on_none text = fits (method_type_of text)
 abbrev pub is_same_method : List Constant → ℕ → ℕ → MethodInfo → Bool
 is_same_method pool name descriptor m = same_entry_text pool m.name name && same_entry_text pool m.descriptor descriptor
 
--- The next method of a class with these access flags, after those in `seen` (JVMS 4.6).
+-- Reads the next method of a class with these access flags, after those in `seen` (JVMS 4.6).
 unfoldable pub method_at : List Constant → ℕ → ClassFault → ℕ → List MethodInfo → List ℕ → Result (MethodInfo × List ℕ) ClassFault
 method_at pool major cut class_access seen bytes = do
   access ← u2_at cut bytes
@@ -293,7 +294,7 @@ method_at pool major cut class_access seen bytes = do
   _ ← want (not (needs_code (is_initializer pool name.0) access.0) || list_any is_code attributes.0) fault.CodePresence
   Ok (record { access = access.0; name = name.0; descriptor = descriptor.0; attributes = attributes.0 }, attributes.1)
 
--- methods_count and the methods of a class with these access flags (JVMS 4.1).
+-- Reads methods_count and the methods of a class with these access flags (JVMS 4.1).
 abbrev pub methods_at : List Constant → ℕ → ClassFault → ℕ → List ℕ → Result (List MethodInfo × List ℕ) ClassFault
 methods_at pool major cut class_access bytes = do
   count ← u2_at cut bytes

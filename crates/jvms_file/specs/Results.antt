@@ -6,27 +6,27 @@ abbrev pub ◌>>=◌ : {A B E : Type 0} → Result A E → (A → Result B E) �
 (Ok x) >>= f = f x
 (Err e) >>= f = Err e
 
--- A test that has to be true, else the fault.
+-- Tests that a condition is true, and returns the fault if it is not.
 abbrev pub want : {E : Type 0} → Bool → E → Result (Unit {0}) E
 want true e = Ok tt
 want false e = Err e
 
--- A value that has to be there, else the fault.
+-- Returns a value that has to be there, else the fault.
 abbrev pub present : {A E : Type 0} → Option A → E → Result A E
 present (Some x) e = Ok x
 present None e = Err e
 
--- The results of the items of a list, in order, or the first fault.
+-- Returns the results of the items of a list, in order, or the first fault.
 abbrev pub collected : {A B E : Type 0} → (A → Result B E) → List A → Result (List B) E
 collected f [] = Ok []
 collected f (x ∷ xs) = f x >>= λ y. (collected f xs >>= λ ys. Ok (y ∷ ys))
 
--- As many consecutive things as the count says, each read in view of those before it. The result has those in `seen`,
+-- Reads as many consecutive things as the count says, each in view of those before it. The result has those in `seen`,
 -- followed by these.
 unfoldable pub part_list_onto : {A E : Type 0} → (List A → List ℕ → Result (A × List ℕ) E) → List A → ℕ → List ℕ → Result (List A × List ℕ) E
 part_list_onto thing seen zero bytes = Ok (seen, bytes)
 part_list_onto thing seen (suc left) bytes = thing seen bytes >>= λ x. part_list_onto thing (seen ++ x.0 ∷ []) left x.1
 
--- As many consecutive things as the count says.
+-- Reads as many consecutive things as the count says.
 abbrev pub counted : {A E : Type 0} → (List ℕ → Result (A × List ℕ) E) → ℕ → List ℕ → Result (List A × List ℕ) E
 counted thing count bytes = part_list_onto (λ seen. thing) [] count bytes

@@ -4,15 +4,15 @@ use Rattle.std.specs.Prelude.{◌≡◌, ℕ, ◌+◌, ◌-◌, ◌*◌, ◌/◌
 use Rattle.std.specs.List.{flat_map, AllByRecursion}
 use Rattle.jvms_file.specs.Results.{◌>>=◌, present}
 
--- The bytes of a unit (JVMS 4.4.7). 0001 to 007F have one byte. 0000 and 0080 to 07FF have two: C0 and 80, with five
--- and six bits of the unit. 0800 to FFFF have three: E0, 80 and 80, with four, six and six bits.
+-- Returns the bytes of a unit (JVMS 4.4.7). 0001 to 007F have one byte. 0000 and 0080 to 07FF have two: C0 and 80, with
+-- five and six bits of the unit. 0800 to FFFF have three: E0, 80 and 80, with four, six and six bits.
 abbrev pub unit_bytes : ℕ → List ℕ
 unit_bytes u =
     if nat_lt 0 u && nat_lt u 0x80 then u ∷ []
     else (if nat_lt u 0x800 then (0xc0 + u / 0x40) ∷ (0x80 + u % 0x40) ∷ []
     else (0xe0 + u / 0x1000) ∷ (0x80 + u / 0x40 % 0x40) ∷ (0x80 + u % 0x40) ∷ [])
 
--- The bytes of a text: those of its units, in order.
+-- Returns the bytes of a text: those of its units, in order.
 unfoldable pub encoded : List ℕ → List ℕ
 encoded us = flat_map unit_bytes us
 
@@ -24,7 +24,7 @@ IsText us = AllByRecursion (λ u. u < 0x10000) us
 abbrev pub Codes : List ℕ → List ℕ → Type 0
 Codes bytes us = IsText us × (bytes ≡ encoded us)
 
--- A byte that may follow the first byte of a unit.
+-- Decides whether a byte may follow the first byte of a unit.
 abbrev pub is_continuation : ℕ → Bool
 is_continuation y = nat_le 0x80 y && nat_lt y 0xc0
 
@@ -34,15 +34,16 @@ two_byte_unit x y = (x - 0xc0) * 0x40 + (y - 0x80)
 abbrev pub three_byte_unit : ℕ → ℕ → ℕ → ℕ
 three_byte_unit x y z = ((x - 0xe0) * 0x40 + (y - 0x80)) * 0x40 + (z - 0x80)
 
--- The unit of two bytes after its first byte, and the bytes after it. A longer spelling than needed is refused, except
--- that of 0000.
+-- Reads the unit of two bytes after its first byte. Returns it and the bytes after it. A longer spelling than needed is
+-- refused, except that of 0000.
 abbrev pub after_lead_of_two : ℕ → List ℕ → Option (ℕ × List ℕ)
 after_lead_of_two x [] = None
 after_lead_of_two x (y ∷ rest) =
     let u = two_byte_unit x y in
     if is_continuation y && (u == 0 || nat_le 0x80 u) then Some (u, rest) else None
 
--- The unit of three bytes after its first byte, and the bytes after it. A longer spelling than needed is refused.
+-- Reads the unit of three bytes after its first byte. Returns it and the bytes after it. A longer spelling than needed
+-- is refused.
 abbrev pub after_lead_of_three : ℕ → List ℕ → Option (ℕ × List ℕ)
 after_lead_of_three x [] = None
 after_lead_of_three x (y ∷ []) = None
@@ -50,7 +51,7 @@ after_lead_of_three x (y ∷ z ∷ rest) =
     let u = three_byte_unit x y z in
     if is_continuation y && is_continuation z && nat_le 0x800 u then Some (u, rest) else None
 
--- The unit at the front of bytes, and the bytes after it.
+-- Returns the unit at the front of bytes, and the bytes after it.
 unfoldable pub unit_at : List ℕ → Option (ℕ × List ℕ)
 unit_at [] = None
 unit_at (x ∷ rest) =
@@ -59,8 +60,8 @@ unit_at (x ∷ rest) =
     else (if nat_le 0xe0 x && nat_lt x 0xf0 then after_lead_of_three x rest
     else None))
 
--- The text that bytes code, or the first byte at which no unit begins. `place` is the place of the first of the bytes.
--- A text of n bytes has at most n units, so `most` = n is enough.
+-- Returns the text that bytes code, or the first byte at which no unit begins. `place` is the place of the first of the
+-- bytes. A text of n bytes has at most n units, so `most` = n is enough.
 unfoldable pub decoded_from : (most place : ℕ) → List ℕ → Result (List ℕ) ℕ
 decoded_from most place [] = Ok []
 decoded_from zero place (x ∷ rest) = Err place

@@ -22,36 +22,36 @@ names_of classes = map (λ c. c.name) classes
 abbrev pub HaveDistinctNames : List Class → Type 0
 HaveDistinctNames classes = IsDistinct same_text (names_of classes)
 
--- The name at a place is that of an earlier place.
+-- Decides whether the name at a place is that of an earlier place.
 abbrev pub repeats : List (List ℕ) → ℕ → Bool
 repeats names n = list_any (same_text (slice_index_or names n [])) (take n names)
 
--- The first place with the name of an earlier one.
+-- Returns the first place with the name of an earlier one.
 abbrev pub repeated_name : List (List ℕ) → Option ℕ
 repeated_name names = find (repeats names) (range_with_len 0 (length names))
 
--- The first place with the name of a built-in class.
+-- Returns the first place with the name of a built-in class.
 abbrev pub built_in_name : List Class → Option ℕ
 built_in_name classes = position (λ c. is_built_in c.name) classes
 
 -- ---- Superclasses and superinterfaces (JVMS 5.3.5)
 
--- The superclass or a superinterface of a class isn't there.
+-- Decides whether the superclass or a superinterface of a class is missing.
 abbrev pub lacks_super : List Class → Class → Bool
 lacks_super program c = list_any (λ name. not (is_some (class_named program name))) (supers_of c)
 
--- The first place of a class whose superclass or a superinterface isn't there.
+-- Returns the first place of a class whose superclass or a superinterface is missing.
 abbrev pub missing_super : List Class → List Class → Option ℕ
 missing_super program classes = position (lacks_super program) classes
 
--- The built-in classes that no class extends (own).
+-- Decides whether a class is one of the built-in classes that no class extends (own).
 abbrev pub is_never_extended : List ℕ → Bool
 is_never_extended name =
     same_text name (codes "java/lang/String") || same_text name (codes "java/lang/Class")
     || same_text name (codes "java/lang/System") || same_text name (codes "java/io/PrintStream")
 
--- The superclass of a class is missing or of a wrong kind. It is an interface, or one that no class extends, or the
--- class is an interface and extends another class than java/lang/Object.
+-- Decides whether the superclass of a class is missing or of a wrong kind. It is of a wrong kind if it is an interface,
+-- or one that no class extends. An interface extends no other class than java/lang/Object.
 abbrev pub has_wrong_superclass : List Class → Class → Bool
 has_wrong_superclass program c = is_wrong c.superclass
   where
@@ -60,31 +60,31 @@ has_wrong_superclass program c = is_wrong c.superclass
     is_wrong (Some name) =
         names_interface program name || is_never_extended name || (is_interface_kind c.kind && not (same_text name object))
 
--- A superinterface is no interface.
+-- Decides whether a superinterface is no interface.
 abbrev pub has_wrong_interface : List Class → Class → Bool
 has_wrong_interface program c = list_any (λ name. not (names_interface program name)) c.interfaces
 
--- The first place of a class with a superclass or superinterface of a wrong kind.
+-- Returns the first place of a class with a superclass or superinterface of a wrong kind.
 abbrev pub wrong_super : List Class → List Class → Option ℕ
 wrong_super program classes = position (λ c. has_wrong_superclass program c || has_wrong_interface program c) classes
 
--- A class is in the ancestry of its superclass or of a superinterface. So it is its own superclass or superinterface,
--- over one or more steps.
+-- Decides whether a class is in the ancestry of its superclass or of a superinterface. So it is its own superclass or
+-- superinterface, over one or more steps.
 abbrev pub is_circular : List Class → Class → Bool
 is_circular program c = list_any (λ super. names_class c.name (ancestry program super)) (supers_of c)
 
--- The first place of a circular class.
+-- Returns the first place of a circular class.
 abbrev pub circular : List Class → List Class → Option ℕ
 circular program classes = position (is_circular program) classes
 
 -- ---- Linking
 
--- The fault of the class at a place, if a place was found.
+-- Returns the fault of the class at a place, if a place was found.
 abbrev pub refused : (ℕ → LinkFault) → Option ℕ → Result (Unit {0}) LinkFault
 refused fault None = Ok tt
 refused fault (Some place) = Err (fault place)
 
--- The first test that one of these classes fails.
+-- Returns the first test that one of these classes fails.
 abbrev pub refusal : List Class → Result (Unit {0}) LinkFault
 refusal classes = do
   _ ← refused (λ n. fault.BuiltInName n) (built_in_name classes)
@@ -93,7 +93,7 @@ refusal classes = do
   _ ← refused (λ n. fault.SuperKind n) (wrong_super (built_in_classes ++ classes) classes)
   refused (λ n. fault.Circular n) (circular (built_in_classes ++ classes) classes)
 
--- The program of class files, or the first test that one of their classes fails.
+-- Returns the program of class files, or the first test that one of their classes fails.
 unfoldable pub linked : List ClassFile → Result (List Class) LinkFault
 linked files = do
   _ ← refusal (map meaning files)

@@ -9,6 +9,6 @@ use Rattle.linker.specs.declared.spelled.TypedText.{TypedText}
 abbrev pub spelled : List ℕ → TypedText
 spelled text = record { text = text; field_type = field_type text; method_type = method_type text }
 
--- The text of an entry with its types, if it is a Utf8.
+-- Returns the text of an entry with its types, if it is a Utf8.
 abbrev pub typed_text_of : Constant → Option TypedText
 typed_text_of c = option_map spelled (utf8_of c)

@@ -6,7 +6,7 @@ use Rattle.jvms_program.specs.Program.{class_number}
 use Rattle.jvms_program.specs.Resolution.{ancestry_within, names_class}
 use Rattle.classes.specs.Hierarchy.{rank, super_rows}
 
--- A class of a name is in the ancestry of one of these names, at most `most` classes up.
+-- Decides whether a class of a name is in the ancestry of one of these names, at most `most` classes up.
 abbrev pub is_above : List Class → ℕ → List ℕ → List (List ℕ) → Bool
 is_above program most name names = list_any (λ super. names_class name (ancestry_within most program super)) names
 

@@ -45,11 +45,11 @@ access_names [] access = []
 access_names ((word, flag) ∷ others) access =
     if has_flag flag access then word ∷ access_names others access else access_names others access
 
--- The access words of a class that are written. `super` isn't, since `.class` adds it. Below, those of an interface,
--- without the words that `.interface` adds.
+-- Returns the access words of a class that are written. `super` isn't, since `.class` adds it.
 abbrev pub written_class_words : Access
 written_class_words = (codes "public", 1) ∷ (codes "final", 16) ∷ (codes "abstract", 1024) ∷ []
 
+-- Returns the access words of an interface that are written, without those that `.interface` adds.
 abbrev pub written_interface_words : Access
 written_interface_words = (codes "public", 1) ∷ (codes "final", 16) ∷ (codes "super", 32) ∷ []
 

@@ -6,7 +6,7 @@ use Rattle.velodrome.specs.Transactions.{is_event}
 use Rattle.velodrome.specs.declared.verdict.ConflictingPair.{ConflictingPair}
 use Rattle.pictures.specs.declared.rows.Row.{Row}
 
--- The maximum number of events that a picture shows.
+-- Returns the maximum number of events that a picture shows.
 abbrev pub most_rows : ℕ
 most_rows = 200
 
@@ -19,11 +19,11 @@ rows_from n place (i ∷ items) (t ∷ ts) =
     cond (is_event i) (record { event = n; place = place; transaction = t } ∷ rows_from (n + 1) (place + 1) items ts)
     (rows_from n (place + 1) items (t ∷ ts))
 
--- The transaction of a row is one of a cycle.
+-- Decides whether the transaction of a row is one of a cycle.
 abbrev pub is_chosen : List ℕ → Row → Bool
 is_chosen cycle row = list_any (λ t. t == row.transaction) cycle
 
--- An edge joins the event of the row.
+-- Decides whether an edge joins the event of the row.
 abbrev pub is_joined : List ConflictingPair → Row → Bool
 is_joined edges row = list_any (λ (p : ConflictingPair). p.earlier == row.event || p.later == row.event) edges
 

@@ -8,7 +8,7 @@ use Rattle.pictures.specs.declared.rows.Row.{Row}
 use Rattle.pictures.specs.declared.sketches.Sketch.{Sketch}
 use Rattle.pictures.specs.Rows.{chosen_rows, rows_from}
 
--- The maximum number of edges of a cycle that a picture shows.
+-- Returns the maximum number of edges of a cycle that a picture shows.
 abbrev pub most_edges : ℕ
 most_edges = 64
 

@@ -16,7 +16,7 @@ use Rattle.pool_entries.specs.declared.kind.MethodKind.TheVariants as kind
 
 -- ---- One entry
 
--- Two entries are equal: they have the same tag and the same content.
+-- Decides whether two entries are equal: they have the same tag and the same content.
 abbrev pub is_same : Constant → Constant → Bool
 is_same (constant.Utf8 a) (constant.Utf8 b) = same_text a b
 is_same (constant.Integer a) (constant.Integer b) = int_eq a b
@@ -31,17 +31,17 @@ is_same (constant.InterfaceMethod a m) (constant.InterfaceMethod b n) = a == b &
 is_same (constant.NameAndType a m) (constant.NameAndType b n) = a == b && m == n
 is_same _ _ = false
 
--- The constants of an entry: itself, and an unusable one after a long or a double (JVMS 4.4.5).
+-- Returns the constants of an entry: itself, and an unusable one after a long or a double (JVMS 4.4.5).
 abbrev pub numbers_of : Constant → List Constant
 numbers_of c = if takes_two c then c ∷ constant.Unusable ∷ [] else c ∷ []
 
--- The number of an entry in a pool whose numbers begin at n.
+-- Returns the number of an entry in a pool whose numbers begin at n.
 abbrev pub number_from : ℕ → List Constant → Constant → Option ℕ
 number_from n [] c = None
 number_from n (x ∷ pool) c = if is_same c x then Some n else number_from (n + 1) pool c
 
--- The number of an entry, and the pool with it. An entry that is there keeps its number. A new one is appended. No
--- number is above 65534, since constant_pool_count is at most 65535 (JVMS 4.1).
+-- Returns the number of an entry, and the pool with it. An entry that is there keeps its number. A new one is appended.
+-- No number is above 65534, since constant_pool_count is at most 65535 (JVMS 4.1).
 unfoldable pub constant_entry : List Constant → Constant → Result (ℕ × List Constant) EntryFault
 constant_entry pool c = found_or_appended (number_from 1 pool c)
   where
@@ -51,7 +51,7 @@ constant_entry pool c = found_or_appended (number_from 1 pool c)
 
 -- ---- Texts, names and constants
 
--- A text has at most 65535 bytes, so that two bytes count them (JVMS 4.4.7).
+-- Decides whether a text has at most 65535 bytes, so that two bytes count them (JVMS 4.4.7).
 abbrev pub is_short : List ℕ → Bool
 is_short units = nat_le (length (encoded units)) 65535
 
@@ -100,7 +100,7 @@ name_and_type_entry pool name descriptor = do
   second ← text_entry first.1 descriptor
   constant_entry second.1 (constant.NameAndType first.0 second.0)
 
--- The number of the entry of a member, and the pool with it. `make` is the kind of its entry (JVMS 4.4.2).
+-- Returns the number of the entry of a member, and the pool with it. `make` is the kind of its entry (JVMS 4.4.2).
 unfoldable pub member_entry : (ℕ → ℕ → Constant) → List Constant → List ℕ → List ℕ → List ℕ → Result (ℕ × List Constant) EntryFault
 member_entry make pool class name descriptor = do
   owner ← class_entry pool class
@@ -110,7 +110,7 @@ member_entry make pool class name descriptor = do
 abbrev pub field_entry : List Constant → List ℕ → List ℕ → List ℕ → Result (ℕ × List Constant) EntryFault
 field_entry = member_entry (λ c m. constant.Field c m)
 
--- The entry of a method (JVMS 4.4.2).
+-- Returns the entry of a method (JVMS 4.4.2).
 abbrev pub method_constant : MethodKind → ℕ → ℕ → Constant
 method_constant kind.OfClass c m = constant.Method c m
 method_constant kind.OfInterface c m = constant.InterfaceMethod c m

@@ -4,7 +4,7 @@ use Rattle.jvms_machine.specs.declared.action.Printed.{Printed}
 use Rattle.jvms_machine.specs.declared.action.Printed.TheVariants as printed
 use Rattle.jvms_machine.specs.State.{Object, text, object_at}
 
--- The units of an object, if it is a string.
+-- Returns the units of an object, if it is a string.
 abbrev pub units_of : Option Object → Option (List ℕ)
 units_of (Some (text units)) = Some units
 units_of _ = None

@@ -15,7 +15,7 @@ use Rattle.jvms_machine.specs.Events.{thread_of}
 use Rattle.velodrome.specs.Specification.{Specification, is_atomic}
 use Rattle.velodrome.specs.Transactions.{TraceState, is_event, walk}
 
--- The maximum number of transactions and edges that are explained.
+-- Returns the maximum number of transactions and edges that are explained.
 abbrev pub most_explained : ℕ
 most_explained = 64
 

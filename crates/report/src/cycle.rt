@@ -6,8 +6,8 @@ ghost use Rattle.std.specs.String.{string_bytes};
 ghost use Rattle.report.specs.CycleTexts.{all_edge_lines, cycle_lines, edge_at, edge_lines, explanation, most_explained, last_text, next_in, rest_line, span_of, transaction_line, transaction_lines};
 
 use crate::events::first;
+use crate::fed_trace::FedTrace;
 use crate::number::{put_counted, put_number};
-use crate::told::Told;
 use atom_graph::Checker;
 use std::alloc::{AllocError, Global};
 use velodrome::verdict::{ConflictingPair, Verdict};
@@ -16,49 +16,49 @@ use velodrome::verdict::{ConflictingPair, Verdict};
 const MOST_EXPLAINED: usize = 64;
 
 /// Appends the last of a transaction's events, unless it is also the first.
-fn put_last(out: &mut String, told: &Told<'_>, first: u64, last: u64) -> Result<(), AllocError>
+fn put_last(out: &mut String, trace: &FedTrace<'_>, first: u64, last: u64) -> Result<(), AllocError>
     ensures { OnOk result (string_bytes out.new
-        ≡ string_bytes out.old ++ last_text told.now.turns first (Some last)) }
+        ≡ string_bytes out.old ++ last_text trace.now.turns first (Some last)) }
 {
     if last == first {
         return Ok(());
     }
     out.push_str(" to ")?;
-    told.put_event_name(out, last)
+    trace.put_event_name(out, last)
 }
 
 /// Appends the thread and method of a transaction, with the first and the last of its events.
 fn put_span(
     alloc: Global,
     out: &mut String,
-    told: &Told<'_>,
+    trace: &FedTrace<'_>,
     numbers: &[u64],
 ) -> Result<(), AllocError>
     ensures { OnOk result
-        (string_bytes out.new ≡ string_bytes out.old ++ span_of told.now numbers.now) }
+        (string_bytes out.new ≡ string_bytes out.old ++ span_of trace.now numbers.now) }
 {
     let (Some(first), Some(last)) = (numbers.first(), numbers.last()) else {
         return Ok(());
     };
-    told.put_actor_of(alloc, out, *first)?;
+    trace.put_actor_of(alloc, out, *first)?;
     out.push_str(", ")?;
-    told.put_event_name(out, *first)?;
-    put_last(out, told, *first, *last)
+    trace.put_event_name(out, *first)?;
+    put_last(out, trace, *first, *last)
 }
 
 /// Appends the line of a transaction.
 fn put_transaction(
     alloc: Global,
     out: &mut String,
-    told: &Told<'_>,
+    trace: &FedTrace<'_>,
     transaction: u64,
 ) -> Result<(), AllocError>
     ensures { OnOk result
-        (string_bytes out.new ≡ string_bytes out.old ++ transaction_line told.now transaction) }
+        (string_bytes out.new ≡ string_bytes out.old ++ transaction_line trace.now transaction) }
 {
-    let numbers = told.numbers_of(alloc, transaction)?;
+    let numbers = trace.numbers_of(alloc, transaction)?;
     put_counted(out, "transaction ", transaction)?;
-    put_span(alloc, out, told, numbers.as_slice())?;
+    put_span(alloc, out, trace, numbers.as_slice())?;
     out.push_str("\n")
 }
 
@@ -66,14 +66,14 @@ fn put_transaction(
 fn put_transactions(
     alloc: Global,
     out: &mut String,
-    told: &Told<'_>,
+    trace: &FedTrace<'_>,
     transactions: &[u64],
 ) -> Result<(), AllocError>
     ensures { OnOk result (string_bytes out.new
-        ≡ string_bytes out.old ++ flat_map (transaction_line told.now) transactions.now) }
+        ≡ string_bytes out.old ++ flat_map (transaction_line trace.now) transactions.now) }
 {
     for transaction in transactions {
-        put_transaction(alloc, out, told, *transaction)?;
+        put_transaction(alloc, out, trace, *transaction)?;
     }
     Ok(())
 }
@@ -81,19 +81,19 @@ fn put_transactions(
 /// Appends the lines of an edge: its transactions and its two events.
 fn put_edge(
     out: &mut String,
-    told: &Told<'_>,
+    trace: &FedTrace<'_>,
     from: u64,
     to: u64,
     pair: ConflictingPair,
 ) -> Result<(), AllocError>
     ensures { OnOk result
-        (string_bytes out.new ≡ string_bytes out.old ++ edge_lines told.now from to pair) }
+        (string_bytes out.new ≡ string_bytes out.old ++ edge_lines trace.now from to pair) }
 {
     put_number(out, from)?;
     put_counted(out, " before ", to)?;
     out.push_str("\n")?;
-    told.put_event_line(out, pair.earlier)?;
-    told.put_event_line(out, pair.later)
+    trace.put_event_line(out, pair.earlier)?;
+    trace.put_event_line(out, pair.later)
 }
 
 /// Returns the transaction after the one at a place of a cycle. The first follows the last.
@@ -110,20 +110,20 @@ fn next_in(transactions: &[u64], place: usize) -> Option<u64>
 /// Appends the lines of the edge from the transaction at a place of a cycle.
 fn put_edge_at(
     out: &mut String,
-    told: &Told<'_>,
+    trace: &FedTrace<'_>,
     transactions: &[u64],
     pairs: &[ConflictingPair],
     place: usize,
 ) -> Result<(), AllocError>
     requires { place < length transactions.now }
     ensures { OnOk result (string_bytes out.new
-        ≡ string_bytes out.old ++ edge_at told.now transactions.now pairs.now place) }
+        ≡ string_bytes out.old ++ edge_at trace.now transactions.now pairs.now place) }
 {
     let Some(to) = next_in(transactions, place) else {
         return Ok(());
     };
     match pairs.get(place) {
-        Some(pair) => put_edge(out, told, transactions[place], to, *pair),
+        Some(pair) => put_edge(out, trace, transactions[place], to, *pair),
         None => Ok(()),
     }
 }
@@ -131,15 +131,15 @@ fn put_edge_at(
 /// Appends the lines of the edges of a cycle, up to the maximum.
 fn put_edges(
     out: &mut String,
-    told: &Told<'_>,
+    trace: &FedTrace<'_>,
     transactions: &[u64],
     pairs: &[ConflictingPair],
 ) -> Result<(), AllocError>
     ensures { OnOk result (string_bytes out.new
-        ≡ string_bytes out.old ++ all_edge_lines told.now transactions.now pairs.now) }
+        ≡ string_bytes out.old ++ all_edge_lines trace.now transactions.now pairs.now) }
 {
     for place in 0..transactions.len().min(MOST_EXPLAINED) {
-        put_edge_at(out, told, transactions, pairs, place)?;
+        put_edge_at(out, trace, transactions, pairs, place)?;
     }
     Ok(())
 }
@@ -161,15 +161,15 @@ fn put_rest(out: &mut String, count: usize) -> Result<(), AllocError>
 fn put_cycle(
     alloc: Global,
     out: &mut String,
-    told: &Told<'_>,
+    trace: &FedTrace<'_>,
     transactions: &[u64],
     pairs: &[ConflictingPair],
 ) -> Result<(), AllocError>
     ensures { OnOk result (string_bytes out.new
-        ≡ string_bytes out.old ++ cycle_lines told.now transactions.now pairs.now) }
+        ≡ string_bytes out.old ++ cycle_lines trace.now transactions.now pairs.now) }
 {
-    put_transactions(alloc, out, told, first(transactions, MOST_EXPLAINED))?;
-    put_edges(out, told, transactions, pairs)?;
+    put_transactions(alloc, out, trace, first(transactions, MOST_EXPLAINED))?;
+    put_edges(out, trace, transactions, pairs)?;
     put_rest(out, transactions.len())
 }
 
@@ -198,11 +198,11 @@ pub fn explain(
         ..
     } = verdict
     {
-        let told = Told::new(alloc, checker, turns)?;
+        let trace = FedTrace::new(alloc, checker, turns)?;
         put_cycle(
             alloc,
             &mut text,
-            &told,
+            &trace,
             transactions.as_slice(),
             pairs.as_slice(),
         )?;

@@ -4,9 +4,9 @@
 mod actor;
 mod cycle;
 mod events;
+mod fed_trace;
 mod number;
 mod serial;
-mod told;
 mod verdict;
 
 pub use cycle::explain;

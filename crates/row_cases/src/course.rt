@@ -42,8 +42,8 @@ impl Course {
         let outcome = machine.step(t, &mut self.trace)?;
         self.choices.push(t)?;
         self.results.push(outcome)?;
-        let told = texts::outcome(self.alloc, machine, outcome)?;
-        let line = format!(in self.alloc; "{t} {}", told.as_str())?;
+        let outcome = texts::outcome(self.alloc, machine, outcome)?;
+        let line = format!(in self.alloc; "{t} {}", outcome.as_str())?;
         self.turns.put(line.as_str())?;
         self.outcomes.put(line.as_str())?;
         for item in self.trace.items().iter().skip(before) {

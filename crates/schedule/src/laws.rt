@@ -5,7 +5,7 @@ ghost use Rattle.schedule.specs.Schedules.{RoundRobin};
 ghost use Rattle.schedule.specs.Choosers.{Chooser, opened, next, asks, generator_of, words_of};
 ghost use Rattle.schedule.specs.Past.{behind, choice_after, with_choice};
 
-/// Round robin and random words choose an enabled thread, as long as there is one.
+/// States that round robin and random words choose an enabled thread, as long as there is one.
 #[tactic(auto, using(crate::proofs::Choices::chosen_is_enabled, crate::proofs::Choices::none_is_enabled))]
 pub fn choices_are_of_enabled_threads()
     ensures enabled { (chooser : Chooser) (enabled : List ℕ) → IsTrue (asks chooser)
@@ -14,7 +14,8 @@ pub fn choices_are_of_enabled_threads()
         → (IsNone (next chooser enabled).0 ↔ (enabled ≡ [])) }
 {}
 
-/// Round robin counts all of a thread's last consecutive choices, up to the quantum, even if the round led back to it.
+/// States that round robin counts all of a thread's last consecutive choices, up to the quantum, even if the round led
+/// back to it.
 #[tactic(auto, using(crate::proofs::Choices::opened_behind, crate::proofs::Choices::next_behind))]
 pub fn round_robin_counts_consecutive_choices()
     ensures start { (quantum : ℕ) → opened (RoundRobin quantum) ≡ behind quantum [] }
@@ -23,7 +24,7 @@ pub fn round_robin_counts_consecutive_choices()
         next (behind quantum past) enabled ≡ (chosen, behind quantum (with_choice chosen past)) }
 {}
 
-/// The first words of state 42 and stream 54 are those of PCG's demonstration of pcg32.
+/// States that the first words of state 42 and stream 54 are those of PCG's demonstration of pcg32.
 #[tactic(auto, using(crate::proofs::Choices::demonstrated))]
 pub fn random_words_are_those_of_pcg()
     ensures { words_of 6 (generator_of 42 54)

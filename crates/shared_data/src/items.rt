@@ -30,8 +30,8 @@ impl<T> Items<T> {
         }
     }
 
-    /// Creates an empty list with the capacity for `count` items. So a list that is filled and kept takes no more memory
-    /// than its items.
+    /// Creates an empty list with the capacity for `count` items. So a list that is filled and kept takes no more
+    /// memory than its items.
     pub fn with_capacity(alloc: Global, count: usize) -> Result<Self, AllocError>
         ensures { IfOk result (λ list. list ≡ []) }
     {

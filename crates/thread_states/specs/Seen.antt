@@ -21,7 +21,7 @@ table_of threads = map (λ e. (e.0, course_of e.1)) threads
 abbrev pub rooms_of : List (ℕ × Open) → List (ℕ × ℕ)
 rooms_of threads = map (λ e. (e.0, e.1.room)) threads
 
--- A thread without an entry has no memory reserved.
+-- Returns the memory that is reserved for a thread. A thread without an entry has none.
 abbrev pub room_in : List (ℕ × ℕ) → ℕ → ℕ
 room_in [] t = 0
 room_in (e ∷ es) t = if t == e.0 then e.1 else room_in es t

@@ -2,7 +2,7 @@
 use Rattle.std.specs.Prelude.{◌≡◌, ℕ, ◌==◌, if◌then◌else◌, List, [], ◌∷◌, None}
 use Rattle.velodrome.specs.Transactions.{ThreadState}
 
--- A thread without an entry has no method open.
+-- Returns the state of a thread without an entry: it has no method open.
 abbrev pub no_thread_state : ThreadState
 no_thread_state = record { methods = []; transaction = None }
 

@@ -90,7 +90,7 @@ pub record IsChecked (lines : Specification) (text : List ℕ) (details : Detail
   pub spelled : IsTextOf text items
   pub taken : first_refused (fed_nothing lines) 1 items ≡ None
   pub judged : IsVerdict (walk_of (record { lines = lines; items = items })) v
-  pub told : IsSaid (record { lines = lines; items = items }) details v said
+  pub text_is : IsSaid (record { lines = lines; items = items }) details v said
 
 -- The text of the verdict was written, and nothing else.
 abbrev pub Wrote : Specification → List ℕ → Details → Option (List ℕ) → Option (List ℕ) → Verdict → Type 0

@@ -43,8 +43,8 @@ abbrev pub on_one_variable : Option Variable → Option Variable → Bool
 on_one_variable (Some v) (Some w) = same_variable v w
 on_one_variable _ _ = false
 
--- Two events conflict in four cases. They belong to one thread. They use one monitor. They use one variable, and one of
--- them writes it. One forks or joins the thread of the other.
+-- Decides whether two events conflict, which they do in four cases. They belong to one thread. They use one monitor.
+-- They use one variable, and one of them writes it. One forks or joins the thread of the other.
 unfoldable pub conflict : Item → Item → Bool
 conflict a b =
     thread_of a == thread_of b

@@ -23,6 +23,6 @@ abbrev pub said : Bool → Specification → MethodKey → Bool
 said before [] m = before
 said before (line ∷ lines) m = said (if is_of line.pattern m then line.is_atomic else before) lines m
 
--- A method is atomic if the lines say so. `<clinit>` and the methods of built-in classes never are.
+-- Decides whether a method is atomic: the lines say so. `<clinit>` and the methods of built-in classes never are.
 unfoldable pub is_atomic : Specification → MethodKey → Bool
 is_atomic lines m = said false lines m && not (is_initializer_name m.name) && not (is_built_in m.class)

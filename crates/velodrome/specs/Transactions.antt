@@ -88,7 +88,7 @@ abbrev pub is_innermost : MethodKey → List MethodKey → Bool
 is_innermost m [] = false
 is_innermost m (n ∷ methods) = same_method m n
 
--- An exit must be of the innermost open method of its thread.
+-- Tests that an exit is of the innermost open method of its thread.
 abbrev pub is_matched : TraceState → Item → Bool
 is_matched w (item.Exit t m) = is_innermost m (w.courses t).methods
 is_matched w i = true

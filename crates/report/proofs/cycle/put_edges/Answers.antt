@@ -13,7 +13,7 @@ next_edge f k end below =
 
 pub loop-place-preserved : goal.loop-place-preserved
 loop-place-preserved c =
-    let f = edge_at c.args.told.now c.args.transactions.now c.args.pairs.now in
+    let f = edge_at c.args.trace.now c.args.transactions.now c.args.pairs.now in
     let k = c.loop-place.place in
     let end = c.min-place-end.result in
     let rest = flat_map f (range_with_len (k + 1) (end - (k + 1))) in

@@ -7,5 +7,5 @@ use Rattle.report.proofs.cycle.put_edges.Given as goal
 
 abbrev pub invariant-loop-place : goal.invariant-loop-place
 invariant-loop-place l =
-    string_bytes l.out ++ flat_map (edge_at l.told l.transactions l.pairs) (range_with_len l.place (l.place-end - l.place))
-    ≡ string_bytes l.fn.out ++ all_edge_lines l.fn.told l.transactions l.pairs
+    string_bytes l.out ++ flat_map (edge_at l.trace l.transactions l.pairs) (range_with_len l.place (l.place-end - l.place))
+    ≡ string_bytes l.fn.out ++ all_edge_lines l.fn.trace l.transactions l.pairs

@@ -13,7 +13,7 @@ one_more f xs k below =
 
 pub loop-transaction-preserved : goal.loop-transaction-preserved
 loop-transaction-preserved c =
-    let f = transaction_line c.args.told.now in
+    let f = transaction_line c.args.trace.now in
     let xs = c.args.transactions.now in
     let k = c.loop-transaction.transaction-index in
     c.in_ok-put_transaction.ensures ∙ ap (λ out. out ++ f (get_or xs k 0)) c.loop-transaction.invariant

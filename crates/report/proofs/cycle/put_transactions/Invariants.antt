@@ -7,4 +7,4 @@ use Rattle.report.proofs.cycle.put_transactions.Given as goal
 
 abbrev pub invariant-loop-transaction : goal.invariant-loop-transaction
 invariant-loop-transaction l =
-    string_bytes l.out ≡ string_bytes l.fn.out ++ flat_map (transaction_line l.told) (take l.transaction-index l.transactions)
+    string_bytes l.out ≡ string_bytes l.fn.out ++ flat_map (transaction_line l.trace) (take l.transaction-index l.transactions)

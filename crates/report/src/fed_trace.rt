@@ -22,7 +22,7 @@ use trace_text::put_line;
 /// A trace that a checker was fed, and the turns of its events. Contracts see the specification, the items and the
 /// turns.
 #[derive(Drop)]
-pub(crate) struct Told<'a> {
+pub(crate) struct FedTrace<'a> {
     checker: &'a Checker,
     /// The places of the events among the items.
     places: Vec<usize>,
@@ -30,7 +30,7 @@ pub(crate) struct Told<'a> {
     turns: &'a [u64],
 }
 
-impl<'a> Model for Told<'a> {
+impl<'a> Model for FedTrace<'a> {
     ghost use Rattle.std.specs.Prelude.{◌≡◌};
     ghost use Rattle.report.specs.CycleTexts.{Explained, event_places};
 
@@ -83,7 +83,7 @@ fn put_item_part(out: &mut String, item: Option<&Item>) -> Result<(), AllocError
     }
 }
 
-impl<'a> Told<'a> {
+impl<'a> FedTrace<'a> {
     /// Finds the events of the items that a checker was fed.
     pub(crate) fn new(
         alloc: Global,
@@ -93,7 +93,7 @@ impl<'a> Told<'a> {
         ensures { IfOk result (λ t. t
             ≡ record { lines = checker.now.lines; items = checker.now.items; turns = turns.now }) }
     {
-        Ok(Told {
+        Ok(FedTrace {
             checker,
             places: event_places(alloc, checker.items())?,
             turns,
